@@ -1,0 +1,4 @@
+pub mod Memory
+pub mod Name
+pub mod NameText
+pub mod Outside

@@ -1,0 +1,18 @@
+//! What every layer stands on: names, member numbers, moments, and the outside as sources and sinks.
+#![tactic(auto)]
+
+mod adapters;
+mod member_id;
+mod memory;
+mod name;
+mod outside;
+mod ticks;
+mod transfer;
+
+pub use adapters::{ReaderSource, WriterSink};
+pub use member_id::MemberId;
+pub use memory::{MemorySink, MemorySource};
+pub use name::Name;
+pub use outside::{Failed, Sink, Source};
+pub use ticks::Ticks;
+pub use transfer::{ReadError, read_at_most, write_all};

@@ -1,0 +1,26 @@
+//! Members by number.
+ghost use Rattle.std.specs.Prelude.{◌≡◌, ◌<◌, ◌↔◌, IsSome, IfSome};
+
+/// The most members that a cluster may have.
+pub const MEMBERS: u8 = 16;
+
+/// The number of a member, in the order in which the script declares them, from 0.
+#[derive(Clone, Copy, Debug, PartialEq, Eq, PartialOrd, Ord)]
+pub struct MemberId {
+    pub number: u8,
+    ghost below: { number < 16 },
+}
+
+impl MemberId {
+    /// The member of this number. `None` exactly where the number is 16 or more.
+    pub fn new(number: u8) -> Option<MemberId>
+        ensures found { IsSome result ↔ (number < 16) }
+        ensures value { IfSome result (λ member. member.number ≡ number) }
+    {
+        if number < MEMBERS {
+            Some(MemberId { number })
+        } else {
+            None
+        }
+    }
+}

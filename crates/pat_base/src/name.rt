@@ -1,0 +1,98 @@
+//! Names of clusters and members.
+ghost use Rattle.std.specs.Prelude.{◌≡◌, ◌≤◌, ◌↔◌, IsSome, IfSome, IsTrue, length, take};
+ghost use Rattle.std.specs.List.{list_all};
+ghost use Rattle.pat_base.specs.NameText.{is_name, is_name_byte, padded};
+
+use std::fmt;
+
+/// The longest name, in bytes.
+const LONGEST: usize = 32;
+
+/// A name: 1 to 32 bytes of `a` to `z`, `0` to `9`, `_` and `-`. The bytes behind the name are 0.
+#[derive(Clone, Copy, Debug, PartialEq, Eq, PartialOrd, Ord, Hash)]
+pub struct Name {
+    bytes: [u8; 32],
+    len: u8,
+    ghost full: { length bytes ≡ 32 },
+    ghost short: { len ≤ 32 },
+    ghost text: { IsTrue (is_name (take len bytes)) },
+    ghost zeros: { bytes ≡ padded (take len bytes) },
+}
+
+impl Name {
+    ghost use Rattle.std.specs.Prelude.{◌≡◌, ◌↔◌, IsSome, IfSome, IsTrue};
+    ghost use Rattle.pat_base.specs.NameText.{is_name};
+    ghost use Rattle.pat_base.specs.Name.{name_bytes};
+
+    /// The name that these bytes are. `None` exactly where they are none.
+    pub fn read(bytes: &[u8]) -> Option<Name>
+        ensures found { IsSome result ↔ IsTrue (is_name bytes.now) }
+        ensures text { IfSome result (λ name. name_bytes name ≡ bytes.now) }
+    {
+        if is_name(bytes) {
+            Some(made(bytes))
+        } else {
+            None
+        }
+    }
+
+    /// The bytes of the name, which are ASCII.
+    pub fn as_bytes(&self) -> &[u8]
+        ensures value { result.now ≡ name_bytes self.now }
+        ensures name { IsTrue (is_name result.now) }
+    {
+        &self.bytes[..self.len as usize]
+    }
+
+    /// The name as text.
+    pub fn as_str(&self) -> &str
+        ensures { result.now ≡ name_bytes self.now }
+    {
+        match str::from_utf8(self.as_bytes()) {
+            Ok(text) => text,
+            Err(_) => unreachable!(),
+        }
+    }
+}
+
+impl fmt::Display for Name {
+    ghost use Rattle.std.specs.Prelude.{Some};
+    ghost use Rattle.pat_base.specs.Name.{name_bytes};
+
+    ghost output = { λ name. Some (name_bytes name) };
+
+    fn fmt<W: fmt::Write>(&self, f: &mut fmt::Formatter<W>) -> fmt::Result {
+        f.write_str(self.as_str())
+    }
+}
+
+/// The name of bytes that are one.
+fn made(bytes: &[u8]) -> Name
+    requires { IsTrue (is_name bytes.now) }
+    ensures { take result.len result.bytes ≡ bytes.now }
+{
+    let mut all = [0u8; LONGEST];
+    all[..bytes.len()].copy_from_slice(bytes);
+    Name {
+        bytes: all,
+        len: bytes.len() as u8,
+    }
+}
+
+fn is_name(bytes: &[u8]) -> bool
+    ensures { result ≡ is_name bytes.now }
+{
+    !bytes.is_empty() && bytes.len() <= LONGEST && are_name_bytes(bytes)
+}
+
+fn are_name_bytes(bytes: &[u8]) -> bool
+    ensures { result ≡ list_all is_name_byte bytes.now }
+{
+    bytes.iter().all(|byte| is_name_byte(*byte))
+}
+
+fn is_name_byte(byte: u8) -> bool
+    ensures { result ≡ is_name_byte byte }
+{
+    matches!(byte, b'a'..=b'z' | b'0'..=b'9' | b'_' | b'-')
+}
