@@ -1,3 +1,4 @@
+pub mod MemberId
 pub mod Memory
 pub mod Name
 pub mod NameText

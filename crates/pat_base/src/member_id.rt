@@ -1,5 +1,5 @@
 //! Members by number.
-ghost use Rattle.std.specs.Prelude.{◌≡◌, ◌<◌, ◌↔◌, IsSome, IfSome};
+ghost use Rattle.std.specs.Prelude.{◌<◌};
 
 /// The most members that a cluster may have.
 pub const MEMBERS: u8 = 16;
@@ -12,10 +12,14 @@ pub struct MemberId {
 }
 
 impl MemberId {
+    ghost use Rattle.std.specs.Prelude.{◌≡◌, ◌<◌, ◌↔◌, IsSome, IfSome};
+    ghost use Rattle.pat_base.specs.MemberId.{member_of};
+
     /// The member of this number. `None` exactly where the number is 16 or more.
     pub fn new(number: u8) -> Option<MemberId>
         ensures found { IsSome result ↔ (number < 16) }
         ensures value { IfSome result (λ member. member.number ≡ number) }
+        ensures by_number { result ≡ member_of number }
     {
         if number < MEMBERS {
             Some(MemberId { number })

@@ -1,0 +1,63 @@
+-- What a book of events leaves.
+use Rattle.std.specs.Prelude.{ℕ, ◌≡◌, ◌+◌, true, List, [], ◌∷◌, Option, Some, None, slice_get, slice_set}
+use Rattle.pat_base.specs.declared.name.Name.{Name}
+use Rattle.lease_store.specs.Settings.{loop_wait}
+use Rattle.lease_store.specs.Keys.{Keys, no_keys, keys_after, without_key}
+use Rattle.event_book.specs.declared.event.Event.{Event}
+use Rattle.event_book.specs.declared.event.Kind.{Kind}
+use Rattle.event_book.specs.declared.event.Kind.TheVariants as kinds
+use Rattle.event_book.specs.declared.event.StoreEvent.TheVariants as stores
+use Rattle.event_book.specs.declared.event.AgentEvent.TheVariants as agents
+use Rattle.event_book.specs.declared.member.Member.{Member}
+use Rattle.event_book.specs.declared.agent_state.AgentState.{AgentState}
+use Rattle.event_book.specs.Clock.{now_after}
+use Rattle.event_book.specs.Members.{members_from, agents_from}
+
+-- all that a book determines over the declared members: the clock, the keys, and the agents in the order of the members
+pub record Facts : Type 0 where
+  pub clock : ℕ
+  pub keys : Keys
+  pub members : List Member
+  pub agents : List AgentState
+
+-- the keys after an event of this moment
+abbrev pub keys_at : ℕ → Keys → Kind → Keys
+keys_at now known (kinds.Store (stores.Granted by txn)) = keys_after known now by.id txn
+keys_at now known (kinds.Store (stores.Expired key holder)) = without_key known key
+keys_at now known _ = known
+
+abbrev pub changed_at : List AgentState → ℕ → (AgentState → AgentState) → Option AgentState → List AgentState
+changed_at states number change None = states
+changed_at states number change (Some state) = slice_set states number (change state)
+
+-- the agents with that of one member changed
+abbrev pub changed : List AgentState → Member → (AgentState → AgentState) → List AgentState
+changed states member change = changed_at states member.id.number change (slice_get states member.id.number)
+
+-- the agents after an event of this moment
+abbrev pub agents_at : ℕ → List AgentState → Kind → List AgentState
+agents_at now states (kinds.Agent (agents.Woken member)) = changed states member (λ state. record state { next_turn = record { 0 = now + loop_wait } })
+agents_at now states (kinds.Agent (agents.Suspended member)) = changed states member (λ state. record state { held = true })
+agents_at now states _ = states
+
+-- what one more event leaves
+abbrev pub after : Facts → Kind → Facts
+after facts kind = record {
+  clock = now_after facts.clock kind;
+  keys = keys_at (now_after facts.clock kind) facts.keys kind;
+  members = facts.members;
+  agents = agents_at (now_after facts.clock kind) facts.agents kind;
+}
+
+-- what these events leave
+abbrev pub after_all : Facts → List Event → Facts
+after_all facts [] = facts
+after_all facts (event ∷ events) = after_all (after facts event.kind) events
+
+-- what there is before the first event, over members of these names
+abbrev pub start_of : List Name → Facts
+start_of names = record { clock = 0; keys = no_keys; members = members_from 0 names; agents = agents_from 0 names }
+
+-- a world is as a book over these members says
+pub record StandsFor (names : List Name) (book : List Event) (world : Facts) : Type 0 where
+  pub is : world ≡ after_all (start_of names) book

@@ -1,0 +1,4 @@
+pub mod Clock
+pub mod Facts
+pub mod Members
+pub mod Text

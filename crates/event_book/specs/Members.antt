@@ -1,0 +1,26 @@
+-- The declared members with their numbers.
+use Rattle.std.specs.Prelude.{ℕ, ◌+◌, List, [], ◌∷◌, Option, Some, None, false}
+use Rattle.pat_base.specs.declared.member_id.MemberId.{MemberId}
+use Rattle.pat_base.specs.declared.name.Name.{Name}
+use Rattle.pat_base.specs.declared.ticks.Ticks.{Ticks}
+use Rattle.pat_base.specs.MemberId.{member_of}
+use Rattle.event_book.specs.declared.member.Member.{Member}
+use Rattle.event_book.specs.declared.agent_state.AgentState.{AgentState}
+
+abbrev pub put_first : Option MemberId → Name → List Member → List Member
+put_first None name members = members
+put_first (Some id) name members = record { id = id; name = name } ∷ members
+
+-- the members of these names, the first of which has this number
+abbrev pub members_from : ℕ → List Name → List Member
+members_from number [] = []
+members_from number (name ∷ names) = put_first (member_of number) name (members_from (number + 1) names)
+
+-- an agent that isn't held, with its first turn at this moment
+abbrev pub waiting_until : ℕ → AgentState
+waiting_until moment = record { next_turn = record { 0 = moment }; held = false }
+
+-- the agents of these names before the first event: member number i has its first turn at tick i + 1
+abbrev pub agents_from : ℕ → List Name → List AgentState
+agents_from number [] = []
+agents_from number (name ∷ names) = waiting_until (number + 1) ∷ agents_from (number + 1) names

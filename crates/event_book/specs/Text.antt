@@ -1,0 +1,46 @@
+-- The printed text of a book.
+use Rattle.std.specs.Prelude.{ℕ, List, [], ◌∷◌, ◌++◌, Option, Some, None, codes}
+use Rattle.std.specs.Fmt.{decimal}
+use Rattle.pat_base.specs.Name.{name_bytes}
+use Rattle.lease_store.specs.Words.{key_text, request_text, finding_text}
+use Rattle.lease_store.specs.declared.transaction.Txn.TheVariants.{Create, Renew}
+use Rattle.event_book.specs.declared.event.Event.{Event}
+use Rattle.event_book.specs.declared.event.Kind.{Kind}
+use Rattle.event_book.specs.declared.event.Kind.TheVariants as kinds
+use Rattle.event_book.specs.declared.event.StoreEvent.{StoreEvent}
+use Rattle.event_book.specs.declared.event.StoreEvent.TheVariants as stores
+use Rattle.event_book.specs.declared.event.AgentEvent.{AgentEvent}
+use Rattle.event_book.specs.declared.event.AgentEvent.TheVariants as agents
+
+abbrev pub store_line : ℕ → StoreEvent → Option (List ℕ)
+store_line tick (stores.Granted by (Create ttl)) = Some (decimal tick ++ (codes " " ++ (name_bytes by.name ++ codes " takes the leader key\n")))
+store_line tick (stores.Granted by (Renew revision ttl)) = None
+store_line tick (stores.Refused by txn key found) =
+    Some (decimal tick ++ (codes " the " ++ (request_text txn ++ (codes " of " ++ (name_bytes by.name ++ (codes " is refused, " ++ (key_text key ++ (codes " " ++ (finding_text found ++ codes "\n")))))))))
+store_line tick (stores.Expired key holder) = Some (decimal tick ++ (codes " the " ++ (key_text key ++ (codes " key of " ++ (name_bytes holder.name ++ codes " expires\n")))))
+
+abbrev pub agent_line : ℕ → AgentEvent → Option (List ℕ)
+agent_line tick (agents.Woken agent) = None
+agent_line tick (agents.Suspended agent) = Some (decimal tick ++ (codes " " ++ (name_bytes agent.name ++ codes " is held\n")))
+
+abbrev pub kind_line : ℕ → Kind → Option (List ℕ)
+kind_line tick kinds.Tick = None
+kind_line tick (kinds.Store happening) = store_line tick happening
+kind_line tick (kinds.Agent happening) = agent_line tick happening
+
+-- the line of an event with its line feed, if it has one
+abbrev pub line_of : Event → Option (List ℕ)
+line_of event = kind_line event.tick.0 event.kind
+
+abbrev pub bytes_or_none : Option (List ℕ) → List ℕ
+bytes_or_none None = []
+bytes_or_none (Some line) = line
+
+-- the lines of these events, in order
+abbrev pub lines_of : List Event → List ℕ
+lines_of [] = []
+lines_of (event ∷ events) = bytes_or_none (line_of event) ++ lines_of events
+
+-- the closing summary of a run that ended at this moment
+abbrev pub summary_at : ℕ → List ℕ
+summary_at moment = codes "end at " ++ (decimal moment ++ codes "\n")

@@ -1,0 +1,12 @@
+//! The book of a run: the list of what happened, what it leaves, and how it is printed.
+#![tactic(auto)]
+
+mod agent_state;
+mod event;
+mod member;
+mod printing;
+
+pub use agent_state::AgentState;
+pub use event::{AgentEvent, Event, Kind, StoreEvent};
+pub use member::Member;
+pub use printing::text;

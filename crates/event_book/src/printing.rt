@@ -1,0 +1,60 @@
+//! The printed line of an event.
+ghost use Rattle.std.specs.Prelude.{◌≡◌, IfOk, option_map, string_bytes};
+ghost use Rattle.event_book.specs.Text.{line_of, store_line, agent_line};
+
+use crate::{AgentEvent, Event, Kind, StoreEvent};
+use lease_store::Txn;
+use pat_base::Ticks;
+use std::alloc::{AllocError, Global};
+
+/// The printed line of an event with its line feed. `None` exactly for the events that have no line. It fails only for
+/// want of memory.
+pub fn text(alloc: Global, event: &Event) -> Result<Option<String>, AllocError>
+    ensures { IfOk result (λ line. option_map string_bytes line ≡ line_of event.now) }
+{
+    match &event.kind {
+        Kind::Tick => Ok(None),
+        Kind::Store(happening) => store_line(alloc, event.tick, happening),
+        Kind::Agent(happening) => agent_line(alloc, event.tick, happening),
+    }
+}
+
+fn store_line(alloc: Global, tick: Ticks, event: &StoreEvent) -> Result<Option<String>, AllocError>
+    ensures { IfOk result (λ line. option_map string_bytes line ≡ store_line tick.0 event.now) }
+{
+    match *event {
+        StoreEvent::Granted {
+            by,
+            txn: Txn::Create { .. },
+        } => {
+            let name = by.name;
+            Ok(Some(format!(in alloc; "{tick} {name} takes the leader key\n")?))
+        }
+        StoreEvent::Granted { .. } => Ok(None),
+        StoreEvent::Refused {
+            by,
+            txn,
+            key,
+            found,
+        } => {
+            let name = by.name;
+            Ok(Some(format!(in alloc; "{tick} the {txn} of {name} is refused, {key} {found}\n")?))
+        }
+        StoreEvent::Expired { key, holder } => {
+            let name = holder.name;
+            Ok(Some(format!(in alloc; "{tick} the {key} key of {name} expires\n")?))
+        }
+    }
+}
+
+fn agent_line(alloc: Global, tick: Ticks, event: &AgentEvent) -> Result<Option<String>, AllocError>
+    ensures { IfOk result (λ line. option_map string_bytes line ≡ agent_line tick.0 event.now) }
+{
+    match *event {
+        AgentEvent::Woken { .. } => Ok(None),
+        AgentEvent::Suspended { agent } => {
+            let name = agent.name;
+            Ok(Some(format!(in alloc; "{tick} {name} is held\n")?))
+        }
+    }
+}
