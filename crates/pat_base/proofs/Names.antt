@@ -1,7 +1,10 @@
 -- A name is text, and its bytes tell which one it is.
-use Rattle.std.proofs.Common.{◌≡◌, ℕ, ◌≤◌, ◌<◌, ◌&&◌, nat_le, nat_lt, Bool, true, false, List, [], ◌∷◌, length, take, zero, suc, arith, IsTrue, Option, Some, None, refl, ◌∙◌, sym, ap, get_or, subst}
+use Rattle.std.proofs.Common.{◌≡◌, ℕ, ◌≤◌, ◌<◌, ◌&&◌, nat_le, nat_lt, Bool, true, false, List, [], ◌∷◌, length, take, zero, suc, arith, IsTrue, Option, Some, None, refl, ◌∙◌, sym, ap, get_or, subst, eq-eqb, ◌==◌}
 use Rattle.std.specs.List.{list_all}
-use Rattle.std.specs.Str.{IsAscii}
+use Rattle.std.specs.Bool.{Decides}
+use Rattle.std.specs.Str.{IsAscii, bytes_eq}
+use Rattle.std.proofs.lemmas.Bool.{eqb-true}
+use Rattle.std.proofs.lemmas.Slice.Eq.{bytes_eq-Decides}
 use Rattle.std.proofs.lemmas.Bool.Decides.{nat_tests}
 use Rattle.std.proofs.lemmas.List.{length-take-le}
 use Rattle.std.proofs.lemmas.Str.Ascii.{IsAscii-nil}
@@ -92,3 +95,17 @@ texted bytes false is name e = cc
 pub name_of-text : (bytes : List ℕ) (name : Name) → name_of bytes ≡ Some name → name_bytes name ≡ bytes
 unfolding name_of
 name_of-text bytes name e = texted bytes (is_name bytes) refl name e
+
+both-true : (a b : Bool) → a ≡ true → b ≡ true → (a && b) ≡ true
+both-true a b x y = rw (x, y) refl
+
+-- the derived `==` says whether two names are one
+pub same_fields-Decides : (a b : Name) → Decides (bytes_eq a.bytes b.bytes && (a.len == b.len)) (a ≡ b)
+same_fields-Decides a b = (
+  (λ e. same-parts a b
+      ((bytes_eq-Decides a.bytes b.bytes).0 (and-left (bytes_eq a.bytes b.bytes) (a.len == b.len) e))
+      (eqb-true a.len b.len (and-right (bytes_eq a.bytes b.bytes) (a.len == b.len) e))),
+  (λ e. both-true (bytes_eq a.bytes b.bytes) (a.len == b.len)
+      ((bytes_eq-Decides a.bytes b.bytes).1 (ap (λ (n : Name). n.bytes) e))
+      (eq-eqb a.len b.len (ap (λ (n : Name). n.len) e))),
+)
