@@ -7,7 +7,7 @@ use Rattle.pat_base.specs.declared.name.Name.{Name}
 abbrev pub name_bytes : Name → List ℕ
 name_bytes name = take name.len name.bytes
 
-name_by : (bytes : List ℕ) (test : Bool) → is_name bytes ≡ test → Option Name
+unfoldable pub name_by : (bytes : List ℕ) (test : Bool) → is_name bytes ≡ test → Option Name
 name_by bytes true is = Some (record {
   bytes = padded bytes;
   len = length bytes;
@@ -18,6 +18,6 @@ name_by bytes true is = Some (record {
 })
 name_by bytes false is = None
 
--- the name of these bytes, if they are one
-pub name_of : List ℕ → Option Name
+-- the name of these bytes, if they are one; laws about it stand in proofs/Names.antt
+unfoldable pub name_of : List ℕ → Option Name
 name_of bytes = name_by bytes (is_name bytes) refl

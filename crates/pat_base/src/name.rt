@@ -22,12 +22,13 @@ pub struct Name {
 impl Name {
     ghost use Rattle.std.specs.Prelude.{◌≡◌, ◌↔◌, IsSome, IfSome, IsTrue};
     ghost use Rattle.pat_base.specs.NameText.{is_name};
-    ghost use Rattle.pat_base.specs.Name.{name_bytes};
+    ghost use Rattle.pat_base.specs.Name.{name_bytes, name_of};
 
     /// The name that these bytes are. `None` exactly where they are none.
     pub fn read(bytes: &[u8]) -> Option<Name>
         ensures found { IsSome result ↔ IsTrue (is_name bytes.now) }
         ensures text { IfSome result (λ name. name_bytes name ≡ bytes.now) }
+        ensures value { result ≡ name_of bytes.now }
     {
         if is_name(bytes) {
             Some(made(bytes))

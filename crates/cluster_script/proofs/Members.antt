@@ -1,0 +1,67 @@
+-- Members by number and in a table.
+use Rattle.std.proofs.Common.{◌≡◌, ℕ, ◌<◌, ◌&&◌, ◌==◌, ◌↔◌, Bool, true, false, cond, nat_lt, List, [], ◌∷◌, ◌++◌, length, slice_get, Option, Some, None, IsSome, is_some, IfSome, arith, refl, ap, subst, zero, suc}
+use Rattle.std.specs.Bool.{Decides}
+use Rattle.std.specs.Str.{bytes_eq}
+use Rattle.std.specs.Map.{keys_of}
+use Rattle.std.proofs.lemmas.Bool.{ltb-true}
+use Rattle.std.proofs.lemmas.Bool.Decides.{nat_tests}
+use Rattle.std.proofs.Math.Bridge.{le_prop}
+use Rattle.indexmap.specs.IndexMap.{insert_entry}
+use Rattle.pat_base.specs.Name.{name_bytes}
+use Rattle.pat_base.specs.declared.name.Name.{Name}
+use Rattle.pat_base.specs.declared.member_id.MemberId.{MemberId}
+use Rattle.cluster_script.specs.Lines.{one_more}
+use Rattle.cluster_script.specs.Reading.{member_of, member_by, place_of, with_member}
+use Rattle.cluster_script.specs.Script.{ScriptText}
+use Rattle.cluster_script.proofs.Places.{same_text}
+
+-- a member is its number
+pub same_member : (a b : MemberId) → a.number ≡ b.number → a ≡ b
+same_member a b e =
+    subst
+    (λ (n : ℕ). (below : n < 16) → ◌≡◌ {A = MemberId} a (record { number = n; below = below }))
+    e
+    (λ below. ap (λ (x : a.number < 16). record { number = a.number; below = x }) (le_prop a.below below))
+    b.below
+
+made : (n : ℕ) (test : Bool) (is : nat_lt n 16 ≡ test) (r : Option MemberId) → IsSome r ↔ (n < 16) → IfSome r (λ m. m.number ≡ n) → r ≡ member_by n test is
+unfolding member_by
+made n true is None found value = let no : IsSome {T = MemberId} None = found.1 (ltb-true n 16 is) in cc
+made n true is (Some m) found value = ap Some (same_member m _ value)
+made n false is None found value = refl
+made n false is (Some m) found value = let small : n < 16 = found.0 refl in absurd (grind (arith, nat_tests))
+
+pub member_of-is : (n : ℕ) (r : Option MemberId) → IsSome r ↔ (n < 16) → IfSome r (λ m. m.number ≡ n) → r ≡ member_of n
+unfolding member_of
+member_of-is n r found value = made n (nat_lt n 16) refl r found value
+
+pub slice_get-keys_of : {X : Type 0} (es : List (Name × X)) (i : ℕ) (name : Name) (x : X) → slice_get es i ≡ Some (name, x) → slice_get (keys_of es) i ≡ Some name
+slice_get-keys_of [] i name x e = cc
+slice_get-keys_of (e ∷ es) zero name x h = let same : e ≡ (name, x) = cc in ap Some (ap (λ (p : Name × _). p.0) same)
+slice_get-keys_of (e ∷ es) (suc i) name x h = slice_get-keys_of es i name x h
+
+more-none : (o : Option ℕ) → one_more o ≡ None → o ≡ None
+more-none None e = refl
+more-none (Some n) e = cc
+
+last-step : {X : Type 0} (t : Bool) (e : Name × X) (es new : List (Name × X)) (name : Name) (v : X) (o : Option ℕ) → cond t (Some 0) (one_more o) ≡ None → (o ≡ None → keys_of new ≡ keys_of es ++ name ∷ []) → keys_of (cond t ((e.0, v) ∷ es) (e ∷ new)) ≡ e.0 ∷ (keys_of es ++ name ∷ [])
+last-step true e es new name v o h step = cc
+last-step false e es new name v o h step = ap (λ t. e.0 ∷ t) (step (more-none o h))
+
+-- a name that isn't there is put last
+pub keys-insert_entry : {X : Type 0} (p : Name → Name → Bool) (name : Name) (v : X) → ((m : Name) → Decides (p name m) (name ≡ m)) → (es : List (Name × X)) → place_of (keys_of es) name ≡ None → keys_of (insert_entry p es name v) ≡ keys_of es ++ name ∷ []
+keys-insert_entry p name v h [] none = refl
+keys-insert_entry p name v h (e ∷ es) none =
+    rw (same_text (p name) name h e.0) (last-step (bytes_eq (name_bytes e.0) (name_bytes name)) e es (insert_entry p es name v) name v (place_of (keys_of es) name) none (λ n. keys-insert_entry p name v h es n))
+
+test-true : (n k : ℕ) → n < 16 → k ≡ 0 → (nat_lt n 16 && (k == 0)) ≡ true
+test-true n k a b = grind (arith, nat_tests)
+
+-- one more member
+pub with_member-new : (s : ScriptText) (name : Name) (found : Option Name) → found ≡ Some name → place_of s.head.members name ≡ None → length s.head.members < 16 → length s.body ≡ 0
+    → with_member s found ≡ Some (record s { head = record s.head { members = s.head.members ++ name ∷ [] } })
+with_member-new s name found is none few empty = rw (is, none, test-true (length s.head.members) (length s.body) few empty) refl
+
+pub absent : {X : Type 0} (o : Option X) → is_some o ≡ false → o ≡ None
+absent None e = refl
+absent (Some x) e = cc

@@ -1,0 +1,135 @@
+-- Numbers and their digits.
+use Rattle.std.proofs.Common.{◌≡◌, ℕ, ◌+◌, ◌-◌, ◌*◌, ◌/◌, ◌%◌, ◌^◌, ◌≤◌, ◌<◌, ◌==◌, nat_lt, ◌&&◌, true, false, List, [], ◌∷◌, ◌++◌, length, Option, Some, None, refl, ◌∙◌, ap, sym, zero, suc, arith, append_assoc, append-nil}
+use Rattle.std.specs.Fmt.{decimal}
+use Rattle.std.proofs.lemmas.Fmt.{decimal_by_steps, decimal_step, decimal_digit}
+use Rattle.std.proofs.lemmas.Bool.Decides.{nat_tests}
+use Rattle.cluster_script.specs.Lines.{on_some}
+use Rattle.cluster_script.specs.Numbers.{number, digits_from, digit_on, is_digit}
+use Rattle.cluster_script.proofs.LineLaws.{is_feedless, is_feedless-append}
+use Rattle.cluster_script.proofs.Options.{some_is, none_is, on_some-Some, cond-Some, cond-refuses}
+
+test-ok : (b v : ℕ) → 48 ≤ b → b ≤ 57 → v < 2 ^ 64 → (is_digit b && nat_lt v (2 ^ 64)) ≡ true
+test-ok b v low high fits = grind (arith, nat_tests)
+
+big : (n : ℕ) → 10 ≤ n → n / 10 ≡ 0 → ⊥
+big n h e = omega arith
+
+digit-ok : (n d : ℕ) → d < 10 → n * 10 + d < 2 ^ 64 → digit_on n (48 + d) ≡ Some (n * 10 + d)
+digit-ok n d small fits =
+    let back : (48 + d) - 48 ≡ d = omega arith in
+    let test : (is_digit (48 + d) && nat_lt (n * 10 + ((48 + d) - 48)) (2 ^ 64)) ≡ true = rw back (test-ok (48 + d) (n * 10 + d) (omega arith) (omega arith) fits) in
+    rw (test, back) refl
+
+digits-on : (o : Option ℕ) (ds : List ℕ) (d m : ℕ) → ((k : ℕ) → o ≡ Some k → on_some (Some k) (λ m'. digits_from m' ds) ≡ Some m → digits_from k (ds ++ ((48 + d) ∷ [])) ≡ Some (m * 10 + d)) → on_some o (λ m'. digits_from m' ds) ≡ Some m → on_some o (λ m'. digits_from m' (ds ++ ((48 + d) ∷ []))) ≡ Some (m * 10 + d)
+digits-on None ds d m step e = cc
+digits-on (Some k) ds d m step e = step k refl e
+
+digits-more : (n m : ℕ) (ds : List ℕ) (d : ℕ) → digits_from n ds ≡ Some m → d < 10 → m * 10 + d < 2 ^ 64 → digits_from n (ds ++ ((48 + d) ∷ [])) ≡ Some (m * 10 + d)
+digits-more n m [] d e small fits =
+    let same : n ≡ m = some_is n m e in
+    rw (same, digit-ok m d small fits) refl
+digits-more n m (c ∷ cs) d e small fits = digits-on (digit_on n c) cs d m (λ k _ h. digits-more k m cs d h small fits) e
+
+-- the digits of n, the first of which is 0 only for 0
+record Digits (n : ℕ) (ds : List ℕ) : Type 0 where
+  pub first : ℕ
+  pub others : List ℕ
+  pub is : ds ≡ first ∷ others
+  pub value : digits_from 0 ds ≡ Some n
+  pub zero_only : first ≡ 48 → n ≡ 0
+  pub short : n < 10 → others ≡ []
+
+one : (n : ℕ) → n < 10 → n < 2 ^ 64 → Digits n ((48 + n) ∷ [])
+one n h fits = record {
+  first = 48 + n;
+  others = [];
+  is = refl;
+  value = rw (digit-ok 0 n h (omega arith)) (ap Some (omega arith));
+  zero_only = λ e. omega arith;
+  short = λ _. refl;
+}
+
+more : (n : ℕ) (ds : List ℕ) → 10 ≤ n → (n / 10 < 2 ^ 64 → Digits (n / 10) ds) → n < 2 ^ 64 → Digits n (ds ++ ((48 + n % 10) ∷ []))
+more n ds h front fits =
+    let p = front (omega arith) in
+    let whole : (n / 10) * 10 + n % 10 ≡ n = omega arith in
+    let value : digits_from 0 (ds ++ ((48 + n % 10) ∷ [])) ≡ Some ((n / 10) * 10 + n % 10) = digits-more 0 (n / 10) ds (n % 10) p.value (omega arith) (omega arith) in
+    record {
+      first = p.first;
+      others = p.others ++ ((48 + n % 10) ∷ []);
+      is = ap (λ t. t ++ ((48 + n % 10) ∷ [])) p.is;
+      value = value ∙ ap Some whole;
+      zero_only = λ e. absurd (big n h (p.zero_only e));
+      short = λ small. absurd (omega arith);
+    }
+
+decimal-digits : (n : ℕ) → n < 2 ^ 64 → Digits n (decimal n)
+decimal-digits n fits = decimal_by_steps (λ n ds. n < 2 ^ 64 → Digits n ds) one more n fits fits
+
+no-lead : (first len : ℕ) → (first ≡ 48 → len ≡ 0) → ((first == 48) && nat_lt 0 len) ≡ false
+no-lead first len h = grind (arith, nat_tests)
+
+number-of : (n : ℕ) (ds : List ℕ) → Digits n ds → number ds ≡ Some n
+number-of n ds p =
+    let alone : p.first ≡ 48 → length p.others ≡ 0 = λ e. ap length (p.short (omega (arith, p.zero_only e))) in
+    let test : ((p.first == 48) && nat_lt 0 (length p.others)) ≡ false = no-lead p.first (length p.others) alone in
+    ap number p.is ∙ (rw test (ap (digits_from 0) (sym p.is) ∙ p.value))
+
+-- what is written is read again
+pub number-decimal : (n : ℕ) → n < 2 ^ 64 → number (decimal n) ≡ Some n
+number-decimal n fits = number-of n (decimal n) (decimal-digits n fits)
+
+-- a digit that was read
+record IsDigit (n b m : ℕ) : Type 0 where
+  pub low : 48 ≤ b
+  pub high : b ≤ 57
+  pub value : n * 10 + (b - 48) ≡ m
+  pub fits : m < 2 ^ 64
+
+digit : (n b m v : ℕ) → v ≡ n * 10 + (b - 48) → (is_digit b && nat_lt v (2 ^ 64)) ≡ true → v ≡ m → IsDigit n b m
+digit n b m v is test e = record { low = grind (arith, nat_tests); high = grind (arith, nat_tests); value = omega arith; fits = grind (arith, nat_tests) }
+
+digit_on-IsDigit : (n b m : ℕ) → digit_on n b ≡ Some m → IsDigit n b m
+digit_on-IsDigit n b m e =
+    let p = cond-Some (is_digit b && nat_lt (n * 10 + (b - 48)) (2 ^ 64)) (Some (n * 10 + (b - 48))) m e in
+    digit n b m (n * 10 + (b - 48)) refl p.0 (some_is (n * 10 + (b - 48)) m p.1)
+
+one-more : (n b m : ℕ) → 0 < n → IsDigit n b m → decimal m ≡ decimal n ++ b ∷ []
+one-more n b m some d =
+    let front : m / 10 ≡ n = omega (arith, d.low, d.high, d.value) in
+    let last : 48 + m % 10 ≡ b = omega (arith, d.low, d.high, d.value) in
+    decimal_step m (omega (arith, d.value)) d.fits ∙ rw (front, last) refl
+
+digits : (n m : ℕ) (bs : List ℕ) → 0 < n → digits_from n bs ≡ Some m → decimal m ≡ decimal n ++ bs
+digits n m [] some e = ap decimal (sym (some_is n m e)) ∙ sym (append-nil (decimal n))
+digits n m (b ∷ bs) some e =
+    let p = on_some-Some (digit_on n b) (λ k. digits_from k bs) m e in
+    let d = digit_on-IsDigit n b p.0 p.1 in
+    digits p.0 m bs (omega (arith, d.value)) p.2 ∙ ap (λ t. t ++ bs) (one-more n b p.0 some d) ∙ append_assoc (decimal n) (b ∷ []) bs
+
+first : (b d m : ℕ) (bs : List ℕ) → ((b == 48) && nat_lt 0 (length bs)) ≡ false → IsDigit 0 b d → digits_from d bs ≡ Some m → b ∷ bs ≡ decimal m
+first b zero m [] test is e =
+    let z : m ≡ 0 = sym (some_is 0 m e) in
+    let same : b ≡ 48 + 0 = omega (arith, is.low, is.value) in
+    rw (z, same) (sym (decimal_digit 0 (omega arith)))
+first b zero m (c ∷ cs) test is e =
+    let same : b ≡ 48 = omega (arith, is.low, is.value) in
+    absurd (grind (arith, nat_tests))
+first b (suc k) m bs test is e =
+    let same : 48 + suc k ≡ b = omega (arith, is.low, is.value) in
+    sym (digits (suc k) m bs (omega arith) e ∙ ap (λ t. t ++ bs) (decimal_digit (suc k) (omega (arith, is.high, is.value)) ∙ ap (λ t. t ∷ []) same))
+
+-- what is read is written so
+pub number-is : (bytes : List ℕ) (n : ℕ) → number bytes ≡ Some n → bytes ≡ decimal n
+number-is [] n e = absurd (none_is n e)
+number-is (b ∷ bs) n e =
+    let p = cond-refuses ((b == 48) && nat_lt 0 (length bs)) (digits_from 0 (b ∷ bs)) n e in
+    let q = on_some-Some (digit_on 0 b) (λ k. digits_from k bs) n p.1 in
+    first b q.0 n bs p.0 (digit_on-IsDigit 0 b q.0 q.1) q.2
+
+a_digit : (d : ℕ) → is_feedless ((48 + d) ∷ []) ≡ true
+a_digit d = let other : ((48 + d) == 10) ≡ false = grind (arith, nat_tests) in rw other refl
+
+pub decimal-is_feedless : (n : ℕ) → n < 2 ^ 64 → is_feedless (decimal n) ≡ true
+decimal-is_feedless n fits =
+    decimal_by_steps (λ n ds. is_feedless ds ≡ true) (λ n h. a_digit n) (λ n ds h front. is_feedless-append ds ((48 + n % 10) ∷ []) front (a_digit (n % 10))) n fits

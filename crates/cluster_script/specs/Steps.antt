@@ -1,0 +1,24 @@
+-- The steps that the lines of a body are made of.
+use Rattle.std.specs.Prelude.{ℕ, ◌+◌, List, [], ◌∷◌, replicate}
+use Rattle.std.specs.List.{flat_map}
+use Rattle.cluster_script.specs.declared.line.Line.{Line}
+use Rattle.cluster_script.specs.declared.line.Line.TheVariants.{Run, Hold}
+use Rattle.cluster_script.specs.declared.line.Step.{Step}
+use Rattle.cluster_script.specs.declared.line.Step.TheVariants as steps
+
+-- a line 'run' is so many ticks, another is a step by itself
+abbrev pub steps_of_line : Line → List Step
+steps_of_line (Run n) = replicate n steps.Tick
+steps_of_line (Hold member) = steps.Hold member ∷ []
+
+abbrev pub steps_of : List Line → List Step
+steps_of body = flat_map steps_of_line body
+
+abbrev pub ticks_of_line : Line → ℕ
+ticks_of_line (Run n) = n
+ticks_of_line (Hold member) = 0
+
+-- the ticks of all lines
+abbrev pub total_ticks : List Line → ℕ
+total_ticks [] = 0
+total_ticks (line ∷ body) = ticks_of_line line + total_ticks body
