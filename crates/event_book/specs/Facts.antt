@@ -1,5 +1,5 @@
 -- What a book of events leaves.
-use Rattle.std.specs.Prelude.{ℕ, ◌≡◌, ◌+◌, true, List, [], ◌∷◌, Option, Some, None, slice_get, slice_set}
+use Rattle.std.specs.Prelude.{ℕ, ◌≡◌, ◌+◌, true, List, [], ◌∷◌, Option, Some, None, length, slice_get, slice_set}
 use Rattle.pat_base.specs.declared.name.Name.{Name}
 use Rattle.lease_store.specs.Settings.{loop_wait}
 use Rattle.lease_store.specs.Keys.{Keys, no_keys, keys_after, without_key}
@@ -56,7 +56,7 @@ after_all facts (event ∷ events) = after_all (after facts event.kind) events
 
 -- what there is before the first event, over members of these names
 abbrev pub start_of : List Name → Facts
-start_of names = record { clock = 0; keys = no_keys; members = members_from 0 names; agents = agents_from 0 names }
+start_of names = record { clock = 0; keys = no_keys; members = members_from 0 names; agents = agents_from 0 (length names) }
 
 -- a world is as a book over these members says
 pub record StandsFor (names : List Name) (book : List Event) (world : Facts) : Type 0 where

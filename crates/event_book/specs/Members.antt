@@ -1,5 +1,5 @@
 -- The declared members with their numbers.
-use Rattle.std.specs.Prelude.{ℕ, ◌+◌, List, [], ◌∷◌, Option, Some, None, false}
+use Rattle.std.specs.Prelude.{ℕ, ◌+◌, List, [], ◌∷◌, Option, Some, None, false, zero, suc}
 use Rattle.pat_base.specs.declared.member_id.MemberId.{MemberId}
 use Rattle.pat_base.specs.declared.name.Name.{Name}
 use Rattle.pat_base.specs.declared.ticks.Ticks.{Ticks}
@@ -20,7 +20,7 @@ members_from number (name ∷ names) = put_first (member_of number) name (member
 abbrev pub waiting_until : ℕ → AgentState
 waiting_until moment = record { next_turn = record { 0 = moment }; held = false }
 
--- the agents of these names before the first event: member number i has its first turn at tick i + 1
-abbrev pub agents_from : ℕ → List Name → List AgentState
-agents_from number [] = []
-agents_from number (name ∷ names) = waiting_until (number + 1) ∷ agents_from (number + 1) names
+-- so many agents before the first event, the first of which has this number: member number i has its first turn at tick i + 1
+abbrev pub agents_from : ℕ → ℕ → List AgentState
+agents_from number zero = []
+agents_from number (suc count) = waiting_until (number + 1) ∷ agents_from (number + 1) count

@@ -1,0 +1,48 @@
+-- A whole run: the lines of its book, and then the summary.
+use Rattle.std.proofs.Common.{◌≡◌, ℕ, ◌+◌, ◌-◌, ◌≤◌, ◌<◌, ◌++◌, List, [], ◌∷◌, length, map, Option, Result, Ok, Err, MatchResult, arith, refl, ◌∙◌, ap, sym, subst, length-append}
+use Rattle.std.proofs.lemmas.List.{length-map}
+use Rattle.pat_base.specs.Outside.{Grew, GrewByPrefix}
+use Rattle.pat_base.proofs.Contents.{Grew-Grew, Grew-part, GrewByPrefix-more}
+use Rattle.event_book.specs.Facts.{Facts, after_all, start_of}
+use Rattle.event_book.specs.Text.{lines_of, summary_at}
+use Rattle.cluster_script.specs.Script.{ScriptText, IsScript, head_lines, body_lines, member_line_text, line_text}
+use Rattle.cluster_script.specs.Steps.{steps_of, total_ticks}
+use Rattle.patroni_top.specs.declared.print_error.PrintError.{PrintError}
+use Rattle.patroni_top.specs.declared.print_error.PrintError.TheVariants.{Memory}
+use Rattle.patroni_top.specs.Next.{run_from}
+use Rattle.patroni_top.specs.Printing.{TakesAll}
+use Rattle.patroni_top.specs.Run.{run_of, output_of}
+use Rattle.patroni_top.specs.Sound.{HasRoomFor}
+
+body-short : (s : ScriptText) → IsScript s → length s.body ≤ 100000
+body-short s is = omega (arith, is.lines, length-append (head_lines s.head) (body_lines s.head s.body), length-map s.body (line_text s.head))
+
+-- no script brings a counter to its end
+pub has-room : (s : ScriptText) (world : Facts) → IsScript s → world ≡ start_of s.head.members → HasRoomFor world (total_ticks s.body + length s.body)
+has-room s world is start = rw start (record { clock = omega (arith, is.ticks, body-short s is); revision = omega (arith, is.ticks, body-short s is) })
+
+-- the world and the clock at the end are those of the book
+pub text-is : (s : ScriptText) (world new : Facts) (clock : ℕ) → world ≡ start_of s.head.members → new ≡ after_all world (run_from world (steps_of s.body)) → clock ≡ new.clock
+    → lines_of (run_from world (steps_of s.body)) ++ summary_at clock ≡ output_of s
+text-is s world new clock start state moment =
+    ap (λ n. lines_of (run_from world (steps_of s.body)) ++ summary_at n) (moment ∙ ap (λ f. f.clock) state)
+    ∙ ap (λ w. lines_of (run_from w (steps_of s.body)) ++ summary_at (after_all w (run_from w (steps_of s.body))).clock) start
+
+pub TakesAll-then : (Could Can CanThen : ℕ → Type 0) (X Y : Type 0) (first : Result X PrintError) (x : X) (second : Result Y PrintError) (xs ys : List ℕ)
+    → TakesAll Could Can first xs → first ≡ Ok x → TakesAll Can CanThen second ys → TakesAll Could CanThen second (xs ++ ys)
+TakesAll-then Could Can CanThen X Y first x second xs ys takes ok more = record {
+  room = λ n could fits.
+      let left : length xs ≤ n = omega (arith, length-append xs ys) in
+      let can : Can (n - length xs) = subst (λ (r : Result X PrintError). MatchResult r (λ _. Can (n - length xs)) (λ e. e ≡ Memory)) ok (takes.room n could left) in
+      let fits_too : length ys ≤ n - length xs = omega (arith, length-append xs ys) in
+      let e : (n - length xs) - length ys ≡ n - length (xs ++ ys) = omega (arith, length-append xs ys) in
+      subst (λ (k : ℕ). MatchResult second (λ _. CanThen k) (λ e. e ≡ Memory)) e (more.room (n - length xs) can fits_too);
+}
+
+pub TakesAll-early : (Could Can : ℕ → Type 0) (X Y : Type 0) (first : Result X PrintError) (final : Result Y PrintError) (e : PrintError) (xs ys : List ℕ)
+    → TakesAll Could Can first xs → first ≡ Err e → final ≡ Err e → TakesAll Could Can final (xs ++ ys)
+TakesAll-early Could Can X Y first final e xs ys takes err stops = record {
+  room = λ n could fits.
+      let wanting : e ≡ Memory = subst (λ (r : Result X PrintError). MatchResult r (λ _. Can (n - length xs)) (λ e. e ≡ Memory)) err (takes.room n could (omega (arith, length-append xs ys))) in
+      subst (λ (r : Result Y PrintError). MatchResult r (λ _. Can (n - length (xs ++ ys))) (λ e. e ≡ Memory)) (sym stops) wanting;
+}

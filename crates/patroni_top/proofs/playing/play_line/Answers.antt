@@ -1,0 +1,13 @@
+use Rattle.std.proofs.Common.{◌+◌, ap, arith}
+use Rattle.cluster_script.specs.Steps.{ticks_of_line}
+use Rattle.std.proofs.lemmas.Result.{on_ok_weaker}
+use Rattle.patroni_top.proofs.Played.{HasRoomFor-fewer}
+use Rattle.patroni_top.proofs.playing.play_line.Goals as goal
+
+pub returns-in-Run-clause-steps : goal.returns-in-Run-clause-steps
+returns-in-Run-clause-steps g c =
+    on_ok_weaker c.play_ticks.result
+    (λ steps more room.
+    let ticks = ap ticks_of_line c.in-Run.is in
+    steps more (HasRoomFor-fewer _ _ (c.in-Run.count + more) room (omega (arith, ticks))))
+    c.play_ticks.ensures.steps

@@ -1,0 +1,17 @@
+use Rattle.std.proofs.Common.{ℕ, ◌+◌, ◌-◌, replicate}
+use Rattle.event_book.specs.Facts.{Facts}
+use Rattle.cluster_script.specs.declared.line.Step.TheVariants as steps
+use Rattle.patroni_top.specs.Next.{run_from}
+use Rattle.patroni_top.specs.Sound.{HasRoomFor}
+use Rattle.patroni_top.proofs.Played.{Playing}
+use Rattle.patroni_top.proofs.playing.play_ticks.Given as goal
+
+-- so many ticks are left, with room for them and for what comes after
+pub record Ticking (start world : Facts) (count left : ℕ) (On : Type 0) : Type 0 where
+  pub steps : (more : ℕ) → HasRoomFor start (count + more) → HasRoomFor world (left + more)
+  pub playing : On
+
+abbrev pub invariant-loop-tick : goal.invariant-loop-tick
+invariant-loop-tick g l = Ticking l.fn.world l.world l.count (l.count - l.tick)
+    (Playing (g.K.Sink.content l.fn.out) (g.K.Sink.content l.out) (g.K.Sink.faults l.fn.out) (g.K.Sink.faults l.out) (g.K.Sink.can_take l.fn.out) (g.K.Sink.can_take l.out) l.fn.world l.world
+    (run_from l.fn.world (replicate l.count steps.Tick)) (run_from l.world (replicate (l.count - l.tick) steps.Tick)))

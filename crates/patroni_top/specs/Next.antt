@@ -1,0 +1,99 @@
+-- What happens in a step.
+use Rattle.std.specs.Prelude.{ℕ, ◌+◌, ◌==◌, ◌&&◌, not, nat_le, Bool, if◌then◌else◌, List, [], ◌∷◌, ◌++◌, Option, Some, None, slice_get, length, zero, suc}
+use Rattle.pat_base.specs.declared.member_id.MemberId.{MemberId}
+use Rattle.lease_store.specs.declared.key.Held.{Held}
+use Rattle.lease_store.specs.declared.key.Key.TheVariants.{Leader}
+use Rattle.lease_store.specs.declared.transaction.Txn.{Txn}
+use Rattle.lease_store.specs.declared.transaction.Txn.TheVariants.{Create, Renew}
+use Rattle.lease_store.specs.declared.transaction.StoreRefusal.{StoreRefusal}
+use Rattle.lease_store.specs.declared.transaction.StoreRefusal.TheVariants.{Mismatch}
+use Rattle.lease_store.specs.Keys.{key_at, decision_on, dropped_holder}
+use Rattle.lease_store.specs.Settings.{ttl}
+use Rattle.event_book.specs.declared.event.Event.{Event}
+use Rattle.event_book.specs.declared.event.Kind.{Kind}
+use Rattle.event_book.specs.declared.event.Kind.TheVariants as kinds
+use Rattle.event_book.specs.declared.event.StoreEvent.TheVariants.{Granted, Refused, Expired}
+use Rattle.event_book.specs.declared.event.AgentEvent.TheVariants.{Woken, Suspended}
+use Rattle.event_book.specs.declared.member.Member.{Member}
+use Rattle.event_book.specs.declared.agent_state.AgentState.{AgentState}
+use Rattle.event_book.specs.Facts.{Facts, after, after_all}
+use Rattle.cluster_script.specs.declared.line.Step.{Step}
+use Rattle.cluster_script.specs.declared.line.Step.TheVariants as steps
+
+-- the events of these kinds, one after another, each at its moment
+abbrev pub stamped : Facts → List Kind → List Event
+stamped facts [] = []
+stamped facts (kind ∷ more) = record { tick = record { 0 = (after facts kind).clock }; kind = kind } ∷ stamped (after facts kind) more
+
+-- what a member asks for on reading the leader key: an absent key for itself, its own for longer, of another's nothing
+abbrev pub request_on : Member → Option Held → Option Txn
+request_on member None = Some (Create (record { 0 = ttl }))
+request_on member (Some held) = if held.holder.number == member.id.number then Some (Renew held.revision (record { 0 = ttl })) else None
+
+-- the store's decision on a request, as an event
+abbrev pub decided : Member → Txn → Option StoreRefusal → Kind
+decided by txn None = kinds.Store (Granted by txn)
+decided by txn (Some (Mismatch key found)) = kinds.Store (Refused by txn key found)
+
+abbrev pub answered : Facts → Member → Option Txn → List Kind
+answered facts member None = []
+answered facts member (Some txn) = decided member txn (decision_on facts.keys facts.clock txn) ∷ []
+
+abbrev pub is_due : ℕ → AgentState → Bool
+is_due now state = not state.held && nat_le state.next_turn.0 now
+
+-- the member, where its agent has a turn at this moment
+abbrev pub due_member : ℕ → Option Member → Option AgentState → Option Member
+due_member now None state = None
+due_member now (Some member) None = None
+due_member now (Some member) (Some state) = if is_due now state then Some member else None
+
+-- in its turn a member reads the leader key, and the store decides on what it asks for
+abbrev pub turn_of : Facts → Option Member → List Kind
+turn_of facts None = []
+turn_of facts (Some member) = kinds.Agent (Woken member) ∷ answered facts member (request_on member (key_at facts.keys facts.clock Leader))
+
+-- the turn of the member at a place, if it is due
+abbrev pub turn_at : Facts → ℕ → List Event
+turn_at facts place = stamped facts (turn_of facts (due_member facts.clock (slice_get facts.members place) (slice_get facts.agents place)))
+
+-- the turns of so many members from a place on, in script order
+abbrev pub turns : Facts → ℕ → ℕ → List Event
+turns facts place zero = []
+turns facts place (suc count) = turn_at facts place ++ turns (after_all facts (turn_at facts place)) (place + 1) count
+
+abbrev pub declared_member : List Member → Option MemberId → Option Member
+declared_member members None = None
+declared_member members (Some id) = slice_get members id.number
+
+abbrev pub expiry_of : Option Member → List Kind
+expiry_of None = []
+expiry_of (Some holder) = kinds.Store (Expired Leader holder) ∷ []
+
+-- the leader key is dropped where it has expired
+abbrev pub expiry_in : Facts → List Kind
+expiry_in facts = expiry_of (declared_member facts.members (dropped_holder facts.keys facts.clock))
+
+-- the clock grows by one, and what has expired is dropped
+abbrev pub ticked : Facts → List Event
+ticked facts = stamped facts (kinds.Tick ∷ expiry_in (after facts kinds.Tick))
+
+abbrev pub held_of : Option Member → List Kind
+held_of None = []
+held_of (Some member) = kinds.Agent (Suspended member) ∷ []
+
+-- the agent of a member that isn't held becomes held
+abbrev pub hold_of : Option Member → Option AgentState → List Kind
+hold_of None state = []
+hold_of (Some member) None = []
+hold_of (Some member) (Some state) = if state.held then [] else kinds.Agent (Suspended member) ∷ []
+
+-- the events of a step
+abbrev pub next_events : Facts → Step → List Event
+next_events facts steps.Tick = ticked facts ++ turns (after_all facts (ticked facts)) 0 (length facts.members)
+next_events facts (steps.Hold member) = stamped facts (hold_of (slice_get facts.members member.number) (slice_get facts.agents member.number))
+
+-- the events of these steps, one after another
+abbrev pub run_from : Facts → List Step → List Event
+run_from facts [] = []
+run_from facts (step ∷ more) = next_events facts step ++ run_from (after_all facts (next_events facts step)) more

@@ -1,0 +1,15 @@
+//! The run of a script: from the words and the bytes that come in to the bytes that go out.
+//!
+//! `run` is all that the program does. The world is a private part here until it has a crate of its own.
+#![tactic(auto)]
+
+mod playing;
+mod print_error;
+mod printing;
+mod reading;
+mod status;
+mod top;
+mod world;
+
+pub use status::Status;
+pub use top::run;

@@ -1,0 +1,132 @@
+//! Steps, and what they print.
+ghost use Rattle.std.specs.Prelude.{ℕ, ◌≡◌, ◌<◌, ◌≤◌, ◌+◌, ◌∷◌, [], length, OnOk, OnErr, IsErrOf, replicate, slice_get, Some};
+ghost use Rattle.pat_base.specs.Outside.{Grew, GrewByPrefix, Rose};
+ghost use Rattle.event_book.specs.Facts.{after_all};
+ghost use Rattle.event_book.specs.Text.{lines_of};
+ghost use Rattle.cluster_script.specs.Steps.{steps_of_line, steps_of, ticks_of_line, total_ticks};
+ghost use Rattle.patroni_top.specs.Next.{next_events, run_from};
+ghost use Rattle.patroni_top.specs.Printing.{TakesAll};
+ghost use Rattle.patroni_top.specs.Run.{output_of};
+ghost use Rattle.patroni_top.specs.Sound.{HasRoomFor};
+
+use crate::print_error::PrintError;
+use crate::printing::{print_events, print_summary};
+use crate::world::World;
+use cluster_script::{Line, Script, Step};
+use event_book::Event;
+use pat_base::Sink;
+use std::alloc::Global;
+
+/// Takes the steps of a script from its head on, and prints what happens and the closing summary.
+pub fn play<K: Sink>(alloc: Global, script: &Script, out: &mut K) -> Result<(), PrintError>
+    ensures ok { OnOk result (Grew (K.content out.old) (K.content out.new) (output_of script.now)) }
+    ensures part { OnErr result (GrewByPrefix (K.content out.old) (K.content out.new) (output_of script.now)) }
+    ensures write { IsErrOf result PrintError.Write → Rose (K.faults out.old) (K.faults out.new) }
+    ensures grows { K.faults out.old ≤ K.faults out.new }
+    ensures room { TakesAll (K.can_take out.old) (K.can_take out.new) result (output_of script.now) }
+{
+    let mut world = World::new(alloc, script.head())?;
+    play_body(alloc, script, &mut world, out)?;
+    print_summary(alloc, world.clock(), out)
+}
+
+/// The lines of a body, one after another.
+fn play_body<K: Sink>(
+    alloc: Global,
+    script: &Script,
+    world: &mut World,
+    out: &mut K,
+) -> Result<(), PrintError>
+    requires { HasRoomFor world.old (total_ticks script.now.body + length script.now.body) }
+    ensures state { OnOk result (world.new ≡ after_all world.old (run_from world.old (steps_of script.now.body))) }
+    ensures ok { OnOk result (Grew (K.content out.old) (K.content out.new) (lines_of (run_from world.old (steps_of script.now.body)))) }
+    ensures part { OnErr result (GrewByPrefix (K.content out.old) (K.content out.new) (lines_of (run_from world.old (steps_of script.now.body)))) }
+    ensures write { IsErrOf result PrintError.Write → Rose (K.faults out.old) (K.faults out.new) }
+    ensures grows { K.faults out.old ≤ K.faults out.new }
+    ensures room { TakesAll (K.can_take out.old) (K.can_take out.new) result (lines_of (run_from world.old (steps_of script.now.body))) }
+{
+    let mut events = Vec::new(alloc);
+    for place in 0..script.len() {
+        let line = line_at(script, place);
+        play_line(alloc, world, &line, &mut events, out)?;
+    }
+    Ok(())
+}
+
+fn line_at(script: &Script, place: usize) -> Line
+    requires { place < length script.now.body }
+    ensures { slice_get script.now.body place ≡ Some result }
+{
+    match script.get(place) {
+        Some(line) => *line,
+        None => unreachable!(),
+    }
+}
+
+/// A line of a body. The list is a buffer for the events of one step.
+fn play_line<K: Sink>(
+    alloc: Global,
+    world: &mut World,
+    line: &Line,
+    events: &mut Vec<Event>,
+    out: &mut K,
+) -> Result<(), PrintError>
+    requires { HasRoomFor world.old (ticks_of_line line.now + 1) }
+    ensures state { OnOk result (world.new ≡ after_all world.old (run_from world.old (steps_of_line line.now))) }
+    ensures steps { OnOk result ((steps : ℕ) → HasRoomFor world.old (ticks_of_line line.now + 1 + steps) → HasRoomFor world.new steps) }
+    ensures ok { OnOk result (Grew (K.content out.old) (K.content out.new) (lines_of (run_from world.old (steps_of_line line.now)))) }
+    ensures part { OnErr result (GrewByPrefix (K.content out.old) (K.content out.new) (lines_of (run_from world.old (steps_of_line line.now)))) }
+    ensures write { IsErrOf result PrintError.Write → Rose (K.faults out.old) (K.faults out.new) }
+    ensures grows { K.faults out.old ≤ K.faults out.new }
+    ensures room { TakesAll (K.can_take out.old) (K.can_take out.new) result (lines_of (run_from world.old (steps_of_line line.now))) }
+{
+    match line {
+        Line::Run(count) => play_ticks(alloc, world, *count, events, out),
+        Line::Hold(member) => play_step(alloc, world, &Step::Hold(*member), events, out),
+    }
+}
+
+/// So many ticks.
+fn play_ticks<K: Sink>(
+    alloc: Global,
+    world: &mut World,
+    count: u64,
+    events: &mut Vec<Event>,
+    out: &mut K,
+) -> Result<(), PrintError>
+    requires { HasRoomFor world.old count }
+    ensures state { OnOk result (world.new ≡ after_all world.old (run_from world.old (replicate count Step.Tick))) }
+    ensures steps { OnOk result ((steps : ℕ) → HasRoomFor world.old (count + steps) → HasRoomFor world.new steps) }
+    ensures ok { OnOk result (Grew (K.content out.old) (K.content out.new) (lines_of (run_from world.old (replicate count Step.Tick)))) }
+    ensures part { OnErr result (GrewByPrefix (K.content out.old) (K.content out.new) (lines_of (run_from world.old (replicate count Step.Tick)))) }
+    ensures write { IsErrOf result PrintError.Write → Rose (K.faults out.old) (K.faults out.new) }
+    ensures grows { K.faults out.old ≤ K.faults out.new }
+    ensures room { TakesAll (K.can_take out.old) (K.can_take out.new) result (lines_of (run_from world.old (replicate count Step.Tick))) }
+{
+    for tick in 0..count {
+        play_step(alloc, world, &Step::Tick, events, out)?;
+    }
+    Ok(())
+}
+
+/// One step.
+fn play_step<K: Sink>(
+    alloc: Global,
+    world: &mut World,
+    step: &Step,
+    events: &mut Vec<Event>,
+    out: &mut K,
+) -> Result<(), PrintError>
+    requires { HasRoomFor world.old 1 }
+    ensures state { OnOk result (world.new ≡ after_all world.old (next_events world.old step.now)) }
+    ensures steps { OnOk result ((steps : ℕ) → HasRoomFor world.old (1 + steps) → HasRoomFor world.new steps) }
+    ensures ok { OnOk result (Grew (K.content out.old) (K.content out.new) (lines_of (next_events world.old step.now))) }
+    ensures part { OnErr result (GrewByPrefix (K.content out.old) (K.content out.new) (lines_of (next_events world.old step.now))) }
+    ensures write { IsErrOf result PrintError.Write → Rose (K.faults out.old) (K.faults out.new) }
+    ensures grows { K.faults out.old ≤ K.faults out.new }
+    ensures room { TakesAll (K.can_take out.old) (K.can_take out.new) result (lines_of (next_events world.old step.now)) }
+{
+    events.clear();
+    world.step(step, events)?;
+    print_events(alloc, events, out)
+}

@@ -1,0 +1,50 @@
+//! Events as lines on a sink.
+ghost use Rattle.std.specs.Prelude.{◌≡◌, ◌≤◌, OnOk, OnErr, IsErrOf};
+ghost use Rattle.pat_base.specs.Outside.{Grew, GrewByPrefix, Rose};
+ghost use Rattle.event_book.specs.Text.{lines_of, line_of, bytes_or_none, summary_at};
+ghost use Rattle.patroni_top.specs.Printing.{TakesAll};
+
+use crate::print_error::PrintError;
+use event_book::{Event, text};
+use pat_base::{Sink, Ticks, write_all};
+use std::alloc::Global;
+
+/// Writes the lines of events, each in one piece.
+pub fn print_events<K: Sink>(alloc: Global, events: &[Event], out: &mut K) -> Result<(), PrintError>
+    ensures ok { OnOk result (Grew (K.content out.old) (K.content out.new) (lines_of events.now)) }
+    ensures part { OnErr result (GrewByPrefix (K.content out.old) (K.content out.new) (lines_of events.now)) }
+    ensures write { IsErrOf result PrintError.Write → Rose (K.faults out.old) (K.faults out.new) }
+    ensures grows { K.faults out.old ≤ K.faults out.new }
+    ensures room { TakesAll (K.can_take out.old) (K.can_take out.new) result (lines_of events.now) }
+{
+    for event in events {
+        print_event(alloc, event, out)?;
+    }
+    Ok(())
+}
+
+fn print_event<K: Sink>(alloc: Global, event: &Event, out: &mut K) -> Result<(), PrintError>
+    ensures ok { OnOk result (Grew (K.content out.old) (K.content out.new) (bytes_or_none (line_of event.now))) }
+    ensures part { OnErr result (GrewByPrefix (K.content out.old) (K.content out.new) (bytes_or_none (line_of event.now))) }
+    ensures write { IsErrOf result PrintError.Write → Rose (K.faults out.old) (K.faults out.new) }
+    ensures grows { K.faults out.old ≤ K.faults out.new }
+    ensures room { TakesAll (K.can_take out.old) (K.can_take out.new) result (bytes_or_none (line_of event.now)) }
+{
+    if let Some(line) = text(alloc, event)? {
+        write_all(out, line.as_bytes())?;
+    }
+    Ok(())
+}
+
+/// Writes the closing summary of a run that ended at this moment.
+pub fn print_summary<K: Sink>(alloc: Global, moment: Ticks, out: &mut K) -> Result<(), PrintError>
+    ensures ok { OnOk result (Grew (K.content out.old) (K.content out.new) (summary_at moment.0)) }
+    ensures part { OnErr result (GrewByPrefix (K.content out.old) (K.content out.new) (summary_at moment.0)) }
+    ensures write { IsErrOf result PrintError.Write → Rose (K.faults out.old) (K.faults out.new) }
+    ensures grows { K.faults out.old ≤ K.faults out.new }
+    ensures room { TakesAll (K.can_take out.old) (K.can_take out.new) result (summary_at moment.0) }
+{
+    let line = format!(in alloc; "end at {moment}\n")?;
+    write_all(out, line.as_bytes())?;
+    Ok(())
+}

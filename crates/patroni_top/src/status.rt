@@ -1,0 +1,30 @@
+//! How a run of the program ends.
+
+/// How the program ended. Its number is the exit status.
+#[derive(Clone, Copy, Debug, PartialEq, Eq)]
+pub enum Status {
+    /// The whole output is written, and the input was read to its end.
+    Done = 0,
+    /// The bytes are no script.
+    NotScript = 1,
+    /// The words are no command.
+    Usage = 2,
+    /// The input failed.
+    ReadFault = 3,
+    /// The output failed.
+    WriteFault = 4,
+    /// Memory is wanting.
+    Memory = 5,
+}
+
+impl Status {
+    ghost use Rattle.std.specs.Prelude.{◌≡◌};
+    ghost use Rattle.patroni_top.specs.Status.{code_of};
+
+    /// The exit status.
+    pub fn code(self) -> u8
+        ensures { result ≡ code_of self }
+    {
+        self as u8
+    }
+}

@@ -1,0 +1,357 @@
+//! The world: it takes the steps of a script and hands out what happens.
+ghost use Rattle.std.specs.Prelude.{ℕ, ◌≡◌, ◌<◌, ◌≤◌, ◌+◌, ◌*◌, ◌^◌, ◌++◌, [], ◌∷◌, length, OnOk, OnErr, IfOk, IfSome, vec_len, vec_capacity, slice_get, Some, true};
+ghost use Rattle.std.specs.Option.{option_copied};
+ghost use Rattle.pat_base.specs.MemberId.{member_of};
+ghost use Rattle.lease_store.specs.Keys.{decision_on, span_of, key_at};
+ghost use Rattle.event_book.specs.Facts.{after, after_all, changed, agents_at, start_of};
+ghost use Rattle.event_book.specs.Members.{members_from, agents_from};
+ghost use Rattle.patroni_top.specs.Next.{stamped, request_on, decided, answered, due_member, is_due, turn_of, turn_at, turns, expiry_in, ticked, hold_of, held_of, next_events};
+ghost use Rattle.patroni_top.specs.Sound.{HasRoomFor};
+
+use cluster_script::{Head, Step};
+use event_book::{AgentEvent, AgentState, Event, Kind, Member, StoreEvent};
+use lease_store::{Held, Key, LOOP_WAIT, Store, StoreRefusal, TTL, Txn};
+use pat_base::{MemberId, Ticks};
+use std::alloc::{AllocError, Global};
+use std::marker::Model;
+
+/// A cluster at a moment: the clock, the key store, and the declared members with their agents.
+#[derive(Drop)]
+pub struct World {
+    clock: Ticks,
+    store: Store,
+    members: Vec<Member>,
+    agents: Vec<AgentState>,
+}
+
+impl Model for World {
+    ghost use Rattle.event_book.specs.Facts.{Facts};
+    ghost use Rattle.patroni_top.specs.Sound.{IsSound};
+
+    ghost Value = { Facts };
+
+    ghost view = { λ w. record { clock = w.clock.0; keys = w.store; members = w.members.items; agents = w.agents.items } };
+
+    ghost invariant = { λ w. IsSound w.members.items w.store };
+}
+
+impl World {
+    /// The world of a script's head, before the first step. It fails only for want of memory.
+    pub fn new(alloc: Global, head: &Head) -> Result<World, AllocError>
+        ensures { IfOk result (λ world. world ≡ start_of head.now.members) }
+    {
+        let members = members_of(alloc, head)?;
+        let agents = agents_of(alloc, head.member_count())?;
+        Ok(World {
+            clock: Ticks(0),
+            store: Store::new(),
+            members,
+            agents,
+        })
+    }
+
+    /// The moment.
+    pub fn clock(&self) -> Ticks
+        ensures { result.0 ≡ self.now.clock }
+    {
+        self.clock
+    }
+
+    /// One step. On Ok the events are those that come next, and the world is what they leave. On Err, want of memory,
+    /// nothing has happened.
+    pub fn step(&mut self, step: &Step, events: &mut Vec<Event>) -> Result<(), AllocError>
+        requires { HasRoomFor self.old 1 }
+        ensures event { OnOk result (events.new.items ≡ events.old.items ++ next_events self.old step.now) }
+        ensures state { OnOk result (self.new ≡ after_all self.old (next_events self.old step.now)) }
+        ensures room { OnOk result ((steps : ℕ) → HasRoomFor self.old (1 + steps) → HasRoomFor self.new steps) }
+        ensures world_same { OnErr result (self.new ≡ self.old) }
+        ensures events_same { OnErr result (events.new.items ≡ events.old.items) }
+    {
+        let count = self.members.len();
+        events.reserve(2 * count + 2)?;
+        match step {
+            Step::Tick => {
+                self.tick(events);
+                self.turns(count, events);
+            }
+            Step::Hold(member) => self.hold(*member, events),
+        }
+        Ok(())
+    }
+
+    /// The clock grows by one, and a leader key that has expired is dropped.
+    fn tick(&mut self, events: &mut Vec<Event>)
+        requires clock { self.old.clock < 2 ^ 60 }
+        requires room { vec_len events.old + 2 ≤ vec_capacity events.old }
+        ensures state { self.new ≡ after_all self.old (ticked self.old) }
+        ensures event { events.new.items ≡ events.old.items ++ ticked self.old }
+        ensures clock { self.new.clock ≡ self.old.clock + 1 }
+        ensures revision { self.new.keys.revision ≡ self.old.keys.revision }
+        ensures members { self.new.members ≡ self.old.members }
+        ensures len { vec_len events.new ≤ vec_len events.old + 2 }
+        ensures room { vec_capacity events.old ≤ vec_capacity events.new }
+    {
+        self.clock = Ticks(self.clock.0 + 1);
+        note(events, self.clock, Kind::Tick);
+        self.expire(events);
+    }
+
+    fn expire(&mut self, events: &mut Vec<Event>)
+        requires room { vec_len events.old + 1 ≤ vec_capacity events.old }
+        ensures state { self.new ≡ after_all self.old (stamped self.old (expiry_in self.old)) }
+        ensures event { events.new.items ≡ events.old.items ++ stamped self.old (expiry_in self.old) }
+        ensures clock { self.new.clock ≡ self.old.clock }
+        ensures revision { self.new.keys.revision ≡ self.old.keys.revision }
+        ensures members { self.new.members ≡ self.old.members }
+        ensures len { vec_len events.new ≤ vec_len events.old + 1 }
+        ensures room { vec_capacity events.old ≤ vec_capacity events.new }
+    {
+        if let Some(id) = self.store.drop_expired(self.clock) {
+            let holder = self.members[id.number as usize];
+            note(
+                events,
+                self.clock,
+                Kind::Store(StoreEvent::Expired {
+                    key: Key::Leader,
+                    holder,
+                }),
+            );
+        }
+    }
+
+    /// The turns of the members, in script order.
+    fn turns(&mut self, count: usize, events: &mut Vec<Event>)
+        requires clock { self.old.clock < 2 ^ 61 }
+        requires revision { self.old.keys.revision + count < 2 ^ 60 }
+        requires room { vec_len events.old + 2 * count ≤ vec_capacity events.old }
+        ensures state { self.new ≡ after_all self.old (turns self.old 0 count) }
+        ensures event { events.new.items ≡ events.old.items ++ turns self.old 0 count }
+        ensures clock { self.new.clock ≡ self.old.clock }
+        ensures revision { self.new.keys.revision ≤ self.old.keys.revision + count }
+    {
+        for place in 0..count {
+            self.turn(place, events);
+        }
+    }
+
+    /// The turn of the member at a place, if it is due.
+    fn turn(&mut self, place: usize, events: &mut Vec<Event>)
+        requires clock { self.old.clock < 2 ^ 61 }
+        requires revision { self.old.keys.revision < 2 ^ 60 }
+        requires room { vec_len events.old + 2 ≤ vec_capacity events.old }
+        ensures state { self.new ≡ after_all self.old (turn_at self.old place) }
+        ensures event { events.new.items ≡ events.old.items ++ turn_at self.old place }
+        ensures clock { self.new.clock ≡ self.old.clock }
+        ensures revision { self.new.keys.revision ≤ self.old.keys.revision + 1 }
+        ensures len { vec_len events.new ≤ vec_len events.old + 2 }
+        ensures room { vec_capacity events.old ≤ vec_capacity events.new }
+    {
+        if let Some(member) = due_member(self.clock, &self.members, &self.agents, place) {
+            self.act(AgentEvent::Woken { agent: member }, events);
+            self.read_key(member, events);
+        }
+    }
+
+    /// A member reads the leader key, and the store decides on what it asks for.
+    fn read_key(&mut self, member: Member, events: &mut Vec<Event>)
+        requires clock { self.old.clock < 2 ^ 61 }
+        requires revision { self.old.keys.revision < 2 ^ 60 }
+        requires declared { member.id.number < length self.old.members }
+        requires room { vec_len events.old + 1 ≤ vec_capacity events.old }
+        ensures state { self.new ≡ after_all self.old (stamped self.old (answered self.old member (request_on member (key_at self.old.keys self.old.clock Key.Leader)))) }
+        ensures event { events.new.items ≡ events.old.items ++ stamped self.old (answered self.old member (request_on member (key_at self.old.keys self.old.clock Key.Leader))) }
+        ensures clock { self.new.clock ≡ self.old.clock }
+        ensures revision { self.new.keys.revision ≤ self.old.keys.revision + 1 }
+        ensures len { vec_len events.new ≤ vec_len events.old + 1 }
+        ensures room { vec_capacity events.old ≤ vec_capacity events.new }
+    {
+        if let Some(txn) = request_on(member, self.store.get(self.clock, Key::Leader)) {
+            self.request(member, txn, events);
+        }
+    }
+
+    /// The store decides on a request of a member.
+    fn request(&mut self, by: Member, txn: Txn, events: &mut Vec<Event>)
+        requires clock { self.old.clock < 2 ^ 61 }
+        requires span { span_of txn ≤ 2 ^ 40 }
+        requires revision { self.old.keys.revision < 2 ^ 60 }
+        requires declared { by.id.number < length self.old.members }
+        requires room { vec_len events.old + 1 ≤ vec_capacity events.old }
+        ensures state { self.new ≡ after self.old (decided by txn (decision_on self.old.keys self.old.clock txn)) }
+        ensures event { events.new.items ≡ events.old.items ++ stamped self.old (decided by txn (decision_on self.old.keys self.old.clock txn) ∷ []) }
+        ensures clock { self.new.clock ≡ self.old.clock }
+        ensures revision { self.new.keys.revision ≤ self.old.keys.revision + 1 }
+        ensures len { vec_len events.new ≡ vec_len events.old + 1 }
+        ensures room { vec_capacity events.old ≤ vec_capacity events.new }
+    {
+        match self.store.apply(self.clock, by.id, txn) {
+            Ok(_) => note(
+                events,
+                self.clock,
+                Kind::Store(StoreEvent::Granted { by, txn }),
+            ),
+            Err(StoreRefusal::Mismatch { key, found }) => {
+                note(
+                    events,
+                    self.clock,
+                    Kind::Store(StoreEvent::Refused {
+                        by,
+                        txn,
+                        key,
+                        found,
+                    }),
+                );
+            }
+        }
+    }
+
+    /// The agent of a member is held, where it isn't yet.
+    fn hold(&mut self, member: MemberId, events: &mut Vec<Event>)
+        requires clock { self.old.clock < 2 ^ 61 }
+        requires room { vec_len events.old + 1 ≤ vec_capacity events.old }
+        ensures state { self.new ≡ after_all self.old (stamped self.old (hold_of (slice_get self.old.members member.number) (slice_get self.old.agents member.number))) }
+        ensures event { events.new.items ≡ events.old.items ++ stamped self.old (hold_of (slice_get self.old.members member.number) (slice_get self.old.agents member.number)) }
+        ensures clock { self.new.clock ≡ self.old.clock }
+        ensures revision { self.new.keys.revision ≡ self.old.keys.revision }
+    {
+        if let Some(member) = free_member(&self.members, &self.agents, member) {
+            self.act(AgentEvent::Suspended { agent: member }, events);
+        }
+    }
+
+    /// Something happens to an agent.
+    fn act(&mut self, happening: AgentEvent, events: &mut Vec<Event>)
+        requires clock { self.old.clock < 2 ^ 61 }
+        requires room { vec_len events.old + 1 ≤ vec_capacity events.old }
+        ensures state { self.new ≡ after self.old (Kind.Agent happening) }
+        ensures event { events.new.items ≡ events.old.items ++ stamped self.old (Kind.Agent happening ∷ []) }
+        ensures clock { self.new.clock ≡ self.old.clock }
+        ensures keys { self.new.keys ≡ self.old.keys }
+        ensures members { self.new.members ≡ self.old.members }
+        ensures len { vec_len events.new ≡ vec_len events.old + 1 }
+        ensures room { vec_capacity events.old ≤ vec_capacity events.new }
+    {
+        change_agents(&mut self.agents, self.clock, happening);
+        note(events, self.clock, Kind::Agent(happening));
+    }
+}
+
+/// The declared members, numbered in order.
+fn members_of(alloc: Global, head: &Head) -> Result<Vec<Member>, AllocError>
+    ensures { IfOk result (λ members. members.items ≡ members_from 0 head.now.members) }
+{
+    let mut members = Vec::new(alloc);
+    for place in 0..head.member_count() {
+        members.push(declared_at(head, place))?;
+    }
+    Ok(members)
+}
+
+/// The member at a place of the head.
+fn declared_at(head: &Head, place: usize) -> Member
+    requires few { place < 16 }
+    requires declared { place < length head.now.members }
+    ensures id { member_of place ≡ Some result.id }
+    ensures name { slice_get head.now.members place ≡ Some result.name }
+{
+    match (MemberId::new(place as u8), head.member(place)) {
+        (Some(id), Some(name)) => Member { id, name },
+        _ => unreachable!(),
+    }
+}
+
+/// So many agents, each before its first turn.
+fn agents_of(alloc: Global, count: usize) -> Result<Vec<AgentState>, AllocError>
+    ensures { IfOk result (λ agents. agents.items ≡ agents_from 0 count) }
+{
+    let mut agents = Vec::new(alloc);
+    for place in 0..count {
+        agents.push(AgentState {
+            next_turn: Ticks(place as u64 + 1),
+            held: false,
+        })?;
+    }
+    Ok(agents)
+}
+
+/// Writes an event down. There is room for it.
+fn note(events: &mut Vec<Event>, tick: Ticks, kind: Kind)
+    requires { vec_len events.old + 1 ≤ vec_capacity events.old }
+    ensures event { events.new.items ≡ events.old.items ++ record { tick = tick; kind = kind } ∷ [] }
+    ensures len { vec_len events.new ≡ vec_len events.old + 1 }
+    ensures room { vec_capacity events.old ≤ vec_capacity events.new }
+{
+    events.push(Event { tick, kind }).unwrap();
+}
+
+fn change_agents(agents: &mut [AgentState], now: Ticks, happening: AgentEvent)
+    requires { now.0 < 2 ^ 61 }
+    ensures { agents.new ≡ agents_at now.0 agents.old (Kind.Agent happening) }
+{
+    match happening {
+        AgentEvent::Woken { agent } => set_turn(agents, agent, Ticks(now.0 + LOOP_WAIT)),
+        AgentEvent::Suspended { agent } => set_held(agents, agent),
+    }
+}
+
+fn set_turn(agents: &mut [AgentState], member: Member, next_turn: Ticks)
+    ensures { agents.new ≡ changed agents.old member (λ state. record state { next_turn = next_turn }) }
+{
+    let place = member.id.number as usize;
+    if place < agents.len() {
+        agents[place].next_turn = next_turn;
+    }
+}
+
+fn set_held(agents: &mut [AgentState], member: Member)
+    ensures { agents.new ≡ changed agents.old member (λ state. record state { held = true }) }
+{
+    let place = member.id.number as usize;
+    if place < agents.len() {
+        agents[place].held = true;
+    }
+}
+
+/// The member at a place, where its agent has a turn at this moment.
+fn due_member(now: Ticks, members: &[Member], agents: &[AgentState], place: usize) -> Option<Member>
+    ensures { result ≡ due_member now.0 (slice_get members.now place) (slice_get agents.now place) }
+{
+    let member = members.get(place)?;
+    let state = agents.get(place)?;
+    if is_due(now, state) {
+        Some(*member)
+    } else {
+        None
+    }
+}
+
+fn is_due(now: Ticks, state: &AgentState) -> bool
+    ensures { result ≡ is_due now.0 state.now }
+{
+    !state.held && state.next_turn <= now
+}
+
+/// The declared member of this number, where its agent isn't held.
+fn free_member(members: &[Member], agents: &[AgentState], id: MemberId) -> Option<Member>
+    ensures { held_of result ≡ hold_of (slice_get members.now id.number) (slice_get agents.now id.number) }
+{
+    let member = members.get(id.number as usize)?;
+    let state = agents.get(id.number as usize)?;
+    if state.held { None } else { Some(*member) }
+}
+
+/// What a member asks for on reading the leader key.
+fn request_on(member: Member, found: Option<&Held>) -> Option<Txn>
+    ensures request { result ≡ request_on member (option_copied found.entry) }
+    ensures span { IfSome result (λ txn. span_of txn ≤ 2 ^ 40) }
+{
+    let ttl = Ticks(TTL);
+    match found {
+        None => Some(Txn::Create { ttl }),
+        Some(held) if held.holder == member.id => Some(Txn::Renew {
+            revision: held.revision,
+            ttl,
+        }),
+        Some(_) => None,
+    }
+}
