@@ -13,3 +13,6 @@ mod world;
 
 pub use status::Status;
 pub use top::run;
+
+#[cfg(test)]
+mod tests;

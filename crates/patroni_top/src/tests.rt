@@ -1,0 +1,178 @@
+//! The worked runs by their names, and what no clause says: which words are printed, and that a call can succeed.
+use super::*;
+use pat_base::{MemorySink, MemorySource};
+use std::alloc::{AllocError, Global};
+use std::test::Fail;
+
+const KEY_PASSED_ON: &str = "cluster demo\nmember a\nmember b\nrun 50\nhold a\nrun 310\n";
+
+const KEY_PASSED_ON_PRINTED: [&str; 5] = [
+    "1 a takes the leader key\n",
+    "50 a is held\n",
+    "301 the leader key of a expires\n",
+    "302 b takes the leader key\n",
+    "end at 360\n",
+];
+
+/// Which calls are to fail, counted from 1; 0 fails none.
+#[derive(Clone, Copy)]
+struct Faults {
+    input: u64,
+    out: u64,
+    err: u64,
+}
+
+const NO_FAULTS: Faults = Faults {
+    input: 0,
+    out: 0,
+    err: 0,
+};
+
+#[derive(Drop)]
+struct Outcome {
+    status: u8,
+    out: Vec<u8>,
+    err: Vec<u8>,
+}
+
+/// A run over objects in memory with ample room.
+fn run_in_memory(
+    alloc: Global,
+    word: &str,
+    script: &str,
+    faults: Faults,
+) -> Result<Outcome, AllocError> {
+    let words = vec![in alloc; String::from_str(alloc, word)?]?;
+    let mut input = MemorySource::new(
+        script.as_bytes().to_vec(alloc)?,
+        vec![in alloc; faults.input]?,
+    );
+    let mut out = MemorySink::new(alloc, 65536, vec![in alloc; faults.out]?)?;
+    let mut err = MemorySink::new(alloc, 4096, vec![in alloc; faults.err]?)?;
+    let status = run(alloc, &words, &mut input, &mut out, &mut err).code();
+    Ok(Outcome {
+        status,
+        out: out.bytes().to_vec(alloc)?,
+        err: err.bytes().to_vec(alloc)?,
+    })
+}
+
+/// The first so many of these lines, as one text.
+fn first_lines(alloc: Global, lines: &[&str], count: usize) -> Result<Vec<u8>, AllocError> {
+    let mut text = Vec::new(alloc);
+    for line in lines.iter().take(count) {
+        text.extend_from_slice(line.as_bytes())?;
+    }
+    Ok(text)
+}
+
+#[test]
+fn the_key_passed_on(rt: HostRuntime) -> Result<(), Fail> {
+    let alloc = rt.alloc();
+    let ended = run_in_memory(alloc, "run", KEY_PASSED_ON, NO_FAULTS)?;
+    assert_eq!(rt; ended.status, 0);
+    assert_eq!(rt;
+        ended.out.as_slice(),
+        first_lines(alloc, &KEY_PASSED_ON_PRINTED, 5)?.as_slice()
+    );
+    assert_eq!(rt; ended.err.as_slice(), b"".as_slice());
+    Ok(())
+}
+
+#[test]
+fn refusals_of_the_first_form(rt: HostRuntime) -> Result<(), Fail> {
+    let alloc = rt.alloc();
+    let usage = "usage: patroni_sim run | serve MEMBER ADDRESS COUNT | print | gen SEED COUNT\n";
+    let dance = "cluster demo\nmember a\nmember b\ndance\nhold a\nrun 310\n";
+    let input_fails = Faults {
+        input: 1,
+        ..NO_FAULTS
+    };
+    let out_fails = Faults {
+        out: 1,
+        ..NO_FAULTS
+    };
+    for (word, script, faults, status, err) in [
+        ("runs", KEY_PASSED_ON, NO_FAULTS, 2, usage),
+        ("run", dance, NO_FAULTS, 1, "script not built\n"),
+        ("run", KEY_PASSED_ON, input_fails, 3, "read fault\n"),
+        ("run", KEY_PASSED_ON, out_fails, 4, "write fault\n"),
+    ] {
+        let ended = run_in_memory(alloc, word, script, faults)?;
+        assert_eq!(rt; ended.status, status, "{word}");
+        assert_eq!(rt; ended.out.as_slice(), b"".as_slice(), "{word}");
+        assert_eq!(rt; ended.err.as_slice(), err.as_bytes(), "{word}");
+    }
+    Ok(())
+}
+
+#[test]
+fn a_fault_at_each_call(rt: HostRuntime) -> Result<(), Fail> {
+    let alloc = rt.alloc();
+    for call in 1..=5u64 {
+        let ended = run_in_memory(
+            alloc,
+            "run",
+            KEY_PASSED_ON,
+            Faults {
+                out: call,
+                ..NO_FAULTS
+            },
+        )?;
+        assert_eq!(rt; ended.status, 4, "write {call}");
+        let before = usize::try_from(call).unwrap_or(0).saturating_sub(1);
+        assert_eq!(rt;
+            ended.out.as_slice(),
+            first_lines(alloc, &KEY_PASSED_ON_PRINTED, before)?.as_slice(),
+            "write {call}"
+        );
+        assert_eq!(rt;
+            ended.err.as_slice(),
+            b"write fault\n".as_slice(),
+            "write {call}"
+        );
+    }
+    for call in 1..=2u64 {
+        let ended = run_in_memory(
+            alloc,
+            "run",
+            KEY_PASSED_ON,
+            Faults {
+                input: call,
+                ..NO_FAULTS
+            },
+        )?;
+        assert_eq!(rt; ended.status, 3, "read {call}");
+        assert_eq!(rt; ended.out.as_slice(), b"".as_slice(), "read {call}");
+    }
+    let ended = run_in_memory(
+        alloc,
+        "runs",
+        KEY_PASSED_ON,
+        Faults {
+            err: 1,
+            ..NO_FAULTS
+        },
+    )?;
+    assert_eq!(rt; ended.status, 2);
+    assert_eq!(rt; ended.err.as_slice(), b"".as_slice());
+    Ok(())
+}
+
+#[test]
+fn sixteen_members_and_a_million_ticks(rt: HostRuntime) -> Result<(), Fail> {
+    let alloc = rt.alloc();
+    let mut script = String::from_str(
+        alloc,
+        "cluster big\nmember a-name-of-thirty-two-bytes_0_9_x\n",
+    )?;
+    for number in 2..=16u64 {
+        script.push_str(format!(in alloc; "member m{number}\n")?.as_str())?;
+    }
+    script.push_str("run 1000000\n")?;
+    let ended = run_in_memory(alloc, "run", script.as_str(), NO_FAULTS)?;
+    assert_eq!(rt; ended.status, 0);
+    let wanted = b"1 a-name-of-thirty-two-bytes_0_9_x takes the leader key\nend at 1000000\n";
+    assert_eq!(rt; ended.out.as_slice(), wanted.as_slice());
+    Ok(())
+}
