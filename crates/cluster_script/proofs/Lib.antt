@@ -6,3 +6,4 @@ pub mod Options
 pub mod Places
 pub mod ReadLaws
 pub mod SpellLaws
+pub mod Totals

@@ -9,7 +9,6 @@ use Rattle.pat_base.specs.Name.{name_bytes, name_of}
 use Rattle.pat_base.specs.declared.name.Name.{Name}
 use Rattle.pat_base.specs.declared.member_id.MemberId.{MemberId}
 use Rattle.pat_base.proofs.Names.{name_of-text, name_bytes-injective}
-use Rattle.cluster_script.specs.Draft.{total_ticks-push}
 use Rattle.cluster_script.specs.Lines.{on_some, one_more, cut_lines, ended}
 use Rattle.cluster_script.specs.Numbers.{number}
 use Rattle.cluster_script.specs.Reading.{member_of, member_by, place_of, member_named, with_member, with_new_member, with_run, with_hold, with_words, with_line, with_lines, named_cluster, cluster_words, first_line, whole_script, script_of_lines, few_lines, script_of}
@@ -22,6 +21,7 @@ use Rattle.cluster_script.specs.declared.line.Line.{Line}
 use Rattle.cluster_script.specs.declared.line.Line.TheVariants as lines
 use Rattle.cluster_script.proofs.LineLaws.{first_word-spelled, cut_lines-ended}
 use Rattle.cluster_script.proofs.NumberLaws.{number-is}
+use Rattle.cluster_script.proofs.Totals.{total_ticks-push}
 use Rattle.cluster_script.proofs.Options.{some_is, none_is, on_some-Some, cond-Some}
 
 -- no name stands at two places

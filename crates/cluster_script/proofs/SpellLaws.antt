@@ -9,7 +9,6 @@ use Rattle.pat_base.specs.NameText.{is_name, is_name_byte}
 use Rattle.pat_base.specs.declared.name.Name.{Name}
 use Rattle.pat_base.specs.declared.member_id.MemberId.{MemberId}
 use Rattle.pat_base.proofs.Names.{name_of-name_bytes}
-use Rattle.cluster_script.specs.Draft.{total_ticks-push}
 use Rattle.cluster_script.specs.Lines.{on_some, cut_lines}
 use Rattle.cluster_script.specs.Reading.{member_of, place_of, member_named, with_member, with_new_member, with_run, with_hold, with_words, with_line, with_lines, named_cluster, cluster_words, first_line, whole_script, script_of_lines, few_lines, script_of}
 use Rattle.cluster_script.specs.Script.{HeadText, ScriptText, IsScript, NamesMember, AllNameMembers, text_of_name, member_text, cluster_text, member_line_text, line_text, body_lines, lines_of, spelling_of}
@@ -20,6 +19,7 @@ use Rattle.cluster_script.specs.declared.line.Line.TheVariants as lines
 use Rattle.cluster_script.proofs.LineLaws.{is_feedless, NoFeeds, NoFeeds-append, cut_lines-again, first_word-again, spelled-is_feedless}
 use Rattle.cluster_script.proofs.Members.{member_of-is}
 use Rattle.cluster_script.proofs.NumberLaws.{number-decimal, decimal-is_feedless}
+use Rattle.cluster_script.proofs.Totals.{total_ticks-push}
 use Rattle.cluster_script.proofs.ReadLaws.{AreDifferent, place_of-Some, place_of-None}
 
 -- no line of a script holds a line feed

@@ -94,7 +94,7 @@ impl Draft {
         Ok(())
     }
 
-    #[tactic(auto, using(crate::specs::Draft::draft_steps))]
+    #[tactic(auto, using(crate::proofs::Totals::draft_steps))]
     fn add_run(&mut self, count: Option<u64>) -> Result<(), ScriptFault>
         ensures { Gives (λ _. self.new) result (with_run self.old count) }
     {
@@ -109,7 +109,7 @@ impl Draft {
         Ok(())
     }
 
-    #[tactic(auto, using(crate::specs::Draft::draft_steps))]
+    #[tactic(auto, using(crate::proofs::Totals::draft_steps))]
     fn add_hold(&mut self, rest: &[u8]) -> Result<(), ScriptFault>
         ensures { Gives (λ _. self.new) result (with_hold self.old (member_named self.old.head.members (name_of rest.now))) }
     {

@@ -1,4 +1,4 @@
-use Rattle.std.proofs.Common.{◌≡◌, ◌∙◌, sym}
+use Rattle.std.proofs.Common.{◌∙◌, sym}
 use Rattle.pat_base.proofs.Names.{name_of-is, name_of-none}
 use Rattle.pat_base.proofs.name.Name.read.Goals as goal
 
