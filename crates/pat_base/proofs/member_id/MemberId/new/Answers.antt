@@ -9,10 +9,11 @@ is-member : (n : ℕ) (test : Bool) (is : nat_lt n 16 ≡ test) (below : n < 16)
 is-member n true is below = ap (λ (x : n < 16). Some (record { number = n; below = x })) (le_prop below (below-from n is))
 is-member n false is below = absurd (clash (sym is ∙ small))
   where
-  small : nat_lt n 16 ≡ true
-  small = grind (arith, nat_tests)
-  clash : false ≡ true → ⊥
-  clash e = cc
+    small : nat_lt n 16 ≡ true
+    small = grind (arith, nat_tests)
+
+    clash : false ≡ true → ⊥
+    clash e = cc
 
 pub returns-then-number-lt-MEMBERS-clause-by_number : goal.returns-then-number-lt-MEMBERS-clause-by_number
 returns-then-number-lt-MEMBERS-clause-by_number c = is-member c.args.number (nat_lt c.args.number 16) refl _
