@@ -3,6 +3,7 @@
 
 mod adapters;
 mod member_id;
+mod member_set;
 mod memory;
 mod name;
 mod outside;
@@ -11,6 +12,7 @@ mod transfer;
 
 pub use adapters::{ReaderSource, WriterSink};
 pub use member_id::MemberId;
+pub use member_set::MemberSet;
 pub use memory::{MemorySink, MemorySource};
 pub use name::Name;
 pub use outside::{Failed, Sink, Source};
