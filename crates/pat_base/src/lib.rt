@@ -2,6 +2,7 @@
 #![tactic(auto)]
 
 mod adapters;
+mod lsn;
 mod member_id;
 mod memory;
 mod name;
@@ -10,6 +11,7 @@ mod ticks;
 mod transfer;
 
 pub use adapters::{ReaderSource, WriterSink};
+pub use lsn::Lsn;
 pub use member_id::MemberId;
 pub use memory::{MemorySink, MemorySource};
 pub use name::Name;
