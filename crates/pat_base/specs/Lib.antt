@@ -1,3 +1,4 @@
+pub mod LsnText
 pub mod Memory
 pub mod Name
 pub mod NameText

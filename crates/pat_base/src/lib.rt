@@ -2,6 +2,7 @@
 #![tactic(auto)]
 
 mod adapters;
+mod lsn;
 mod member_id;
 mod member_set;
 mod memory;
@@ -11,6 +12,7 @@ mod ticks;
 mod transfer;
 
 pub use adapters::{ReaderSource, WriterSink};
+pub use lsn::Lsn;
 pub use member_id::MemberId;
 pub use member_set::MemberSet;
 pub use memory::{MemorySink, MemorySource};
