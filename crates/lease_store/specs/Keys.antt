@@ -1,0 +1,30 @@
+-- What the store holds, and the state of a key at a moment.
+use Rattle.std.specs.Prelude.{ℕ, nat_lt, Bool, true, false, if◌then◌else◌, List, Option, Some, None}
+use Rattle.std.specs.FinMap.{find}
+use Rattle.pat_base.specs.declared.ticks.Ticks.{Ticks}
+use Rattle.lease_store.specs.declared.key.Key.{Key}
+use Rattle.lease_store.specs.declared.value.Held.{Held}
+use Rattle.lease_store.specs.KeyOrder.{key_cmp}
+
+-- the last granted revision, and what is held at each key that was written and not deleted or dropped since: a map,
+-- as the list of its pairs in the order of the keys
+pub record Keys : Type 0 where
+  pub revision : ℕ
+  pub pairs : List (Key × Held)
+
+-- whether a key with this expiry is present: it is absent at its expiry tick, and from then on
+abbrev pub is_present : ℕ → Option Ticks → Bool
+is_present now None = true
+is_present now (Some expiry) = nat_lt now expiry.0
+
+abbrev pub present : ℕ → Option Held → Option Held
+present now None = None
+present now (Some held) = if is_present now held.expiry then Some held else None
+
+-- what these pairs have at a key that is present
+abbrev pub key_in : List (Key × Held) → ℕ → Key → Option Held
+key_in pairs now key = present now (find key_cmp key pairs)
+
+-- the state of a key at a moment
+abbrev pub key_at : Keys → ℕ → Key → Option Held
+key_at store now key = key_in store.pairs now key

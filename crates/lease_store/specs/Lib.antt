@@ -1,0 +1,10 @@
+pub mod Answers
+pub mod Decision
+pub mod Defaults
+pub mod Fencing
+pub mod KeyOrder
+pub mod Keys
+pub mod Kinds
+pub mod Places
+pub mod Settings
+pub mod Writes

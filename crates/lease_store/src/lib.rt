@@ -1,0 +1,26 @@
+//! The key store of a cluster: keys with leases, transactions that compare revisions, and what they leave.
+#![tactic(auto)]
+
+mod action;
+mod compares;
+mod config;
+mod config_value;
+mod granted;
+mod key;
+mod order;
+mod pairs;
+mod refusal;
+mod store;
+mod txn;
+mod value;
+mod writes;
+
+pub use action::{Action, Asked, Bar, Move};
+pub use config::Config;
+pub use config_value::ConfigValue;
+pub use granted::Granted;
+pub use key::Key;
+pub use refusal::StoreRefusal;
+
+pub use txn::{Expected, Txn};
+pub use value::{FailoverKey, Held, HistoryRow, MemberInfo, SyncKey, Value};
