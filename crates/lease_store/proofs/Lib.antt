@@ -1,2 +1,4 @@
+pub mod Answering
 pub mod KeyLaws
+pub mod Keeping
 pub mod Placing

@@ -1,9 +1,12 @@
 -- What the store holds, and the state of a key at a moment.
-use Rattle.std.specs.Prelude.{ℕ, nat_lt, Bool, true, false, if◌then◌else◌, List, Option, Some, None}
+use Rattle.std.specs.Prelude.{ℕ, nat_lt, Bool, true, false, if◌then◌else◌, List, [], ◌∷◌, Option, Some, None}
 use Rattle.std.specs.FinMap.{find}
 use Rattle.pat_base.specs.declared.ticks.Ticks.{Ticks}
 use Rattle.lease_store.specs.declared.key.Key.{Key}
+use Rattle.lease_store.specs.declared.key.Key.TheVariants as keys
 use Rattle.lease_store.specs.declared.value.Held.{Held}
+use Rattle.lease_store.specs.declared.value.Value.TheVariants as values
+use Rattle.lease_store.specs.Settings.{Settings}
 use Rattle.lease_store.specs.KeyOrder.{key_cmp}
 
 -- the last granted revision, and what is held at each key that was written and not deleted or dropped since: a map,
@@ -28,3 +31,10 @@ key_in pairs now key = present now (find key_cmp key pairs)
 -- the state of a key at a moment
 abbrev pub key_at : Keys → ℕ → Key → Option Held
 key_at store now key = key_in store.pairs now key
+
+-- a store that holds this configuration alone, which is its first granted write
+abbrev pub first_keys : Settings → Keys
+first_keys config = record {
+  revision = 1;
+  pairs = (keys.Config, record { value = values.Config config; revision = 1; expiry = None }) ∷ [];
+}

@@ -2,6 +2,7 @@ pub mod Answers
 pub mod Decision
 pub mod Defaults
 pub mod Fencing
+pub mod Kept
 pub mod KeyOrder
 pub mod Keys
 pub mod Kinds

@@ -21,6 +21,7 @@ pub use config_value::ConfigValue;
 pub use granted::Granted;
 pub use key::Key;
 pub use refusal::StoreRefusal;
+pub use store::Store;
 
 pub use txn::{Expected, Txn};
 pub use value::{FailoverKey, Held, HistoryRow, MemberInfo, SyncKey, Value};

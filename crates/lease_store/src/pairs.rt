@@ -1,5 +1,5 @@
 //! Pairs of keys and what is held there, in the order of the keys.
-ghost use Rattle.std.specs.Prelude.{◌≡◌, ◌≤◌, ◌+◌, IfOk, IfErr, IsTrue, vec_len, vec_capacity};
+ghost use Rattle.std.specs.Prelude.{◌≡◌, ◌≤◌, ◌+◌, ◌++◌, IfOk, IfErr, IsTrue, vec_len, vec_capacity};
 ghost use Rattle.std.specs.FinMap.{find, put, is_sorted};
 ghost use Rattle.lease_store.specs.KeyOrder.{key_cmp};
 ghost use Rattle.lease_store.specs.Places.{IsPlaceOf, IsGapFor};
@@ -10,6 +10,7 @@ use crate::compares::is_present;
 use crate::order::compare;
 use crate::{Held, Key};
 use pat_base::Ticks;
+use std::alloc::{AllocError, Global};
 use std::cmp::Ordering;
 
 /// Where a key stands, or where it would stand.
@@ -78,4 +79,17 @@ pub fn drop_absent(pairs: &mut Vec<(Key, Held)>, now: Ticks)
     ensures { pairs.new.items ≡ present_pairs now.0 pairs.old.items }
 {
     pairs.retain(|pair| is_present(now, pair.1.expiry));
+}
+
+/// Copies of the pairs whose keys are present at a moment. It fails only for want of memory.
+pub fn copies_of_present(alloc: Global, pairs: &[(Key, Held)], now: Ticks) -> Result<Vec<(Key, Held)>, AllocError>
+    ensures { IfOk result (λ copies. copies.items ≡ present_pairs now.0 pairs.now) }
+{
+    let mut copies = Vec::new(alloc);
+    for pair in pairs {
+        if is_present(now, pair.1.expiry) {
+            copies.push((pair.0, pair.1.copy()?))?;
+        }
+    }
+    Ok(copies)
 }

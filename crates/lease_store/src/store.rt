@@ -1,1 +1,134 @@
-//! Later.
+//! The store.
+ghost use Rattle.std.specs.Prelude.{ℕ, ◌≡◌, ◌≤◌, ◌<◌, ◌+◌, ◌^◌, ◌↔◌, IsTrue, IsSome, IsNone, IfSome, Some, None, OnOk, OnErr, IfOk, option_copied, Err};
+ghost use Rattle.std.specs.FinMap.{find, is_sorted};
+ghost use Rattle.lease_store.specs.Answers.{present_pairs, keys_kept, holder_lost, expired_holder};
+ghost use Rattle.lease_store.specs.declared.txn.Expected.{Expected};
+ghost use Rattle.lease_store.specs.Decision.{Grant, Refusal, decision_on};
+ghost use Rattle.lease_store.specs.KeyOrder.{key_cmp};
+ghost use Rattle.lease_store.specs.Keys.{Keys, key_at, first_keys};
+ghost use Rattle.lease_store.specs.Kept.{AreOfKind, IsKept};
+ghost use Rattle.lease_store.specs.Kinds.{IsOfKind};
+ghost use Rattle.lease_store.specs.Writes.{keys_after, is_lease, ttl_of};
+
+use crate::compares::{check, held_at, is_present, present_at};
+use crate::pairs::{copies_of_present, drop_absent};
+use crate::writes::{MOST, Stamp, is_lease, write};
+use crate::{ConfigValue, Granted, Held, Key, StoreRefusal, Txn, Value};
+use pat_base::{MemberId, Ticks};
+use std::alloc::{AllocError, Global};
+use std::marker::Model;
+
+/// The key store: what it holds at each key, and the last revision that it granted.
+#[derive(Debug, Drop)]
+pub struct Store {
+    pairs: Vec<(Key, Held)>,
+    revision: u64,
+}
+
+impl Model for Store {
+    ghost use Rattle.lease_store.specs.Keys.{Keys};
+    ghost use Rattle.lease_store.specs.Kept.{IsKept};
+
+    ghost Value = { Keys };
+
+    ghost view = { λ s. record { revision = s.revision; pairs = s.pairs.items } };
+
+    ghost invariant = { λ s. IsKept s.pairs.items };
+}
+
+impl Store {
+    /// The store of a configuration, which is its first granted write. It fails only for want of memory.
+    pub fn new(alloc: Global, config: ConfigValue) -> Result<Store, AllocError>
+        ensures { IfOk result (λ store. store ≡ first_keys config) }
+    {
+        let mut pairs = Vec::with_capacity(alloc, MOST)?;
+        let held = Held {
+            value: Value::Config(config),
+            revision: 1,
+            expiry: None,
+        };
+        pairs.push((Key::Config, held))?;
+        Ok(Store { pairs, revision: 1 })
+    }
+
+    /// The last granted revision.
+    pub fn revision(&self) -> u64
+        ensures { result ≡ self.now.revision }
+    {
+        self.revision
+    }
+
+    /// What holds of the pairs of every store: proofs learn it by this call, which does nothing.
+    pub fn known(&self)
+        ensures { IsKept self.now.pairs }
+    {
+        let _ = &self.pairs;
+    }
+
+    /// What is held at a key that is present at this moment. `None` exactly where the key is absent.
+    pub fn get(&self, now: Ticks, key: Key) -> Option<&Held>
+        ensures value { option_copied result ≡ key_at self.now now.0 key }
+        ensures kind { IfSome result (λ held. IsOfKind key held.now.value) }
+    {
+        present_at(&self.pairs, now, key)
+    }
+
+    /// Decides on a request of a member, and writes what it writes where it is granted. A refusal changes nothing.
+    /// `Mismatch` comes exactly where a compare differs, and tells the first that does; `Memory` only for want of memory.
+    pub fn apply(&mut self, now: Ticks, by: MemberId, txn: Txn) -> Result<Granted, StoreRefusal>
+        requires revision { self.old.revision < 2 ^ 60 }
+        requires moment { now.0 ≤ 2 ^ 62 }
+        requires span { ttl_of txn ≤ 2 ^ 40 }
+        ensures granted { OnOk result (decision_on self.old now.0 txn ≡ Grant) }
+        ensures written { OnOk result (self.new ≡ keys_after self.old now.0 by txn) }
+        ensures told { IfOk result (λ granted. granted ≡ record { revision = self.old.revision + 1; by = by; leased = is_lease txn }) }
+        ensures refused { (key : Key) (found : Expected) → (result ≡ Err (StoreRefusal.Mismatch key found)) ↔ (decision_on self.old now.0 txn ≡ Refusal key found) }
+        ensures err { OnErr result (self.new ≡ self.old) }
+    {
+        check(&self.pairs, now, &txn)?;
+        self.pairs.reserve(MOST)?;
+        self.revision += 1;
+        let leased = is_lease(&txn);
+        let stamp = Stamp { revision: self.revision, at: now };
+        write(&mut self.pairs, stamp, by, txn);
+        Ok(Granted::of(self.revision, by, leased))
+    }
+
+    /// Drops every key that is absent at this moment. Answers the holder of the leader key where that one was dropped.
+    pub fn drop_expired(&mut self, now: Ticks) -> Option<MemberId>
+        ensures state { self.new ≡ keys_kept self.old now.0 }
+        ensures holder { result ≡ expired_holder self.old now.0 }
+        ensures dropped { IsSome result ↔ (IsSome (find key_cmp Key.Leader self.old.pairs) × IsNone (key_at self.old now.0 Key.Leader)) }
+        ensures same { (later : ℕ) (key : Key) → now.0 ≤ later → key_at self.new later key ≡ key_at self.old later key }
+    {
+        let holder = expired_holder(&self.pairs, now);
+        drop_absent(&mut self.pairs, now);
+        holder
+    }
+
+    /// All present keys in the order of `Key`, each once and with a value of its kind, the configuration always among
+    /// them. It fails only for want of memory.
+    pub fn entries(&self, now: Ticks) -> Result<Vec<(Key, Held)>, AllocError>
+        ensures pairs { IfOk result (λ entries. entries.items ≡ present_pairs now.0 self.now.pairs) }
+        ensures found { IfOk result (λ entries. (key : Key) → find key_cmp key entries.items ≡ key_at self.now now.0 key) }
+        ensures order { IfOk result (λ entries. IsTrue (is_sorted key_cmp entries.items)) }
+        ensures kinds { IfOk result (λ entries. AreOfKind entries.items) }
+        ensures config { IfOk result (λ entries. IsSome (find key_cmp Key.Config entries.items)) }
+    {
+        copies_of_present(*self.pairs.allocator(), &self.pairs, now)
+    }
+}
+
+/// The holder of the leader key, where that key is held and absent.
+fn expired_holder(pairs: &[(Key, Held)], now: Ticks) -> Option<MemberId>
+    ensures { result ≡ holder_lost now.0 (find key_cmp Key.Leader pairs.now) }
+{
+    let held = held_at(pairs, Key::Leader)?;
+    if is_present(now, held.expiry) {
+        return None;
+    }
+    match &held.value {
+        Value::Leader(member) => Some(*member),
+        _ => None,
+    }
+}

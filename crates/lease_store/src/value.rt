@@ -1,6 +1,9 @@
 //! The values of keys.
+ghost use Rattle.std.specs.Prelude.{◌≡◌, IfOk};
+
 use crate::ConfigValue;
 use pat_base::{Host, Lsn, MemberId, MemberSet, Tags, Ticks, Word};
+use std::alloc::AllocError;
 
 /// What a member tells of itself. The timeline and the end of the log are there where its server runs as a replica or
 /// as a primary.
@@ -56,4 +59,35 @@ pub struct Held {
     pub value: Value,
     pub revision: u64,
     pub expiry: Option<Ticks>,
+}
+
+impl Value {
+    /// Another value alike. It fails only for want of memory.
+    pub fn copy(&self) -> Result<Value, AllocError>
+        ensures { IfOk result (λ value. value ≡ self.now) }
+    {
+        match self {
+            Value::Leader(member) => Ok(Value::Leader(*member)),
+            Value::Config(config) => Ok(Value::Config(config.copy()?)),
+            Value::Member(info) => Ok(Value::Member(*info)),
+            Value::Failover(failover) => Ok(Value::Failover(*failover)),
+            Value::Sync(sync) => Ok(Value::Sync(*sync)),
+            Value::Status(end) => Ok(Value::Status(*end)),
+            Value::History(row) => Ok(Value::History(*row)),
+            Value::Failsafe(members) => Ok(Value::Failsafe(*members)),
+        }
+    }
+}
+
+impl Held {
+    /// Another alike. It fails only for want of memory.
+    pub fn copy(&self) -> Result<Held, AllocError>
+        ensures { IfOk result (λ held. held ≡ self.now) }
+    {
+        Ok(Held {
+            value: self.value.copy()?,
+            revision: self.revision,
+            expiry: self.expiry,
+        })
+    }
 }
