@@ -1,5 +1,5 @@
 -- What follows from what a store keeps.
-use Rattle.std.proofs.Common.{◌≡◌, ℕ, ◌≤◌, ◌<◌, nat_lt, List, [], ◌∷◌, Option, Some, None, Result, Ok, Err, IfOk, IfSome, IsSome, IsNone, IsTrue, ◌↔◌, refl, sym, ap, ◌∙◌, cond, Bool, true, false, subst, option_copied, Bor, Vec, arith}
+use Rattle.std.proofs.Common.{◌≡◌, ℕ, ◌≤◌, nat_lt, List, Option, Some, None, Result, Ok, Err, IfOk, IfSome, IsSome, IsNone, IsTrue, ◌↔◌, refl, sym, ap, ◌∙◌, cond, Bool, true, false, subst, option_copied, Bor, Vec, arith}
 use Rattle.std.proofs.lemmas.Bool.Decides.{nat_tests}
 use Rattle.std.specs.FinMap.{find, is_sorted}
 use Rattle.pat_base.specs.declared.ticks.Ticks.{Ticks}
@@ -29,7 +29,7 @@ chosen-some : (b : Bool) (x held : Held) → cond b (Some x) None ≡ Some held 
 chosen-some true x held h = h
 chosen-some false x held h = cc
 
-present_found : (now : ℕ) (o : Option Held) (held : Held) → present now o ≡ Some held → o ≡ Some held
+pub present_found : (now : ℕ) (o : Option Held) (held : Held) → present now o ≡ Some held → o ≡ Some held
 present_found now None held h = h
 present_found now (Some x) held h = chosen-some (is_present now x.expiry) x held h
 
@@ -85,8 +85,8 @@ still-absent : (now later : ℕ) (expiry : Option Ticks) → now ≤ later → i
 still-absent now later None le h = h
 still-absent now later (Some expiry) le h = earlier now later expiry.0 le h
   where
-  earlier : (m n e : ℕ) → m ≤ n → nat_lt m e ≡ false → nat_lt n e ≡ false
-  earlier m n e le h = grind (arith, nat_tests)
+    earlier : (m n e : ℕ) → m ≤ n → nat_lt m e ≡ false → nat_lt n e ≡ false
+    earlier m n e le h = grind (arith, nat_tests)
 
 pub present_later : (now later : ℕ) (o : Option Held) → now ≤ later → present later (present now o) ≡ present later o
 present_later now later None le = refl
@@ -107,8 +107,8 @@ leader-of _ is = absurd is
 lost-by : (b : Bool) (held : Held) → IsOfKind keys.Leader held.value → IsSome (cond b None (holder_of held.value)) ↔ (IsSome (Some held) × IsNone (cond b (Some held) None))
 lost-by true held kind = (λ h. (refl, never h), λ p. never (sym p.1))
   where
-  never : {P : Type 0} → false ≡ true → P
-  never h = cc
+    never : {P : Type 0} → false ≡ true → P
+    never h = cc
 lost-by false held kind = (λ h. (refl, refl), λ p. leader-of held.value kind)
 
 lost-at : (now : ℕ) (o : Option Held) → ((held : Held) → o ≡ Some held → IsOfKind keys.Leader held.value) → IsSome (holder_lost now o) ↔ (IsSome o × IsNone (present now o))

@@ -1,5 +1,5 @@
 -- Looking for the place of a key.
-use Rattle.std.proofs.Common.{◌≡◌, ℕ, suc, ◌+◌, ◌≤◌, ◌<◌, ◌++◌, List, [], ◌∷◌, length, take, drop, Option, Some, None, IsTrue, slice_index_or, slice_set, refl, sym, ap, ◌∙◌, arith, cond, Bool, true, false, ◌&&◌, subst, add-one, drop-cons, append-nil, length-drop}
+use Rattle.std.proofs.Common.{◌≡◌, ℕ, suc, ◌+◌, ◌≤◌, ◌<◌, ◌++◌, List, [], ◌∷◌, length, take, drop, Option, Some, None, IsTrue, slice_index_or, slice_set, refl, sym, ap, ◌∙◌, cond, Bool, true, false, ◌&&◌, subst, add-one, drop-cons}
 use Rattle.std.specs.declared.cmp.Ordering.{Ordering}
 use Rattle.std.specs.declared.cmp.Ordering.TheVariants.{Less, Equal, Greater}
 use Rattle.std.specs.Ordering.{is_eq, is_lt}

@@ -1,8 +1,7 @@
 -- What the store answers.
-use Rattle.std.specs.Prelude.{ℕ, ◌≡◌, Bool, true, false, if◌then◌else◌, List, filter, Option, Some, None, Result, Ok, Err}
+use Rattle.std.specs.Prelude.{ℕ, if◌then◌else◌, List, filter, Option, Some, None, Result, Ok, Err}
 use Rattle.std.specs.FinMap.{find}
 use Rattle.pat_base.specs.declared.member_id.MemberId.{MemberId}
-use Rattle.pat_base.specs.declared.ticks.Ticks.{Ticks}
 use Rattle.lease_store.specs.declared.key.Key.{Key}
 use Rattle.lease_store.specs.declared.key.Key.TheVariants as keys
 use Rattle.lease_store.specs.declared.value.Held.{Held}

@@ -1,5 +1,5 @@
 -- What holds of the pairs of every store.
-use Rattle.std.specs.Prelude.{ℕ, ◌≡◌, List, [], ◌∷◌, Option, Some, None, IsTrue}
+use Rattle.std.specs.Prelude.{◌≡◌, List, [], ◌∷◌, Option, Some, None, IsTrue}
 use Rattle.std.specs.FinMap.{find, is_sorted}
 use Rattle.lease_store.specs.declared.key.Key.{Key}
 use Rattle.lease_store.specs.declared.key.Key.TheVariants as keys

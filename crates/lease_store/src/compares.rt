@@ -107,9 +107,8 @@ pub fn check(pairs: &[(Key, Held)], now: Ticks, txn: &Txn) -> Result<(), StoreRe
     match txn {
         Txn::Touch { .. } => Ok(()),
         Txn::Create { failsafe, .. } => compare_absent(pairs, now, *failsafe),
-        Txn::Renew { revision, .. } | Txn::Release { revision } | Txn::DropFailover { revision } => {
-            compare_key(pairs, now, Key::Leader, Expected::Revision(*revision))
-        }
+        Txn::Renew { revision, .. } | Txn::Release { revision } | Txn::DropFailover { revision } =>
+            { compare_key(pairs, now, Key::Leader, Expected::Revision(*revision)) }
         Txn::Claim { revision, sync } | Txn::SetSync { revision, sync, .. } => {
             compare_sync(pairs, now, *revision, *sync)
         }

@@ -7,6 +7,7 @@ mod config;
 mod config_value;
 mod granted;
 mod key;
+mod laws;
 mod order;
 mod pairs;
 mod refusal;
@@ -20,8 +21,8 @@ pub use config::Config;
 pub use config_value::ConfigValue;
 pub use granted::Granted;
 pub use key::Key;
+pub use laws::fencing;
 pub use refusal::StoreRefusal;
 pub use store::Store;
-
 pub use txn::{Expected, Txn};
 pub use value::{FailoverKey, Held, HistoryRow, MemberInfo, SyncKey, Value};

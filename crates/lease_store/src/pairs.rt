@@ -82,7 +82,11 @@ pub fn drop_absent(pairs: &mut Vec<(Key, Held)>, now: Ticks)
 }
 
 /// Copies of the pairs whose keys are present at a moment. It fails only for want of memory.
-pub fn copies_of_present(alloc: Global, pairs: &[(Key, Held)], now: Ticks) -> Result<Vec<(Key, Held)>, AllocError>
+pub fn copies_of_present(
+    alloc: Global,
+    pairs: &[(Key, Held)],
+    now: Ticks,
+) -> Result<Vec<(Key, Held)>, AllocError>
     ensures { IfOk result (λ copies. copies.items ≡ present_pairs now.0 pairs.now) }
 {
     let mut copies = Vec::new(alloc);

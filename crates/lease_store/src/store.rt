@@ -89,7 +89,10 @@ impl Store {
         self.pairs.reserve(MOST)?;
         self.revision += 1;
         let leased = is_lease(&txn);
-        let stamp = Stamp { revision: self.revision, at: now };
+        let stamp = Stamp {
+            revision: self.revision,
+            at: now,
+        };
         write(&mut self.pairs, stamp, by, txn);
         Ok(Granted::of(self.revision, by, leased))
     }

@@ -14,7 +14,10 @@ pub enum Expected {
 #[derive(Debug, Drop)]
 pub enum Txn {
     /// The member tells of itself.
-    Touch { info: MemberInfo, ttl: Ticks },
+    Touch {
+        info: MemberInfo,
+        ttl: Ticks,
+    },
     /// The member takes the leader key, where that is absent. With failsafe mode the failsafe key is as it was read.
     Create {
         info: MemberInfo,
@@ -31,9 +34,14 @@ pub enum Txn {
         failsafe: Option<MemberSet>,
     },
     /// The leader key is given up.
-    Release { revision: u64 },
+    Release {
+        revision: u64,
+    },
     /// The member becomes the leader of the synchronous replication, with no standby. The sync key is as it was read.
-    Claim { revision: u64, sync: Expected },
+    Claim {
+        revision: u64,
+        sync: Expected,
+    },
     /// The leader names the synchronous standbys.
     SetSync {
         revision: u64,
@@ -41,11 +49,22 @@ pub enum Txn {
         standbys: MemberSet,
     },
     /// Synchronous replication is off.
-    DropSync { revision: u64, sync: u64 },
+    DropSync {
+        revision: u64,
+        sync: u64,
+    },
     /// A failover is asked for, where none is.
-    SetFailover { failover: FailoverKey, ttl: Ticks },
+    SetFailover {
+        failover: FailoverKey,
+        ttl: Ticks,
+    },
     /// The leader clears the failover that was asked for.
-    DropFailover { revision: u64 },
+    DropFailover {
+        revision: u64,
+    },
     /// The configuration changes, where nobody else changed it.
-    SetConfig { revision: u64, config: ConfigValue },
+    SetConfig {
+        revision: u64,
+        config: ConfigValue,
+    },
 }

@@ -39,7 +39,14 @@ pub fn write(pairs: &mut Vec<(Key, Held)>, stamp: Stamp, by: MemberId, txn: Txn)
             lease(pairs, stamp, Key::Leader, Value::Leader(by), ttl);
             lease(pairs, stamp, Key::Member(by), Value::Member(info), ttl);
         }
-        Txn::Renew { info, ttl, status, row, failsafe, .. } => {
+        Txn::Renew {
+            info,
+            ttl,
+            status,
+            row,
+            failsafe,
+            ..
+        } => {
             renew(pairs, stamp, ttl);
             lease(pairs, stamp, Key::Member(by), Value::Member(info), ttl);
             set_status(pairs, stamp, status);
@@ -67,7 +74,15 @@ fn lease(pairs: &mut Vec<(Key, Held)>, stamp: Stamp, key: Key, value: Value, ttl
     ensures room { vec_capacity pairs.old ≤ vec_capacity pairs.new }
 {
     let expiry = Some(stamp.at + ttl);
-    put(pairs, key, Held { value, revision: stamp.revision, expiry });
+    put(
+        pairs,
+        key,
+        Held {
+            value,
+            revision: stamp.revision,
+            expiry,
+        },
+    );
 }
 
 /// Extends the lease of the leader key by this span.
@@ -88,14 +103,27 @@ fn set(pairs: &mut Vec<(Key, Held)>, stamp: Stamp, key: Key, value: Value)
     ensures len { vec_len pairs.new ≤ vec_len pairs.old + 1 }
     ensures room { vec_capacity pairs.old ≤ vec_capacity pairs.new }
 {
-    put(pairs, key, Held { value, revision: stamp.revision, expiry: None });
+    put(
+        pairs,
+        key,
+        Held {
+            value,
+            revision: stamp.revision,
+            expiry: None,
+        },
+    );
 }
 
 fn set_sync(pairs: &mut Vec<(Key, Held)>, stamp: Stamp, leader: MemberId, standbys: MemberSet)
     requires { vec_len pairs.old + 1 ≤ vec_capacity pairs.old }
     ensures { pairs.new.items ≡ written stamp.revision stamp.at.0 pairs.old.items (Sets Key.Sync (sync_value leader standbys)) }
 {
-    set(pairs, stamp, Key::Sync, Value::Sync(SyncKey { leader, standbys }));
+    set(
+        pairs,
+        stamp,
+        Key::Sync,
+        Value::Sync(SyncKey { leader, standbys }),
+    );
 }
 
 /// Writes the leader's position, where there is one.
@@ -118,7 +146,12 @@ fn set_row(pairs: &mut Vec<(Key, Held)>, stamp: Stamp, row: Option<HistoryRow>)
     ensures room { vec_capacity pairs.old ≤ vec_capacity pairs.new }
 {
     if let Some(row) = row {
-        set(pairs, stamp, Key::History(row.timeline), Value::History(row));
+        set(
+            pairs,
+            stamp,
+            Key::History(row.timeline),
+            Value::History(row),
+        );
     }
 }
 
