@@ -1,3 +1,11 @@
+pub mod Answers
+pub mod Decision
+pub mod Defaults
+pub mod Fencing
+pub mod Kept
+pub mod KeyOrder
 pub mod Keys
+pub mod Kinds
+pub mod Places
 pub mod Settings
-pub mod Words
+pub mod Writes

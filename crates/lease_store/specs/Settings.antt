@@ -1,10 +1,8 @@
--- The settings of a cluster whose script has no configuration.
-use Rattle.std.specs.Prelude.{ℕ}
+-- Configurations as data.
+use Rattle.std.specs.Prelude.{ℕ, List}
+use Rattle.lease_store.specs.declared.config.Config.{Config}
 
--- ticks from one turn of a member to the next
-abbrev pub loop_wait : ℕ
-loop_wait = 100
-
--- ticks from a grant to the end of its lease
-abbrev pub ttl : ℕ
-ttl = 300
+-- the text of a configuration, and what it sets
+pub record Settings : Type 0 where
+  pub text : List ℕ
+  pub config : Config

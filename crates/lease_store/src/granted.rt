@@ -1,32 +1,43 @@
-//! Proof of a grant.
+//! Grants.
 ghost use Rattle.std.specs.Prelude.{◌≡◌};
 
 use pat_base::MemberId;
 
-/// That a request was granted. Only `Store::apply` makes one, and it can't be copied.
-#[derive(Debug, PartialEq, Eq, Drop)]
+/// The store granted a request. It comes from the store alone and isn't copied, so who has one was granted its request.
+#[derive(Debug, Drop)]
 pub struct Granted {
-    pub(crate) revision: u64,
-    pub(crate) by: MemberId,
-    pub(crate) leased: bool,
+    revision: u64,
+    by: MemberId,
+    leased: bool,
 }
 
 impl Granted {
-    /// The revision of what the grant wrote.
+    /// The grant of this revision.
+    pub(crate) fn of(revision: u64, by: MemberId, leased: bool) -> Granted
+        ensures { result ≡ record { revision = revision; by = by; leased = leased } }
+    {
+        Granted {
+            revision,
+            by,
+            leased,
+        }
+    }
+
+    /// The revision that it has, and that every key that it wrote has.
     pub fn revision(&self) -> u64
         ensures { result ≡ self.now.revision }
     {
         self.revision
     }
 
-    /// The member whose request it was.
+    /// Who asked.
     pub fn by(&self) -> MemberId
         ensures { result ≡ self.now.by }
     {
         self.by
     }
 
-    /// Whether the grant wrote the leader key with a lease.
+    /// Whether it gave or extended the lease of the leader key.
     pub fn leased(&self) -> bool
         ensures { result ≡ self.now.leased }
     {

@@ -1,17 +1,28 @@
-//! The key store with leases: it grants a request exactly where what the request compares is so.
-//!
-//! It keeps the leader key alone so far. Members share it, and a key that nobody renews is absent from its expiry on
-//! (Patroni documentation, "DCS" and "Dynamic Configuration Settings").
+//! The key store of a cluster: keys with leases, transactions that compare revisions, and what they leave.
 #![tactic(auto)]
 
+mod action;
+mod compares;
+mod config;
+mod config_value;
 mod granted;
 mod key;
-mod settings;
+mod laws;
+mod order;
+mod pairs;
+mod refusal;
 mod store;
-mod transaction;
+mod txn;
+mod value;
+mod writes;
 
+pub use action::{Action, Asked, Bar, Move};
+pub use config::Config;
+pub use config_value::ConfigValue;
 pub use granted::Granted;
-pub use key::{Expected, Held, Key};
-pub use settings::{LOOP_WAIT, TTL};
+pub use key::Key;
+pub use laws::fencing;
+pub use refusal::StoreRefusal;
 pub use store::Store;
-pub use transaction::{StoreRefusal, Txn};
+pub use txn::{Expected, Txn};
+pub use value::{FailoverKey, Held, HistoryRow, MemberInfo, SyncKey, Value};

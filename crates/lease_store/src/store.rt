@@ -1,196 +1,137 @@
-//! The store itself.
-ghost use Rattle.std.specs.Prelude.{◌≡◌, ◌+◌, ◌^◌, ◌<◌, ◌≤◌, IfOk, IfErr, OnOk, OnErr, None, Some, true};
-ghost use Rattle.std.specs.Option.{option_copied};
-ghost use Rattle.lease_store.specs.Keys.{key_at, present_at, is_expired, found_in, expected_by, is_met, decision_on, keys_after, taken, extended, later, span_of, unexpired_keys, dropped_holder, expired_holder, no_keys};
+//! The store.
+ghost use Rattle.std.specs.Prelude.{ℕ, ◌≡◌, ◌≤◌, ◌<◌, ◌+◌, ◌^◌, ◌↔◌, IsTrue, IsSome, IsNone, IfSome, Some, None, OnOk, OnErr, IfOk, option_copied, Err};
+ghost use Rattle.std.specs.FinMap.{find, is_sorted};
+ghost use Rattle.lease_store.specs.Answers.{present_pairs, keys_kept, holder_lost, expired_holder};
+ghost use Rattle.lease_store.specs.declared.txn.Expected.{Expected};
+ghost use Rattle.lease_store.specs.Decision.{Grant, Refusal, decision_on};
+ghost use Rattle.lease_store.specs.KeyOrder.{key_cmp};
+ghost use Rattle.lease_store.specs.Keys.{Keys, key_at, first_keys};
+ghost use Rattle.lease_store.specs.Kept.{AreOfKind, IsKept};
+ghost use Rattle.lease_store.specs.Kinds.{IsOfKind};
+ghost use Rattle.lease_store.specs.Writes.{keys_after, is_lease, ttl_of};
 
-use crate::{Expected, Granted, Held, Key, StoreRefusal, Txn};
+use crate::compares::{check, held_at, is_present, present_at};
+use crate::pairs::{copies_of_present, drop_absent};
+use crate::writes::{MOST, Stamp, is_lease, write};
+use crate::{ConfigValue, Granted, Held, Key, StoreRefusal, Txn, Value};
 use pat_base::{MemberId, Ticks};
+use std::alloc::{AllocError, Global};
 use std::marker::Model;
 
-/// The store: the keys that the granted requests left, with the revision of the last of them.
-#[derive(Drop)]
+/// The key store: what it holds at each key, and the last revision that it granted.
+#[derive(Debug, Drop)]
 pub struct Store {
+    pairs: Vec<(Key, Held)>,
     revision: u64,
-    leader: Option<Held>,
 }
 
 impl Model for Store {
     ghost use Rattle.lease_store.specs.Keys.{Keys};
+    ghost use Rattle.lease_store.specs.Kept.{IsKept};
 
     ghost Value = { Keys };
 
-    ghost view = { λ s. record { revision = s.revision; leader = s.leader } };
+    ghost view = { λ s. record { revision = s.revision; pairs = s.pairs.items } };
+
+    ghost invariant = { λ s. IsKept s.pairs.items };
 }
 
 impl Store {
-    /// The store of a new cluster. The first configuration counts as the first granted write, with revision 1.
-    pub fn new() -> Store
-        ensures { result ≡ no_keys }
+    /// The store of a configuration, which is its first granted write. It fails only for want of memory.
+    pub fn new(alloc: Global, config: ConfigValue) -> Result<Store, AllocError>
+        ensures { IfOk result (λ store. store ≡ first_keys config) }
     {
-        Store {
+        let mut pairs = Vec::with_capacity(alloc, MOST)?;
+        let held = Held {
+            value: Value::Config(config),
             revision: 1,
-            leader: None,
-        }
+            expiry: None,
+        };
+        pairs.push((Key::Config, held))?;
+        Ok(Store { pairs, revision: 1 })
     }
 
-    /// The revision of the last granted request. It only grows.
+    /// The last granted revision.
     pub fn revision(&self) -> u64
         ensures { result ≡ self.now.revision }
     {
         self.revision
     }
 
-    /// What a key holds at this moment. `None` exactly where it is absent.
+    /// What holds of the pairs of every store: proofs learn it by this call, which does nothing.
+    pub fn known(&self)
+        ensures { IsKept self.now.pairs }
+    {
+        let _ = &self.pairs;
+    }
+
+    /// What is held at a key that is present at this moment. `None` exactly where the key is absent.
     pub fn get(&self, now: Ticks, key: Key) -> Option<&Held>
-        ensures { option_copied result ≡ key_at self.now now.0 key }
+        ensures value { option_copied result ≡ key_at self.now now.0 key }
+        ensures kind { IfSome result (λ held. IsOfKind key held.now.value) }
     {
-        match key {
-            Key::Leader => present_at(now, &self.leader),
-        }
+        present_at(&self.pairs, now, key)
     }
 
-    /// Grants a member's request exactly where what it compares is so, and then does what it writes, under the next
-    /// revision. A refusal names the first key that differs and what was found there, and changes nothing.
+    /// Decides on a request of a member, and writes what it writes where it is granted. A refusal changes nothing.
+    /// `Mismatch` comes exactly where a compare differs, and tells the first that does; `Memory` only for want of memory.
     pub fn apply(&mut self, now: Ticks, by: MemberId, txn: Txn) -> Result<Granted, StoreRefusal>
-        requires moment { now.0 ≤ 2 ^ 62 }
-        requires span { span_of txn ≤ 2 ^ 40 }
         requires revision { self.old.revision < 2 ^ 60 }
-        ensures granted { IfOk result (λ granted. (decision_on self.old now.0 txn ≡ None)
-            × (granted ≡ record { revision = self.old.revision + 1; by = by; leased = true })) }
-        ensures state { OnOk result (self.new ≡ keys_after self.old now.0 by txn) }
-        ensures refused { IfErr result (λ refusal. decision_on self.old now.0 txn ≡ Some refusal) }
+        requires moment { now.0 ≤ 2 ^ 62 }
+        requires span { ttl_of txn ≤ 2 ^ 40 }
+        ensures granted { OnOk result (decision_on self.old now.0 txn ≡ Grant) }
+        ensures written { OnOk result (self.new ≡ keys_after self.old now.0 by txn) }
+        ensures told { IfOk result (λ granted. granted ≡ record { revision = self.old.revision + 1; by = by; leased = is_lease txn }) }
+        ensures refused { (key : Key) (found : Expected) → (result ≡ Err (StoreRefusal.Mismatch key found)) ↔ (decision_on self.old now.0 txn ≡ Refusal key found) }
         ensures err { OnErr result (self.new ≡ self.old) }
-        ensures revision { self.new.revision ≤ self.old.revision + 1 }
     {
-        self.check(now, txn)?;
+        check(&self.pairs, now, &txn)?;
+        self.pairs.reserve(MOST)?;
         self.revision += 1;
-        match txn {
-            Txn::Create { ttl } => self.leader = Some(taken(by, self.revision, now + ttl)),
-            Txn::Renew { ttl, .. } => extend(&mut self.leader, self.revision, now + ttl),
-        }
-        Ok(Granted {
+        let leased = is_lease(&txn);
+        let stamp = Stamp {
             revision: self.revision,
-            by,
-            leased: true,
-        })
+            at: now,
+        };
+        write(&mut self.pairs, stamp, by, txn);
+        Ok(Granted::of(self.revision, by, leased))
     }
 
-    /// The first compare of a request that differs.
-    fn check(&self, now: Ticks, txn: Txn) -> Result<(), StoreRefusal>
-        ensures granted { OnOk result (decision_on self.now now.0 txn ≡ None) }
-        ensures refused { IfErr result (λ refusal. decision_on self.now now.0 txn ≡ Some refusal) }
-    {
-        let found = found_in(self.get(now, Key::Leader));
-        if is_met(expected_by(txn), found) {
-            Ok(())
-        } else {
-            Err(StoreRefusal::Mismatch {
-                key: Key::Leader,
-                found,
-            })
-        }
-    }
-
-    /// Drops every key that is absent at this moment, and answers the member that held the leader key where that one
-    /// was dropped.
+    /// Drops every key that is absent at this moment. Answers the holder of the leader key where that one was dropped.
     pub fn drop_expired(&mut self, now: Ticks) -> Option<MemberId>
-        ensures holder { result ≡ dropped_holder self.old now.0 }
-        ensures state { self.new ≡ unexpired_keys self.old now.0 }
+        ensures state { self.new ≡ keys_kept self.old now.0 }
+        ensures holder { result ≡ expired_holder self.old now.0 }
+        ensures dropped { IsSome result ↔ (IsSome (find key_cmp Key.Leader self.old.pairs) × IsNone (key_at self.old now.0 Key.Leader)) }
+        ensures same { (later : ℕ) (key : Key) → now.0 ≤ later → key_at self.new later key ≡ key_at self.old later key }
     {
-        let holder = expired_holder(now, &self.leader)?;
-        self.leader = None;
-        Some(holder)
+        let holder = expired_holder(&self.pairs, now);
+        drop_absent(&mut self.pairs, now);
+        holder
+    }
+
+    /// All present keys in the order of `Key`, each once and with a value of its kind, the configuration always among
+    /// them. It fails only for want of memory.
+    pub fn entries(&self, now: Ticks) -> Result<Vec<(Key, Held)>, AllocError>
+        ensures pairs { IfOk result (λ entries. entries.items ≡ present_pairs now.0 self.now.pairs) }
+        ensures found { IfOk result (λ entries. (key : Key) → find key_cmp key entries.items ≡ key_at self.now now.0 key) }
+        ensures order { IfOk result (λ entries. IsTrue (is_sorted key_cmp entries.items)) }
+        ensures kinds { IfOk result (λ entries. AreOfKind entries.items) }
+        ensures config { IfOk result (λ entries. IsSome (find key_cmp Key.Config entries.items)) }
+    {
+        copies_of_present(*self.pairs.allocator(), &self.pairs, now)
     }
 }
 
-/// The key of this state, where it is there.
-fn present_at(now: Ticks, state: &Option<Held>) -> Option<&Held>
-    ensures { option_copied result ≡ present_at now.0 state.now }
+/// The holder of the leader key, where that key is held and absent.
+fn expired_holder(pairs: &[(Key, Held)], now: Ticks) -> Option<MemberId>
+    ensures { result ≡ holder_lost now.0 (find key_cmp Key.Leader pairs.now) }
 {
-    let held = state.as_ref()?;
-    if is_expired(now, held.expiry) {
-        None
-    } else {
-        Some(held)
+    let held = held_at(pairs, Key::Leader)?;
+    if is_present(now, held.expiry) {
+        return None;
     }
-}
-
-fn is_expired(now: Ticks, expiry: Option<Ticks>) -> bool
-    ensures { result ≡ is_expired now.0 expiry }
-{
-    match expiry {
-        None => false,
-        Some(expiry) => expiry <= now,
-    }
-}
-
-fn expired_holder(now: Ticks, state: &Option<Held>) -> Option<MemberId>
-    ensures { result ≡ expired_holder now.0 state.now }
-{
-    let held = state.as_ref()?;
-    if is_expired(now, held.expiry) {
-        Some(held.holder)
-    } else {
-        None
-    }
-}
-
-fn found_in(state: Option<&Held>) -> Expected
-    ensures { result ≡ found_in (option_copied state.entry) }
-{
-    match state {
-        None => Expected::Absent,
-        Some(held) => Expected::Revision(held.revision),
-    }
-}
-
-fn expected_by(txn: Txn) -> Expected
-    ensures { result ≡ expected_by txn }
-{
-    match txn {
-        Txn::Create { .. } => Expected::Absent,
-        Txn::Renew { revision, .. } => Expected::Revision(revision),
-    }
-}
-
-fn is_met(expected: Expected, found: Expected) -> bool
-    ensures { result ≡ is_met expected found }
-{
-    match (expected, found) {
-        (Expected::Absent, Expected::Absent) => true,
-        (Expected::Revision(expected), Expected::Revision(found)) => expected == found,
-        _ => false,
-    }
-}
-
-fn taken(by: MemberId, revision: u64, until: Ticks) -> Held
-    ensures { result ≡ taken by revision until.0 }
-{
-    Held {
-        holder: by,
-        revision,
-        expiry: Some(until),
-    }
-}
-
-/// Extends a key that is there, under a new revision.
-fn extend(state: &mut Option<Held>, revision: u64, until: Ticks)
-    ensures { state.new ≡ extended state.old revision until.0 }
-{
-    if let Some(held) = *state {
-        *state = Some(Held {
-            revision,
-            expiry: later(held.expiry, until),
-            ..held
-        });
-    }
-}
-
-fn later(expiry: Option<Ticks>, until: Ticks) -> Option<Ticks>
-    ensures { result ≡ later expiry until.0 }
-{
-    match expiry {
-        None => None,
-        Some(expiry) => Some(Ticks(expiry.0.max(until.0))),
+    match &held.value {
+        Value::Leader(member) => Some(*member),
+        _ => None,
     }
 }

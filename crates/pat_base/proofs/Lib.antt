@@ -1,2 +1,4 @@
 pub mod Contents
+pub mod Hosts
+pub mod MemberBits
 pub mod Names

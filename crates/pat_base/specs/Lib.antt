@@ -1,5 +1,9 @@
+pub mod Host
+pub mod HostText
+pub mod LsnText
 pub mod MemberId
 pub mod Memory
 pub mod Name
 pub mod NameText
 pub mod Outside
+pub mod Word

@@ -2,17 +2,27 @@
 #![tactic(auto)]
 
 mod adapters;
+mod host;
+mod lsn;
 mod member_id;
+mod member_set;
 mod memory;
 mod name;
 mod outside;
+mod tags;
 mod ticks;
 mod transfer;
+mod word;
 
 pub use adapters::{ReaderSource, WriterSink};
+pub use host::Host;
+pub use lsn::Lsn;
 pub use member_id::MemberId;
+pub use member_set::MemberSet;
 pub use memory::{MemorySink, MemorySource};
 pub use name::Name;
 pub use outside::{Failed, Sink, Source};
+pub use tags::Tags;
 pub use ticks::Ticks;
 pub use transfer::{ReadError, read_at_most, write_all};
+pub use word::Word;

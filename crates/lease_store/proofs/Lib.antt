@@ -1,0 +1,5 @@
+pub mod Answering
+pub mod Fences
+pub mod KeyLaws
+pub mod Keeping
+pub mod Placing

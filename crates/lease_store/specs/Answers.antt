@@ -1,0 +1,40 @@
+-- What the store answers.
+use Rattle.std.specs.Prelude.{ℕ, if◌then◌else◌, List, filter, Option, Some, None, Result, Ok, Err}
+use Rattle.std.specs.FinMap.{find}
+use Rattle.pat_base.specs.declared.member_id.MemberId.{MemberId}
+use Rattle.lease_store.specs.declared.key.Key.{Key}
+use Rattle.lease_store.specs.declared.key.Key.TheVariants as keys
+use Rattle.lease_store.specs.declared.value.Held.{Held}
+use Rattle.lease_store.specs.declared.value.Value.{Value}
+use Rattle.lease_store.specs.declared.value.Value.TheVariants as values
+use Rattle.lease_store.specs.declared.refusal.StoreRefusal.{StoreRefusal}
+use Rattle.lease_store.specs.declared.refusal.StoreRefusal.TheVariants.{Mismatch}
+use Rattle.lease_store.specs.Decision.{Decision, Grant, Refusal}
+use Rattle.lease_store.specs.Keys.{Keys, is_present}
+use Rattle.lease_store.specs.KeyOrder.{key_cmp}
+
+-- a decision as what a check answers
+abbrev pub answer_to : Decision → Result (Unit {0}) StoreRefusal
+answer_to Grant = Ok tt
+answer_to (Refusal key found) = Err (Mismatch key found)
+
+-- the pairs of the keys that are present
+abbrev pub present_pairs : ℕ → List (Key × Held) → List (Key × Held)
+present_pairs now pairs = filter (λ pair. is_present now pair.1.expiry) pairs
+
+-- the store without its absent keys
+abbrev pub keys_kept : Keys → ℕ → Keys
+keys_kept store now = record store { pairs = present_pairs now store.pairs }
+
+-- the member that a value of the leader key names
+abbrev pub holder_of : Value → Option MemberId
+holder_of (values.Leader member) = Some member
+holder_of _ = None
+
+abbrev pub holder_lost : ℕ → Option Held → Option MemberId
+holder_lost now None = None
+holder_lost now (Some held) = if is_present now held.expiry then None else holder_of held.value
+
+-- the holder of the leader key, where that key is held and absent
+abbrev pub expired_holder : Keys → ℕ → Option MemberId
+expired_holder store now = holder_lost now (find key_cmp keys.Leader store.pairs)

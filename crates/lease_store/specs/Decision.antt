@@ -1,0 +1,58 @@
+-- The decision on a request.
+use Rattle.std.specs.Prelude.{ℕ, ◌==◌, Bool, true, false, List, [], ◌∷◌, Option, Some, None}
+use Rattle.lease_store.specs.declared.key.Key.{Key}
+use Rattle.lease_store.specs.declared.key.Key.TheVariants as keys
+use Rattle.lease_store.specs.declared.value.Held.{Held}
+use Rattle.lease_store.specs.declared.txn.Expected.{Expected}
+use Rattle.lease_store.specs.declared.txn.Expected.TheVariants.{Absent, Revision}
+use Rattle.lease_store.specs.declared.txn.Txn.{Txn}
+use Rattle.lease_store.specs.declared.txn.Txn.TheVariants as txns
+use Rattle.lease_store.specs.Keys.{Keys, key_in}
+
+-- what a transaction compares besides the leader key when it creates that key
+abbrev pub failsafe_compare : Option Expected → List (Key × Expected)
+failsafe_compare None = []
+failsafe_compare (Some failsafe) = (keys.Failsafe, failsafe) ∷ []
+
+-- what a transaction compares, in this order
+abbrev pub compares_of : Txn → List (Key × Expected)
+compares_of (txns.Touch info ttl) = []
+compares_of (txns.Create info ttl failsafe) = (keys.Leader, Absent) ∷ failsafe_compare failsafe
+compares_of (txns.Renew revision info ttl status row failsafe) = (keys.Leader, Revision revision) ∷ []
+compares_of (txns.Release revision) = (keys.Leader, Revision revision) ∷ []
+compares_of (txns.Claim revision sync) = (keys.Leader, Revision revision) ∷ (keys.Sync, sync) ∷ []
+compares_of (txns.SetSync revision sync standbys) = (keys.Leader, Revision revision) ∷ (keys.Sync, sync) ∷ []
+compares_of (txns.DropSync revision sync) = (keys.Leader, Revision revision) ∷ (keys.Sync, Revision sync) ∷ []
+compares_of (txns.SetFailover failover ttl) = (keys.Failover, Absent) ∷ []
+compares_of (txns.DropFailover revision) = (keys.Leader, Revision revision) ∷ []
+compares_of (txns.SetConfig revision config) = (keys.Config, Revision revision) ∷ []
+
+-- what a compare finds
+abbrev pub found_in : Option Held → Expected
+found_in None = Absent
+found_in (Some held) = Revision held.revision
+
+abbrev pub is_as_expected : Expected → Expected → Bool
+is_as_expected Absent Absent = true
+is_as_expected (Revision a) (Revision b) = a == b
+is_as_expected _ _ = false
+
+-- granted, or the first key that differs with what was found there
+pub data Decision : Type 0 where
+  Grant : Decision
+  Refusal : (key : Key) (found : Expected) → Decision
+
+-- what follows decides where the key is as expected
+abbrev pub decided : Bool → Key → Expected → Decision → Decision
+decided true key found rest = rest
+decided false key found rest = Refusal key found
+
+abbrev pub decision_by : List (Key × Held) → ℕ → List (Key × Expected) → Decision
+decision_by pairs now [] = Grant
+decision_by pairs now (compare ∷ compares) =
+    let found = found_in (key_in pairs now compare.0) in
+    decided (is_as_expected compare.1 found) compare.0 found (decision_by pairs now compares)
+
+-- the decision on a transaction at a moment
+abbrev pub decision_on : Keys → ℕ → Txn → Decision
+decision_on store now txn = decision_by store.pairs now (compares_of txn)

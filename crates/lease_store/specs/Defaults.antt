@@ -1,0 +1,31 @@
+-- The configuration where nothing is set.
+use Rattle.std.specs.Prelude.{false, codes}
+use Rattle.std.proofs.Common.{lit≤}
+use Rattle.lease_store.specs.declared.config.Config.{Config}
+use Rattle.lease_store.specs.Settings.{Settings}
+
+-- times in seconds, the lag in bytes
+abbrev pub default_config : Config
+default_config = record {
+  loop_wait = 10;
+  retry_timeout = 10;
+  ttl = 30;
+  maximum_lag_on_failover = 1048576;
+  primary_start_timeout = 300;
+  synchronous_node_count = 1;
+  synchronous_mode = false;
+  synchronous_mode_strict = false;
+  failsafe_mode = false;
+  pause = false;
+  use_pg_rewind = false;
+  loop_wait_range = (lit≤ tt, lit≤ tt);
+  retry_timeout_range = (lit≤ tt, lit≤ tt);
+  ttl_range = (lit≤ tt, lit≤ tt);
+  maximum_lag_on_failover_range = lit≤ tt;
+  primary_start_timeout_range = lit≤ tt;
+  synchronous_node_count_range = (lit≤ tt, lit≤ tt);
+}
+
+-- the configuration of a cluster that begins with none
+abbrev pub default_settings : Settings
+default_settings = record { text = codes "{}"; config = default_config }

@@ -1,0 +1,100 @@
+-- What a granted transaction writes.
+use Rattle.std.specs.Prelude.{ℕ, ◌+◌, ◌++◌, max, Bool, true, false, List, [], ◌∷◌, Option, Some, None, not, filter}
+use Rattle.std.specs.FinMap.{find, put}
+use Rattle.std.specs.Ordering.{eq_by_cmp}
+use Rattle.pat_base.specs.declared.ticks.Ticks.{Ticks}
+use Rattle.pat_base.specs.declared.lsn.Lsn.{Lsn}
+use Rattle.pat_base.specs.declared.member_id.MemberId.{MemberId}
+use Rattle.pat_base.specs.declared.member_set.MemberSet.{MemberSet}
+use Rattle.lease_store.specs.declared.key.Key.{Key}
+use Rattle.lease_store.specs.declared.key.Key.TheVariants as keys
+use Rattle.lease_store.specs.declared.value.HistoryRow.{HistoryRow}
+use Rattle.lease_store.specs.declared.value.Held.{Held}
+use Rattle.lease_store.specs.declared.value.Value.{Value}
+use Rattle.lease_store.specs.declared.value.Value.TheVariants as values
+use Rattle.lease_store.specs.declared.txn.Txn.{Txn}
+use Rattle.lease_store.specs.declared.txn.Txn.TheVariants as txns
+use Rattle.lease_store.specs.Keys.{Keys}
+use Rattle.lease_store.specs.KeyOrder.{key_cmp}
+
+-- one write: of a key without a lease, of a key with a lease, of the lease alone, and a removal
+pub data Write : Type 0 where
+  Sets : (key : Key) (value : Value) → Write
+  Leases : (key : Key) (value : Value) (ttl : Ticks) → Write
+  Extends : (key : Key) (ttl : Ticks) → Write
+  Deletes : (key : Key) → Write
+
+abbrev pub status_carried : Option Lsn → List Write
+status_carried None = []
+status_carried (Some end) = Sets keys.Status (values.Status end) ∷ []
+
+abbrev pub row_carried : Option HistoryRow → List Write
+row_carried None = []
+row_carried (Some row) = Sets (keys.History row.timeline) (values.History row) ∷ []
+
+abbrev pub failsafe_carried : Option MemberSet → List Write
+failsafe_carried None = []
+failsafe_carried (Some members) = Sets keys.Failsafe (values.Failsafe members) ∷ []
+
+abbrev pub sync_value : MemberId → MemberSet → Value
+sync_value leader standbys = values.Sync (record { leader = leader; standbys = standbys })
+
+abbrev pub nobody : MemberSet
+nobody = record { bits = 0 }
+
+-- what a transaction of a member writes
+abbrev pub writes_of : MemberId → Txn → List Write
+writes_of by (txns.Touch info ttl) = Leases (keys.Member by) (values.Member info) ttl ∷ []
+writes_of by (txns.Create info ttl failsafe) = Leases keys.Leader (values.Leader by) ttl ∷ Leases (keys.Member by) (values.Member info) ttl ∷ []
+writes_of by (txns.Renew revision info ttl status row failsafe) = Extends keys.Leader ttl ∷ Leases (keys.Member by) (values.Member info) ttl ∷ (status_carried status ++ (row_carried row ++ failsafe_carried failsafe))
+writes_of by (txns.Release revision) = Deletes keys.Leader ∷ []
+writes_of by (txns.Claim revision sync) = Sets keys.Sync (sync_value by nobody) ∷ []
+writes_of by (txns.SetSync revision sync standbys) = Sets keys.Sync (sync_value by standbys) ∷ []
+writes_of by (txns.DropSync revision sync) = Deletes keys.Sync ∷ []
+writes_of by (txns.SetFailover failover ttl) = Leases keys.Failover (values.Failover failover) ttl ∷ []
+writes_of by (txns.DropFailover revision) = Deletes keys.Failover ∷ []
+writes_of by (txns.SetConfig revision config) = Sets keys.Config (values.Config config) ∷ []
+
+-- whether a transaction gives its sender the lease of the leader key
+abbrev pub is_lease : Txn → Bool
+is_lease (txns.Create info ttl failsafe) = true
+is_lease (txns.Renew revision info ttl status row failsafe) = true
+is_lease _ = false
+
+-- the span of its leases, if it writes any
+abbrev pub ttl_of : Txn → ℕ
+ttl_of (txns.Touch info ttl) = ttl.0
+ttl_of (txns.Create info ttl failsafe) = ttl.0
+ttl_of (txns.Renew revision info ttl status row failsafe) = ttl.0
+ttl_of (txns.SetFailover failover ttl) = ttl.0
+ttl_of _ = 0
+
+-- the expiry of a lease that is extended until a moment, which is never earlier than it was
+abbrev pub later : ℕ → Option Ticks → Option Ticks
+later until None = None
+later until (Some expiry) = Some (record { 0 = max expiry.0 until })
+
+abbrev pub extended : ℕ → ℕ → List (Key × Held) → Key → Option Held → List (Key × Held)
+extended revision until pairs key None = pairs
+extended revision until pairs key (Some held) = put key_cmp key (record held { revision = revision; expiry = later until held.expiry }) pairs
+
+abbrev pub without : Key → List (Key × Held) → List (Key × Held)
+without key pairs = filter (λ pair. not (eq_by_cmp key_cmp key pair.0)) pairs
+
+-- the pairs after a write of this revision at a moment
+abbrev pub written : ℕ → ℕ → List (Key × Held) → Write → List (Key × Held)
+written revision now pairs (Sets key value) = put key_cmp key (record { value = value; revision = revision; expiry = None }) pairs
+written revision now pairs (Leases key value ttl) = put key_cmp key (record { value = value; revision = revision; expiry = Some (record { 0 = now + ttl.0 }) }) pairs
+written revision now pairs (Extends key ttl) = extended revision (now + ttl.0) pairs key (find key_cmp key pairs)
+written revision now pairs (Deletes key) = without key pairs
+
+abbrev pub all_written : ℕ → ℕ → List (Key × Held) → List Write → List (Key × Held)
+all_written revision now pairs [] = pairs
+all_written revision now pairs (write ∷ writes) = all_written revision now (written revision now pairs write) writes
+
+-- the keys after a granted transaction of a member at a moment
+abbrev pub keys_after : Keys → ℕ → MemberId → Txn → Keys
+keys_after store now by txn = record {
+  revision = store.revision + 1;
+  pairs = all_written (store.revision + 1) now store.pairs (writes_of by txn);
+}

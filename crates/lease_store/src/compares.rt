@@ -1,0 +1,123 @@
+//! What transactions compare.
+ghost use Rattle.std.specs.Prelude.{◌≡◌, ◌∷◌, [], option_copied};
+ghost use Rattle.std.specs.FinMap.{find};
+ghost use Rattle.lease_store.specs.KeyOrder.{key_cmp};
+ghost use Rattle.lease_store.specs.Keys.{is_present, key_in};
+ghost use Rattle.lease_store.specs.Decision.{found_in, failsafe_compare, decision_by, compares_of};
+ghost use Rattle.lease_store.specs.Answers.{answer_to};
+
+use crate::order::compare;
+use crate::{Expected, Held, Key, StoreRefusal, Txn};
+use pat_base::Ticks;
+use std::cmp::Ordering;
+
+/// Whether a key of this expiry is present.
+pub fn is_present(now: Ticks, expiry: Option<Ticks>) -> bool
+    ensures { result ≡ is_present now.0 expiry }
+{
+    match expiry {
+        None => true,
+        Some(expiry) => now < expiry,
+    }
+}
+
+/// What is held at a key.
+pub fn held_at(pairs: &[(Key, Held)], key: Key) -> Option<&Held>
+    ensures { option_copied result ≡ find key_cmp key pairs.now }
+{
+    for (other, held) in pairs {
+        if let Ordering::Equal = compare(key, *other) {
+            return Some(held);
+        }
+    }
+    None
+}
+
+/// What is held at a key that is present.
+pub fn present_at(pairs: &[(Key, Held)], now: Ticks, key: Key) -> Option<&Held>
+    ensures { option_copied result ≡ key_in pairs.now now.0 key }
+{
+    let held = held_at(pairs, key)?;
+    if is_present(now, held.expiry) {
+        Some(held)
+    } else {
+        None
+    }
+}
+
+/// What a compare of a key finds.
+fn found(pairs: &[(Key, Held)], now: Ticks, key: Key) -> Expected
+    ensures { result ≡ found_in (key_in pairs.now now.0 key) }
+{
+    match present_at(pairs, now, key) {
+        None => Expected::Absent,
+        Some(held) => Expected::Revision(held.revision),
+    }
+}
+
+/// Refuses a key that isn't as it is expected.
+fn compare_key(
+    pairs: &[(Key, Held)],
+    now: Ticks,
+    key: Key,
+    expected: Expected,
+) -> Result<(), StoreRefusal>
+    ensures { result ≡ answer_to (decision_by pairs.now now.0 ((key, expected) ∷ [])) }
+{
+    let found = found(pairs, now, key);
+    if found == expected {
+        Ok(())
+    } else {
+        Err(StoreRefusal::Mismatch { key, found })
+    }
+}
+
+/// Refuses a leader key that isn't of this revision, and then a sync key that isn't as it is expected.
+fn compare_sync(
+    pairs: &[(Key, Held)],
+    now: Ticks,
+    revision: u64,
+    sync: Expected,
+) -> Result<(), StoreRefusal>
+    ensures { result ≡ answer_to (decision_by pairs.now now.0 ((Key.Leader, Expected.Revision revision) ∷ (Key.Sync, sync) ∷ [])) }
+{
+    compare_key(pairs, now, Key::Leader, Expected::Revision(revision))?;
+    compare_key(pairs, now, Key::Sync, sync)
+}
+
+/// Refuses a leader key that is present, and then a failsafe key that isn't as it was read.
+fn compare_absent(
+    pairs: &[(Key, Held)],
+    now: Ticks,
+    failsafe: Option<Expected>,
+) -> Result<(), StoreRefusal>
+    ensures { result ≡ answer_to (decision_by pairs.now now.0 ((Key.Leader, Expected.Absent) ∷ failsafe_compare failsafe)) }
+{
+    compare_key(pairs, now, Key::Leader, Expected::Absent)?;
+    match failsafe {
+        None => Ok(()),
+        Some(expected) => compare_key(pairs, now, Key::Failsafe, expected),
+    }
+}
+
+/// Refuses a transaction by the first key that isn't as it expects.
+pub fn check(pairs: &[(Key, Held)], now: Ticks, txn: &Txn) -> Result<(), StoreRefusal>
+    ensures { result ≡ answer_to (decision_by pairs.now now.0 (compares_of txn.now)) }
+{
+    match txn {
+        Txn::Touch { .. } => Ok(()),
+        Txn::Create { failsafe, .. } => compare_absent(pairs, now, *failsafe),
+        Txn::Renew { revision, .. } | Txn::Release { revision } | Txn::DropFailover { revision } =>
+            { compare_key(pairs, now, Key::Leader, Expected::Revision(*revision)) }
+        Txn::Claim { revision, sync } | Txn::SetSync { revision, sync, .. } => {
+            compare_sync(pairs, now, *revision, *sync)
+        }
+        Txn::DropSync { revision, sync } => {
+            compare_sync(pairs, now, *revision, Expected::Revision(*sync))
+        }
+        Txn::SetFailover { .. } => compare_key(pairs, now, Key::Failover, Expected::Absent),
+        Txn::SetConfig { revision, .. } => {
+            compare_key(pairs, now, Key::Config, Expected::Revision(*revision))
+        }
+    }
+}

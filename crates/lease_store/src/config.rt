@@ -1,0 +1,79 @@
+//! What a configuration sets.
+ghost use Rattle.std.specs.Prelude.{◌≡◌, ◌≤◌, ◌*◌, ◌^◌};
+
+use pat_base::Ticks;
+
+/// The settings of a cluster, by the documentation of Patroni, "Dynamic Configuration Settings". Times are in
+/// seconds, of which each is ten ticks, and the lag is in bytes. Each is within its range.
+#[derive(Clone, Copy, Debug, PartialEq, Eq)]
+pub struct Config {
+    pub loop_wait: u64,
+    pub retry_timeout: u64,
+    pub ttl: u64,
+    pub maximum_lag_on_failover: u64,
+    pub primary_start_timeout: u64,
+    pub synchronous_node_count: u64,
+    pub synchronous_mode: bool,
+    pub synchronous_mode_strict: bool,
+    pub failsafe_mode: bool,
+    pub pause: bool,
+    pub use_pg_rewind: bool,
+    ghost loop_wait_range: { (1 ≤ loop_wait) × (loop_wait ≤ 86400) },
+    ghost retry_timeout_range: { (3 ≤ retry_timeout) × (retry_timeout ≤ 86400) },
+    ghost ttl_range: { (20 ≤ ttl) × (ttl ≤ 86400) },
+    ghost maximum_lag_on_failover_range: { maximum_lag_on_failover ≤ 2 ^ 62 },
+    ghost primary_start_timeout_range: { primary_start_timeout ≤ 86400 },
+    ghost synchronous_node_count_range: { (1 ≤ synchronous_node_count) × (synchronous_node_count ≤ 16) },
+}
+
+impl Config {
+    ghost use Rattle.std.specs.Prelude.{◌≡◌, ◌≤◌, ◌*◌};
+    ghost use Rattle.lease_store.specs.Defaults.{default_config};
+
+    /// The settings where a configuration sets nothing.
+    pub fn defaults() -> Config
+        ensures { result ≡ default_config }
+    {
+        Config {
+            loop_wait: 10,
+            retry_timeout: 10,
+            ttl: 30,
+            maximum_lag_on_failover: 1_048_576,
+            primary_start_timeout: 300,
+            synchronous_node_count: 1,
+            synchronous_mode: false,
+            synchronous_mode_strict: false,
+            failsafe_mode: false,
+            pause: false,
+            use_pg_rewind: false,
+        }
+    }
+
+    /// The time between two turns of an agent, in ticks.
+    pub fn loop_wait_ticks(&self) -> Ticks
+        ensures { result.0 ≡ 10 * self.now.loop_wait }
+    {
+        Ticks(10 * self.loop_wait)
+    }
+
+    /// How long an agent waits for an answer of the store, in ticks.
+    pub fn retry_timeout_ticks(&self) -> Ticks
+        ensures { result.0 ≡ 10 * self.now.retry_timeout }
+    {
+        Ticks(10 * self.retry_timeout)
+    }
+
+    /// How long a lease lasts, in ticks.
+    pub fn ttl_ticks(&self) -> Ticks
+        ensures { result.0 ≡ 10 * self.now.ttl }
+    {
+        Ticks(10 * self.ttl)
+    }
+
+    /// How long the start of a primary may take, in ticks.
+    pub fn primary_start_timeout_ticks(&self) -> Ticks
+        ensures { result.0 ≡ 10 * self.now.primary_start_timeout }
+    {
+        Ticks(10 * self.primary_start_timeout)
+    }
+}

@@ -1,0 +1,27 @@
+//! Laws of every run of the store.
+ghost use Rattle.std.specs.Prelude.{ℕ, ◌≤◌, List, IsTrue};
+ghost use Rattle.lease_store.specs.declared.key.Key.TheVariants.{Leader};
+ghost use Rattle.lease_store.specs.Decision.{compares_of};
+ghost use Rattle.lease_store.specs.Fencing.{Request, Call, IsGranted, ComparesWith, state_after, states_after};
+ghost use Rattle.lease_store.specs.Keys.{Keys, first_keys};
+ghost use Rattle.lease_store.specs.Kept.{IsKept};
+ghost use Rattle.lease_store.specs.Settings.{Settings};
+ghost use Rattle.lease_store.specs.Writes.{is_lease};
+
+/// Fencing: once a member was granted the lease of the leader key, by a Create or by a Renew, no transaction that
+/// compares an earlier revision of that key is granted from then on, whatever is asked of the store in between, by
+/// whom, and at which moments, and whether or not expired keys are dropped. Revisions only grow.
+pub fn fencing()
+    // Of every store, a lease that it grants, all calls that follow, and a request after them.
+    ensures fenced { (store : Keys) (lease late : Request) (calls : List Call) (revision : ℕ)
+        → IsKept store.pairs → IsTrue (is_lease lease.txn) → IsGranted store lease
+        → ComparesWith Leader revision (compares_of late.txn) → revision ≤ store.revision
+        → ¬ IsGranted (states_after (state_after store lease) calls) late }
+    // The same of every run from the first configuration.
+    ensures run { (config : Settings) (before calls : List Call) (lease late : Request) (revision : ℕ)
+        → let store = states_after (first_keys config) before in
+        IsTrue (is_lease lease.txn) → IsGranted store lease
+        → ComparesWith Leader revision (compares_of late.txn) → revision ≤ store.revision
+        → ¬ IsGranted (states_after (state_after store lease) calls) late }
+    ensures grows { (store : Keys) (calls : List Call) → store.revision ≤ (states_after store calls).revision }
+{}

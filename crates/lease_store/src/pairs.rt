@@ -1,0 +1,99 @@
+//! Pairs of keys and what is held there, in the order of the keys.
+ghost use Rattle.std.specs.Prelude.{◌≡◌, ◌≤◌, ◌+◌, ◌++◌, IfOk, IfErr, IsTrue, vec_len, vec_capacity};
+ghost use Rattle.std.specs.FinMap.{find, put, is_sorted};
+ghost use Rattle.lease_store.specs.KeyOrder.{key_cmp};
+ghost use Rattle.lease_store.specs.Places.{IsPlaceOf, IsGapFor};
+ghost use Rattle.lease_store.specs.Writes.{extended, later, without};
+ghost use Rattle.lease_store.specs.Answers.{present_pairs};
+
+use crate::compares::is_present;
+use crate::order::compare;
+use crate::{Held, Key};
+use pat_base::Ticks;
+use std::alloc::{AllocError, Global};
+use std::cmp::Ordering;
+
+/// Where a key stands, or where it would stand.
+fn place(pairs: &[(Key, Held)], key: Key) -> Result<usize, usize>
+    ensures found { IfOk result (IsPlaceOf key pairs.now) }
+    ensures gap { IfErr result (IsGapFor key pairs.now) }
+{
+    for (at, pair) in pairs.iter().enumerate() {
+        match compare(key, pair.0) {
+            Ordering::Less => return Err(at),
+            Ordering::Equal => return Ok(at),
+            Ordering::Greater => {}
+        }
+    }
+    Err(pairs.len())
+}
+
+/// Holds this at a key from now on. There is room for one more pair.
+pub fn put(pairs: &mut Vec<(Key, Held)>, key: Key, held: Held)
+    requires { vec_len pairs.old + 1 ≤ vec_capacity pairs.old }
+    ensures pairs { pairs.new.items ≡ put key_cmp key held pairs.old.items }
+    ensures len { vec_len pairs.new ≤ vec_len pairs.old + 1 }
+    ensures room { vec_capacity pairs.old ≤ vec_capacity pairs.new }
+{
+    match place(pairs, key) {
+        Ok(at) => pairs[at] = (key, held),
+        Err(at) => pairs.insert(at, (key, held)).unwrap(),
+    }
+}
+
+/// The later of an expiry and a moment.
+fn later(until: Ticks, expiry: Option<Ticks>) -> Option<Ticks>
+    ensures { result ≡ later until.0 expiry }
+{
+    match expiry {
+        None => None,
+        Some(expiry) => Some(expiry.max(until)),
+    }
+}
+
+/// Lets the lease of a key last until a moment at least, with a new revision.
+pub fn extend(pairs: &mut Vec<(Key, Held)>, key: Key, revision: u64, until: Ticks)
+    requires { IsTrue (is_sorted key_cmp pairs.old.items) }
+    ensures pairs { pairs.new.items ≡ extended revision until.0 pairs.old.items key (find key_cmp key pairs.old.items) }
+    ensures len { vec_len pairs.new ≡ vec_len pairs.old }
+    ensures room { vec_capacity pairs.old ≤ vec_capacity pairs.new }
+{
+    if let Ok(at) = place(pairs, key) {
+        let held = &mut pairs[at].1;
+        held.revision = revision;
+        held.expiry = later(until, held.expiry);
+    }
+}
+
+/// Holds nothing at a key from now on.
+pub fn delete(pairs: &mut Vec<(Key, Held)>, key: Key)
+    ensures pairs { pairs.new.items ≡ without key pairs.old.items }
+    ensures len { vec_len pairs.new ≤ vec_len pairs.old }
+    ensures room { vec_capacity pairs.old ≤ vec_capacity pairs.new }
+{
+    pairs.retain(|pair| compare(key, pair.0).is_ne());
+}
+
+/// Holds nothing at a key that is absent at this moment.
+pub fn drop_absent(pairs: &mut Vec<(Key, Held)>, now: Ticks)
+    ensures { pairs.new.items ≡ present_pairs now.0 pairs.old.items }
+{
+    pairs.retain(|pair| is_present(now, pair.1.expiry));
+}
+
+/// Copies of the pairs whose keys are present at a moment. It fails only for want of memory.
+pub fn copies_of_present(
+    alloc: Global,
+    pairs: &[(Key, Held)],
+    now: Ticks,
+) -> Result<Vec<(Key, Held)>, AllocError>
+    ensures { IfOk result (λ copies. copies.items ≡ present_pairs now.0 pairs.now) }
+{
+    let mut copies = Vec::new(alloc);
+    for pair in pairs {
+        if is_present(now, pair.1.expiry) {
+            copies.push((pair.0, pair.1.copy()?))?;
+        }
+    }
+    Ok(copies)
+}

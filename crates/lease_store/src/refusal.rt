@@ -1,0 +1,25 @@
+//! Why a request isn't granted.
+ghost use Rattle.std.specs.Prelude.{◌≡◌};
+ghost use Rattle.lease_store.specs.declared.refusal.StoreRefusal.TheVariants.{Memory};
+
+use crate::{Expected, Key};
+use std::alloc::AllocError;
+use thiserror::Error;
+
+/// Why a request isn't granted.
+#[derive(Clone, Copy, Debug, PartialEq, Eq, Error)]
+pub enum StoreRefusal {
+    /// This key, the first that differs, isn't as the transaction expects it.
+    #[error("a key is not as expected")]
+    Mismatch { key: Key, found: Expected },
+    #[error("out of memory")]
+    Memory,
+}
+
+impl From<AllocError> for StoreRefusal {
+    ghost from_gives = { λ _ e. e ≡ Memory };
+
+    fn from(_: AllocError) -> Self {
+        StoreRefusal::Memory
+    }
+}

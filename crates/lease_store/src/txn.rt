@@ -1,0 +1,70 @@
+//! Transactions.
+use crate::{ConfigValue, FailoverKey, HistoryRow, MemberInfo};
+use pat_base::{Lsn, MemberSet, Ticks};
+
+/// What a transaction expects at a key, or what was found there.
+#[derive(Clone, Copy, Debug, PartialEq, Eq)]
+pub enum Expected {
+    Absent,
+    Revision(u64),
+}
+
+/// What a member asks of the store: it is granted where each key that it compares is as expected, and then it writes.
+/// `revision` is that of the leader key, but for `SetConfig`, where it is that of the configuration. A `ttl` is the span of the leases that it writes.
+#[derive(Debug, Drop)]
+pub enum Txn {
+    /// The member tells of itself.
+    Touch {
+        info: MemberInfo,
+        ttl: Ticks,
+    },
+    /// The member takes the leader key, where that is absent. With failsafe mode the failsafe key is as it was read.
+    Create {
+        info: MemberInfo,
+        ttl: Ticks,
+        failsafe: Option<Expected>,
+    },
+    /// The member's lease is extended, and what the leader tells is written with it.
+    Renew {
+        revision: u64,
+        info: MemberInfo,
+        ttl: Ticks,
+        status: Option<Lsn>,
+        row: Option<HistoryRow>,
+        failsafe: Option<MemberSet>,
+    },
+    /// The leader key is given up.
+    Release {
+        revision: u64,
+    },
+    /// The member becomes the leader of the synchronous replication, with no standby. The sync key is as it was read.
+    Claim {
+        revision: u64,
+        sync: Expected,
+    },
+    /// The leader names the synchronous standbys.
+    SetSync {
+        revision: u64,
+        sync: Expected,
+        standbys: MemberSet,
+    },
+    /// Synchronous replication is off.
+    DropSync {
+        revision: u64,
+        sync: u64,
+    },
+    /// A failover is asked for, where none is.
+    SetFailover {
+        failover: FailoverKey,
+        ttl: Ticks,
+    },
+    /// The leader clears the failover that was asked for.
+    DropFailover {
+        revision: u64,
+    },
+    /// The configuration changes, where nobody else changed it.
+    SetConfig {
+        revision: u64,
+        config: ConfigValue,
+    },
+}

@@ -1,0 +1,166 @@
+//! What granted transactions write.
+ghost use Rattle.std.specs.Prelude.{◌≡◌, ◌≤◌, ◌<◌, ◌+◌, ◌++◌, ◌^◌, Some, None, IsTrue, vec_len, vec_capacity};
+ghost use Rattle.std.specs.FinMap.{put, is_sorted};
+ghost use Rattle.lease_store.specs.KeyOrder.{key_cmp};
+ghost use Rattle.lease_store.specs.Writes.{Leases, Extends, Sets, writes_of, written, all_written, ttl_of, is_lease, status_carried, row_carried, failsafe_carried, sync_value};
+
+use crate::pairs::{delete, extend, put};
+use crate::{Held, HistoryRow, Key, SyncKey, Txn, Value};
+use pat_base::{Lsn, MemberId, MemberSet, Ticks};
+
+/// The most keys that one transaction writes.
+pub const MOST: usize = 5;
+
+/// What a grant gives to all its writes: its revision, and its moment.
+#[derive(Clone, Copy)]
+pub struct Stamp {
+    pub revision: u64,
+    pub at: Ticks,
+}
+
+/// Whether a transaction gives its sender the lease of the leader key.
+pub fn is_lease(txn: &Txn) -> bool
+    ensures { result ≡ is_lease txn.now }
+{
+    matches!(txn, Txn::Create { .. } | Txn::Renew { .. })
+}
+
+/// Writes what a transaction of a member writes. There is room for it.
+pub fn write(pairs: &mut Vec<(Key, Held)>, stamp: Stamp, by: MemberId, txn: Txn)
+    requires room { vec_len pairs.old + 5 ≤ vec_capacity pairs.old }
+    requires order { IsTrue (is_sorted key_cmp pairs.old.items) }
+    requires moment { stamp.at.0 ≤ 2 ^ 62 }
+    requires span { ttl_of txn ≤ 2 ^ 40 }
+    ensures { pairs.new.items ≡ all_written stamp.revision stamp.at.0 pairs.old.items (writes_of by txn) }
+{
+    match txn {
+        Txn::Touch { info, ttl } => lease(pairs, stamp, Key::Member(by), Value::Member(info), ttl),
+        Txn::Create { info, ttl, .. } => {
+            lease(pairs, stamp, Key::Leader, Value::Leader(by), ttl);
+            lease(pairs, stamp, Key::Member(by), Value::Member(info), ttl);
+        }
+        Txn::Renew {
+            info,
+            ttl,
+            status,
+            row,
+            failsafe,
+            ..
+        } => {
+            renew(pairs, stamp, ttl);
+            lease(pairs, stamp, Key::Member(by), Value::Member(info), ttl);
+            set_status(pairs, stamp, status);
+            set_row(pairs, stamp, row);
+            set_failsafe(pairs, stamp, failsafe);
+        }
+        Txn::Release { .. } => delete(pairs, Key::Leader),
+        Txn::Claim { .. } => set_sync(pairs, stamp, by, MemberSet::empty()),
+        Txn::SetSync { standbys, .. } => set_sync(pairs, stamp, by, standbys),
+        Txn::DropSync { .. } => delete(pairs, Key::Sync),
+        Txn::SetFailover { failover, ttl } => {
+            lease(pairs, stamp, Key::Failover, Value::Failover(failover), ttl);
+        }
+        Txn::DropFailover { .. } => delete(pairs, Key::Failover),
+        Txn::SetConfig { config, .. } => set(pairs, stamp, Key::Config, Value::Config(config)),
+    }
+}
+
+/// Writes a key with a lease of this span.
+fn lease(pairs: &mut Vec<(Key, Held)>, stamp: Stamp, key: Key, value: Value, ttl: Ticks)
+    requires room { vec_len pairs.old + 1 ≤ vec_capacity pairs.old }
+    requires moment { stamp.at.0 + ttl.0 < 2 ^ 64 }
+    ensures pairs { pairs.new.items ≡ written stamp.revision stamp.at.0 pairs.old.items (Leases key value ttl) }
+    ensures len { vec_len pairs.new ≤ vec_len pairs.old + 1 }
+    ensures room { vec_capacity pairs.old ≤ vec_capacity pairs.new }
+{
+    let expiry = Some(stamp.at + ttl);
+    put(
+        pairs,
+        key,
+        Held {
+            value,
+            revision: stamp.revision,
+            expiry,
+        },
+    );
+}
+
+/// Extends the lease of the leader key by this span.
+fn renew(pairs: &mut Vec<(Key, Held)>, stamp: Stamp, ttl: Ticks)
+    requires order { IsTrue (is_sorted key_cmp pairs.old.items) }
+    requires moment { stamp.at.0 + ttl.0 < 2 ^ 64 }
+    ensures pairs { pairs.new.items ≡ written stamp.revision stamp.at.0 pairs.old.items (Extends Key.Leader ttl) }
+    ensures len { vec_len pairs.new ≡ vec_len pairs.old }
+    ensures room { vec_capacity pairs.old ≤ vec_capacity pairs.new }
+{
+    extend(pairs, Key::Leader, stamp.revision, stamp.at + ttl);
+}
+
+/// Writes a key without a lease.
+fn set(pairs: &mut Vec<(Key, Held)>, stamp: Stamp, key: Key, value: Value)
+    requires { vec_len pairs.old + 1 ≤ vec_capacity pairs.old }
+    ensures pairs { pairs.new.items ≡ written stamp.revision stamp.at.0 pairs.old.items (Sets key value) }
+    ensures len { vec_len pairs.new ≤ vec_len pairs.old + 1 }
+    ensures room { vec_capacity pairs.old ≤ vec_capacity pairs.new }
+{
+    put(
+        pairs,
+        key,
+        Held {
+            value,
+            revision: stamp.revision,
+            expiry: None,
+        },
+    );
+}
+
+fn set_sync(pairs: &mut Vec<(Key, Held)>, stamp: Stamp, leader: MemberId, standbys: MemberSet)
+    requires { vec_len pairs.old + 1 ≤ vec_capacity pairs.old }
+    ensures { pairs.new.items ≡ written stamp.revision stamp.at.0 pairs.old.items (Sets Key.Sync (sync_value leader standbys)) }
+{
+    set(
+        pairs,
+        stamp,
+        Key::Sync,
+        Value::Sync(SyncKey { leader, standbys }),
+    );
+}
+
+/// Writes the leader's position, where there is one.
+fn set_status(pairs: &mut Vec<(Key, Held)>, stamp: Stamp, status: Option<Lsn>)
+    requires { vec_len pairs.old + 1 ≤ vec_capacity pairs.old }
+    ensures pairs { pairs.new.items ≡ all_written stamp.revision stamp.at.0 pairs.old.items (status_carried status) }
+    ensures len { vec_len pairs.new ≤ vec_len pairs.old + 1 }
+    ensures room { vec_capacity pairs.old ≤ vec_capacity pairs.new }
+{
+    if let Some(end) = status {
+        set(pairs, stamp, Key::Status, Value::Status(end));
+    }
+}
+
+/// Writes a row of the history, where there is one.
+fn set_row(pairs: &mut Vec<(Key, Held)>, stamp: Stamp, row: Option<HistoryRow>)
+    requires { vec_len pairs.old + 1 ≤ vec_capacity pairs.old }
+    ensures pairs { pairs.new.items ≡ all_written stamp.revision stamp.at.0 pairs.old.items (row_carried row) }
+    ensures len { vec_len pairs.new ≤ vec_len pairs.old + 1 }
+    ensures room { vec_capacity pairs.old ≤ vec_capacity pairs.new }
+{
+    if let Some(row) = row {
+        set(
+            pairs,
+            stamp,
+            Key::History(row.timeline),
+            Value::History(row),
+        );
+    }
+}
+
+/// Writes the members that the leader may ask, where there are any to write.
+fn set_failsafe(pairs: &mut Vec<(Key, Held)>, stamp: Stamp, failsafe: Option<MemberSet>)
+    requires { vec_len pairs.old + 1 ≤ vec_capacity pairs.old }
+    ensures { pairs.new.items ≡ all_written stamp.revision stamp.at.0 pairs.old.items (failsafe_carried failsafe) }
+{
+    if let Some(members) = failsafe {
+        set(pairs, stamp, Key::Failsafe, Value::Failsafe(members));
+    }
+}

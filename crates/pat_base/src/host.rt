@@ -1,0 +1,99 @@
+//! Hosts of members.
+ghost use Rattle.std.specs.Prelude.{◌≡◌, ◌≤◌, ◌↔◌, IsSome, IfSome, IsTrue, length, take};
+ghost use Rattle.std.specs.List.{list_all};
+ghost use Rattle.pat_base.specs.HostText.{is_host, is_host_byte, padded_host};
+
+use std::fmt;
+
+/// The longest host, in bytes.
+const LONGEST: usize = 40;
+
+/// Where a member is reached: 1 to 40 bytes of `a` to `z`, `A` to `Z`, `0` to `9`, `.`, `:` and `-`. The bytes behind
+/// the host are 0.
+#[derive(Clone, Copy, Debug, PartialEq, Eq, PartialOrd, Ord, Hash)]
+pub struct Host {
+    bytes: [u8; 40],
+    len: u8,
+    ghost full: { length bytes ≡ 40 },
+    ghost short: { len ≤ 40 },
+    ghost text: { IsTrue (is_host (take len bytes)) },
+    ghost zeros: { bytes ≡ padded_host (take len bytes) },
+}
+
+impl Host {
+    ghost use Rattle.std.specs.Prelude.{◌≡◌, ◌↔◌, IsSome, IfSome, IsTrue};
+    ghost use Rattle.pat_base.specs.HostText.{is_host};
+    ghost use Rattle.pat_base.specs.Host.{host_bytes};
+
+    /// The host that these bytes are. `None` exactly where they are none.
+    pub fn read(bytes: &[u8]) -> Option<Host>
+        ensures found { IsSome result ↔ IsTrue (is_host bytes.now) }
+        ensures text { IfSome result (λ host. host_bytes host ≡ bytes.now) }
+    {
+        if is_host(bytes) {
+            Some(made(bytes))
+        } else {
+            None
+        }
+    }
+
+    /// The bytes of the host, which are ASCII.
+    pub fn as_bytes(&self) -> &[u8]
+        ensures value { result.now ≡ host_bytes self.now }
+        ensures host { IsTrue (is_host result.now) }
+    {
+        &self.bytes[..self.len as usize]
+    }
+
+    /// The host as text.
+    pub fn as_str(&self) -> &str
+        ensures { result.now ≡ host_bytes self.now }
+    {
+        match str::from_utf8(self.as_bytes()) {
+            Ok(text) => text,
+            Err(_) => unreachable!(),
+        }
+    }
+}
+
+impl fmt::Display for Host {
+    ghost use Rattle.std.specs.Prelude.{Some};
+    ghost use Rattle.pat_base.specs.Host.{host_bytes};
+
+    ghost output = { λ host. Some (host_bytes host) };
+
+    fn fmt<W: fmt::Write>(&self, f: &mut fmt::Formatter<W>) -> fmt::Result {
+        f.write_str(self.as_str())
+    }
+}
+
+/// The host of bytes that are one.
+fn made(bytes: &[u8]) -> Host
+    requires { IsTrue (is_host bytes.now) }
+    ensures { take result.len result.bytes ≡ bytes.now }
+{
+    let mut all = [0u8; LONGEST];
+    all[..bytes.len()].copy_from_slice(bytes);
+    Host {
+        bytes: all,
+        len: bytes.len() as u8,
+    }
+}
+
+fn is_host(bytes: &[u8]) -> bool
+    ensures { result ≡ is_host bytes.now }
+{
+    !bytes.is_empty() && bytes.len() <= LONGEST && are_host_bytes(bytes)
+}
+
+fn are_host_bytes(bytes: &[u8]) -> bool
+    ensures { result ≡ list_all is_host_byte bytes.now }
+{
+    bytes.iter().all(|byte| is_host_byte(*byte))
+}
+
+fn is_host_byte(byte: u8) -> bool
+    ensures { result ≡ is_host_byte byte }
+{
+    matches!(byte, b'a'..=b'z' | b'A'..=b'Z' | b'0'..=b'9' | b'.' | b':' | b'-')
+}
