@@ -12,6 +12,8 @@ mod order;
 mod pairs;
 mod refusal;
 mod store;
+#[cfg(test)]
+mod tests;
 mod txn;
 mod value;
 mod writes;
