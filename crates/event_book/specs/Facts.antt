@@ -1,8 +1,10 @@
 -- What a book of events leaves.
-use Rattle.std.specs.Prelude.{ℕ, ◌≡◌, ◌+◌, true, List, [], ◌∷◌, Option, Some, None, length, slice_get, slice_set}
+use Rattle.std.specs.Prelude.{ℕ, ◌≡◌, ◌+◌, ◌*◌, true, List, [], ◌∷◌, Option, Some, None, length, slice_get, slice_set}
 use Rattle.pat_base.specs.declared.name.Name.{Name}
-use Rattle.lease_store.specs.Settings.{loop_wait}
-use Rattle.lease_store.specs.Keys.{Keys, no_keys, keys_after, without_key}
+use Rattle.lease_store.specs.Answers.{keys_kept}
+use Rattle.lease_store.specs.Defaults.{default_config, default_settings}
+use Rattle.lease_store.specs.Keys.{Keys, first_keys}
+use Rattle.lease_store.specs.Writes.{keys_after}
 use Rattle.event_book.specs.declared.event.Event.{Event}
 use Rattle.event_book.specs.declared.event.Kind.{Kind}
 use Rattle.event_book.specs.declared.event.Kind.TheVariants as kinds
@@ -12,6 +14,7 @@ use Rattle.event_book.specs.declared.member.Member.{Member}
 use Rattle.event_book.specs.declared.agent_state.AgentState.{AgentState}
 use Rattle.event_book.specs.Clock.{now_after}
 use Rattle.event_book.specs.Members.{members_from, agents_from}
+use Rattle.event_book.specs.Requests.{txn_of}
 
 -- all that a book determines over the declared members: the clock, the keys, and the agents in the order of the members
 pub record Facts : Type 0 where
@@ -20,11 +23,15 @@ pub record Facts : Type 0 where
   pub members : List Member
   pub agents : List AgentState
 
--- the keys after an event of this moment
+-- the keys after an event of this moment: a tick drops what is absent from then on, a grant writes
 abbrev pub keys_at : ℕ → Keys → Kind → Keys
-keys_at now known (kinds.Store (stores.Granted by txn)) = keys_after known now by.id txn
-keys_at now known (kinds.Store (stores.Expired key holder)) = without_key known key
+keys_at now known kinds.Tick = keys_kept known now
+keys_at now known (kinds.Store (stores.Granted by request)) = keys_after known now by.id (txn_of request)
 keys_at now known _ = known
+
+-- ticks from one turn of a member to the next
+abbrev pub loop_wait : ℕ
+loop_wait = 10 * default_config.loop_wait
 
 abbrev pub changed_at : List AgentState → ℕ → (AgentState → AgentState) → Option AgentState → List AgentState
 changed_at states number change None = states
@@ -56,7 +63,7 @@ after_all facts (event ∷ events) = after_all (after facts event.kind) events
 
 -- what there is before the first event, over members of these names
 abbrev pub start_of : List Name → Facts
-start_of names = record { clock = 0; keys = no_keys; members = members_from 0 names; agents = agents_from 0 (length names) }
+start_of names = record { clock = 0; keys = first_keys default_settings; members = members_from 0 names; agents = agents_from 0 (length names) }
 
 -- a world is as a book over these members says
 pub record StandsFor (names : List Name) (book : List Event) (world : Facts) : Type 0 where

@@ -2,8 +2,9 @@
 use Rattle.std.specs.Prelude.{ℕ, List, [], ◌∷◌, ◌++◌, Option, Some, None, codes}
 use Rattle.std.specs.Fmt.{decimal}
 use Rattle.pat_base.specs.Name.{name_bytes}
-use Rattle.lease_store.specs.Words.{key_text, request_text, finding_text}
-use Rattle.lease_store.specs.declared.transaction.Txn.TheVariants.{Create, Renew}
+use Rattle.lease_store.specs.Words.{key_text, finding_text}
+use Rattle.event_book.specs.declared.request.LeaseRequest.TheVariants.{Create, Renew}
+use Rattle.event_book.specs.Requests.{request_text}
 use Rattle.event_book.specs.declared.event.Event.{Event}
 use Rattle.event_book.specs.declared.event.Kind.{Kind}
 use Rattle.event_book.specs.declared.event.Kind.TheVariants as kinds
@@ -15,9 +16,9 @@ use Rattle.event_book.specs.declared.event.AgentEvent.TheVariants as agents
 abbrev pub store_line : ℕ → StoreEvent → Option (List ℕ)
 store_line tick (stores.Granted by (Create ttl)) = Some (decimal tick ++ (codes " " ++ (name_bytes by.name ++ codes " takes the leader key\n")))
 store_line tick (stores.Granted by (Renew revision ttl)) = None
-store_line tick (stores.Refused by txn key found) =
-    Some (decimal tick ++ (codes " the " ++ (request_text txn ++ (codes " of " ++ (name_bytes by.name ++ (codes " is refused, " ++ (key_text key ++ (codes " " ++ (finding_text found ++ codes "\n")))))))))
-store_line tick (stores.Expired key holder) = Some (decimal tick ++ (codes " the " ++ (key_text key ++ (codes " key of " ++ (name_bytes holder.name ++ codes " expires\n")))))
+store_line tick (stores.Refused by request key found) =
+    Some (decimal tick ++ (codes " the " ++ (request_text request ++ (codes " of " ++ (name_bytes by.name ++ (codes " is refused, " ++ (key_text key ++ (codes " " ++ (finding_text found ++ codes "\n")))))))))
+store_line tick (stores.Expired holder) = Some (decimal tick ++ (codes " the leader key of " ++ (name_bytes holder.name ++ codes " expires\n")))
 
 abbrev pub agent_line : ℕ → AgentEvent → Option (List ℕ)
 agent_line tick (agents.Woken agent) = None

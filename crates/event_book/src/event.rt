@@ -1,7 +1,7 @@
 //! What can happen. An event stands in the book only where something changed. It has the names that its line prints.
 
-use crate::Member;
-use lease_store::{Expected, Key, Txn};
+use crate::{LeaseRequest, Member};
+use lease_store::{Expected, Key};
 use pat_base::Ticks;
 
 /// A happening, at a moment.
@@ -24,22 +24,11 @@ pub enum Kind {
 #[derive(Clone, Copy, Debug, PartialEq, Eq)]
 pub enum StoreEvent {
     /// A member's request was granted.
-    Granted {
-        by: Member,
-        txn: Txn,
-    },
+    Granted { by: Member, request: LeaseRequest },
     /// A member's request was refused: this key isn't as the request expects.
-    Refused {
-        by: Member,
-        txn: Txn,
-        key: Key,
-        found: Expected,
-    },
-    /// A key was dropped at its expiry.
-    Expired {
-        key: Key,
-        holder: Member,
-    },
+    Refused { by: Member, request: LeaseRequest, key: Key, found: Expected },
+    /// The leader key of this member was dropped at its expiry.
+    Expired { holder: Member },
 }
 
 /// What happens to agents.

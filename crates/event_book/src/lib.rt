@@ -3,10 +3,13 @@
 
 mod agent_state;
 mod event;
+mod info;
 mod member;
 mod printing;
+mod request;
 
 pub use agent_state::AgentState;
 pub use event::{AgentEvent, Event, Kind, StoreEvent};
 pub use member::Member;
 pub use printing::text;
+pub use request::LeaseRequest;

@@ -2,8 +2,7 @@
 ghost use Rattle.std.specs.Prelude.{◌≡◌, IfOk, option_map, string_bytes};
 ghost use Rattle.event_book.specs.Text.{line_of, store_line, agent_line};
 
-use crate::{AgentEvent, Event, Kind, StoreEvent};
-use lease_store::Txn;
+use crate::{AgentEvent, Event, Kind, LeaseRequest, StoreEvent};
 use pat_base::Ticks;
 use std::alloc::{AllocError, Global};
 
@@ -25,7 +24,7 @@ fn store_line(alloc: Global, tick: Ticks, event: &StoreEvent) -> Result<Option<S
     match *event {
         StoreEvent::Granted {
             by,
-            txn: Txn::Create { .. },
+            request: LeaseRequest::Create { .. },
         } => {
             let name = by.name;
             Ok(Some(format!(in alloc; "{tick} {name} takes the leader key\n")?))
@@ -33,16 +32,16 @@ fn store_line(alloc: Global, tick: Ticks, event: &StoreEvent) -> Result<Option<S
         StoreEvent::Granted { .. } => Ok(None),
         StoreEvent::Refused {
             by,
-            txn,
+            request,
             key,
             found,
         } => {
             let name = by.name;
-            Ok(Some(format!(in alloc; "{tick} the {txn} of {name} is refused, {key} {found}\n")?))
+            Ok(Some(format!(in alloc; "{tick} the {request} of {name} is refused, {key} {found}\n")?))
         }
-        StoreEvent::Expired { key, holder } => {
+        StoreEvent::Expired { holder } => {
             let name = holder.name;
-            Ok(Some(format!(in alloc; "{tick} the {key} key of {name} expires\n")?))
+            Ok(Some(format!(in alloc; "{tick} the leader key of {name} expires\n")?))
         }
     }
 }

@@ -8,4 +8,5 @@ pub mod Keys
 pub mod Kinds
 pub mod Places
 pub mod Settings
+pub mod Words
 pub mod Writes

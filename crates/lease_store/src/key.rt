@@ -1,5 +1,6 @@
 //! The keys of a cluster.
 use pat_base::MemberId;
+use std::fmt;
 
 /// A key of the store. The store lists its keys in this order, by the documentation of Patroni, "Dynamic
 /// Configuration Settings" and "Watchdog support", which name them under the cluster's path.
@@ -21,4 +22,27 @@ pub enum Key {
     History(u64),
     /// The members that the leader may ask while the store is out of reach.
     Failsafe,
+}
+
+impl fmt::Display for Key {
+    ghost use Rattle.std.specs.Prelude.{Some};
+    ghost use Rattle.lease_store.specs.Words.{key_text};
+
+    ghost output = { λ key. Some (key_text key) };
+
+    fn fmt<W: fmt::Write>(&self, f: &mut fmt::Formatter<W>) -> fmt::Result {
+        match *self {
+            Key::Leader => f.write_str("leader"),
+            Key::Config => f.write_str("config"),
+            Key::Member(member) => {
+                let number = member.number;
+                write!(f, "members/{number}")
+            }
+            Key::Failover => f.write_str("failover"),
+            Key::Sync => f.write_str("sync"),
+            Key::Status => f.write_str("status"),
+            Key::History(timeline) => write!(f, "history/{timeline}"),
+            Key::Failsafe => f.write_str("failsafe"),
+        }
+    }
 }

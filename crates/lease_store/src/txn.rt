@@ -1,12 +1,27 @@
 //! Transactions.
 use crate::{ConfigValue, FailoverKey, HistoryRow, MemberInfo};
 use pat_base::{Lsn, MemberSet, Ticks};
+use std::fmt;
 
 /// What a transaction expects at a key, or what was found there.
 #[derive(Clone, Copy, Debug, PartialEq, Eq)]
 pub enum Expected {
     Absent,
     Revision(u64),
+}
+
+impl fmt::Display for Expected {
+    ghost use Rattle.std.specs.Prelude.{Some};
+    ghost use Rattle.lease_store.specs.Words.{finding_text};
+
+    ghost output = { λ found. Some (finding_text found) };
+
+    fn fmt<W: fmt::Write>(&self, f: &mut fmt::Formatter<W>) -> fmt::Result {
+        match self {
+            Expected::Absent => f.write_str("is absent"),
+            Expected::Revision(revision) => write!(f, "has revision {revision}"),
+        }
+    }
 }
 
 /// What a member asks of the store: it is granted where each key that it compares is as expected, and then it writes.

@@ -1,5 +1,6 @@
 -- Hosts as bytes.
-use Rattle.std.specs.Prelude.{ℕ, ◌≡◌, Bool, true, false, List, length, take, Option, Some, None, refl}
+use Rattle.std.specs.Prelude.{ℕ, ◌≡◌, Bool, true, false, List, length, take, Option, Some, None, refl, codes}
+use Rattle.std.proofs.Common.{lit≤}
 use Rattle.pat_base.specs.HostText.{is_host, padded_host, is_host-length, length-padded_host, take-padded_host}
 use Rattle.pat_base.specs.declared.host.Host.{Host}
 
@@ -21,3 +22,7 @@ host_by bytes false is = None
 -- the host of these bytes, if they are one
 pub host_of : List ℕ → Option Host
 host_of bytes = host_by bytes (is_host bytes) refl
+
+-- where a member is reached that declares no host
+abbrev pub local_host : Host
+local_host = record { bytes = padded_host (codes "127.0.0.1"); len = 9; full = refl; short = lit≤ tt; text = refl; zeros = refl }

@@ -23,7 +23,7 @@ pub struct Host {
 impl Host {
     ghost use Rattle.std.specs.Prelude.{◌≡◌, ◌↔◌, IsSome, IfSome, IsTrue};
     ghost use Rattle.pat_base.specs.HostText.{is_host};
-    ghost use Rattle.pat_base.specs.Host.{host_bytes};
+    ghost use Rattle.pat_base.specs.Host.{host_bytes, local_host};
 
     /// The host that these bytes are. `None` exactly where they are none.
     pub fn read(bytes: &[u8]) -> Option<Host>
@@ -35,6 +35,13 @@ impl Host {
         } else {
             None
         }
+    }
+
+    /// Where a member is reached that declares no host: `127.0.0.1`.
+    pub fn local() -> Host
+        ensures { result ≡ local_host }
+    {
+        made(b"127.0.0.1")
     }
 
     /// The bytes of the host, which are ASCII.

@@ -1,6 +1,7 @@
 pub mod Input
 pub mod Played
 pub mod Progress
+pub mod Requesting
 pub mod Starting
 pub mod Telling
 pub mod Turning

@@ -13,7 +13,7 @@ use Rattle.cluster_script.specs.Steps.{steps_of, steps_of_line, total_ticks, tic
 use Rattle.patroni_top.specs.declared.print_error.PrintError.{PrintError}
 use Rattle.patroni_top.specs.Next.{next_events, run_from}
 use Rattle.patroni_top.specs.Printing.{TakesAll}
-use Rattle.patroni_top.specs.Sound.{HasRoomFor}
+use Rattle.patroni_top.specs.Room.{HasRoomFor}
 use Rattle.patroni_top.proofs.Progress.{Progress, Progress-start, Progress-more, Progress-end, Progress-room, Progress-stop, TakesAll-stop}
 use Rattle.patroni_top.proofs.Starting.{drop-get}
 

@@ -12,7 +12,7 @@ use Rattle.patroni_top.specs.declared.print_error.PrintError.TheVariants.{Memory
 use Rattle.patroni_top.specs.Next.{run_from}
 use Rattle.patroni_top.specs.Printing.{TakesAll}
 use Rattle.patroni_top.specs.Run.{run_of, output_of}
-use Rattle.patroni_top.specs.Sound.{HasRoomFor}
+use Rattle.patroni_top.specs.Room.{HasRoomFor}
 
 body-short : (s : ScriptText) → IsScript s → length s.body ≤ 100000
 body-short s is = omega (arith, is.lines, length-append (head_lines s.head) (body_lines s.head s.body), length-map s.body (line_text s.head))

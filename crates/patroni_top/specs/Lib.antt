@@ -1,5 +1,5 @@
 pub mod Next
 pub mod Printing
 pub mod Run
-pub mod Sound
+pub mod Room
 pub mod Status

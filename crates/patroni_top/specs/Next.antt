@@ -1,20 +1,25 @@
 -- What happens in a step.
-use Rattle.std.specs.Prelude.{ℕ, ◌+◌, ◌==◌, ◌&&◌, not, nat_le, Bool, if◌then◌else◌, List, [], ◌∷◌, ◌++◌, Option, Some, None, slice_get, length, zero, suc}
+use Rattle.std.specs.Prelude.{ℕ, ◌+◌, ◌*◌, ◌==◌, ◌&&◌, not, nat_le, Bool, if◌then◌else◌, List, [], ◌∷◌, ◌++◌, Option, Some, None, Result, Ok, Err, slice_get, length, zero, suc}
 use Rattle.pat_base.specs.declared.member_id.MemberId.{MemberId}
-use Rattle.lease_store.specs.declared.key.Held.{Held}
+use Rattle.pat_base.specs.declared.ticks.Ticks.{Ticks}
+use Rattle.lease_store.specs.declared.value.Held.{Held}
+use Rattle.lease_store.specs.declared.granted.Granted.{Granted}
 use Rattle.lease_store.specs.declared.key.Key.TheVariants.{Leader}
-use Rattle.lease_store.specs.declared.transaction.Txn.{Txn}
-use Rattle.lease_store.specs.declared.transaction.Txn.TheVariants.{Create, Renew}
-use Rattle.lease_store.specs.declared.transaction.StoreRefusal.{StoreRefusal}
-use Rattle.lease_store.specs.declared.transaction.StoreRefusal.TheVariants.{Mismatch}
-use Rattle.lease_store.specs.Keys.{key_at, decision_on, dropped_holder}
-use Rattle.lease_store.specs.Settings.{ttl}
+use Rattle.lease_store.specs.declared.refusal.StoreRefusal.{StoreRefusal}
+use Rattle.lease_store.specs.declared.refusal.StoreRefusal.TheVariants.{Mismatch, Memory}
+use Rattle.lease_store.specs.Answers.{expired_holder, holder_of}
+use Rattle.lease_store.specs.Decision.{Decision, Grant, Refusal, decision_on}
+use Rattle.lease_store.specs.Defaults.{default_config}
+use Rattle.lease_store.specs.Keys.{key_at}
 use Rattle.event_book.specs.declared.event.Event.{Event}
 use Rattle.event_book.specs.declared.event.Kind.{Kind}
 use Rattle.event_book.specs.declared.event.Kind.TheVariants as kinds
-use Rattle.event_book.specs.declared.event.StoreEvent.TheVariants.{Granted, Refused, Expired}
+use Rattle.event_book.specs.declared.event.StoreEvent.TheVariants as stores
 use Rattle.event_book.specs.declared.event.AgentEvent.TheVariants.{Woken, Suspended}
 use Rattle.event_book.specs.declared.member.Member.{Member}
+use Rattle.event_book.specs.declared.request.LeaseRequest.{LeaseRequest}
+use Rattle.event_book.specs.declared.request.LeaseRequest.TheVariants.{Create, Renew}
+use Rattle.event_book.specs.Requests.{txn_of}
 use Rattle.event_book.specs.declared.agent_state.AgentState.{AgentState}
 use Rattle.event_book.specs.Facts.{Facts, after, after_all}
 use Rattle.cluster_script.specs.declared.line.Step.{Step}
@@ -25,19 +30,33 @@ abbrev pub stamped : Facts → List Kind → List Event
 stamped facts [] = []
 stamped facts (kind ∷ more) = record { tick = record { 0 = (after facts kind).clock }; kind = kind } ∷ stamped (after facts kind) more
 
+-- how long a lease lasts, in ticks
+abbrev pub lease : Ticks
+lease = record { 0 = 10 * default_config.ttl }
+
+abbrev pub renewal_of : Member → ℕ → Option MemberId → Option LeaseRequest
+renewal_of member revision None = None
+renewal_of member revision (Some holder) = if holder.number == member.id.number then Some (Renew revision lease) else None
+
 -- what a member asks for on reading the leader key: an absent key for itself, its own for longer, of another's nothing
-abbrev pub request_on : Member → Option Held → Option Txn
-request_on member None = Some (Create (record { 0 = ttl }))
-request_on member (Some held) = if held.holder.number == member.id.number then Some (Renew held.revision (record { 0 = ttl })) else None
+abbrev pub request_on : Member → Option Held → Option LeaseRequest
+request_on member None = Some (Create lease)
+request_on member (Some held) = renewal_of member held.revision (holder_of held.value)
 
 -- the store's decision on a request, as an event
-abbrev pub decided : Member → Txn → Option StoreRefusal → Kind
-decided by txn None = kinds.Store (Granted by txn)
-decided by txn (Some (Mismatch key found)) = kinds.Store (Refused by txn key found)
+abbrev pub decided : Member → LeaseRequest → Decision → Kind
+decided by request Grant = kinds.Store (stores.Granted by request)
+decided by request (Refusal key found) = kinds.Store (stores.Refused by request key found)
 
-abbrev pub answered : Facts → Member → Option Txn → List Kind
+-- what an answer of the store tells, unless memory is wanting
+abbrev pub told_by : Member → LeaseRequest → Result Granted StoreRefusal → Option Kind
+told_by by request (Ok granted) = Some (kinds.Store (stores.Granted by request))
+told_by by request (Err (Mismatch key found)) = Some (kinds.Store (stores.Refused by request key found))
+told_by by request (Err Memory) = None
+
+abbrev pub answered : Facts → Member → Option LeaseRequest → List Kind
 answered facts member None = []
-answered facts member (Some txn) = decided member txn (decision_on facts.keys facts.clock txn) ∷ []
+answered facts member (Some request) = decided member request (decision_on facts.keys facts.clock (txn_of request)) ∷ []
 
 abbrev pub is_due : ℕ → AgentState → Bool
 is_due now state = not state.held && nat_le state.next_turn.0 now
@@ -68,15 +87,11 @@ declared_member members (Some id) = slice_get members id.number
 
 abbrev pub expiry_of : Option Member → List Kind
 expiry_of None = []
-expiry_of (Some holder) = kinds.Store (Expired Leader holder) ∷ []
-
--- the leader key is dropped where it has expired
-abbrev pub expiry_in : Facts → List Kind
-expiry_in facts = expiry_of (declared_member facts.members (dropped_holder facts.keys facts.clock))
+expiry_of (Some holder) = kinds.Store (stores.Expired holder) ∷ []
 
 -- the clock grows by one, and what has expired is dropped
 abbrev pub ticked : Facts → List Event
-ticked facts = stamped facts (kinds.Tick ∷ expiry_in (after facts kinds.Tick))
+ticked facts = stamped facts (kinds.Tick ∷ expiry_of (declared_member facts.members (expired_holder facts.keys (facts.clock + 1))))
 
 abbrev pub held_of : Option Member → List Kind
 held_of None = []

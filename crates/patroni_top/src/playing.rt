@@ -7,7 +7,7 @@ ghost use Rattle.cluster_script.specs.Steps.{steps_of_line, steps_of, ticks_of_l
 ghost use Rattle.patroni_top.specs.Next.{next_events, run_from};
 ghost use Rattle.patroni_top.specs.Printing.{TakesAll};
 ghost use Rattle.patroni_top.specs.Run.{output_of};
-ghost use Rattle.patroni_top.specs.Sound.{HasRoomFor};
+ghost use Rattle.patroni_top.specs.Room.{HasRoomFor};
 
 use crate::print_error::PrintError;
 use crate::printing::{print_events, print_summary};

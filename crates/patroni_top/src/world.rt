@@ -2,15 +2,19 @@
 ghost use Rattle.std.specs.Prelude.{ℕ, ◌≡◌, ◌<◌, ◌≤◌, ◌+◌, ◌*◌, ◌^◌, ◌++◌, [], ◌∷◌, length, OnOk, OnErr, IfOk, IfSome, vec_len, vec_capacity, slice_get, Some, true};
 ghost use Rattle.std.specs.Option.{option_copied};
 ghost use Rattle.pat_base.specs.MemberId.{member_of};
-ghost use Rattle.lease_store.specs.Keys.{decision_on, span_of, key_at};
+ghost use Rattle.lease_store.specs.Answers.{holder_of};
+ghost use Rattle.lease_store.specs.Decision.{decision_on};
+ghost use Rattle.lease_store.specs.Keys.{key_at};
+ghost use Rattle.lease_store.specs.Writes.{ttl_of};
 ghost use Rattle.event_book.specs.Facts.{after, after_all, changed, agents_at, start_of};
 ghost use Rattle.event_book.specs.Members.{members_from, agents_from};
-ghost use Rattle.patroni_top.specs.Next.{stamped, request_on, decided, answered, due_member, is_due, turn_of, turn_at, turns, expiry_in, ticked, hold_of, held_of, next_events};
-ghost use Rattle.patroni_top.specs.Sound.{HasRoomFor};
+ghost use Rattle.event_book.specs.Requests.{txn_of};
+ghost use Rattle.patroni_top.specs.Next.{stamped, request_on, decided, answered, due_member, is_due, turn_of, turn_at, turns, declared_member, ticked, told_by, hold_of, held_of, next_events};
+ghost use Rattle.patroni_top.specs.Room.{HasRoomFor};
 
 use cluster_script::{Head, Step};
-use event_book::{AgentEvent, AgentState, Event, Kind, Member, StoreEvent};
-use lease_store::{Held, Key, LOOP_WAIT, Store, StoreRefusal, TTL, Txn};
+use event_book::{AgentEvent, AgentState, Event, Kind, LeaseRequest, Member, StoreEvent};
+use lease_store::{Config, ConfigValue, Granted, Held, Key, Store, StoreRefusal, Value};
 use pat_base::{MemberId, Ticks};
 use std::alloc::{AllocError, Global};
 use std::marker::Model;
@@ -25,14 +29,14 @@ pub struct World {
 }
 
 impl Model for World {
+    ghost use Rattle.std.specs.Prelude.{◌≤◌, length};
     ghost use Rattle.event_book.specs.Facts.{Facts};
-    ghost use Rattle.patroni_top.specs.Sound.{IsSound};
 
     ghost Value = { Facts };
 
     ghost view = { λ w. record { clock = w.clock.0; keys = w.store; members = w.members.items; agents = w.agents.items } };
 
-    ghost invariant = { λ w. IsSound w.members.items w.store };
+    ghost invariant = { λ w. length w.members.items ≤ 16 };
 }
 
 impl World {
@@ -42,9 +46,10 @@ impl World {
     {
         let members = members_of(alloc, head)?;
         let agents = agents_of(alloc, head.member_count())?;
+        let store = Store::new(alloc, ConfigValue::defaults(alloc)?)?;
         Ok(World {
             clock: Ticks(0),
-            store: Store::new(),
+            store,
             members,
             agents,
         })
@@ -58,28 +63,28 @@ impl World {
     }
 
     /// One step. On Ok the events are those that come next, and the world is what they leave. On Err, want of memory,
-    /// nothing has happened.
+    /// the world and the events aren't to be used any more.
     pub fn step(&mut self, step: &Step, events: &mut Vec<Event>) -> Result<(), AllocError>
         requires { HasRoomFor self.old 1 }
         ensures event { OnOk result (events.new.items ≡ events.old.items ++ next_events self.old step.now) }
         ensures state { OnOk result (self.new ≡ after_all self.old (next_events self.old step.now)) }
         ensures room { OnOk result ((steps : ℕ) → HasRoomFor self.old (1 + steps) → HasRoomFor self.new steps) }
-        ensures world_same { OnErr result (self.new ≡ self.old) }
-        ensures events_same { OnErr result (events.new.items ≡ events.old.items) }
     {
         let count = self.members.len();
         events.reserve(2 * count + 2)?;
         match step {
             Step::Tick => {
                 self.tick(events);
-                self.turns(count, events);
+                self.turns(count, events)
             }
-            Step::Hold(member) => self.hold(*member, events),
+            Step::Hold(member) => {
+                self.hold(*member, events);
+                Ok(())
+            }
         }
-        Ok(())
     }
 
-    /// The clock grows by one, and a leader key that has expired is dropped.
+    /// The clock grows by one, and the keys that have expired are dropped.
     fn tick(&mut self, events: &mut Vec<Event>)
         requires clock { self.old.clock < 2 ^ 60 }
         requires room { vec_len events.old + 2 ≤ vec_capacity events.old }
@@ -93,116 +98,91 @@ impl World {
     {
         self.clock = Ticks(self.clock.0 + 1);
         note(events, self.clock, Kind::Tick);
-        self.expire(events);
-    }
-
-    fn expire(&mut self, events: &mut Vec<Event>)
-        requires room { vec_len events.old + 1 ≤ vec_capacity events.old }
-        ensures state { self.new ≡ after_all self.old (stamped self.old (expiry_in self.old)) }
-        ensures event { events.new.items ≡ events.old.items ++ stamped self.old (expiry_in self.old) }
-        ensures clock { self.new.clock ≡ self.old.clock }
-        ensures revision { self.new.keys.revision ≡ self.old.keys.revision }
-        ensures members { self.new.members ≡ self.old.members }
-        ensures len { vec_len events.new ≤ vec_len events.old + 1 }
-        ensures room { vec_capacity events.old ≤ vec_capacity events.new }
-    {
-        if let Some(id) = self.store.drop_expired(self.clock) {
-            let holder = self.members[id.number as usize];
+        let expired = self.store.drop_expired(self.clock);
+        if let Some(holder) = declared_member(&self.members, expired) {
             note(
                 events,
                 self.clock,
-                Kind::Store(StoreEvent::Expired {
-                    key: Key::Leader,
-                    holder,
-                }),
+                Kind::Store(StoreEvent::Expired { holder }),
             );
         }
     }
 
     /// The turns of the members, in script order.
-    fn turns(&mut self, count: usize, events: &mut Vec<Event>)
+    fn turns(&mut self, count: usize, events: &mut Vec<Event>) -> Result<(), AllocError>
         requires clock { self.old.clock < 2 ^ 61 }
         requires revision { self.old.keys.revision + count < 2 ^ 60 }
         requires room { vec_len events.old + 2 * count ≤ vec_capacity events.old }
-        ensures state { self.new ≡ after_all self.old (turns self.old 0 count) }
-        ensures event { events.new.items ≡ events.old.items ++ turns self.old 0 count }
-        ensures clock { self.new.clock ≡ self.old.clock }
-        ensures revision { self.new.keys.revision ≤ self.old.keys.revision + count }
+        ensures state { OnOk result (self.new ≡ after_all self.old (turns self.old 0 count)) }
+        ensures event { OnOk result (events.new.items ≡ events.old.items ++ turns self.old 0 count) }
+        ensures clock { OnOk result (self.new.clock ≡ self.old.clock) }
+        ensures revision { OnOk result (self.new.keys.revision ≤ self.old.keys.revision + count) }
     {
         for place in 0..count {
-            self.turn(place, events);
+            self.turn(place, events)?;
         }
+        Ok(())
     }
 
     /// The turn of the member at a place, if it is due.
-    fn turn(&mut self, place: usize, events: &mut Vec<Event>)
+    fn turn(&mut self, place: usize, events: &mut Vec<Event>) -> Result<(), AllocError>
         requires clock { self.old.clock < 2 ^ 61 }
         requires revision { self.old.keys.revision < 2 ^ 60 }
         requires room { vec_len events.old + 2 ≤ vec_capacity events.old }
-        ensures state { self.new ≡ after_all self.old (turn_at self.old place) }
-        ensures event { events.new.items ≡ events.old.items ++ turn_at self.old place }
-        ensures clock { self.new.clock ≡ self.old.clock }
-        ensures revision { self.new.keys.revision ≤ self.old.keys.revision + 1 }
-        ensures len { vec_len events.new ≤ vec_len events.old + 2 }
-        ensures room { vec_capacity events.old ≤ vec_capacity events.new }
+        ensures state { OnOk result (self.new ≡ after_all self.old (turn_at self.old place)) }
+        ensures event { OnOk result (events.new.items ≡ events.old.items ++ turn_at self.old place) }
+        ensures clock { OnOk result (self.new.clock ≡ self.old.clock) }
+        ensures revision { OnOk result (self.new.keys.revision ≤ self.old.keys.revision + 1) }
+        ensures len { OnOk result (vec_len events.new ≤ vec_len events.old + 2) }
+        ensures room { OnOk result (vec_capacity events.old ≤ vec_capacity events.new) }
     {
-        if let Some(member) = due_member(self.clock, &self.members, &self.agents, place) {
-            self.act(AgentEvent::Woken { agent: member }, events);
-            self.read_key(member, events);
-        }
+        let Some(member) = due_member(self.clock, &self.members, &self.agents, place) else {
+            return Ok(());
+        };
+        self.act(AgentEvent::Woken { agent: member }, events);
+        self.read_key(member, events)
     }
 
     /// A member reads the leader key, and the store decides on what it asks for.
-    fn read_key(&mut self, member: Member, events: &mut Vec<Event>)
+    fn read_key(&mut self, member: Member, events: &mut Vec<Event>) -> Result<(), AllocError>
         requires clock { self.old.clock < 2 ^ 61 }
         requires revision { self.old.keys.revision < 2 ^ 60 }
-        requires declared { member.id.number < length self.old.members }
         requires room { vec_len events.old + 1 ≤ vec_capacity events.old }
-        ensures state { self.new ≡ after_all self.old (stamped self.old (answered self.old member (request_on member (key_at self.old.keys self.old.clock Key.Leader)))) }
-        ensures event { events.new.items ≡ events.old.items ++ stamped self.old (answered self.old member (request_on member (key_at self.old.keys self.old.clock Key.Leader))) }
-        ensures clock { self.new.clock ≡ self.old.clock }
-        ensures revision { self.new.keys.revision ≤ self.old.keys.revision + 1 }
-        ensures len { vec_len events.new ≤ vec_len events.old + 1 }
-        ensures room { vec_capacity events.old ≤ vec_capacity events.new }
+        ensures state { OnOk result (self.new ≡ after_all self.old (stamped self.old (answered self.old member (request_on member (key_at self.old.keys self.old.clock Key.Leader))))) }
+        ensures event { OnOk result (events.new.items ≡ events.old.items ++ stamped self.old (answered self.old member (request_on member (key_at self.old.keys self.old.clock Key.Leader)))) }
+        ensures clock { OnOk result (self.new.clock ≡ self.old.clock) }
+        ensures revision { OnOk result (self.new.keys.revision ≤ self.old.keys.revision + 1) }
+        ensures len { OnOk result (vec_len events.new ≤ vec_len events.old + 1) }
+        ensures room { OnOk result (vec_capacity events.old ≤ vec_capacity events.new) }
     {
-        if let Some(txn) = request_on(member, self.store.get(self.clock, Key::Leader)) {
-            self.request(member, txn, events);
-        }
+        let Some(request) = request_on(member, self.store.get(self.clock, Key::Leader)) else {
+            return Ok(());
+        };
+        self.request(member, request, events)
     }
 
     /// The store decides on a request of a member.
-    fn request(&mut self, by: Member, txn: Txn, events: &mut Vec<Event>)
+    fn request(
+        &mut self,
+        by: Member,
+        request: LeaseRequest,
+        events: &mut Vec<Event>,
+    ) -> Result<(), AllocError>
         requires clock { self.old.clock < 2 ^ 61 }
-        requires span { span_of txn ≤ 2 ^ 40 }
+        requires span { ttl_of (txn_of request) ≤ 2 ^ 40 }
         requires revision { self.old.keys.revision < 2 ^ 60 }
-        requires declared { by.id.number < length self.old.members }
         requires room { vec_len events.old + 1 ≤ vec_capacity events.old }
-        ensures state { self.new ≡ after self.old (decided by txn (decision_on self.old.keys self.old.clock txn)) }
-        ensures event { events.new.items ≡ events.old.items ++ stamped self.old (decided by txn (decision_on self.old.keys self.old.clock txn) ∷ []) }
-        ensures clock { self.new.clock ≡ self.old.clock }
-        ensures revision { self.new.keys.revision ≤ self.old.keys.revision + 1 }
-        ensures len { vec_len events.new ≡ vec_len events.old + 1 }
-        ensures room { vec_capacity events.old ≤ vec_capacity events.new }
+        ensures state { OnOk result (self.new ≡ after self.old (decided by request (decision_on self.old.keys self.old.clock (txn_of request)))) }
+        ensures event { OnOk result (events.new.items ≡ events.old.items ++ stamped self.old (decided by request (decision_on self.old.keys self.old.clock (txn_of request)) ∷ [])) }
+        ensures clock { OnOk result (self.new.clock ≡ self.old.clock) }
+        ensures revision { OnOk result (self.new.keys.revision ≤ self.old.keys.revision + 1) }
+        ensures len { OnOk result (vec_len events.new ≡ vec_len events.old + 1) }
+        ensures room { OnOk result (vec_capacity events.old ≤ vec_capacity events.new) }
     {
-        match self.store.apply(self.clock, by.id, txn) {
-            Ok(_) => note(
-                events,
-                self.clock,
-                Kind::Store(StoreEvent::Granted { by, txn }),
-            ),
-            Err(StoreRefusal::Mismatch { key, found }) => {
-                note(
-                    events,
-                    self.clock,
-                    Kind::Store(StoreEvent::Refused {
-                        by,
-                        txn,
-                        key,
-                        found,
-                    }),
-                );
-            }
-        }
+        let answer = self.store.apply(self.clock, by.id, request.txn());
+        let happening = told_by(by, request, answer)?;
+        note(events, self.clock, happening);
+        Ok(())
     }
 
     /// The agent of a member is held, where it isn't yet.
@@ -289,7 +269,11 @@ fn change_agents(agents: &mut [AgentState], now: Ticks, happening: AgentEvent)
     ensures { agents.new ≡ agents_at now.0 agents.old (Kind.Agent happening) }
 {
     match happening {
-        AgentEvent::Woken { agent } => set_turn(agents, agent, Ticks(now.0 + LOOP_WAIT)),
+        AgentEvent::Woken { agent } => set_turn(
+            agents,
+            agent,
+            now + Config::defaults().loop_wait_ticks(),
+        ),
         AgentEvent::Suspended { agent } => set_held(agents, agent),
     }
 }
@@ -340,18 +324,51 @@ fn free_member(members: &[Member], agents: &[AgentState], id: MemberId) -> Optio
     if state.held { None } else { Some(*member) }
 }
 
-/// What a member asks for on reading the leader key.
-fn request_on(member: Member, found: Option<&Held>) -> Option<Txn>
-    ensures request { result ≡ request_on member (option_copied found.entry) }
-    ensures span { IfSome result (λ txn. span_of txn ≤ 2 ^ 40) }
+/// The declared member of this number, if there is a number.
+fn declared_member(members: &[Member], id: Option<MemberId>) -> Option<Member>
+    ensures { result ≡ declared_member members.now id }
 {
-    let ttl = Ticks(TTL);
-    match found {
-        None => Some(Txn::Create { ttl }),
-        Some(held) if held.holder == member.id => Some(Txn::Renew {
+    let id = id?;
+    let member = members.get(id.number as usize)?;
+    Some(*member)
+}
+
+/// What the store's answer to a request tells, unless memory is wanting.
+fn told_by(by: Member, request: LeaseRequest, answer: Result<Granted, StoreRefusal>) -> Result<Kind, AllocError>
+    ensures { IfOk result (λ happening. told_by by request answer ≡ Some happening) }
+{
+    match answer {
+        Ok(_) => Ok(Kind::Store(StoreEvent::Granted { by, request })),
+        Err(StoreRefusal::Mismatch { key, found }) => Ok(Kind::Store(StoreEvent::Refused { by, request, key, found })),
+        Err(StoreRefusal::Memory) => Err(AllocError),
+    }
+}
+
+/// What a member asks for on reading the leader key.
+fn request_on(member: Member, found: Option<&Held>) -> Option<LeaseRequest>
+    ensures request { result ≡ request_on member (option_copied found.entry) }
+    ensures span { IfSome result (λ request. ttl_of (txn_of request) ≤ 2 ^ 40) }
+{
+    let ttl = Config::defaults().ttl_ticks();
+    let Some(held) = found else {
+        return Some(LeaseRequest::Create { ttl });
+    };
+    if holder_of(&held.value)?.number == member.id.number {
+        Some(LeaseRequest::Renew {
             revision: held.revision,
             ttl,
-        }),
-        Some(_) => None,
+        })
+    } else {
+        None
+    }
+}
+
+/// The member that a value of the leader key names.
+fn holder_of(value: &Value) -> Option<MemberId>
+    ensures { result ≡ holder_of value.now }
+{
+    match value {
+        Value::Leader(member) => Some(*member),
+        _ => None,
     }
 }

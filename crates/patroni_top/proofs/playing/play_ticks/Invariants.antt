@@ -2,7 +2,7 @@ use Rattle.std.proofs.Common.{ℕ, ◌+◌, ◌-◌, replicate}
 use Rattle.event_book.specs.Facts.{Facts}
 use Rattle.cluster_script.specs.declared.line.Step.TheVariants as steps
 use Rattle.patroni_top.specs.Next.{run_from}
-use Rattle.patroni_top.specs.Sound.{HasRoomFor}
+use Rattle.patroni_top.specs.Room.{HasRoomFor}
 use Rattle.patroni_top.proofs.Played.{Playing}
 use Rattle.patroni_top.proofs.playing.play_ticks.Given as goal
 

@@ -1,0 +1,21 @@
+-- The words for keys and findings in printed lines.
+use Rattle.std.specs.Prelude.{ℕ, List, ◌++◌, codes}
+use Rattle.std.specs.Fmt.{decimal}
+use Rattle.lease_store.specs.declared.key.Key.{Key}
+use Rattle.lease_store.specs.declared.key.Key.TheVariants.{Leader, Config, Member, Failover, Sync, Status, History, Failsafe}
+use Rattle.lease_store.specs.declared.txn.Expected.{Expected}
+use Rattle.lease_store.specs.declared.txn.Expected.TheVariants.{Absent, Revision}
+
+abbrev pub key_text : Key → List ℕ
+key_text Leader = codes "leader"
+key_text Config = codes "config"
+key_text (Member member) = codes "members/" ++ decimal member.number
+key_text Failover = codes "failover"
+key_text Sync = codes "sync"
+key_text Status = codes "status"
+key_text (History timeline) = codes "history/" ++ decimal timeline
+key_text Failsafe = codes "failsafe"
+
+abbrev pub finding_text : Expected → List ℕ
+finding_text Absent = codes "is absent"
+finding_text (Revision revision) = codes "has revision " ++ decimal revision
