@@ -2,8 +2,8 @@
 use pat_base::MemberId;
 use std::fmt;
 
-/// A key of the store. The store lists its keys in this order, by the documentation of Patroni, "Dynamic
-/// Configuration Settings" and "Watchdog support", which name them under the cluster's path.
+/// A key of the store, in the order in which the store lists its keys. Patroni keeps them as paths under that of the
+/// cluster, as `/leader` and `/members/NAME`.
 #[derive(Clone, Copy, Debug, PartialEq, Eq)]
 pub enum Key {
     /// Which member leads.

@@ -12,7 +12,7 @@ ghost use Rattle.lease_store.specs.Writes.{keys_after, is_lease, ttl_of};
 
 use crate::compares::{check, held_at, is_present, present_at};
 use crate::pairs::{copies_of_present, drop_absent};
-use crate::writes::{MOST, Stamp, is_lease, write};
+use crate::writes::{MOST, Stamp, grant, is_lease};
 use crate::{ConfigValue, Granted, Held, Key, StoreRefusal, Txn, Value};
 use pat_base::{MemberId, Ticks};
 use std::alloc::{AllocError, Global};
@@ -93,7 +93,7 @@ impl Store {
             revision: self.revision,
             at: now,
         };
-        write(&mut self.pairs, stamp, by, txn);
+        grant(&mut self.pairs, stamp, by, txn);
         Ok(Granted::of(self.revision, by, leased))
     }
 

@@ -1,6 +1,7 @@
 //! What granted transactions write.
 ghost use Rattle.std.specs.Prelude.{◌≡◌, ◌≤◌, ◌<◌, ◌+◌, ◌++◌, ◌^◌, Some, None, IsTrue, vec_len, vec_capacity};
 ghost use Rattle.std.specs.FinMap.{put, is_sorted};
+ghost use Rattle.lease_store.specs.Kept.{IsKept};
 ghost use Rattle.lease_store.specs.KeyOrder.{key_cmp};
 ghost use Rattle.lease_store.specs.Writes.{Leases, Extends, Sets, writes_of, written, all_written, ttl_of, is_lease, status_carried, row_carried, failsafe_carried, sync_value};
 
@@ -25,8 +26,20 @@ pub fn is_lease(txn: &Txn) -> bool
     matches!(txn, Txn::Create { .. } | Txn::Renew { .. })
 }
 
+/// Writes what a transaction of a member writes, and keeps what holds of the pairs of every store. There is room for it.
+pub fn grant(pairs: &mut Vec<(Key, Held)>, stamp: Stamp, by: MemberId, txn: Txn)
+    requires room { vec_len pairs.old + 5 ≤ vec_capacity pairs.old }
+    requires kept { IsKept pairs.old.items }
+    requires moment { stamp.at.0 ≤ 2 ^ 62 }
+    requires span { ttl_of txn ≤ 2 ^ 40 }
+    ensures pairs { pairs.new.items ≡ all_written stamp.revision stamp.at.0 pairs.old.items (writes_of by txn) }
+    ensures kept { IsKept pairs.new.items }
+{
+    write(pairs, stamp, by, txn);
+}
+
 /// Writes what a transaction of a member writes. There is room for it.
-pub fn write(pairs: &mut Vec<(Key, Held)>, stamp: Stamp, by: MemberId, txn: Txn)
+fn write(pairs: &mut Vec<(Key, Held)>, stamp: Stamp, by: MemberId, txn: Txn)
     requires room { vec_len pairs.old + 5 ≤ vec_capacity pairs.old }
     requires order { IsTrue (is_sorted key_cmp pairs.old.items) }
     requires moment { stamp.at.0 ≤ 2 ^ 62 }
