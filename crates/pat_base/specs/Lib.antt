@@ -3,3 +3,5 @@ pub mod Memory
 pub mod Name
 pub mod NameText
 pub mod Outside
+pub mod ServerState
+pub mod SizeText
