@@ -1,3 +1,4 @@
 pub mod Contents
 pub mod Digits
+pub mod MemberBits
 pub mod Names

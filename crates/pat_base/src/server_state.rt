@@ -1,5 +1,5 @@
 //! The states of a PostgreSQL server, and what its commits wait for.
-use crate::Ticks;
+use crate::{MemberSet, Ticks};
 
 /// The state of a server.
 #[derive(Clone, Copy, Debug, PartialEq, Eq)]
@@ -44,4 +44,16 @@ impl State {
             state => state.writes(),
         }
     }
+}
+
+/// Whose confirmation a commit of a primary waits for before it is acknowledged, as PostgreSQL's setting
+/// `synchronous_standby_names` says.
+#[derive(Clone, Copy, Debug, PartialEq, Eq)]
+pub enum Required {
+    /// It waits for nobody.
+    Nobody,
+    /// It waits for any one standby.
+    AnyOne,
+    /// It waits for each of these standbys.
+    All(MemberSet),
 }
