@@ -1,3 +1,4 @@
+pub mod Lsn
 pub mod LsnText
 pub mod Memory
 pub mod Name
