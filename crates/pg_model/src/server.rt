@@ -1,12 +1,12 @@
 //! Servers.
-ghost use Rattle.std.specs.Prelude.{ℕ, ◌≡◌, ◌≤◌, ◌<◌, ◌+◌, ◌-◌, ◌^◌, ◌++◌, ◌&&◌, ◌↔◌, [], ◌∷◌, length, min, Option, Some, None, IsTrue, IsSome, IsOk, IfOk, IfErr, OnOk, OnErr, IsErrOf, slice_index_or, option_copied, false};
+ghost use Rattle.std.specs.Prelude.{ℕ, ◌≡◌, ◌≤◌, ◌<◌, ◌+◌, ◌-◌, ◌^◌, ◌++◌, ◌&&◌, ◌↔◌, [], ◌∷◌, length, min, Option, Some, None, IsTrue, IsSome, IsOk, IfOk, IfErr, OnOk, OnErr, IsErrOf, slice_index_or, option_copied, is_none, false};
 ghost use Rattle.std.specs.Option.{ForSome};
 ghost use Rattle.std.specs.List.{list_any};
 ghost use Rattle.pat_base.specs.ServerState.{writes, live};
 ghost use Rattle.pat_base.specs.Lsn.{lsn_at};
 ghost use Rattle.wal_model.specs.Log.{end_of, IsPrefixOf, received};
-ghost use Rattle.pg_model.specs.Facts.{fresh, entries_of, is_replica, is_down, is_up, has_data};
-ghost use Rattle.pg_model.specs.Running.{reserved, promoted, started, starting, replica_started, primary_started, stopped, stopping, crashed, ticked, delayed};
+ghost use Rattle.pg_model.specs.Facts.{fresh, entries_of, is_replica, is_creating, is_down, is_up, has_data};
+ghost use Rattle.pg_model.specs.Running.{reserved, promoted, started, starting, replica_started, primary_started, stopping, crashed, crashed_state, ticked, delayed};
 ghost use Rattle.pg_model.specs.Replication.{following, committed, stream_of, streamed, confirming, is_met, all_reach, next_acknowledged, acknowledged, may_acknowledge, reaches, is_free};
 ghost use Rattle.pg_model.specs.declared.answers.CommitFault.TheVariants as commit_faults;
 ghost use Rattle.pg_model.specs.declared.answers.StreamFault.TheVariants as stream_faults;
@@ -113,9 +113,10 @@ impl Server {
         self.state.live()
     }
 
-    /// Its log. `None` exactly where the log is absent.
+    /// Its log. `None` exactly where the log is absent, which is where it waits for a copy.
     pub fn log(&self) -> Option<&Wal>
-        ensures { option_copied result ≡ self.now.log }
+        ensures log { option_copied result ≡ self.now.log }
+        ensures absent { is_none result ≡ is_creating self.now.state }
     {
         self.log.as_ref()
     }
@@ -242,8 +243,8 @@ impl Server {
             at: log.end(),
         };
         self.history.add(left).unwrap();
-        self.timeline += 1;
         self.confirmed = [None; MEMBERS];
+        self.timeline += 1;
         self.was_primary = true;
         self.state = State::Primary;
         Ok(())
@@ -326,7 +327,7 @@ impl Server {
             return Err(InState(self.state));
         }
         if self.stop_delay == Ticks(0) {
-            self.complete_stop();
+            self.end(State::Stopped);
         } else {
             self.state = State::Stopping {
                 was_primary: self.state == State::Primary,
@@ -336,23 +337,20 @@ impl Server {
         Ok(())
     }
 
-    /// Has ended from now on, in an orderly way.
-    fn complete_stop(&mut self)
-        requires { IsTrue (has_data self.old.state) }
-        ensures { self.new ≡ stopped self.old }
-    {
-        self.state = State::Stopped;
-        self.waiting.clear();
-    }
-
     /// Ends without a shutdown. A server that waits for a copy goes on to wait.
     pub fn crash(&mut self)
         ensures { self.new ≡ crashed self.old }
     {
-        if self.state != State::Creating {
-            self.state = State::Crashed;
-        }
+        self.end(crashed_state(self.state));
         self.diverged = false;
+    }
+
+    /// Is in this state from now on, in which no commit waits.
+    fn end(&mut self, state: State)
+        requires { is_creating state ≡ is_creating self.old.state }
+        ensures { self.new ≡ record self.old { state = state; waiting = [] } }
+    {
+        self.state = state;
         self.waiting.clear();
     }
 
@@ -363,7 +361,7 @@ impl Server {
         let state = self.state;
         match state {
             State::Starting { as_primary, at } if at <= now => self.complete_start(as_primary),
-            State::Stopping { at, .. } if at <= now => self.complete_stop(),
+            State::Stopping { at, .. } if at <= now => self.end(State::Stopped),
             _ => {}
         }
     }
@@ -556,6 +554,16 @@ fn is_down(state: State) -> bool
     ensures { result ≡ is_down state }
 {
     matches!(state, State::Stopped | State::Crashed)
+}
+
+/// The state after a crash.
+fn crashed_state(state: State) -> State
+    ensures { result ≡ crashed_state state }
+{
+    match state {
+        State::Creating => State::Creating,
+        _ => State::Crashed,
+    }
 }
 
 fn is_up(state: State) -> bool

@@ -1,5 +1,4 @@
-use Rattle.std.proofs.Common.{◌≡◌, drop, Option}
-use Rattle.pat_base.specs.declared.lsn.Lsn.{Lsn}
+use Rattle.std.proofs.Common.{◌≡◌, drop}
 use Rattle.pg_model.specs.Replication.{all_reach}
 use Rattle.pg_model.proofs.server.all_reach.Given as goal
 
