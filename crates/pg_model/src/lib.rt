@@ -10,3 +10,6 @@ pub use answers::{CommitFault, InState, StreamFault, Streamed};
 pub use laws::required_is_met;
 pub use server::Server;
 pub use waiting::Waiting;
+
+#[cfg(test)]
+mod tests;
