@@ -1,9 +1,12 @@
 pub mod Host
 pub mod HostText
+pub mod Lsn
 pub mod LsnText
 pub mod MemberId
 pub mod Memory
 pub mod Name
 pub mod NameText
 pub mod Outside
+pub mod ServerState
+pub mod SizeText
 pub mod Word

@@ -1,0 +1,59 @@
+//! The states of a PostgreSQL server, and what its commits wait for.
+use crate::{MemberSet, Ticks};
+
+/// The state of a server.
+#[derive(Clone, Copy, Debug, PartialEq, Eq)]
+pub enum State {
+    /// It has no data, and waits for a copy of another server.
+    Creating,
+    /// It was shut down in an orderly way.
+    Stopped,
+    /// It starts, and is ready at the moment `at`.
+    Starting { as_primary: bool, at: Ticks },
+    /// It runs in recovery, as a standby of another server.
+    Replica,
+    /// It runs and accepts writes.
+    Primary,
+    /// It shuts down, and has ended at the moment `at`. Until then one that was a primary accepts writes.
+    Stopping { was_primary: bool, at: Ticks },
+    /// It ended without a shutdown.
+    Crashed,
+}
+
+impl State {
+    ghost use Rattle.std.specs.Prelude.{◌≡◌};
+    ghost use Rattle.pat_base.specs.ServerState.{writes, live};
+
+    /// Whether a server in this state accepts writes.
+    pub fn writes(&self) -> bool
+        ensures { result ≡ writes self.now }
+    {
+        match self {
+            State::Primary => true,
+            State::Stopping { was_primary, .. } => *was_primary,
+            _ => false,
+        }
+    }
+
+    /// Whether a server in this state accepts writes, or will when its start is complete.
+    pub fn live(&self) -> bool
+        ensures { result ≡ live self.now }
+    {
+        match self {
+            State::Starting { as_primary, .. } => *as_primary,
+            state => state.writes(),
+        }
+    }
+}
+
+/// Whose confirmation a commit of a primary waits for before it is acknowledged, as PostgreSQL's setting
+/// `synchronous_standby_names` says.
+#[derive(Clone, Copy, Debug, PartialEq, Eq)]
+pub enum Required {
+    /// It waits for nobody.
+    Nobody,
+    /// It waits for any one standby.
+    AnyOne,
+    /// It waits for each of these standbys.
+    All(MemberSet),
+}

@@ -1,0 +1,107 @@
+-- Commits, streaming and acknowledgement.
+use Rattle.std.specs.Prelude.{ℕ, ◌≡◌, ◌≤◌, ◌<◌, ◌+◌, ◌-◌, ◌++◌, ◌==◌, ◌&&◌, ◌||◌, nat_le, min, if◌then◌else◌, not, Bool, true, false, IsSomeAnd, Any, ⊤, List, [], ◌∷◌, length, drop, Option, Some, None, slice_set, slice_index_or}
+use Rattle.std.specs.List.{list_any}
+use Rattle.std.specs.Int.{bit_at}
+use Rattle.pat_base.specs.declared.lsn.Lsn.{Lsn}
+use Rattle.pat_base.specs.declared.member_id.MemberId.{MemberId}
+use Rattle.pat_base.specs.declared.member_set.MemberSet.{MemberSet}
+use Rattle.pat_base.specs.declared.server_id.ServerId.{ServerId}
+use Rattle.pat_base.specs.declared.server_state.Required.{Required}
+use Rattle.pat_base.specs.declared.server_state.Required.TheVariants as required
+use Rattle.pat_base.specs.Lsn.{lsn_at}
+use Rattle.pat_base.specs.ServerState.{writes}
+use Rattle.wal_model.specs.declared.entry.Entry.{Entry}
+use Rattle.wal_model.specs.Log.{end_of, is_prefix, fork_of, received}
+use Rattle.pg_model.specs.declared.answers.Streamed.{Streamed}
+use Rattle.pg_model.specs.declared.answers.Streamed.TheVariants as streams
+use Rattle.pg_model.specs.declared.waiting.Waiting.{Waiting}
+use Rattle.pg_model.specs.Facts.{ServerFacts, entries_of}
+
+-- it follows this server, and may receive from it
+abbrev pub following : ServerId → ServerFacts → ServerFacts
+following upstream s = record s { upstream = Some upstream; diverged = false }
+
+abbrev pub entry_of : ServerFacts → ℕ → ℕ → Entry
+entry_of s serial bytes = record { serial = serial; timeline = s.timeline; bytes = bytes }
+
+-- a commit of so many bytes stands at the log's end, and waits for acknowledgement
+abbrev pub committed : ℕ → ℕ → ServerFacts → ServerFacts
+committed serial bytes s =
+    let log = entries_of s.log ++ entry_of s serial bytes ∷ [] in
+    record s { log = Some log; waiting = s.waiting ++ record { serial = serial; end = lsn_at (end_of log) } ∷ [] }
+
+abbrev pub stream_by : Bool → List Entry → List Entry → ℕ → Streamed
+stream_by false mine theirs most = streams.NotConnected
+stream_by true mine theirs most = if is_prefix mine theirs then streams.Received (min most (length theirs - length mine)) else streams.Diverged (lsn_at (fork_of mine theirs))
+
+-- what a standby gets from its upstream: nothing where that one doesn't write, no entry where its own log is no prefix
+-- of the upstream's, and else the next entries, at most so many
+abbrev pub stream_of : ServerFacts → ServerFacts → ℕ → Streamed
+stream_of s upstream most = stream_by (writes upstream.state) (entries_of s.log) (entries_of upstream.log) most
+
+abbrev pub streamed_by : Streamed → ServerFacts → ServerFacts → ℕ → ServerFacts
+streamed_by streams.NotConnected s upstream most = s
+streamed_by (streams.Diverged at) s upstream most = record s { diverged = true }
+streamed_by (streams.Received count) s upstream most = record s {
+  log = Some (received (entries_of s.log) (entries_of upstream.log) most);
+  timeline = upstream.timeline;
+  history = upstream.history;
+}
+
+-- the standby after that
+abbrev pub streamed : ServerFacts → ServerFacts → ℕ → ServerFacts
+streamed s upstream most = streamed_by (stream_of s upstream most) s upstream most
+
+-- a member has flushed the log up to this position
+abbrev pub confirming : MemberId → Lsn → ServerFacts → ServerFacts
+confirming by end s = record s { confirmed = slice_set s.confirmed by.number (Some end) }
+
+-- what was confirmed is at or past the end of a commit
+abbrev pub reaches : Lsn → Option Lsn → Bool
+reaches end None = false
+reaches end (Some confirmed) = nat_le end.position confirmed.position
+
+-- a member isn't waited for: it is not in the set, or has confirmed the end of the commit
+abbrev pub is_free : MemberSet → ℕ → Lsn → Option Lsn → Bool
+is_free members number end confirmed = not (bit_at members.bits number == 1) || reaches end confirmed
+
+-- each member of the set, of those from this number on, has confirmed the end of a commit
+abbrev pub all_reach : ℕ → MemberSet → Lsn → List (Option Lsn) → Bool
+all_reach number members end [] = true
+all_reach number members end (confirmed ∷ more) = is_free members number end confirmed && all_reach (number + 1) members end more
+
+-- the end of a commit is confirmed by whom it waits for
+abbrev pub is_met : Required → Lsn → List (Option Lsn) → Bool
+is_met required.Nobody end confirmed = true
+is_met required.AnyOne end confirmed = list_any (reaches end) confirmed
+is_met (required.All members) end confirmed = all_reach 0 members end confirmed
+
+abbrev pub first_is_met : Required → List (Option Lsn) → List Waiting → Bool
+first_is_met list confirmed [] = false
+first_is_met list confirmed (first ∷ more) = is_met list first.end confirmed
+
+-- it accepts writes, and its oldest waiting commit may be acknowledged
+abbrev pub may_acknowledge : ServerFacts → Bool
+may_acknowledge s = writes s.state && first_is_met s.required s.confirmed s.waiting
+
+abbrev pub first_serial : List Waiting → Option ℕ
+first_serial [] = None
+first_serial (first ∷ more) = Some first.serial
+
+-- the commit that is acknowledged next, if one may be
+abbrev pub next_acknowledged : ServerFacts → Option ℕ
+next_acknowledged s = if may_acknowledge s then first_serial s.waiting else None
+
+-- and the server after that
+abbrev pub acknowledged : ServerFacts → ServerFacts
+acknowledged s = if may_acknowledge s then record s { waiting = drop 1 s.waiting } else s
+
+-- what was confirmed is at or past the end of a commit, as a fact
+abbrev pub Reaches : Lsn → Option Lsn → Type 0
+Reaches end confirmed = IsSomeAnd confirmed (λ position. end.position ≤ position.position)
+
+-- the end of a commit is confirmed by whom it waits for: by nobody, by any one member, or by each member of a set
+abbrev pub MeetsRequired : Required → Lsn → List (Option Lsn) → Type 0
+MeetsRequired required.Nobody end confirmed = ⊤
+MeetsRequired required.AnyOne end confirmed = Any (Reaches end) confirmed
+MeetsRequired (required.All members) end confirmed = (member : ℕ) → member < length confirmed → bit_at members.bits member ≡ 1 → Reaches end (slice_index_or confirmed member None)

@@ -1,0 +1,83 @@
+-- How a server starts, is promoted, stops and crashes.
+use Rattle.std.specs.Prelude.{◌+◌, ◌-◌, ◌++◌, ◌==◌, nat_le, max, if◌then◌else◌, Bool, true, false, [], ◌∷◌, Option, Some, None}
+use Rattle.pat_base.specs.declared.ticks.Ticks.{Ticks}
+use Rattle.pat_base.specs.declared.server_id.ServerId.{ServerId}
+use Rattle.pat_base.specs.declared.server_state.State.{State}
+use Rattle.pat_base.specs.declared.server_state.State.TheVariants as states
+use Rattle.pat_base.specs.Lsn.{lsn_at}
+use Rattle.wal_model.specs.Log.{end_of}
+use Rattle.pg_model.specs.Facts.{ServerFacts, none_confirmed, entries_of}
+
+-- a moment after a delay
+abbrev pub later : Ticks → Ticks → Ticks
+later now delay = record { 0 = now.0 + delay.0 }
+
+-- it has room for one more point of its history
+abbrev pub reserved : ServerFacts → ServerFacts
+reserved s = record s { spare = max s.spare 1 }
+
+-- a standby begins to accept writes on the next timeline, which it enters into its history; what was confirmed to
+-- an earlier primary counts no more
+abbrev pub promoted : ServerFacts → ServerFacts
+promoted s = record s {
+  state = states.Primary;
+  timeline = s.timeline + 1;
+  history = s.history ++ record { timeline = s.timeline; at = lsn_at (end_of (entries_of s.log)) } ∷ [];
+  spare = s.spare - 1;
+  was_primary = true;
+  confirmed = none_confirmed;
+}
+
+-- its start is complete: it runs as a standby, or accepts writes
+abbrev pub started : Bool → ServerFacts → ServerFacts
+started false s = record s { state = states.Replica }
+started true s = record s { state = states.Primary; was_primary = true }
+
+-- it starts: at once where starts take no time, and else it is ready after the delay
+abbrev pub starting : Bool → Ticks → ServerFacts → ServerFacts
+starting as_primary now s = if s.start_delay.0 == 0 then started as_primary s else record s { state = states.Starting as_primary (later now s.start_delay) }
+
+-- it starts as a standby of this server, or of none
+abbrev pub replica_started : Ticks → Option ServerId → ServerFacts → ServerFacts
+replica_started now upstream s = starting false now (record s { upstream = upstream; was_primary = false })
+
+-- it starts as a primary again, on its timeline
+abbrev pub primary_started : Ticks → ServerFacts → ServerFacts
+primary_started now s = starting true now (record s { confirmed = none_confirmed })
+
+-- its stop is complete, and no commit waits any more
+abbrev pub stopped : ServerFacts → ServerFacts
+stopped s = record s { state = states.Stopped; waiting = [] }
+
+abbrev pub is_primary : State → Bool
+is_primary states.Primary = true
+is_primary _ = false
+
+-- it shuts down: at once where stops take no time, and else it has ended after the delay; a primary accepts writes until then
+abbrev pub stopping : Ticks → ServerFacts → ServerFacts
+stopping now s = if s.stop_delay.0 == 0 then stopped s else record s { state = states.Stopping (is_primary s.state) (later now s.stop_delay) }
+
+abbrev pub crashed_state : State → State
+crashed_state states.Creating = states.Creating
+crashed_state _ = states.Crashed
+
+-- it ends without a shutdown, and no commit waits any more; one that has no data waits for a copy as before
+abbrev pub crashed : ServerFacts → ServerFacts
+crashed s = record s { state = crashed_state s.state; diverged = false; waiting = [] }
+
+-- a start or a stop is complete whose moment has come
+abbrev pub completed : Ticks → State → ServerFacts → ServerFacts
+completed now (states.Starting as_primary at) s = if nat_le at.0 now.0 then started as_primary s else s
+completed now (states.Stopping was_primary at) s = if nat_le at.0 now.0 then stopped s else s
+completed now _ s = s
+
+abbrev pub ticked : Ticks → ServerFacts → ServerFacts
+ticked now s = completed now s.state s
+
+abbrev pub delay_or : Option Ticks → Ticks → Ticks
+delay_or None delay = delay
+delay_or (Some set) delay = set
+
+-- later stops and starts take so long, each as before where nothing is said of it
+abbrev pub delayed : Option Ticks → Option Ticks → ServerFacts → ServerFacts
+delayed stop start s = record s { stop_delay = delay_or stop s.stop_delay; start_delay = delay_or start s.start_delay }

@@ -1,0 +1,15 @@
+//! PostgreSQL servers: how they start, stop, are promoted, stream and acknowledge commits.
+#![tactic(auto)]
+
+mod answers;
+mod laws;
+mod server;
+mod waiting;
+
+pub use answers::{CommitFault, InState, StreamFault, Streamed};
+pub use laws::required_is_met;
+pub use server::Server;
+pub use waiting::Waiting;
+
+#[cfg(test)]
+mod tests;

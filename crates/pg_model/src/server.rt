@@ -1,0 +1,630 @@
+//! Servers.
+ghost use Rattle.std.specs.Prelude.{ℕ, ◌≡◌, ◌≤◌, ◌<◌, ◌+◌, ◌-◌, ◌^◌, ◌++◌, ◌&&◌, ◌↔◌, [], ◌∷◌, length, min, Option, Some, None, IsTrue, IsSome, IsOk, IfOk, IfErr, OnOk, OnErr, IsErrOf, slice_index_or, option_copied, is_none, false};
+ghost use Rattle.std.specs.Option.{ForSome};
+ghost use Rattle.std.specs.List.{list_any};
+ghost use Rattle.pat_base.specs.ServerState.{writes, live};
+ghost use Rattle.pat_base.specs.Lsn.{lsn_at};
+ghost use Rattle.wal_model.specs.Log.{end_of, IsPrefixOf, received};
+ghost use Rattle.pg_model.specs.Facts.{fresh, entries_of, is_replica, is_creating, is_down, is_up, has_data};
+ghost use Rattle.pg_model.specs.Running.{reserved, promoted, started, starting, replica_started, primary_started, stopping, crashed, crashed_state, ticked, delayed};
+ghost use Rattle.pg_model.specs.Replication.{following, committed, stream_of, streamed, confirming, is_met, all_reach, next_acknowledged, acknowledged, may_acknowledge, reaches, is_free};
+ghost use Rattle.pg_model.specs.declared.answers.CommitFault.TheVariants as commit_faults;
+ghost use Rattle.pg_model.specs.declared.answers.StreamFault.TheVariants as stream_faults;
+
+use crate::{CommitFault, InState, StreamFault, Streamed, Waiting};
+use pat_base::{Lsn, MemberId, MemberSet, Required, ServerId, State, Ticks};
+use std::alloc::{AllocError, Global};
+use std::collections::VecDeque;
+use std::marker::Model;
+use wal_model::{Entry, History, HistoryPoint, Wal, WalFault};
+
+/// How many members may confirm positions.
+const MEMBERS: usize = 16;
+
+/// A PostgreSQL server: its state, its log (absent after a wipe), its timeline with its history, whom it follows, and
+/// what its commits wait for.
+#[derive(Drop)]
+pub struct Server {
+    state: State,
+    log: Option<Wal>,
+    timeline: u64,
+    history: History,
+    upstream: Option<ServerId>,
+    diverged: bool,
+    was_primary: bool,
+    required: Required,
+    confirmed: [Option<Lsn>; MEMBERS],
+    waiting: VecDeque<Waiting>,
+    stop_delay: Ticks,
+    start_delay: Ticks,
+    receives: bool,
+    connected: MemberSet,
+}
+
+impl Model for Server {
+    ghost use Rattle.std.specs.Prelude.{◌≡◌, ◌≤◌, ◌^◌, is_none};
+    ghost use Rattle.pg_model.specs.Facts.{ServerFacts, is_creating};
+
+    ghost Value = { ServerFacts };
+
+    ghost view = { λ s. record {
+      state = s.state;
+      log = s.log;
+      timeline = s.timeline;
+      history = s.history.points;
+      spare = s.history.spare;
+      upstream = s.upstream;
+      diverged = s.diverged;
+      was_primary = s.was_primary;
+      required = s.required;
+      confirmed = s.confirmed;
+      waiting = s.waiting.items;
+      stop_delay = s.stop_delay;
+      start_delay = s.start_delay;
+      receives = s.receives;
+      connected = s.connected;
+    } };
+
+    ghost invariant = { λ s. (is_none s.log ≡ is_creating s.state) × (s.stop_delay.0 ≤ 2 ^ 40) × (s.start_delay.0 ≤ 2 ^ 40) };
+}
+
+impl Server {
+    /// A running standby on timeline 1, whose log begins with so many bytes of data. It fails only for want of memory.
+    pub fn new(alloc: Global, base: u64) -> Result<Server, AllocError>
+        requires { base ≤ 2 ^ 63 }
+        ensures { IfOk result (λ server. server ≡ fresh base) }
+    {
+        Ok(Server {
+            state: State::Replica,
+            log: Some(base_log(alloc, base)?),
+            timeline: 1,
+            history: History::new(alloc),
+            upstream: None,
+            diverged: false,
+            was_primary: false,
+            required: Required::Nobody,
+            confirmed: [None; MEMBERS],
+            waiting: VecDeque::new(alloc),
+            stop_delay: Ticks(0),
+            start_delay: Ticks(0),
+            receives: false,
+            connected: MemberSet::empty(),
+        })
+    }
+
+    /// The server's state.
+    pub fn state(&self) -> State
+        ensures { result ≡ self.now.state }
+    {
+        self.state
+    }
+
+    /// Whether it accepts writes.
+    pub fn writes(&self) -> bool
+        ensures { result ≡ writes self.now.state }
+    {
+        self.state.writes()
+    }
+
+    /// Whether it accepts writes, or will when its start is complete.
+    pub fn live(&self) -> bool
+        ensures { result ≡ live self.now.state }
+    {
+        self.state.live()
+    }
+
+    /// Its log. `None` exactly where the log is absent, which is where it waits for a copy.
+    pub fn log(&self) -> Option<&Wal>
+        ensures log { option_copied result ≡ self.now.log }
+        ensures absent { is_none result ≡ is_creating self.now.state }
+    {
+        self.log.as_ref()
+    }
+
+    /// Its timeline.
+    pub fn timeline(&self) -> u64
+        ensures { result ≡ self.now.timeline }
+    {
+        self.timeline
+    }
+
+    /// The points at which earlier timelines were left.
+    pub fn history(&self) -> &History
+        ensures points { result.now.points ≡ self.now.history }
+        ensures spare { result.now.spare ≡ self.now.spare }
+    {
+        &self.history
+    }
+
+    /// Whom it follows as a standby.
+    pub fn upstream(&self) -> Option<ServerId>
+        ensures { result ≡ self.now.upstream }
+    {
+        self.upstream
+    }
+
+    /// Whether its log was found to be no prefix of its upstream's.
+    pub fn diverged(&self) -> bool
+        ensures { result ≡ self.now.diverged }
+    {
+        self.diverged
+    }
+
+    /// Whether its last run was a primary.
+    pub fn was_primary(&self) -> bool
+        ensures { result ≡ self.now.was_primary }
+    {
+        self.was_primary
+    }
+
+    /// Whose confirmation its commits wait for.
+    pub fn required(&self) -> Required
+        ensures { result ≡ self.now.required }
+    {
+        self.required
+    }
+
+    /// The position that a member confirmed. `None` exactly where none is kept.
+    pub fn confirmed(&self, by: MemberId) -> Option<Lsn>
+        ensures { result ≡ slice_index_or self.now.confirmed by.number None }
+    {
+        position_by(&self.confirmed, by)
+    }
+
+    /// Whether it receives from its upstream, as it was told last.
+    pub fn receives(&self) -> bool
+        ensures { result ≡ self.now.receives }
+    {
+        self.receives
+    }
+
+    /// Which members are connected to it, as it was told last.
+    pub fn connected(&self) -> MemberSet
+        ensures { result ≡ self.now.connected }
+    {
+        self.connected
+    }
+
+    /// How often it may be promoted without taking memory.
+    pub fn spare(&self) -> usize
+        ensures { result ≡ self.now.spare }
+    {
+        self.history.spare()
+    }
+
+    /// Sets how long later stops and starts take, each only where it is given.
+    pub fn set_delays(&mut self, stop: Option<Ticks>, start: Option<Ticks>)
+        requires stop { ForSome stop (λ delay. delay.0 ≤ 2 ^ 40) }
+        requires start { ForSome start (λ delay. delay.0 ≤ 2 ^ 40) }
+        ensures { self.new ≡ delayed stop start self.old }
+    {
+        self.stop_delay = stop.unwrap_or(self.stop_delay);
+        self.start_delay = start.unwrap_or(self.start_delay);
+    }
+
+    /// Tells it whether it receives from its upstream, and which members are connected to it.
+    pub fn set_links(&mut self, receives: bool, connected: MemberSet)
+        ensures { self.new ≡ record self.old { receives = receives; connected = connected } }
+    {
+        self.receives = receives;
+        self.connected = connected;
+    }
+
+    /// Sets whose confirmation its commits wait for.
+    pub fn set_required(&mut self, required: Required)
+        ensures { self.new ≡ record self.old { required = required } }
+    {
+        self.required = required;
+    }
+
+    /// Takes the memory that a promotion needs. It fails only for want of memory, and then stays as it was.
+    pub fn reserve(&mut self) -> Result<(), AllocError>
+        ensures ok { OnOk result (self.new ≡ reserved self.old) }
+        ensures err { OnErr result (self.new ≡ self.old) }
+    {
+        self.history.reserve(1)
+    }
+
+    /// Promotes a standby, as `pg_promote` does: it accepts writes on the next timeline. Refused exactly unless it
+    /// runs as a replica, and then it stays as it was.
+    pub fn promote(&mut self, _now: Ticks) -> Result<(), InState>
+        requires spare { 1 ≤ self.old.spare }
+        requires timeline { self.old.timeline < 2 ^ 60 }
+        ensures when { IsOk result ↔ IsTrue (is_replica self.old.state) }
+        ensures state { IfErr result (λ refusal. refusal.0 ≡ self.old.state) }
+        ensures ok { OnOk result (self.new ≡ promoted self.old) }
+        ensures err { OnErr result (self.new ≡ self.old) }
+    {
+        let (State::Replica, Some(log)) = (self.state, &self.log) else {
+            return Err(InState(self.state));
+        };
+        let left = HistoryPoint {
+            timeline: self.timeline,
+            at: log.end(),
+        };
+        self.history.add(left).unwrap();
+        self.confirmed = [None; MEMBERS];
+        self.timeline += 1;
+        self.was_primary = true;
+        self.state = State::Primary;
+        Ok(())
+    }
+
+    /// Starts as a standby of a server, or of none. Refused exactly unless it is stopped or crashed, and then it stays
+    /// as it was. The moment is at most 2^62 ticks.
+    pub fn start_replica(&mut self, now: Ticks, upstream: Option<ServerId>) -> Result<(), InState>
+        requires { now.0 ≤ 2 ^ 62 }
+        ensures when { IsOk result ↔ IsTrue (is_down self.old.state) }
+        ensures state { IfErr result (λ refusal. refusal.0 ≡ self.old.state) }
+        ensures ok { OnOk result (self.new ≡ replica_started now upstream self.old) }
+        ensures err { OnErr result (self.new ≡ self.old) }
+    {
+        if !is_down(self.state) {
+            return Err(InState(self.state));
+        }
+        self.upstream = upstream;
+        self.was_primary = false;
+        self.start(false, now);
+        Ok(())
+    }
+
+    /// Starts as a primary again, on its timeline. Refused exactly unless it is stopped or crashed and its last run was
+    /// a primary, and then it stays as it was. The moment is at most 2^62 ticks.
+    pub fn start_primary(&mut self, now: Ticks) -> Result<(), InState>
+        requires { now.0 ≤ 2 ^ 62 }
+        ensures when { IsOk result ↔ IsTrue (is_down self.old.state && self.old.was_primary) }
+        ensures state { IfErr result (λ refusal. refusal.0 ≡ self.old.state) }
+        ensures ok { OnOk result (self.new ≡ primary_started now self.old) }
+        ensures err { OnErr result (self.new ≡ self.old) }
+    {
+        if !is_down(self.state) || !self.was_primary {
+            return Err(InState(self.state));
+        }
+        self.confirmed = [None; MEMBERS];
+        self.start(true, now);
+        Ok(())
+    }
+
+    /// Starts, at once or after the delay.
+    fn start(&mut self, as_primary: bool, now: Ticks)
+        requires down { IsTrue (is_down self.old.state) }
+        requires moment { now.0 ≤ 2 ^ 62 }
+        ensures { self.new ≡ starting as_primary now self.old }
+    {
+        if self.start_delay == Ticks(0) {
+            self.complete_start(as_primary);
+        } else {
+            self.state = State::Starting {
+                as_primary,
+                at: now + self.start_delay,
+            };
+        }
+    }
+
+    /// Runs from now on, as a standby or as a primary.
+    fn complete_start(&mut self, as_primary: bool)
+        requires { IsTrue (has_data self.old.state) }
+        ensures { self.new ≡ started as_primary self.old }
+    {
+        if as_primary {
+            self.state = State::Primary;
+            self.was_primary = true;
+        } else {
+            self.state = State::Replica;
+        }
+    }
+
+    /// Shuts down, at once or after the delay. Refused exactly unless it runs or starts, and then it stays as it was.
+    /// The moment is at most 2^62 ticks.
+    pub fn stop(&mut self, now: Ticks) -> Result<(), InState>
+        requires { now.0 ≤ 2 ^ 62 }
+        ensures when { IsOk result ↔ IsTrue (is_up self.old.state) }
+        ensures state { IfErr result (λ refusal. refusal.0 ≡ self.old.state) }
+        ensures ok { OnOk result (self.new ≡ stopping now self.old) }
+        ensures err { OnErr result (self.new ≡ self.old) }
+    {
+        if !is_up(self.state) {
+            return Err(InState(self.state));
+        }
+        if self.stop_delay == Ticks(0) {
+            self.end(State::Stopped);
+        } else {
+            self.state = State::Stopping {
+                was_primary: self.state == State::Primary,
+                at: now + self.stop_delay,
+            };
+        }
+        Ok(())
+    }
+
+    /// Ends without a shutdown. A server that waits for a copy goes on to wait.
+    pub fn crash(&mut self)
+        ensures { self.new ≡ crashed self.old }
+    {
+        self.end(crashed_state(self.state));
+        self.diverged = false;
+    }
+
+    /// Is in this state from now on, in which no commit waits.
+    fn end(&mut self, state: State)
+        requires { is_creating state ≡ is_creating self.old.state }
+        ensures { self.new ≡ record self.old { state = state; waiting = [] } }
+    {
+        self.state = state;
+        self.waiting.clear();
+    }
+
+    /// Completes a start or a stop whose moment has come.
+    pub fn tick(&mut self, now: Ticks)
+        ensures { self.new ≡ ticked now self.old }
+    {
+        let state = self.state;
+        match state {
+            State::Starting { as_primary, at } if at <= now => self.complete_start(as_primary),
+            State::Stopping { at, .. } if at <= now => self.end(State::Stopped),
+            _ => {}
+        }
+    }
+
+    /// Follows another server. Refused exactly unless it runs as a replica, and then it stays as it was.
+    pub fn follow(&mut self, upstream: ServerId) -> Result<(), InState>
+        ensures when { IsOk result ↔ IsTrue (is_replica self.old.state) }
+        ensures state { IfErr result (λ refusal. refusal.0 ≡ self.old.state) }
+        ensures ok { OnOk result (self.new ≡ following upstream self.old) }
+        ensures err { OnErr result (self.new ≡ self.old) }
+    {
+        let State::Replica = self.state else {
+            return Err(InState(self.state));
+        };
+        self.upstream = Some(upstream);
+        self.diverged = false;
+        Ok(())
+    }
+
+    /// Appends a commit of so many bytes, which then waits for acknowledgement. `NotPrimary` exactly where the server
+    /// doesn't accept writes, and then `Full` exactly where the log would end past 2^63 bytes. It costs constant time
+    /// beside the log's growth. A refused server stays as it was.
+    pub fn commit(&mut self, serial: u64, bytes: u64) -> Result<(), CommitFault>
+        ensures not_primary { IsErrOf result commit_faults.NotPrimary ↔ (writes self.old.state ≡ false) }
+        ensures full { IsErrOf result commit_faults.Full ↔ (IsTrue (writes self.old.state) × (2 ^ 63 < end_of (entries_of self.old.log) + bytes)) }
+        ensures ok { OnOk result (self.new ≡ committed serial bytes self.old) }
+        ensures err { OnErr result (self.new ≡ self.old) }
+    {
+        if !self.state.writes() {
+            return Err(CommitFault::NotPrimary);
+        }
+        if !wal(&self.log).fits(bytes) {
+            return Err(CommitFault::Full);
+        }
+        let entry = Entry {
+            serial,
+            timeline: self.timeline,
+            bytes,
+        };
+        self.waiting.reserve(1)?;
+        let end = append(&mut self.log, entry)?;
+        self.waiting.push_back_reserved(Waiting { serial, end });
+        Ok(())
+    }
+
+    /// Receives the next entries from the upstream, at most so many, with its timeline and history; or finds that the
+    /// upstream doesn't accept writes, or that the own log is no prefix of its log. Refused exactly unless it runs as a
+    /// replica. A refused server stays as it was.
+    pub fn stream(&mut self, upstream: &Server, most: usize) -> Result<Streamed, StreamFault>
+        ensures refused { IsErrOf result (stream_faults.InState self.old.state) ↔ (is_replica self.old.state ≡ false) }
+        ensures answer { IfOk result (λ answer. answer ≡ stream_of self.old upstream.now most) }
+        ensures ok { OnOk result (self.new ≡ streamed self.old upstream.now most) }
+        ensures err { OnErr result (self.new ≡ self.old) }
+    {
+        let State::Replica = self.state else {
+            return Err(StreamFault::InState(self.state));
+        };
+        if !upstream.state.writes() {
+            return Ok(Streamed::NotConnected);
+        }
+        let from = wal(&upstream.log);
+        if !wal(&self.log).is_prefix(from) {
+            self.diverged = true;
+            return Ok(Streamed::Diverged(wal(&self.log).fork(from)));
+        }
+        let count = receive(
+            &mut self.log,
+            &mut self.history,
+            from,
+            &upstream.history,
+            most,
+        )?;
+        self.timeline = upstream.timeline;
+        Ok(Streamed::Received(count))
+    }
+
+    /// Records the position up to which a member has flushed the log.
+    pub fn confirm(&mut self, by: MemberId, end: Lsn)
+        ensures { self.new ≡ confirming by end self.old }
+    {
+        self.confirmed[by.number as usize] = Some(end);
+    }
+
+    /// Takes the oldest waiting commit, where it may be acknowledged: where the server accepts writes, and its end is
+    /// confirmed by whom commits wait for. `None` exactly otherwise.
+    pub fn next_acknowledged(&mut self) -> Option<u64>
+        ensures commit { result ≡ next_acknowledged self.old }
+        ensures after { self.new ≡ acknowledged self.old }
+    {
+        if !self.may_acknowledge() {
+            return None;
+        }
+        self.waiting.pop_front().map(|commit| commit.serial)
+    }
+
+    /// Whether the oldest waiting commit may be acknowledged.
+    fn may_acknowledge(&self) -> bool
+        ensures { result ≡ may_acknowledge self.now }
+    {
+        match self.waiting.front() {
+            Some(commit) => self.state.writes()
+                && is_met(self.required, commit.end, &self.confirmed),
+            None => false,
+        }
+    }
+}
+
+/// A log of so many bytes of data.
+fn base_log(alloc: Global, base: u64) -> Result<Wal, AllocError>
+    requires { base ≤ 2 ^ 63 }
+    ensures { IfOk result (λ log. Some log ≡ (fresh base).log) }
+{
+    let mut log = Wal::new(alloc);
+    let entry = Entry {
+        serial: 0,
+        timeline: 1,
+        bytes: base,
+    };
+    match log.append(entry) {
+        Ok(()) => Ok(log),
+        Err(_) => Err(AllocError),
+    }
+}
+
+/// The log, which is there.
+fn wal(log: &Option<Wal>) -> &Wal
+    requires { IsSome log.now }
+    ensures { Some result.now ≡ log.now }
+{
+    match log {
+        Some(log) => log,
+        None => unreachable!(),
+    }
+}
+
+/// Appends an entry to the log, and answers its end. It fails only for want of memory, and then the log stays as it was.
+fn append(log: &mut Option<Wal>, entry: Entry) -> Result<Lsn, AllocError>
+    requires there { IsSome log.old }
+    requires room { end_of (entries_of log.old) + entry.bytes ≤ 2 ^ 63 }
+    ensures ok { OnOk result (log.new ≡ Some (entries_of log.old ++ entry ∷ [])) }
+    ensures end { IfOk result (λ end. end ≡ lsn_at (end_of (entries_of log.old ++ entry ∷ []))) }
+    ensures err { OnErr result (log.new ≡ log.old) }
+{
+    let Some(log) = log else {
+        unreachable!();
+    };
+    match log.append(entry) {
+        Ok(()) => Ok(log.end()),
+        Err(_) => Err(AllocError),
+    }
+}
+
+/// Appends the next entries of another log that begins with this one, at most so many, and takes the points of its
+/// history. It fails only for want of memory, and then both stay as they were.
+fn receive(
+    log: &mut Option<Wal>,
+    history: &mut History,
+    from: &Wal,
+    points: &History,
+    most: usize,
+) -> Result<usize, AllocError>
+    requires there { IsSome log.old }
+    requires prefix { IsPrefixOf (entries_of log.old) from.now }
+    ensures count { IfOk result (λ count. count ≡ min most (length from.now - length (entries_of log.old))) }
+    ensures log { OnOk result (log.new ≡ Some (received (entries_of log.old) from.now most)) }
+    ensures history { OnOk result (history.new ≡ record history.old { points = points.now.points }) }
+    ensures log_stays { OnErr result (log.new ≡ log.old) }
+    ensures history_stays { OnErr result (history.new ≡ history.old) }
+{
+    let Some(log) = log else {
+        unreachable!();
+    };
+    let had = log.len();
+    let count = log.receive(from, most)?;
+    if let Err(failed) = history.copy_from(points) {
+        log.cut(had);
+        return Err(failed);
+    }
+    Ok(count)
+}
+
+/// The position that a member confirmed.
+fn position_by(confirmed: &[Option<Lsn>; MEMBERS], by: MemberId) -> Option<Lsn>
+    ensures { result ≡ slice_index_or confirmed.now by.number None }
+{
+    confirmed[by.number as usize]
+}
+
+fn is_down(state: State) -> bool
+    ensures { result ≡ is_down state }
+{
+    matches!(state, State::Stopped | State::Crashed)
+}
+
+/// The state after a crash.
+fn crashed_state(state: State) -> State
+    ensures { result ≡ crashed_state state }
+{
+    match state {
+        State::Creating => State::Creating,
+        _ => State::Crashed,
+    }
+}
+
+fn is_up(state: State) -> bool
+    ensures { result ≡ is_up state }
+{
+    matches!(
+        state,
+        State::Starting { .. } | State::Replica | State::Primary
+    )
+}
+
+/// Whether the end of a commit is confirmed by whom it waits for.
+fn is_met(required: Required, end: Lsn, confirmed: &[Option<Lsn>]) -> bool
+    requires { length confirmed.now ≡ 16 }
+    ensures { result ≡ is_met required end confirmed.now }
+{
+    match required {
+        Required::Nobody => true,
+        Required::AnyOne => any_reaches(end, confirmed),
+        Required::All(members) => all_reach(members, end, confirmed),
+    }
+}
+
+/// Whether any member confirmed the end of a commit.
+fn any_reaches(end: Lsn, confirmed: &[Option<Lsn>]) -> bool
+    ensures { result ≡ list_any (reaches end) confirmed.now }
+{
+    confirmed.iter().any(|position| reaches(end, *position))
+}
+
+/// Whether each member of the set confirmed the end of a commit.
+fn all_reach(members: MemberSet, end: Lsn, confirmed: &[Option<Lsn>]) -> bool
+    requires { length confirmed.now ≡ 16 }
+    ensures { result ≡ all_reach 0 members end confirmed.now }
+{
+    for number in 0..16u8 {
+        if !is_free(
+            members,
+            MemberId { number },
+            end,
+            confirmed[number as usize],
+        ) {
+            return false;
+        }
+    }
+    true
+}
+
+/// Whether a member isn't waited for: it is not in the set, or confirmed the end of the commit.
+fn is_free(members: MemberSet, member: MemberId, end: Lsn, position: Option<Lsn>) -> bool
+    ensures { result ≡ is_free members member.number end position }
+{
+    !members.contains(member) || reaches(end, position)
+}
+
+/// Whether what a member confirmed is at or past the end of a commit.
+fn reaches(end: Lsn, confirmed: Option<Lsn>) -> bool
+    ensures { result ≡ reaches end confirmed }
+{
+    match confirmed {
+        Some(position) => end <= position,
+        None => false,
+    }
+}

@@ -1,0 +1,12 @@
+//! Write-ahead logs as lists of entries, and the histories of timelines.
+#![tactic(auto)]
+
+mod entry;
+mod history;
+mod laws;
+mod wal;
+
+pub use entry::{Entry, HistoryPoint};
+pub use history::History;
+pub use laws::{common_is_longest, common_is_prefix, prefix_is_common};
+pub use wal::{Wal, WalFault};
