@@ -24,11 +24,21 @@ pub enum Kind {
 #[derive(Clone, Copy, Debug, PartialEq, Eq)]
 pub enum StoreEvent {
     /// A member's request was granted.
-    Granted { by: Member, request: LeaseRequest },
+    Granted {
+        by: Member,
+        request: LeaseRequest,
+    },
     /// A member's request was refused: this key isn't as the request expects.
-    Refused { by: Member, request: LeaseRequest, key: Key, found: Expected },
+    Refused {
+        by: Member,
+        request: LeaseRequest,
+        key: Key,
+        found: Expected,
+    },
     /// The leader key of this member was dropped at its expiry.
-    Expired { holder: Member },
+    Expired {
+        holder: Member,
+    },
 }
 
 /// What happens to agents.

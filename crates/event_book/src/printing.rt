@@ -37,7 +37,9 @@ fn store_line(alloc: Global, tick: Ticks, event: &StoreEvent) -> Result<Option<S
             found,
         } => {
             let name = by.name;
-            Ok(Some(format!(in alloc; "{tick} the {request} of {name} is refused, {key} {found}\n")?))
+            Ok(Some(format!(in alloc;
+                "{tick} the {request} of {name} is refused, {key} {found}\n"
+            )?))
         }
         StoreEvent::Expired { holder } => {
             let name = holder.name;

@@ -1,6 +1,5 @@
 //! What members ask of the key store.
 
-
 use crate::info::bare_info;
 use lease_store::Txn;
 use pat_base::Ticks;
