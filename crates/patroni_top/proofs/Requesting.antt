@@ -47,5 +47,5 @@ answer-tells facts by request decision left (Err (Mismatch key found)) happening
     rw e t
 answer-tells facts by request decision left (Err Memory) happening a tells = absurd (none tells)
   where
-  none : None ≡ Some happening → ⊥
-  none e = cc
+    none : None ≡ Some happening → ⊥
+    none e = cc

@@ -334,12 +334,21 @@ fn declared_member(members: &[Member], id: Option<MemberId>) -> Option<Member>
 }
 
 /// What the store's answer to a request tells, unless memory is wanting.
-fn told_by(by: Member, request: LeaseRequest, answer: Result<Granted, StoreRefusal>) -> Result<Kind, AllocError>
+fn told_by(
+    by: Member,
+    request: LeaseRequest,
+    answer: Result<Granted, StoreRefusal>,
+) -> Result<Kind, AllocError>
     ensures { IfOk result (λ happening. told_by by request answer ≡ Some happening) }
 {
     match answer {
         Ok(_) => Ok(Kind::Store(StoreEvent::Granted { by, request })),
-        Err(StoreRefusal::Mismatch { key, found }) => Ok(Kind::Store(StoreEvent::Refused { by, request, key, found })),
+        Err(StoreRefusal::Mismatch { key, found }) => Ok(Kind::Store(StoreEvent::Refused {
+            by,
+            request,
+            key,
+            found,
+        })),
         Err(StoreRefusal::Memory) => Err(AllocError),
     }
 }
