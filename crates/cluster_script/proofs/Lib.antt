@@ -1,9 +1,11 @@
+pub mod ArgumentLaws
 pub mod Cutting
-pub mod LineLaws
-pub mod Members
+pub mod Finishing
+pub mod MemberLaws
+pub mod NameLaws
 pub mod NumberLaws
-pub mod Options
+pub mod Outcomes
 pub mod Places
 pub mod ReadLaws
 pub mod SpellLaws
-pub mod Totals
+pub mod WordLaws

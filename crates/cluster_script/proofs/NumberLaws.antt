@@ -3,10 +3,11 @@ use Rattle.std.proofs.Common.{◌≡◌, ℕ, ◌+◌, ◌-◌, ◌*◌, ◌/◌
 use Rattle.std.specs.Fmt.{decimal}
 use Rattle.std.proofs.lemmas.Fmt.{decimal_by_steps, decimal_step, decimal_digit}
 use Rattle.std.proofs.lemmas.Bool.Decides.{nat_tests}
-use Rattle.cluster_script.specs.Lines.{on_some}
+use Rattle.cluster_script.specs.Lines.{first_at}
+use Rattle.cluster_script.specs.Options.{on_some}
 use Rattle.cluster_script.specs.Numbers.{number, digits_from, digit_on, is_digit}
-use Rattle.cluster_script.proofs.LineLaws.{is_feedless, is_feedless-append}
-use Rattle.cluster_script.proofs.Options.{some_is, none_is, on_some-Some, cond-Some, cond-refuses}
+use Rattle.cluster_script.proofs.WordLaws.{passed}
+use Rattle.cluster_script.proofs.Outcomes.{some_is, none_is, on_some-Some, cond-Some, cond-refuses}
 
 test-ok : (b v : ℕ) → 48 ≤ b → b ≤ 57 → v < 2 ^ 64 → (is_digit b && nat_lt v (2 ^ 64)) ≡ true
 test-ok b v low high fits = grind (arith, nat_tests)
@@ -127,9 +128,28 @@ number-is (b ∷ bs) n e =
     let q = on_some-Some (digit_on 0 b) (λ k. digits_from k bs) n p.1 in
     first b q.0 n bs p.0 (digit_on-IsDigit 0 b q.0 q.1) q.2
 
-a_digit : (d : ℕ) → is_feedless ((48 + d) ∷ []) ≡ true
-a_digit d = let other : ((48 + d) == 10) ≡ false = grind (arith, nat_tests) in rw other refl
+below : (n m : ℕ) (bs : List ℕ) → n < 2 ^ 64 → digits_from n bs ≡ Some m → m < 2 ^ 64
+below n m [] h e = let same : n ≡ m = some_is n m e in omega arith
+below n m (b ∷ bs) h e =
+    let p = on_some-Some (digit_on n b) (λ k. digits_from k bs) m e in
+    below p.0 m bs (digit_on-IsDigit n b p.0 p.1).fits p.2
 
-pub decimal-is_feedless : (n : ℕ) → n < 2 ^ 64 → is_feedless (decimal n) ≡ true
-decimal-is_feedless n fits =
-    decimal_by_steps (λ n ds. is_feedless ds ≡ true) (λ n h. a_digit n) (λ n ds h front. is_feedless-append ds ((48 + n % 10) ∷ []) front (a_digit (n % 10))) n fits
+pub number-below : (bytes : List ℕ) (n : ℕ) → number bytes ≡ Some n → n < 2 ^ 64
+number-below [] n e = absurd (none_is n e)
+number-below (b ∷ bs) n e =
+    let p = cond-refuses ((b == 48) && nat_lt 0 (length bs)) (digits_from 0 (b ∷ bs)) n e in
+    below 0 n (b ∷ bs) (omega arith) p.1
+
+-- a byte that is no digit is in no number
+pub first_at-append : (c : ℕ) (xs ys : List ℕ) → first_at c xs ≡ None → first_at c ys ≡ None → first_at c (xs ++ ys) ≡ None
+first_at-append c [] ys h k = k
+first_at-append c (x ∷ xs) ys h k =
+    let p = passed (x == c) (first_at c xs) h in
+    rw (p.0, first_at-append c xs ys p.1 k) refl
+
+a_digit : (c d : ℕ) → c < 48 → first_at c ((48 + d) ∷ []) ≡ None
+a_digit c d h = let other : ((48 + d) == c) ≡ false = grind (arith, nat_tests) in rw other refl
+
+pub first_at-decimal : (c n : ℕ) → c < 48 → n < 2 ^ 64 → first_at c (decimal n) ≡ None
+first_at-decimal c n h fits =
+    decimal_by_steps (λ n ds. first_at c ds ≡ None) (λ n k. a_digit c n h) (λ n ds k front. first_at-append c ds ((48 + n % 10) ∷ []) front (a_digit c (n % 10) h)) n fits

@@ -10,7 +10,7 @@ use Rattle.pat_base.specs.declared.name.Name.{Name}
 use Rattle.pat_base.proofs.Names.{name_bytes-injective}
 use Rattle.std.specs.Bool.{Decides}
 use Rattle.cluster_script.specs.Lines.{one_more}
-use Rattle.cluster_script.specs.Reading.{place_of}
+use Rattle.cluster_script.specs.Members.{place_of}
 
 -- the first place, from the test of each name
 abbrev first_place : (Name → Bool) → List Name → Option ℕ

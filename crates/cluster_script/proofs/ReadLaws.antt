@@ -1,263 +1,283 @@
 -- What is read as a script is one, and is spelled so.
-use Rattle.std.proofs.Common.{◌≡◌, ℕ, ◌+◌, ◌≤◌, ◌<◌, ◌⊎◌, ◌&&◌, ◌==◌, inl, inr, nat_le, nat_lt, Bool, true, false, cond, List, [], ◌∷◌, ◌++◌, length, map, slice_get, Option, Some, None, refl, ◌∙◌, ap, sym, zero, suc, arith, append_assoc, append-nil, length-append}
-use Rattle.std.specs.Str.{bytes_eq}
+use Rattle.std.proofs.Common.{◌≡◌, ℕ, ◌+◌, ◌≤◌, ◌<◌, nat_le, nat_lt, Bool, true, false, cond, List, [], ◌∷◌, ◌++◌, length, map, Option, Some, None, Result, Ok, Err, refl, ◌∙◌, ap, sym, subst, zero, suc, arith, append_assoc, append-nil, length-append}
+use Rattle.std.specs.Str.{is_utf8}
 use Rattle.std.proofs.lemmas.Bool.Decides.{nat_tests}
 use Rattle.std.proofs.lemmas.List.{map-append}
-use Rattle.std.proofs.lemmas.Option.{slice_get_within}
-use Rattle.std.proofs.lemmas.Slice.Eq.{bytes_eq-Decides}
 use Rattle.pat_base.specs.Name.{name_bytes, name_of}
 use Rattle.pat_base.specs.declared.name.Name.{Name}
-use Rattle.pat_base.specs.declared.member_id.MemberId.{MemberId}
-use Rattle.pat_base.proofs.Names.{name_of-text, name_bytes-injective}
-use Rattle.cluster_script.specs.Lines.{on_some, one_more, cut_lines, ended}
-use Rattle.cluster_script.specs.Numbers.{number}
-use Rattle.cluster_script.specs.Reading.{member_of, member_by, place_of, member_named, with_member, with_new_member, with_run, with_hold, with_words, with_line, with_lines, named_cluster, cluster_words, first_line, whole_script, script_of_lines, few_lines, script_of}
-use Rattle.cluster_script.specs.Script.{ScriptText, IsScript, NamesMember, AllNameMembers, text_of_name, member_text, cluster_text, member_line_text, line_text, head_lines, body_lines, lines_of, spelling_of}
-use Rattle.cluster_script.specs.Steps.{total_ticks, ticks_of_line}
-use Rattle.cluster_script.specs.Words.{spelled, first_word}
+use Rattle.pat_base.proofs.Names.{name_of-text}
+use Rattle.cluster_script.specs.Arguments.{line_of_words}
+use Rattle.cluster_script.specs.Faults.{on_ok}
+use Rattle.cluster_script.specs.Lines.{lines_in, is_skipped, counted_lines}
+use Rattle.cluster_script.specs.Members.{place_of}
+use Rattle.cluster_script.specs.Reading.{has_option, declared_in_head, declared_once, named_member, new_member, next_member, second_cluster, addition_of, known_addition, addition_in, members_after, body_after, with_addition, with_line, alone, cluster_named, cluster_of, begun_by, first_line, begun, after_counted, after_text, after_line, after_lines, at_line, with_some, finished, script_of_lines, script_of}
+use Rattle.cluster_script.specs.Script.{HeadText, ScriptText, IsHead, IsScript, IsMember, IsEnd, IsLink, IsCommand, IsLine, AllAreLines, cluster_text, member_line_text, line_text, head_lines, body_lines, lines_of, IsInForm, AllInForm, Spells, member_text, text_of_name}
+use Rattle.cluster_script.specs.Words.{spelled, keyword_of, cut_word, word_of}
+use Rattle.cluster_script.specs.declared.addition.Addition.{Addition}
+use Rattle.cluster_script.specs.declared.addition.Addition.TheVariants as additions
+use Rattle.cluster_script.specs.declared.fault.Fault.{Fault}
+use Rattle.cluster_script.specs.declared.fault.Fault.TheVariants as faults
 use Rattle.cluster_script.specs.declared.keyword.Keyword.{Keyword}
 use Rattle.cluster_script.specs.declared.keyword.Keyword.TheVariants as words
+use Rattle.cluster_script.specs.declared.line.End.{End}
+use Rattle.cluster_script.specs.declared.line.End.TheVariants as ends
+use Rattle.cluster_script.specs.declared.line.Command.{Command}
+use Rattle.cluster_script.specs.declared.line.Command.TheVariants as commands
 use Rattle.cluster_script.specs.declared.line.Line.{Line}
 use Rattle.cluster_script.specs.declared.line.Line.TheVariants as lines
-use Rattle.cluster_script.proofs.LineLaws.{first_word-spelled, cut_lines-ended}
-use Rattle.cluster_script.proofs.NumberLaws.{number-is}
-use Rattle.cluster_script.proofs.Totals.{total_ticks-push}
-use Rattle.cluster_script.proofs.Options.{some_is, none_is, on_some-Some, cond-Some}
+use Rattle.cluster_script.proofs.ArgumentLaws.{Says, line_of_words-Ok}
+use Rattle.cluster_script.proofs.NameLaws.{AreDifferent, AreDifferent-push, place_of-None, slice_get-push}
+use Rattle.cluster_script.proofs.Outcomes.{some_is, none_is, ok_is, err_is, on_ok-Ok, at_line-Ok, cond-Ok, cond-Err}
+use Rattle.cluster_script.proofs.WordLaws.{cut_word-None, cut_word-Some, keyword_of-is}
 
--- no name stands at two places
-abbrev pub AreDifferent : List Name → Type 0
-AreDifferent members = (i j : ℕ) (name : Name) → slice_get members i ≡ Some name → slice_get members j ≡ Some name → i ≡ j
+-- what a line adds, and how it is spelled
+abbrev IsAddition : List Name → List Line → List ℕ → Addition → Type 0
+IsAddition members body line (additions.Member name) = (member_line_text name ≡ line) × (length members < 16) × (place_of members name ≡ None) × (body ≡ [])
+IsAddition members body line (additions.Body l) = (line_text members l ≡ line) × IsLine members l
 
--- a name that has no place stands nowhere
-none-step : (t : Bool) (m name : Name) (members : List Name) (o : Option ℕ) (i : ℕ) → bytes_eq (name_bytes m) (name_bytes name) ≡ t → ((k : ℕ) → o ≡ None → slice_get members k ≡ Some name → ⊥) → cond t (Some 0) (one_more o) ≡ None → slice_get (m ∷ members) i ≡ Some name → ⊥
-none-step true m name members o i is rest e at = cc
-none-step false m name members None zero is rest e at =
-    let same : m ≡ name = some_is m name at in
-    let t : bytes_eq (name_bytes m) (name_bytes name) ≡ true = (bytes_eq-Decides (name_bytes m) (name_bytes name)).1 (ap name_bytes same) in
-    cc
-none-step false m name members None (suc i) is rest e at = rest i refl at
-none-step false m name members (Some k) i is rest e at = cc
+-- the words of a member's line
+record DeclaresMember (members : List Name) (body : List Line) (rest : Option (List ℕ)) (name : Name) : Type 0 where
+  pub words : List ℕ
+  pub is : rest ≡ Some words
+  pub text : name_bytes name ≡ words
+  pub few : length members < 16
+  pub absent : place_of members name ≡ None
+  pub in_head : body ≡ []
 
-pub place_of-None : (members : List Name) (name : Name) (i : ℕ) → place_of members name ≡ None → slice_get members i ≡ Some name → ⊥
-place_of-None [] name i e at = cc
-place_of-None (m ∷ members) name i e at =
-    none-step (bytes_eq (name_bytes m) (name_bytes name)) m name members (place_of members name) i refl (λ k h. place_of-None members name k h) e at
+in_head-Ok : (name x : Name) (body : List Line) → declared_in_head name body ≡ Ok x → (name ≡ x) × (body ≡ [])
+in_head-Ok name x [] e = (ok_is name x e, refl)
+in_head-Ok name x (l ∷ body) e = absurd (err_is _ x e)
 
-some-step : (t : Bool) (m name : Name) (members : List Name) (o : Option ℕ) (i : ℕ) → bytes_eq (name_bytes m) (name_bytes name) ≡ t → ((k : ℕ) → o ≡ Some k → slice_get members k ≡ Some name) → cond t (Some 0) (one_more o) ≡ Some i → slice_get (m ∷ members) i ≡ Some name
-some-step true m name members o i is rest e =
-    let z : i ≡ 0 = sym (some_is 0 i e) in
-    rw z (ap Some (name_bytes-injective m name ((bytes_eq-Decides (name_bytes m) (name_bytes name)).0 is)))
-some-step false m name members None i is rest e = absurd (none_is i e)
-some-step false m name members (Some k) i is rest e =
-    let z : i ≡ suc k = omega (arith, some_is (k + 1) i e) in
-    rw z (rest k refl)
+once-Ok : (members : List Name) (name x : Name) (body : List Line) (o : Option ℕ) → place_of members name ≡ o → declared_once name body o ≡ Ok x → (name ≡ x) × (place_of members name ≡ None) × (body ≡ [])
+once-Ok members name x body (Some place) is e = absurd (err_is _ x e)
+once-Ok members name x body None is e = let p = in_head-Ok name x body e in (p.0, is, p.1)
 
--- a name stands at its place
-pub place_of-Some : (members : List Name) (name : Name) (i : ℕ) → place_of members name ≡ Some i → slice_get members i ≡ Some name
-place_of-Some [] name i e = absurd (none_is i e)
-place_of-Some (m ∷ members) name i e =
-    some-step (bytes_eq (name_bytes m) (name_bytes name)) m name members (place_of members name) i refl (λ k h. place_of-Some members name k h) e
+named-Ok : (members : List Name) (body : List Line) (word : List ℕ) (o : Option Name) (rest : Option (List ℕ)) (x : Name) → name_of word ≡ o → named_member members body o rest ≡ Ok x
+    → (name_bytes x ≡ word) × (rest ≡ None) × (place_of members x ≡ None) × (body ≡ [])
+named-Ok members body word None rest x is e = absurd (err_is _ x e)
+named-Ok members body word (Some name) (Some words) x is e = absurd (err_is _ x e)
+named-Ok members body word (Some name) None x is e =
+    let p = once-Ok members name x body (place_of members name) refl e in
+    (ap name_bytes (sym p.0) ∙ name_of-text word name is, refl, subst (λ (n : Name). place_of members n ≡ None) p.0 p.1, p.2)
 
-pub slice_get-push : {X : Type 0} (xs : List X) (y x : X) (i : ℕ) → slice_get (xs ++ y ∷ []) i ≡ Some x → (slice_get xs i ≡ Some x) ⊎ ((i ≡ length xs) × (y ≡ x))
-slice_get-push [] y x zero e = inr (refl, some_is y x e)
-slice_get-push [] y x (suc i) e = absurd (none_is x e)
-slice_get-push (z ∷ xs) y x zero e = inl e
-slice_get-push (z ∷ xs) y x (suc i) e = elim (slice_get-push xs y x i e) [ inl p ↦ inl p | inr p ↦ inr (omega (arith, p.0), p.1) ]
+not-many : (n : ℕ) → nat_le 16 n ≡ false → n < 16
+not-many n e = grind (arith, nat_tests)
 
-apart : (members : List Name) (name x : Name) (i : ℕ) → place_of members name ≡ None → slice_get members i ≡ Some x → name ≡ x → ⊥
-apart members name x i none at same = place_of-None members name i none (at ∙ ap Some (sym same))
+next_member-Ok : (members : List Name) (body : List Line) (rest : Option (List ℕ)) (x : Name) → next_member members body rest ≡ Ok x → DeclaresMember members body rest x
+next_member-Ok members body rest x e =
+    let p = cond-Err (nat_le 16 (length members)) (new_member members body rest) faults.BadWord x e in
+    words-Ok rest (not-many (length members) p.0) p.1
+  where
+    words-Ok : (rest : Option (List ℕ)) → length members < 16 → new_member members body rest ≡ Ok x → DeclaresMember members body rest x
+    words-Ok None few e = absurd (err_is _ x e)
+    words-Ok (Some words) few e =
+        let p = cond-Err (has_option words) (named_member members body (name_of (cut_word words).0) (cut_word words).1) faults.NotBuilt x e in
+        let q = named-Ok members body (cut_word words).0 (name_of (cut_word words).0) (cut_word words).1 x refl p.1 in
+        record { words = words; is = refl; text = q.0 ∙ cut_word-None words q.1; few = few; absent = q.2; in_head = q.3 }
 
-AreDifferent-push : (members : List Name) (name : Name) → AreDifferent members → place_of members name ≡ None → AreDifferent (members ++ name ∷ [])
-AreDifferent-push members name h none i j x p q =
-    elim (slice_get-push members name x i p) [
-      | inl a ↦ elim (slice_get-push members name x j q) [
-        | inl b ↦ h i j x a b
-        | inr b ↦ absurd (apart members name x i none a b.1)
-      ]
-      | inr a ↦ elim (slice_get-push members name x j q) [
-        | inl b ↦ absurd (apart members name x j none b a.1)
-        | inr b ↦ a.0 ∙ sym b.0
-      ]
-    ]
+-- a line of a known first word, and of the words behind its blank
+line-is : (line : List ℕ) (keyword : Keyword) (words : List ℕ) → keyword_of (cut_word line).0 ≡ Some keyword → (cut_word line).1 ≡ Some words → spelled keyword words ≡ line
+line-is line keyword words k r =
+    sym (cut_word-Some line words r ∙ ap (λ t. t ++ (32 ∷ words)) (keyword_of-is (cut_word line).0 keyword k))
+
+body-Ok : (members : List Name) (body : List Line) (line : List ℕ) (keyword : Keyword) (a : Addition) → keyword_of (cut_word line).0 ≡ Some keyword → on_ok (line_of_words members keyword (cut_word line).1) (λ l. Ok (additions.Body l)) ≡ Ok a → IsAddition members body line a
+body-Ok members body line keyword a k e =
+    let p = on_ok-Ok (line_of_words members keyword (cut_word line).1) (λ l. Ok (additions.Body l)) a e in
+    let s = line_of_words-Ok members keyword (cut_word line).1 p.0 p.1 in
+    let same : additions.Body p.0 ≡ a = ok_is (additions.Body p.0) a p.2 in
+    subst (IsAddition members body line) same (s.text ∙ line-is line keyword s.words k s.is, s.fits)
+
+member-Ok : (members : List Name) (body : List Line) (line : List ℕ) (a : Addition) → keyword_of (cut_word line).0 ≡ Some words.Member → on_ok (next_member members body (cut_word line).1) (λ name. Ok (additions.Member name)) ≡ Ok a → IsAddition members body line a
+member-Ok members body line a k e =
+    let p = on_ok-Ok (next_member members body (cut_word line).1) (λ name. Ok (additions.Member name)) a e in
+    let s = next_member-Ok members body (cut_word line).1 p.0 p.1 in
+    let same : additions.Member p.0 ≡ a = ok_is (additions.Member p.0) a p.2 in
+    subst (IsAddition members body line) same (ap (spelled words.Member) s.text ∙ line-is line words.Member s.words k s.is, s.few, s.absent, s.in_head)
+
+of-Ok : (members : List Name) (body : List Line) (line : List ℕ) (keyword : Keyword) (a : Addition) → keyword_of (cut_word line).0 ≡ Some keyword → addition_of members body keyword (cut_word line).1 ≡ Ok a → IsAddition members body line a
+of-Ok members body line words.Cluster a k e = absurd (err_is _ a e)
+of-Ok members body line words.Member a k e = member-Ok members body line a k e
+of-Ok members body line words.Config a k e = body-Ok members body line words.Config a k e
+of-Ok members body line words.Base a k e = body-Ok members body line words.Base a k e
+of-Ok members body line words.Tick a k e = body-Ok members body line words.Tick a k e
+of-Ok members body line words.Run a k e = body-Ok members body line words.Run a k e
+of-Ok members body line words.Turn a k e = body-Ok members body line words.Turn a k e
+of-Ok members body line words.Deliver a k e = body-Ok members body line words.Deliver a k e
+of-Ok members body line words.Lose a k e = body-Ok members body line words.Lose a k e
+of-Ok members body line words.Hold a k e = body-Ok members body line words.Hold a k e
+of-Ok members body line words.Resume a k e = body-Ok members body line words.Resume a k e
+of-Ok members body line words.Kill a k e = body-Ok members body line words.Kill a k e
+of-Ok members body line words.Restart a k e = body-Ok members body line words.Restart a k e
+of-Ok members body line words.Crash a k e = body-Ok members body line words.Crash a k e
+of-Ok members body line words.Promote a k e = body-Ok members body line words.Promote a k e
+of-Ok members body line words.Commit a k e = body-Ok members body line words.Commit a k e
+of-Ok members body line words.Stream a k e = body-Ok members body line words.Stream a k e
+of-Ok members body line words.Freeze a k e = body-Ok members body line words.Freeze a k e
+of-Ok members body line words.Thaw a k e = body-Ok members body line words.Thaw a k e
+of-Ok members body line words.Cut a k e = body-Ok members body line words.Cut a k e
+of-Ok members body line words.Join a k e = body-Ok members body line words.Join a k e
+of-Ok members body line words.Slow a k e = body-Ok members body line words.Slow a k e
+of-Ok members body line words.Rest a k e = body-Ok members body line words.Rest a k e
+of-Ok members body line words.Ctl a k e = body-Ok members body line words.Ctl a k e
+of-Ok members body line words.Trace a k e = body-Ok members body line words.Trace a k e
+
+known-Ok : (members : List Name) (body : List Line) (line : List ℕ) (o : Option Keyword) (a : Addition) → keyword_of (cut_word line).0 ≡ o → known_addition members body o (cut_word line).1 ≡ Ok a → IsAddition members body line a
+known-Ok members body line None a k e = absurd (err_is _ a e)
+known-Ok members body line (Some keyword) a k e = of-Ok members body line keyword a k e
+
+pub addition_in-Ok : (members : List Name) (body : List Line) (line : List ℕ) (a : Addition) → addition_in members body line ≡ Ok a → IsAddition members body line a
+addition_in-Ok members body line a e = known-Ok members body line (keyword_of (cut_word line).0) a refl e
 
 -- what holds of the lines so far
-pub record IsBegun (s : ScriptText) : Type 0 where
+record IsBegun (s : ScriptText) : Type 0 where
   pub few : length s.head.members ≤ 16
   pub different : AreDifferent s.head.members
-  pub declared : AllNameMembers (length s.head.members) s.body
-  pub ticks : total_ticks s.body ≤ 1000000
+  pub body : AllAreLines s.head.members s.body
 
 -- one more line was taken
-pub record Adds (s : ScriptText) (line : List ℕ) (t : ScriptText) : Type 0 where
+record Adds (s : ScriptText) (line : List ℕ) (t : ScriptText) : Type 0 where
   pub lines : lines_of t ≡ lines_of s ++ line ∷ []
   pub begun : IsBegun t
 
-Adds-along : (s : ScriptText) (line line' : List ℕ) (t t' : ScriptText) → line ≡ line' → t ≡ t' → Adds s line t → Adds s line' t'
-Adds-along s line line' t t' e h a = rw (← e, ← h) a
+AllAreLines-push : (members : List Name) (body : List Line) (line : Line) → AllAreLines members body → IsLine members line → AllAreLines members (body ++ line ∷ [])
+AllAreLines-push members [] line h k = (k, tt)
+AllAreLines-push members (l ∷ body) line h k = (h.0, AllAreLines-push members body line h.1 k)
 
-AllNameMembers-push : (count : ℕ) (body : List Line) (line : Line) → AllNameMembers count body → NamesMember count line → AllNameMembers count (body ++ line ∷ [])
-AllNameMembers-push count [] line h k = (k, tt)
-AllNameMembers-push count (l ∷ body) line h k = (h.0, AllNameMembers-push count body line h.1 k)
-
--- a line of the body
-body-Adds : (s : ScriptText) (line : Line) → IsBegun s → NamesMember (length s.head.members) line → total_ticks s.body + ticks_of_line line ≤ 1000000 → Adds s (line_text s.head line) (record s { body = s.body ++ line ∷ [] })
-body-Adds s line h names short = record {
-  lines = ap (λ t. head_lines s.head ++ t) (map-append (line_text s.head) s.body (line ∷ [])) ∙ sym (append_assoc (head_lines s.head) (body_lines s.head s.body) (line_text s.head line ∷ []));
-  begun = record {
-    few = h.few;
-    different = h.different;
-    declared = AllNameMembers-push (length s.head.members) s.body line h.declared names;
-    ticks = omega (arith, total_ticks-push s.body line, short);
-  };
-}
-
-member-lines : (cluster name : Name) (members : List Name) (body : List Line) → length body ≡ 0 → lines_of (record { head = record { cluster = cluster; members = members ++ name ∷ [] }; body = body }) ≡ lines_of (record { head = record { cluster = cluster; members = members }; body = body }) ++ member_line_text name ∷ []
-member-lines cluster name members [] e =
+member-lines : (cluster name : Name) (members : List Name) → lines_of (record { head = record { cluster = cluster; members = members ++ name ∷ [] }; body = [] }) ≡ lines_of (record { head = record { cluster = cluster; members = members }; body = [] }) ++ member_line_text name ∷ []
+member-lines cluster name members =
     ap (λ t. cluster_text cluster ∷ t)
     (append-nil (map member_line_text (members ++ name ∷ []))
     ∙ map-append member_line_text members (name ∷ [])
     ∙ ap (λ t. t ++ member_line_text name ∷ []) (sym (append-nil (map member_line_text members))))
-member-lines cluster name members (line ∷ body) e = absurd (omega arith)
 
-names-none : (count more : ℕ) (body : List Line) → length body ≡ 0 → AllNameMembers more body
-names-none count more [] e = tt
-names-none count more (line ∷ body) e = absurd (omega arith)
+member-Adds : (cluster name : Name) (members : List Name) (body : List Line) → body ≡ [] → length members < 16 → place_of members name ≡ None → AreDifferent members
+    → Adds (record { head = record { cluster = cluster; members = members }; body = body }) (member_line_text name) (record { head = record { cluster = cluster; members = members ++ name ∷ [] }; body = body })
+member-Adds cluster name members [] is few absent different = record {
+  lines = member-lines cluster name members;
+  begun = record { few = omega (arith, length-append members (name ∷ [])); different = AreDifferent-push members name different absent; body = tt };
+}
+member-Adds cluster name members (l ∷ body) is few absent different = cc
 
-test-parts : (n k : ℕ) → (nat_lt n 16 && (k == 0)) ≡ true → (n < 16) × (k ≡ 0)
-test-parts n k e = (grind (arith, nat_tests), grind (arith, nat_tests))
-
-new_member-Adds : (s t : ScriptText) (name : Name) (o : Option ℕ) → place_of s.head.members name ≡ o → IsBegun s → with_new_member s name o ≡ Some t → Adds s (member_line_text name) t
-new_member-Adds s t name None none h e =
-    let p = cond-Some (nat_lt (length s.head.members) 16 && (length s.body == 0)) (Some (record s { head = record s.head { members = s.head.members ++ name ∷ [] } })) t e in
-    let q = test-parts (length s.head.members) (length s.body) p.0 in
-    Adds-along s (member_line_text name) (member_line_text name) (record s { head = record s.head { members = s.head.members ++ name ∷ [] } }) t refl (some_is _ t p.1) (record {
-      lines = member-lines s.head.cluster name s.head.members s.body q.1;
-      begun = record {
-        few = omega (arith, length-append s.head.members (name ∷ []), q.0);
-        different = AreDifferent-push s.head.members name h.different none;
-        declared = names-none 0 (length (s.head.members ++ name ∷ [])) s.body q.1;
-        ticks = h.ticks;
-      };
+addition-Adds : (s : ScriptText) (line : List ℕ) (a : Addition) → IsBegun s → IsAddition s.head.members s.body line a → Adds s line (with_addition s a)
+addition-Adds s line (additions.Member name) h is =
+    subst (λ (l : List ℕ). Adds s l (with_addition s (additions.Member name))) is.0 (member-Adds s.head.cluster name s.head.members s.body is.3 is.1 is.2 h.different)
+addition-Adds s line (additions.Body l) h is =
+    subst (λ (t : List ℕ). Adds s t (with_addition s (additions.Body l))) is.0 (record {
+      lines = ap (λ t. head_lines s.head ++ t) (map-append (line_text s.head.members) s.body (l ∷ [])) ∙ sym (append_assoc (head_lines s.head) (body_lines s.head.members s.body) (line_text s.head.members l ∷ []));
+      begun = record { few = h.few; different = h.different; body = AllAreLines-push s.head.members s.body l h.body is.1 };
     })
-new_member-Adds s t name (Some place) none h e = absurd (none_is t e)
 
-member-Adds : (s t : ScriptText) (rest : List ℕ) (o : Option Name) → name_of rest ≡ o → IsBegun s → with_member s o ≡ Some t → Adds s (spelled words.Member rest) t
-member-Adds s t rest None is h e = absurd (none_is t e)
-member-Adds s t rest (Some name) is h e =
-    Adds-along s (member_line_text name) (spelled words.Member rest) t t (ap (spelled words.Member) (name_of-text rest name is)) refl (new_member-Adds s t name (place_of s.head.members name) refl h e)
-
-short : (a b : ℕ) → nat_le (a + b) 1000000 ≡ true → a + b ≤ 1000000
-short a b e = grind (arith, nat_tests)
-
-run-Adds : (s t : ScriptText) (rest : List ℕ) (o : Option ℕ) → number rest ≡ o → IsBegun s → with_run s o ≡ Some t → Adds s (spelled words.Run rest) t
-run-Adds s t rest None is h e = absurd (none_is t e)
-run-Adds s t rest (Some n) is h e =
-    let p = cond-Some (nat_le (total_ticks s.body + n) 1000000) (Some (record s { body = s.body ++ lines.Run n ∷ [] })) t e in
-    Adds-along s (line_text s.head (lines.Run n)) (spelled words.Run rest) (record s { body = s.body ++ lines.Run n ∷ [] }) t (ap (spelled words.Run) (sym (number-is rest n is))) (some_is _ t p.1)
-    (body-Adds s (lines.Run n) h tt (short (total_ticks s.body) n p.0))
-
-made : (n : ℕ) (test : Bool) (is : nat_lt n 16 ≡ test) (m : MemberId) → member_by n test is ≡ Some m → m.number ≡ n
-unfolding member_by
-made n true is m e = ap (λ (x : MemberId). x.number) (sym (some_is _ m e))
-made n false is m e = absurd (none_is m e)
-
-pub member_of-number : (n : ℕ) (m : MemberId) → member_of n ≡ Some m → m.number ≡ n
-unfolding member_of
-member_of-number n m e = made n (nat_lt n 16) refl m e
-
-hold-Adds : (s t : ScriptText) (rest : List ℕ) (o : Option Name) → name_of rest ≡ o → IsBegun s → with_hold s (member_named s.head.members o) ≡ Some t → Adds s (spelled words.Hold rest) t
-hold-Adds s t rest None is h e = absurd (none_is t e)
-hold-Adds s t rest (Some name) is h e = held (on_some (place_of s.head.members name) member_of) refl e
-  where
-    held : (o : Option MemberId) → on_some (place_of s.head.members name) member_of ≡ o → with_hold s o ≡ Some t → Adds s (spelled words.Hold rest) t
-    held None from e = absurd (none_is t e)
-    held (Some m) from e =
-        let p = on_some-Some (place_of s.head.members name) member_of m from in
-        let at : slice_get s.head.members p.0 ≡ Some name = place_of-Some s.head.members name p.0 p.1 in
-        let n : m.number ≡ p.0 = member_of-number p.0 m p.2 in
-        let text : member_text s.head.members m.number ≡ rest = ap (λ k. member_text s.head.members k) n ∙ ap text_of_name at ∙ name_of-text rest name is in
-        let within : p.0 < length s.head.members = slice_get_within s.head.members p.0 name at in
-        Adds-along s (line_text s.head (lines.Hold m)) (spelled words.Hold rest) (record s { body = s.body ++ lines.Hold m ∷ [] }) t (ap (spelled words.Hold) text) (some_is _ t e)
-        (body-Adds s (lines.Hold m) h (omega (arith, n, within)) (omega (arith, h.ticks)))
-
-words-Adds : (s t : ScriptText) (keyword : Keyword) (rest : List ℕ) → IsBegun s → with_words s keyword rest ≡ Some t → Adds s (spelled keyword rest) t
-words-Adds s t words.Cluster rest h e = absurd (none_is t e)
-words-Adds s t words.Member rest h e = member-Adds s t rest (name_of rest) refl h e
-words-Adds s t words.Run rest h e = run-Adds s t rest (number rest) refl h e
-words-Adds s t words.Hold rest h e = hold-Adds s t rest (name_of rest) refl h e
-
-line-Adds : (s t : ScriptText) (line : List ℕ) → IsBegun s → with_line s line ≡ Some t → Adds s line t
+line-Adds : (s t : ScriptText) (line : List ℕ) → IsBegun s → with_line s line ≡ Ok t → Adds s line t
 line-Adds s t line h e =
-    let p = on_some-Some (first_word line) (λ p. with_words s p.0 p.1) t e in
-    Adds-along s (spelled p.0.0 p.0.1) line t t (sym (first_word-spelled line p.0 p.1)) refl (words-Adds s t p.0.0 p.0.1 h p.2)
+    let p = on_ok-Ok (addition_in s.head.members s.body line) (λ added. Ok (with_addition s added)) t e in
+    subst (Adds s line) (ok_is (with_addition s p.0) t p.2) (addition-Adds s line p.0 h (addition_in-Ok s.head.members s.body line p.0 p.1))
 
-lines-Adds : (s t : ScriptText) (rest : List (List ℕ)) → IsBegun s → with_lines s rest ≡ Some t → IsBegun t × (lines_of t ≡ lines_of s ++ rest)
-lines-Adds s t [] h e =
-    let same : s ≡ t = some_is s t e in
-    rw (← same) (h, sym (append-nil (lines_of s)))
-lines-Adds s t (line ∷ rest) h e =
-    let p = on_some-Some (with_line s line) (λ u. with_lines u rest) t e in
-    let a = line-Adds s p.0 line h p.1 in
-    let b = lines-Adds p.0 t rest a.begun p.2 in
-    (b.0, b.1 ∙ ap (λ ls. ls ++ rest) a.lines ∙ append_assoc (lines_of s) (line ∷ []) rest)
+-- the first line
+alone-Ok : (name x : Name) (rest : Option (List ℕ)) → alone name rest ≡ Ok x → (name ≡ x) × (rest ≡ None)
+alone-Ok name x None e = (ok_is name x e, refl)
+alone-Ok name x (Some words) e = absurd (err_is _ x e)
+
+cluster_named-Ok : (word : List ℕ) (o : Option Name) (rest : Option (List ℕ)) (x : Name) → name_of word ≡ o → cluster_named o rest ≡ Ok x → (name_bytes x ≡ word) × (rest ≡ None)
+cluster_named-Ok word None rest x is e = absurd (err_is _ x e)
+cluster_named-Ok word (Some name) rest x is e =
+    let p = alone-Ok name x rest e in
+    (ap name_bytes (sym p.0) ∙ name_of-text word name is, p.1)
+
+cluster_of-Ok : (rest : Option (List ℕ)) (x : Name) → cluster_of rest ≡ Ok x → rest ≡ Some (name_bytes x)
+cluster_of-Ok None x e = absurd (err_is _ x e)
+cluster_of-Ok (Some words) x e =
+    let p = cluster_named-Ok (cut_word words).0 (name_of (cut_word words).0) (cut_word words).1 x refl e in
+    ap Some (sym (p.0 ∙ cut_word-None words p.1))
+
+begun_by-Ok : (line : List ℕ) (o : Option Keyword) (x : Name) → keyword_of (cut_word line).0 ≡ o → begun_by o (cut_word line).1 ≡ Ok x → cluster_text x ≡ line
+begun_by-Ok line (Some words.Cluster) x k e = line-is line words.Cluster (name_bytes x) k (cluster_of-Ok (cut_word line).1 x e)
+begun_by-Ok line _ x k e = absurd (err_is _ x e)
+
+first_line-Ok : (line : List ℕ) (x : Name) → first_line line ≡ Ok x → cluster_text x ≡ line
+first_line-Ok line x e = begun_by-Ok line (keyword_of (cut_word line).0) x refl e
 
 nothing-AreDifferent : AreDifferent []
 nothing-AreDifferent i j name p q = cc
 
-named : (rest : List ℕ) (o : Option Name) (s : ScriptText) → name_of rest ≡ o → named_cluster o ≡ Some s → IsBegun s × (lines_of s ≡ spelled words.Cluster rest ∷ [])
-named rest None s is e = absurd (none_is s e)
-named rest (Some name) s is e =
-    let same : record { head = record { cluster = name; members = [] }; body = [] } ≡ s = some_is _ s e in
-    rw (← same) (record { few = omega arith; different = nothing-AreDifferent; declared = tt; ticks = omega arith }, ap (λ t. spelled words.Cluster t ∷ []) (name_of-text rest name is))
+begun-IsBegun : (name : Name) → IsBegun (begun name)
+begun-IsBegun name = record { few = omega arith; different = nothing-AreDifferent; body = tt }
 
-cluster-begins : (keyword : Keyword) (rest : List ℕ) (s : ScriptText) → cluster_words keyword rest ≡ Some s → IsBegun s × (lines_of s ≡ spelled keyword rest ∷ [])
-cluster-begins words.Cluster rest s e = named rest (name_of rest) s refl e
-cluster-begins words.Member rest s e = absurd (none_is s e)
-cluster-begins words.Run rest s e = absurd (none_is s e)
-cluster-begins words.Hold rest s e = absurd (none_is s e)
+-- the lines so far, where there are some
+abbrev lines_so_far : Option ScriptText → List (List ℕ)
+lines_so_far None = []
+lines_so_far (Some s) = lines_of s
 
-first-begins : (line : List ℕ) (s : ScriptText) → first_line line ≡ Some s → IsBegun s × (lines_of s ≡ line ∷ [])
-first-begins line s e =
-    let p = on_some-Some (first_word line) (λ p. cluster_words p.0 p.1) s e in
-    let q = cluster-begins p.0.0 p.0.1 s p.2 in
-    (q.0, q.1 ∙ ap (λ t. t ∷ []) (sym (first_word-spelled line p.0 p.1)))
+abbrev IsBegunIfAny : Option ScriptText → Type 0
+IsBegunIfAny None = Unit {0}
+IsBegunIfAny (Some s) = IsBegun s
 
--- what is read of lines
-record IsRead (lines : List (List ℕ)) (t : ScriptText) : Type 0 where
-  pub some : 0 < length t.head.members
-  pub begun : IsBegun t
-  pub lines_are : lines_of t ≡ lines
+-- lines were taken
+record Takes (o : Option ScriptText) (more : List (List ℕ)) (p : Option ScriptText) : Type 0 where
+  pub lines : lines_so_far p ≡ lines_so_far o ++ more
+  pub begun : IsBegunIfAny p
 
-some-true : (n : ℕ) → nat_lt 0 n ≡ true → 0 < n
-some-true n e = grind (arith, nat_tests)
+counted-Takes : (o p : Option ScriptText) (line : List ℕ) → IsBegunIfAny o → after_counted o line ≡ Ok p → Takes o (line ∷ []) p
+counted-Takes None p line h e =
+    let q = on_ok-Ok (first_line line) (λ name. Ok (Some (begun name))) p e in
+    subst (Takes None (line ∷ [])) (ok_is (Some (begun q.0)) p q.2) (record { lines = ap (λ t. t ∷ []) (first_line-Ok line q.0 q.1); begun = begun-IsBegun q.0 })
+counted-Takes (Some s) p line h e =
+    let q = on_ok-Ok (with_line s line) (λ t. Ok (Some t)) p e in
+    let a = line-Adds s q.0 line h q.1 in
+    subst (Takes (Some s) (line ∷ [])) (ok_is (Some q.0) p q.2) (record { lines = a.lines; begun = a.begun })
 
-lines-IsRead : (lines : List (List ℕ)) (t : ScriptText) → script_of_lines lines ≡ Some t → IsRead lines t
-lines-IsRead [] t e = absurd (none_is t e)
-lines-IsRead (line ∷ rest) t e =
-    let p = on_some-Some (first_line line) (λ s. on_some (with_lines s rest) whole_script) t e in
-    let q = on_some-Some (with_lines p.0 rest) whole_script t p.2 in
-    let w = cond-Some (nat_lt 0 (length q.0.head.members)) (Some q.0) t q.2 in
-    let same : q.0 ≡ t = some_is q.0 t w.1 in
-    let b = first-begins line p.0 p.1 in
-    let a = lines-Adds p.0 q.0 rest b.0 q.1 in
-    rw (← same) (record { some = some-true (length q.0.head.members) w.0; begun = a.0; lines_are = a.1 ∙ ap (λ ls. ls ++ rest) b.1 })
+text-Takes : (o p : Option ScriptText) (line : List ℕ) (t : Bool) → IsBegunIfAny o → cond t (Ok o) (after_counted o line) ≡ Ok p → Takes o (cond t [] (line ∷ [])) p
+text-Takes o p line true h e = subst (Takes o []) (ok_is o p e) (record { lines = sym (append-nil (lines_so_far o)); begun = h })
+text-Takes o p line false h e = counted-Takes o p line h e
 
-within : (n k : ℕ) → nat_le n k ≡ true → n ≤ k
-within n k e = grind (arith, nat_tests)
+short : (line : List ℕ) → nat_le (length line) 8192 ≡ true → length line ≤ 8192
+short line e = grind (arith, nat_tests)
 
-pub read-is-spelled : (bytes : List ℕ) (text : ScriptText) → script_of bytes ≡ Some text → IsScript text × (bytes ≡ spelling_of text)
-read-is-spelled bytes text e =
-    let p = cond-Some (nat_le (length bytes) 1048576) (on_some (cut_lines bytes) few_lines) text e in
-    let q = on_some-Some (cut_lines bytes) few_lines text p.1 in
-    let r = cond-Some (nat_le (length q.0) 100000) (script_of_lines q.0) text q.2 in
-    let i = lines-IsRead q.0 text r.1 in
-    let spelled_so : bytes ≡ spelling_of text = cut_lines-ended bytes q.0 q.1 ∙ ap ended (sym i.lines_are) in (
+line-Takes : (o p : Option ScriptText) (line : List ℕ) → IsBegunIfAny o → after_line o line ≡ Ok p → IsInForm line × Takes o (cond (is_skipped line) [] (line ∷ [])) p
+line-Takes o p line h e =
+    let a = cond-Ok (is_utf8 line) (cond (nat_le (length line) 8192) (after_text o line) (Err faults.TooLong)) faults.NotUtf8 p e in
+    let b = cond-Ok (nat_le (length line) 8192) (after_text o line) faults.TooLong p a.1 in
+    (record { text = a.0; short = short line b.0 }, text-Takes o p line (is_skipped line) h b.1)
+
+counted : (t : Bool) (line : List ℕ) (rest : List (List ℕ)) → cond t [] (line ∷ []) ++ rest ≡ cond t rest (line ∷ rest)
+counted true line rest = refl
+counted false line rest = refl
+
+lines-Takes : (number : ℕ) (o p : Option ScriptText) (lines : List (List ℕ)) → IsBegunIfAny o → after_lines number o lines ≡ Ok p → AllInForm lines × Takes o (counted_lines lines) p
+lines-Takes number o p [] h e = (tt, subst (Takes o []) (ok_is o p e) (record { lines = sym (append-nil (lines_so_far o)); begun = h }))
+lines-Takes number o p (line ∷ rest) h e =
+    let q = on_ok-Ok (at_line number (after_line o line)) (λ t. after_lines (number + 1) t rest) p e in
+    let a = line-Takes o q.0 line h (at_line-Ok number (after_line o line) q.0 q.1) in
+    let b = lines-Takes (number + 1) q.0 p rest a.1.begun q.2 in (
+      (a.0, b.0),
       record {
-        head = record { some = i.some; few = i.begun.few; different = i.begun.different };
-        declared = i.begun.declared;
-        ticks = i.begun.ticks;
-        lines = within (length (lines_of text)) 100000 (ap (λ ls. nat_le (length ls) 100000) i.lines_are ∙ r.0);
-        bytes = within (length (spelling_of text)) 1048576 (ap (λ bs. nat_le (length bs) 1048576) (sym spelled_so) ∙ p.0);
+        lines = b.1.lines
+            ∙ ap (λ ls. ls ++ counted_lines rest) a.1.lines
+            ∙ append_assoc (lines_so_far o) (cond (is_skipped line) [] (line ∷ [])) (counted_lines rest)
+            ∙ ap (λ ls. lines_so_far o ++ ls) (counted (is_skipped line) line (counted_lines rest));
+        begun = b.1.begun;
       },
-      spelled_so,
     )
+
+-- a whole script
+with_some-Ok : (s t : ScriptText) (members : List Name) → with_some s members ≡ Ok t → (s ≡ t) × (0 < length members)
+with_some-Ok s t [] e = absurd (err_is _ t e)
+with_some-Ok s t (m ∷ members) e = (ok_is s t e, omega arith)
+
+finished-Ok : (o : Option ScriptText) (t : ScriptText) → finished o ≡ Ok t → (o ≡ Some t) × (0 < length t.head.members)
+finished-Ok None t e = absurd (err_is _ t e)
+finished-Ok (Some s) t e =
+    let p = with_some-Ok s t s.head.members e in
+    (ap Some p.0, subst (λ (u : ScriptText). 0 < length u.head.members) p.0 p.1)
+
+pub lines-read : (lines : List (List ℕ)) (o : Option ScriptText) (text : ScriptText) → after_lines 1 None lines ≡ Ok o → finished o ≡ Ok text → IsScript text × (AllInForm lines × (counted_lines lines ≡ lines_of text))
+lines-read lines o text e f =
+    let p = lines-Takes 1 None o lines tt e in
+    let q = finished-Ok o text f in
+    let t : Takes None (counted_lines lines) (Some text) = subst (Takes None (counted_lines lines)) q.0 p.1 in
+    (record { head = record { some = q.1; few = t.begun.few; different = t.begun.different }; body = t.begun.body }, (p.0, sym t.lines))
+
+pub read-is-spelled : (bytes : List ℕ) (text : ScriptText) → script_of bytes ≡ Ok text → IsScript text × Spells bytes text
+read-is-spelled bytes text e =
+    let p = on_ok-Ok (after_lines 1 None (lines_in bytes)) (λ s. at_line (length (lines_in bytes) + 1) (finished s)) text e in
+    let q = lines-read (lines_in bytes) p.0 text p.1 (at_line-Ok (length (lines_in bytes) + 1) (finished p.0) text p.2) in
+    (q.0, record { form = q.1.0; lines = q.1.1 })

@@ -1,29 +1,51 @@
 -- What is spelled as a script is read as it.
-use Rattle.std.proofs.Common.{◌≡◌, ℕ, ◌+◌, ◌≤◌, ◌<◌, ◌&&◌, ◌==◌, nat_le, nat_lt, Bool, true, false, cond, List, [], ◌∷◌, ◌++◌, length, map, slice_get, Option, Some, None, refl, ◌∙◌, ap, sym, zero, suc, arith, append_assoc, append-nil, length-append}
+use Rattle.std.proofs.Common.{◌≡◌, ◌≢◌, ℕ, ◌+◌, ◌^◌, ◌≤◌, ◌<◌, ◌&&◌, ◌||◌, ◌==◌, nat_le, nat_lt, Bool, true, false, cond, IsTrue, List, [], ◌∷◌, ◌++◌, length, map, slice_get, Option, Some, None, Result, Ok, Err, codes, refl, ◌∙◌, ap, sym, subst, zero, suc, arith, append_assoc, append-nil, length-append}
 use Rattle.std.specs.Fmt.{decimal}
 use Rattle.std.specs.List.{list_all}
+use Rattle.std.specs.Str.{bytes_eq, is_utf8}
+use Rattle.std.proofs.lemmas.Bool.{eqb-true}
 use Rattle.std.proofs.lemmas.Bool.Decides.{nat_tests}
 use Rattle.std.proofs.lemmas.Option.{slice_get_within}
-use Rattle.pat_base.specs.Name.{name_bytes, name_of}
+use Rattle.std.proofs.lemmas.Slice.Eq.{bytes_eq-Decides}
 use Rattle.pat_base.specs.NameText.{is_name, is_name_byte}
-use Rattle.pat_base.specs.declared.name.Name.{Name}
 use Rattle.pat_base.specs.declared.member_id.MemberId.{MemberId}
 use Rattle.pat_base.proofs.Names.{name_of-name_bytes}
-use Rattle.cluster_script.specs.Lines.{on_some, cut_lines}
-use Rattle.cluster_script.specs.Reading.{member_of, place_of, member_named, with_member, with_new_member, with_run, with_hold, with_words, with_line, with_lines, named_cluster, cluster_words, first_line, whole_script, script_of_lines, few_lines, script_of}
-use Rattle.cluster_script.specs.Script.{HeadText, ScriptText, IsScript, NamesMember, AllNameMembers, text_of_name, member_text, cluster_text, member_line_text, line_text, body_lines, lines_of, spelling_of}
-use Rattle.cluster_script.specs.Steps.{total_ticks, ticks_of_line}
+use Rattle.cluster_script.specs.Members.{member_of, member_named}
+use Rattle.cluster_script.specs.Numbers.{number}
+use Rattle.cluster_script.specs.Lines.{first_at}
+use Rattle.cluster_script.specs.Options.{on_some}
+use Rattle.cluster_script.specs.Arguments.{some_or, number_in, switch_in, declared_member, member_in, end_in, line_end, last_word, one_word, same_member, same_end, apart, second_end, two_ends, command}
+use Rattle.cluster_script.specs.Faults.{both}
+use Rattle.cluster_script.specs.Script.{end_text, switch_text, two_texts, command_text}
+use Rattle.pat_base.specs.Name.{name_bytes, name_of}
+use Rattle.pat_base.specs.declared.name.Name.{Name}
+use Rattle.pat_base.proofs.Names.{name_of-text}
+use Rattle.cluster_script.specs.Arguments.{line_of_words}
+use Rattle.cluster_script.specs.Faults.{on_ok}
+use Rattle.cluster_script.specs.Lines.{lines_in, is_skipped, counted_lines}
+use Rattle.cluster_script.specs.Members.{place_of}
+use Rattle.cluster_script.specs.Reading.{has_option, declared_in_head, declared_once, named_member, new_member, next_member, second_cluster, addition_of, known_addition, addition_in, members_after, body_after, with_addition, with_line, alone, cluster_named, cluster_of, begun_by, first_line, begun, after_counted, after_text, after_line, after_lines, at_line, with_some, finished, script_of_lines, script_of}
+use Rattle.cluster_script.specs.Script.{HeadText, ScriptText, IsHead, IsScript, IsMember, IsEnd, IsLink, IsCommand, IsLine, AllAreLines, cluster_text, member_line_text, line_text, head_lines, body_lines, lines_of, IsInForm, AllInForm, Spells, member_text, text_of_name}
+use Rattle.cluster_script.specs.Words.{spelled, keyword_of, cut_word, word_of}
+use Rattle.cluster_script.specs.declared.addition.Addition.{Addition}
+use Rattle.cluster_script.specs.declared.addition.Addition.TheVariants as additions
+use Rattle.cluster_script.specs.declared.fault.Fault.{Fault}
+use Rattle.cluster_script.specs.declared.fault.Fault.TheVariants as faults
+use Rattle.cluster_script.specs.declared.keyword.Keyword.{Keyword}
 use Rattle.cluster_script.specs.declared.keyword.Keyword.TheVariants as words
+use Rattle.cluster_script.specs.declared.line.End.{End}
+use Rattle.cluster_script.specs.declared.line.End.TheVariants as ends
+use Rattle.cluster_script.specs.declared.line.Command.{Command}
+use Rattle.cluster_script.specs.declared.line.Command.TheVariants as commands
 use Rattle.cluster_script.specs.declared.line.Line.{Line}
 use Rattle.cluster_script.specs.declared.line.Line.TheVariants as lines
-use Rattle.cluster_script.proofs.LineLaws.{is_feedless, NoFeeds, NoFeeds-append, cut_lines-again, first_word-again, spelled-is_feedless}
-use Rattle.cluster_script.proofs.Members.{member_of-is}
-use Rattle.cluster_script.proofs.NumberLaws.{number-decimal, decimal-is_feedless}
-use Rattle.cluster_script.proofs.Totals.{total_ticks-push}
-use Rattle.cluster_script.proofs.ReadLaws.{AreDifferent, place_of-Some, place_of-None}
+use Rattle.cluster_script.proofs.MemberLaws.{member_of-is, same_member_id}
+use Rattle.cluster_script.proofs.NameLaws.{AreDifferent, place_of-Some, place_of-None}
+use Rattle.cluster_script.proofs.NumberLaws.{number-decimal, first_at-decimal}
+use Rattle.cluster_script.proofs.WordLaws.{cut_word-again, cut_word-alone, cut_word-spelled, keyword_of-word_of, passed}
 
--- no line of a script holds a line feed
-byte-other : (b : ℕ) → is_name_byte b ≡ true → (b == 10) ≡ false
+-- no blank stands in a name
+byte-other : (b : ℕ) → is_name_byte b ≡ true → (b == 32) ≡ false
 byte-other b h = grind (arith, nat_tests)
 
 and-left : (a b : Bool) → (a && b) ≡ true → a ≡ true
@@ -34,45 +56,177 @@ and-right : (a b : Bool) → (a && b) ≡ true → b ≡ true
 and-right true b h = h
 and-right false b h = cc
 
-bytes-is_feedless : (v : List ℕ) → list_all is_name_byte v ≡ true → is_feedless v ≡ true
-bytes-is_feedless [] h = refl
-bytes-is_feedless (b ∷ bs) h =
-    rw (byte-other b (and-left (is_name_byte b) (list_all is_name_byte bs) h)) (bytes-is_feedless bs (and-right (is_name_byte b) (list_all is_name_byte bs) h))
+first_at-bytes : (v : List ℕ) → list_all is_name_byte v ≡ true → first_at 32 v ≡ None
+first_at-bytes [] h = refl
+first_at-bytes (b ∷ bs) h =
+    rw (byte-other b (and-left (is_name_byte b) (list_all is_name_byte bs) h), first_at-bytes bs (and-right (is_name_byte b) (list_all is_name_byte bs) h)) refl
 
-text-is_feedless : (v : List ℕ) → is_name v ≡ true → is_feedless v ≡ true
-text-is_feedless v h = bytes-is_feedless v (and-right (nat_lt 0 (length v) && nat_le (length v) 32) (list_all is_name_byte v) h)
+first_at-text : (v : List ℕ) → is_name v ≡ true → first_at 32 v ≡ None
+first_at-text v h = first_at-bytes v (and-right (nat_lt 0 (length v) && nat_le (length v) 32) (list_all is_name_byte v) h)
 
-name-is_feedless : (name : Name) → is_feedless (name_bytes name) ≡ true
-name-is_feedless name = text-is_feedless (name_bytes name) name.text
+pub first_at-name : (name : Name) → first_at 32 (name_bytes name) ≡ None
+first_at-name name = first_at-text (name_bytes name) name.text
 
-member_text-is_feedless : (o : Option Name) → is_feedless (text_of_name o) ≡ true
-member_text-is_feedless None = refl
-member_text-is_feedless (Some name) = name-is_feedless name
+first_at-some_name : (o : Option Name) → first_at 32 (text_of_name o) ≡ None
+first_at-some_name None = refl
+first_at-some_name (Some name) = first_at-name name
 
-line-is_feedless : (head : HeadText) (line : Line) → ticks_of_line line ≤ 1000000 → is_feedless (line_text head line) ≡ true
-line-is_feedless head (lines.Run n) h = spelled-is_feedless words.Run (decimal n) (decimal-is_feedless n (omega arith))
-line-is_feedless head (lines.Hold m) h = spelled-is_feedless words.Hold (member_text head.members m.number) (member_text-is_feedless (slice_get head.members m.number))
+first_at-end : (members : List Name) (x : End) → first_at 32 (end_text members x) ≡ None
+first_at-end members ends.Store = refl
+first_at-end members (ends.Member m) = first_at-some_name (slice_get members m.number)
 
-body-NoFeeds : (head : HeadText) (body : List Line) → total_ticks body ≤ 1000000 → NoFeeds (body_lines head body)
-body-NoFeeds head [] h = tt
-body-NoFeeds head (line ∷ body) h = (line-is_feedless head line (omega arith), body-NoFeeds head body (omega arith))
+-- a member that is declared has its name's place
+placed : (members : List Name) (name : Name) (i : ℕ) (o : Option ℕ) → AreDifferent members → slice_get members i ≡ Some name → place_of members name ≡ o → o ≡ Some i
+placed members name i None h at e = absurd (place_of-None members name i e at)
+placed members name i (Some j) h at e = ap Some (h j i name (place_of-Some members name j e) at)
 
-members-NoFeeds : (members : List Name) → NoFeeds (map member_line_text members)
-members-NoFeeds [] = tt
-members-NoFeeds (m ∷ members) = (spelled-is_feedless words.Member (name_bytes m) (name-is_feedless m), members-NoFeeds members)
+numbered : (m : MemberId) → member_of m.number ≡ Some m
+numbered m = sym (member_of-is m.number (Some m) ((λ _. m.below), (λ _. refl)) refl)
 
-lines-NoFeeds : (s : ScriptText) → IsScript s → NoFeeds (lines_of s)
-lines-NoFeeds s h = (
-  spelled-is_feedless words.Cluster (name_bytes s.head.cluster) (name-is_feedless s.head.cluster),
-  NoFeeds-append (map member_line_text s.head.members) (body_lines s.head s.body) (members-NoFeeds s.head.members) (body-NoFeeds s.head s.body h.ticks),
-)
+past : {X : Type 0} (xs : List X) (i : ℕ) → slice_get xs i ≡ None → length xs ≤ i
+past [] i e = omega arith
+past (x ∷ xs) zero e = cc
+past (x ∷ xs) (suc i) e = omega (arith, past xs i e)
 
--- lines that begin a script
-start : Name → List Name → List Line → ScriptText
-start cluster members body = record { head = record { cluster = cluster; members = members }; body = body }
+named : (members : List Name) (m : MemberId) (o : Option Name) → AreDifferent members → m.number < length members → slice_get members m.number ≡ o → declared_member members (name_of (text_of_name o)) ≡ Ok m
+named members m None h small at = absurd (omega (arith, past members m.number at))
+named members m (Some name) h small at =
+    ap (declared_member members) (name_of-name_bytes name)
+    ∙ ap (λ o. some_or faults.UnknownName (on_some o member_of)) (placed members name m.number (place_of members name) h at refl)
+    ∙ ap (some_or faults.UnknownName) (numbered m)
 
-on_line : (s t : ScriptText) (line : List ℕ) (rest : List (List ℕ)) → with_line s line ≡ Some t → with_lines s (line ∷ rest) ≡ with_lines t rest
-on_line s t line rest e = ap (λ o. on_some o (λ u. with_lines u rest)) e
+pub member_in-again : (members : List Name) (m : MemberId) → AreDifferent members → IsMember members m → member_in members (member_text members m) ≡ Ok m
+member_in-again members m h small = named members m (slice_get members m.number) h small refl
+
+-- a body line ends where its words end
+line_end-again : (members : List Name) → 0 < length members → line_end members None ≡ Ok tt
+line_end-again [] h = absurd (omega arith)
+line_end-again (m ∷ members) h = refl
+
+last_word-again : {A : Type 0} (members : List Name) (x : A) → 0 < length members → last_word members (Ok x) None ≡ Ok x
+last_word-again members x h = ap (λ r. on_ok r (λ _. Ok x)) (line_end-again members h)
+
+one_word-again : {A : Type 0} (members : List Name) (read : List ℕ → Result A Fault) (word : List ℕ) (x : A) → 0 < length members → first_at 32 word ≡ None → read word ≡ Ok x → one_word members read (Some word) ≡ Ok x
+one_word-again members read word x some plain value =
+    ap (λ p. last_word members (read p.0) p.1) (cut_word-alone word plain)
+    ∙ ap (λ r. last_word members r None) value
+    ∙ last_word-again members x some
+
+-- ends of links
+unequal : (word : List ℕ) (t : Bool) → bytes_eq word (codes "store") ≡ t → word ≢ codes "store" → t ≡ false
+unequal word true is other = absurd (other ((bytes_eq-Decides word (codes "store")).0 is))
+unequal word false is other = refl
+
+end_in-again : (members : List Name) (x : End) → AreDifferent members → IsEnd members x → end_in members (end_text members x) ≡ Ok x
+end_in-again members ends.Store h is = refl
+end_in-again members (ends.Member m) h is =
+    ap (λ t. cond t (Ok ends.Store) (on_ok (member_in members (member_text members m)) (λ m. Ok (ends.Member m)))) (unequal (member_text members m) (bytes_eq (member_text members m) (codes "store")) refl is.1)
+    ∙ ap (λ r. on_ok r (λ m. Ok (ends.Member m))) (member_in-again members m h is.0)
+
+same_end-is : (x y : End) → same_end x y ≡ true → x ≡ y
+same_end-is ends.Store ends.Store e = refl
+same_end-is ends.Store (ends.Member m) e = cc
+same_end-is (ends.Member m) ends.Store e = cc
+same_end-is (ends.Member m) (ends.Member k) e = ap ends.Member (same_member_id m k (eqb-true m.number k.number e))
+
+other_end : (x y : End) (t : Bool) → same_end x y ≡ t → x ≢ y → t ≡ false
+other_end x y true is other = absurd (other (same_end-is x y is))
+other_end x y false is other = refl
+
+two_ends-again : (members : List Name) (x y : End) → 0 < length members → AreDifferent members → IsLink members x y → two_ends members (Some (two_texts (end_text members x) (end_text members y))) ≡ Ok (x, y)
+two_ends-again members x y some h link =
+    ap (λ p. second_end members (end_in members p.0) p.1) (cut_word-again (end_text members x) (end_text members y) (first_at-end members x))
+    ∙ ap (λ r. second_end members r (Some (end_text members y))) (end_in-again members x h link.first_is)
+    ∙ ap (λ p. on_ok (last_word members (both (Ok x) (end_in members p.0)) p.1) apart) (cut_word-alone (end_text members y) (first_at-end members y))
+    ∙ ap (λ r. on_ok (last_word members (both (Ok x) r) None) apart) (end_in-again members y h link.second_is)
+    ∙ ap (λ r. on_ok r apart) (last_word-again members (x, y) some)
+    ∙ ap (λ t. cond t (Err faults.SameEnds) (Ok (x, y))) (other_end x y (same_end x y) refl link.apart)
+
+-- lines of the body
+number-again : (members : List Name) (n : ℕ) → 0 < length members → n < 2 ^ 64 → one_word members number_in (Some (decimal n)) ≡ Ok n
+number-again members n some fits = one_word-again members number_in (decimal n) n some (first_at-decimal 32 n (omega arith) fits) (ap (some_or faults.BadNumber) (number-decimal n fits))
+
+member-again : (members : List Name) (m : MemberId) → 0 < length members → AreDifferent members → IsMember members m → one_word members (member_in members) (Some (member_text members m)) ≡ Ok m
+member-again members m some h is = one_word-again members (member_in members) (member_text members m) m some (first_at-some_name (slice_get members m.number)) (member_in-again members m h is)
+
+switch-again : (members : List Name) (on : Bool) → 0 < length members → one_word members switch_in (Some (switch_text on)) ≡ Ok on
+switch-again members true some = one_word-again members switch_in (codes "on") true some refl refl
+switch-again members false some = one_word-again members switch_in (codes "off") false some refl refl
+
+-- a line with its first word and the words behind it
+record IsSaid (members : List Name) (line : Line) : Type 0 where
+  pub keyword : Keyword
+  pub words : List ℕ
+  pub text : line_text members line ≡ spelled keyword words
+  pub in_body : (body : List Line) → addition_of members body keyword (Some words) ≡ Ok (additions.Body line)
+
+command-IsSaid : (members : List Name) (c : Command) → 0 < length members → AreDifferent members → IsCommand members c → IsSaid members (lines.Command c)
+command-IsSaid members (commands.Tick n) some h is = record { keyword = words.Tick; words = decimal n; text = refl; in_body = λ body. ap (λ r. on_ok (on_ok r (λ n. command (commands.Tick n))) (λ l. Ok (additions.Body l))) (number-again members n some is) }
+command-IsSaid members (commands.Turn m) some h is = record { keyword = words.Turn; words = member_text members m; text = refl; in_body = λ body. ap (λ r. on_ok (on_ok r (λ m. command (commands.Turn m))) (λ l. Ok (additions.Body l))) (member-again members m some h is) }
+command-IsSaid members (commands.Deliver n) some h is = record { keyword = words.Deliver; words = decimal n; text = refl; in_body = λ body. ap (λ r. on_ok (on_ok r (λ n. command (commands.Deliver n))) (λ l. Ok (additions.Body l))) (number-again members n some is) }
+command-IsSaid members (commands.Lose n) some h is = record { keyword = words.Lose; words = decimal n; text = refl; in_body = λ body. ap (λ r. on_ok (on_ok r (λ n. command (commands.Lose n))) (λ l. Ok (additions.Body l))) (number-again members n some is) }
+command-IsSaid members (commands.Hold m) some h is = record { keyword = words.Hold; words = member_text members m; text = refl; in_body = λ body. ap (λ r. on_ok (on_ok r (λ m. command (commands.Hold m))) (λ l. Ok (additions.Body l))) (member-again members m some h is) }
+command-IsSaid members (commands.Resume m) some h is = record { keyword = words.Resume; words = member_text members m; text = refl; in_body = λ body. ap (λ r. on_ok (on_ok r (λ m. command (commands.Resume m))) (λ l. Ok (additions.Body l))) (member-again members m some h is) }
+command-IsSaid members (commands.Kill m) some h is = record { keyword = words.Kill; words = member_text members m; text = refl; in_body = λ body. ap (λ r. on_ok (on_ok r (λ m. command (commands.Kill m))) (λ l. Ok (additions.Body l))) (member-again members m some h is) }
+command-IsSaid members (commands.Restart m) some h is = record { keyword = words.Restart; words = member_text members m; text = refl; in_body = λ body. ap (λ r. on_ok (on_ok r (λ m. command (commands.Restart m))) (λ l. Ok (additions.Body l))) (member-again members m some h is) }
+command-IsSaid members (commands.Cut x y) some h is = record { keyword = words.Cut; words = two_texts (end_text members x) (end_text members y); text = refl; in_body = λ body. ap (λ r. on_ok (on_ok r (λ link. command (commands.Cut link.0 link.1))) (λ l. Ok (additions.Body l))) (two_ends-again members x y some h is) }
+command-IsSaid members (commands.Join x y) some h is = record { keyword = words.Join; words = two_texts (end_text members x) (end_text members y); text = refl; in_body = λ body. ap (λ r. on_ok (on_ok r (λ link. command (commands.Join link.0 link.1))) (λ l. Ok (additions.Body l))) (two_ends-again members x y some h is) }
+command-IsSaid members (commands.Trace on) some h is = record { keyword = words.Trace; words = switch_text on; text = refl; in_body = λ body. ap (λ r. on_ok (on_ok r (λ on. command (commands.Trace on))) (λ l. Ok (additions.Body l))) (switch-again members on some) }
+
+line-IsSaid : (members : List Name) (line : Line) → 0 < length members → AreDifferent members → IsLine members line → IsSaid members line
+line-IsSaid members (lines.Run n) some h is = record { keyword = words.Run; words = decimal n; text = refl; in_body = λ body. ap (λ r. on_ok (on_ok r (λ n. Ok (lines.Run n))) (λ l. Ok (additions.Body l))) (number-again members n some is) }
+line-IsSaid members (lines.Command c) some h is = command-IsSaid members c some h is
+
+-- what a line of this first word and these words adds
+addition-again : (members : List Name) (body : List Line) (keyword : Keyword) (rest : List ℕ) → addition_in members body (spelled keyword rest) ≡ addition_of members body keyword (Some rest)
+addition-again members body keyword rest =
+    ap (λ p. known_addition members body (keyword_of p.0) p.1) (cut_word-spelled keyword rest)
+    ∙ ap (λ k. known_addition members body k (Some rest)) (keyword_of-word_of keyword)
+
+line-again : (s : ScriptText) (line : Line) → 0 < length s.head.members → AreDifferent s.head.members → IsLine s.head.members line → with_line s (line_text s.head.members line) ≡ Ok (record s { body = s.body ++ line ∷ [] })
+line-again s line some h is =
+    let said = line-IsSaid s.head.members line some h is in
+    ap (with_line s) said.text
+    ∙ ap (λ r. on_ok r (λ added. Ok (with_addition s added))) (addition-again s.head.members s.body said.keyword said.words ∙ said.in_body s.body)
+
+-- no option stands in a name
+no_option : (v : List ℕ) → first_at 32 v ≡ None → has_option v ≡ false
+no_option [] h = refl
+no_option (b ∷ bs) h =
+    let p = passed (b == 32) (first_at 32 bs) h in
+    rw (p.0, no_option bs p.1) refl
+
+few : (n : ℕ) → n < 16 → nat_le 16 n ≡ false
+few n h = grind (arith, nat_tests)
+
+new-again : (members : List Name) (name : Name) → length members < 16 → place_of members name ≡ None → next_member members [] (Some (name_bytes name)) ≡ Ok name
+new-again members name small absent =
+    ap (λ t. cond t (Err faults.BadWord) (new_member members [] (Some (name_bytes name)))) (few (length members) small)
+    ∙ ap (λ t. cond t (Err faults.NotBuilt) (named_member members [] (name_of (cut_word (name_bytes name)).0) (cut_word (name_bytes name)).1)) (no_option (name_bytes name) (first_at-name name))
+    ∙ ap (λ p. named_member members [] (name_of p.0) p.1) (cut_word-alone (name_bytes name) (first_at-name name))
+    ∙ ap (λ o. named_member members [] o None) (name_of-name_bytes name)
+    ∙ ap (declared_once name []) absent
+
+-- a script of members alone
+start : Name → List Name → ScriptText
+start cluster members = record { head = record { cluster = cluster; members = members }; body = [] }
+
+member_line-again : (cluster name : Name) (members : List Name) → length members < 16 → place_of members name ≡ None → with_line (start cluster members) (member_line_text name) ≡ Ok (start cluster (members ++ name ∷ []))
+unfolding start
+member_line-again cluster name members small absent =
+    ap (λ r. on_ok r (λ added. Ok (with_addition (start cluster members) added)))
+    (addition-again members [] words.Member (name_bytes name)
+    ∙ ap (λ r. on_ok r (λ name. Ok (additions.Member name))) (new-again members name small absent))
+
+-- lines that are read one after the other
+Chain : Option ScriptText → List (List ℕ) → Option ScriptText → Type 0
+Chain o [] p = o ≡ p
+Chain o (line ∷ lines) p = (m : Option ScriptText) × (after_counted o line ≡ Ok m) × Chain m lines p
+
+chain-append : (o m p : Option ScriptText) (front back : List (List ℕ)) → Chain o front m → Chain m back p → Chain o (front ++ back) p
+unfolding Chain
+chain-append o m p [] back a b = subst (λ (x : Option ScriptText). Chain x back p) (sym a) b
+chain-append o m p (line ∷ front) back a b = (a.0, a.1, chain-append a.0 m p front back a.2 b)
 
 slice_get-seam : {X : Type 0} (front : List X) (x : X) (back : List X) → slice_get (front ++ x ∷ back) (length front) ≡ Some x
 slice_get-seam [] x back = refl
@@ -91,96 +245,77 @@ new_name front name back (Some i) h e =
     let same : i ≡ length front = h i (length front) name (slice_get-front front (name ∷ back) i name at) (slice_get-seam front name back) in
     absurd (omega (arith, slice_get_within front i name at))
 
-few-true : (n : ℕ) → n < 16 → (nat_lt n 16 && (0 == 0)) ≡ true
-few-true n h = grind (arith, nat_tests)
-
-member-again : (cluster : Name) (front : List Name) (name : Name) (back : List Name) → AreDifferent (front ++ name ∷ back) → length (front ++ name ∷ back) ≤ 16
-    → with_line (start cluster front []) (member_line_text name) ≡ Some (start cluster (front ++ name ∷ []) [])
-unfolding start
-member-again cluster front name back h few =
-    let small : length front < 16 = omega (arith, length-append front (name ∷ back)) in
-    ap (λ o. on_some o (λ p. with_words (start cluster front []) p.0 p.1)) (first_word-again words.Member (name_bytes name))
-    ∙ ap (with_member (start cluster front [])) (name_of-name_bytes name)
-    ∙ ap (with_new_member (start cluster front []) name) (new_name front name back (place_of front name) h refl)
-    ∙ ap (λ t. cond t (Some (start cluster (front ++ name ∷ []) [])) None) (few-true (length front) small)
-
-members-again : (cluster : Name) (front back : List Name) (rest : List (List ℕ)) → AreDifferent (front ++ back) → length (front ++ back) ≤ 16
-    → with_lines (start cluster front []) (map member_line_text back ++ rest) ≡ with_lines (start cluster (front ++ back) []) rest
-members-again cluster front [] rest h few = ap (λ m. with_lines (start cluster m []) rest) (sym (append-nil front))
-members-again cluster front (name ∷ back) rest h few =
+members-again : (cluster : Name) (front back : List Name) → AreDifferent (front ++ back) → length (front ++ back) ≤ 16 → Chain (Some (start cluster front)) (map member_line_text back) (Some (start cluster (front ++ back)))
+unfolding Chain
+members-again cluster front [] h small = ap (λ m. Some (start cluster m)) (sym (append-nil front))
+members-again cluster front (name ∷ back) h small =
     let next : (front ++ name ∷ []) ++ back ≡ front ++ name ∷ back = append_assoc front (name ∷ []) back in
-    on_line (start cluster front []) (start cluster (front ++ name ∷ []) []) (member_line_text name) (map member_line_text back ++ rest) (member-again cluster front name back h few)
-    ∙ members-again cluster (front ++ name ∷ []) back rest (rw next h) (rw next few)
-    ∙ ap (λ m. with_lines (start cluster m []) rest) next
+    let fits : length front < 16 = omega (arith, length-append front (name ∷ back)) in (
+      Some (start cluster (front ++ name ∷ [])),
+      ap (λ r. on_ok r (λ t. Ok (Some t))) (member_line-again cluster name front fits (new_name front name back (place_of front name) h refl)),
+      subst (λ (m : List Name). Chain (Some (start cluster (front ++ name ∷ []))) (map member_line_text back) (Some (start cluster m))) next
+          (members-again cluster (front ++ name ∷ []) back (rw next h) (rw next small)),
+    )
 
--- a member that is declared has its name's place
-placed : (members : List Name) (name : Name) (i : ℕ) (o : Option ℕ) → AreDifferent members → slice_get members i ≡ Some name → place_of members name ≡ o → o ≡ Some i
-placed members name i None h at e = absurd (place_of-None members name i e at)
-placed members name i (Some j) h at e = ap Some (h j i name (place_of-Some members name j e) at)
+body-again : (head : HeadText) (front back : List Line) → IsHead head → AllAreLines head.members back → Chain (Some (record { head = head; body = front })) (body_lines head.members back) (Some (record { head = head; body = front ++ back }))
+unfolding Chain
+body-again head front [] h is = ap (λ (b : List Line). Some (record { head = head; body = b })) (sym (append-nil front))
+body-again head front (line ∷ back) h is = (
+  Some (record { head = head; body = front ++ line ∷ [] }),
+  ap (λ r. on_ok r (λ t. Ok (Some t))) (line-again (record { head = head; body = front }) line h.some h.different is.0),
+  subst (λ (b : List Line). Chain (Some (record { head = head; body = front ++ line ∷ [] })) (body_lines head.members back) (Some (record { head = head; body = b }))) (append_assoc front (line ∷ []) back)
+      (body-again head (front ++ line ∷ []) back h is.1),
+)
 
-numbered : (m : MemberId) → member_of m.number ≡ Some m
-numbered m = sym (member_of-is m.number (Some m) ((λ _. m.below), (λ _. refl)) refl)
+first-again : (cluster : Name) → first_line (cluster_text cluster) ≡ Ok cluster
+first-again cluster =
+    ap (λ p. begun_by (keyword_of p.0) p.1) (cut_word-spelled words.Cluster (name_bytes cluster))
+    ∙ ap (λ k. begun_by k (Some (name_bytes cluster))) (keyword_of-word_of words.Cluster)
+    ∙ ap (λ p. cluster_named (name_of p.0) p.1) (cut_word-alone (name_bytes cluster) (first_at-name cluster))
+    ∙ ap (λ o. cluster_named o None) (name_of-name_bytes cluster)
 
-past : {X : Type 0} (xs : List X) (i : ℕ) → slice_get xs i ≡ None → length xs ≤ i
-past [] i e = omega arith
-past (x ∷ xs) zero e = cc
-past (x ∷ xs) (suc i) e = omega (arith, past xs i e)
+all-again : (s : ScriptText) → IsScript s → Chain None (lines_of s) (Some s)
+unfolding Chain start
+all-again s h = (
+  Some (start s.head.cluster []),
+  ap (λ r. on_ok r (λ name. Ok (Some (begun name)))) (first-again s.head.cluster),
+  chain-append (Some (start s.head.cluster [])) (Some (start s.head.cluster s.head.members)) (Some s) (map member_line_text s.head.members) (body_lines s.head.members s.body)
+      (members-again s.head.cluster [] s.head.members h.head.different h.head.few)
+      (body-again s.head [] s.body h.head h.body),
+)
 
-named : (members : List Name) (m : MemberId) (o : Option Name) → AreDifferent members → m.number < length members → slice_get members m.number ≡ o → member_named members (name_of (text_of_name o)) ≡ Some m
-named members m None h small at = absurd (omega (arith, past members m.number at))
-named members m (Some name) h small at =
-    ap (member_named members) (name_of-name_bytes name)
-    ∙ ap (λ o. on_some o member_of) (placed members name m.number (place_of members name) h at refl)
-    ∙ numbered m
+-- lines among empty lines and comments
+short-true : (line : List ℕ) → length line ≤ 8192 → nat_le (length line) 8192 ≡ true
+short-true line h = grind (arith, nat_tests)
 
-short-true : (a b : ℕ) → a + b ≤ 1000000 → nat_le (a + b) 1000000 ≡ true
-short-true a b h = grind (arith, nat_tests)
+in-form : (o : Option ScriptText) (line : List ℕ) → IsInForm line → after_line o line ≡ after_text o line
+in-form o line h =
+    ap (λ t. cond t (cond (nat_le (length line) 8192) (after_text o line) (Err faults.TooLong)) (Err faults.NotUtf8)) h.text
+    ∙ ap (λ t. cond t (after_text o line) (Err faults.TooLong)) (short-true line h.short)
 
-line-again : (cluster : Name) (members : List Name) (front : List Line) (line : Line) → AreDifferent members → NamesMember (length members) line → total_ticks front + ticks_of_line line ≤ 1000000
-    → with_line (start cluster members front) (line_text (record { cluster = cluster; members = members }) line) ≡ Some (start cluster members (front ++ line ∷ []))
-unfolding start
-line-again cluster members front (lines.Run n) h names short =
-    ap (λ o. on_some o (λ p. with_words (start cluster members front) p.0 p.1)) (first_word-again words.Run (decimal n))
-    ∙ ap (with_run (start cluster members front)) (number-decimal n (omega arith))
-    ∙ ap (λ t. cond t (Some (start cluster members (front ++ lines.Run n ∷ []))) None) (short-true (total_ticks front) n short)
-line-again cluster members front (lines.Hold m) h names short =
-    ap (λ o. on_some o (λ p. with_words (start cluster members front) p.0 p.1)) (first_word-again words.Hold (member_text members m.number))
-    ∙ ap (with_hold (start cluster members front)) (named members m (slice_get members m.number) h names refl)
+lines-step : (number : ℕ) (o p : Option ScriptText) (line : List ℕ) (rest : List (List ℕ)) (t : Bool) → is_skipped line ≡ t → IsInForm line
+    → ((m : Option ScriptText) → Chain m (counted_lines rest) p → after_lines (number + 1) m rest ≡ Ok p)
+    → Chain o (cond t (counted_lines rest) (line ∷ counted_lines rest)) p → after_lines number o (line ∷ rest) ≡ Ok p
+unfolding Chain
+lines-step number o p line rest true is form step chain =
+    ap (λ r. on_ok (at_line number r) (λ t. after_lines (number + 1) t rest)) (in-form o line form ∙ ap (λ t. cond t (Ok o) (after_counted o line)) is)
+    ∙ step o chain
+lines-step number o p line rest false is form step chain =
+    ap (λ r. on_ok (at_line number r) (λ t. after_lines (number + 1) t rest)) (in-form o line form ∙ ap (λ t. cond t (Ok o) (after_counted o line)) is ∙ chain.1)
+    ∙ step chain.0 chain.2
 
-body-again : (cluster : Name) (members : List Name) (front back : List Line) → AreDifferent members → AllNameMembers (length members) back → total_ticks front + total_ticks back ≤ 1000000
-    → with_lines (start cluster members front) (body_lines (record { cluster = cluster; members = members }) back) ≡ Some (start cluster members (front ++ back))
-body-again cluster members front [] h names short = ap (λ b. Some (start cluster members b)) (sym (append-nil front))
-body-again cluster members front (line ∷ back) h names short =
-    on_line (start cluster members front) (start cluster members (front ++ line ∷ [])) (line_text (record { cluster = cluster; members = members }) line) (body_lines (record { cluster = cluster; members = members }) back) (line-again cluster members front line h names.0 (omega arith))
-    ∙ body-again cluster members (front ++ line ∷ []) back h names.1 (omega (arith, total_ticks-push front line))
-    ∙ ap (λ b. Some (start cluster members b)) (append_assoc front (line ∷ []) back)
+lines-again : (number : ℕ) (o p : Option ScriptText) (lines : List (List ℕ)) → AllInForm lines → Chain o (counted_lines lines) p → after_lines number o lines ≡ Ok p
+unfolding Chain
+lines-again number o p [] form chain = ap Ok chain
+lines-again number o p (line ∷ rest) form chain =
+    lines-step number o p line rest (is_skipped line) refl form.0 (λ m c. lines-again (number + 1) m p rest form.1 c) chain
 
-cluster-again : (cluster : Name) → first_line (cluster_text cluster) ≡ Some (start cluster [] [])
-unfolding start
-cluster-again cluster =
-    ap (λ o. on_some o (λ p. cluster_words p.0 p.1)) (first_word-again words.Cluster (name_bytes cluster))
-    ∙ ap named_cluster (name_of-name_bytes cluster)
+with_some-again : (s : ScriptText) (members : List Name) → 0 < length members → with_some s members ≡ Ok s
+with_some-again s [] h = absurd (omega arith)
+with_some-again s (m ∷ members) h = refl
 
-some-true : (n : ℕ) → 0 < n → nat_lt 0 n ≡ true
-some-true n h = grind (arith, nat_tests)
-
-lines-again : (s : ScriptText) → IsScript s → script_of_lines (lines_of s) ≡ Some s
-unfolding start
-lines-again s h =
-    let read : with_lines (start s.head.cluster [] []) (map member_line_text s.head.members ++ body_lines s.head s.body) ≡ Some s =
-    members-again s.head.cluster [] s.head.members (body_lines s.head s.body) h.head.different h.head.few
-    ∙ body-again s.head.cluster s.head.members [] s.body h.head.different h.declared (omega (arith, h.ticks))
-    in
-    ap (λ o. on_some o (λ t. on_some (with_lines t (map member_line_text s.head.members ++ body_lines s.head s.body)) whole_script)) (cluster-again s.head.cluster)
-    ∙ ap (λ o. on_some o whole_script) read
-    ∙ ap (λ t. cond t (Some s) None) (some-true (length s.head.members) h.head.some)
-
-within-true : (n k : ℕ) → n ≤ k → nat_le n k ≡ true
-within-true n k h = grind (arith, nat_tests)
-
-pub spelled-is-read : (text : ScriptText) → IsScript text → script_of (spelling_of text) ≡ Some text
-spelled-is-read text h =
-    ap (λ t. cond t (on_some (cut_lines (spelling_of text)) few_lines) None) (within-true (length (spelling_of text)) 1048576 h.bytes)
-    ∙ ap (λ o. on_some o few_lines) (cut_lines-again (lines_of text) (lines-NoFeeds text h))
-    ∙ ap (λ t. cond t (script_of_lines (lines_of text)) None) (within-true (length (lines_of text)) 100000 h.lines)
-    ∙ lines-again text h
+pub spelled-is-read : (bytes : List ℕ) (text : ScriptText) → IsScript text → Spells bytes text → script_of bytes ≡ Ok text
+spelled-is-read bytes text h spells =
+    ap (λ r. on_ok r (λ s. at_line (length (lines_in bytes) + 1) (finished s)))
+    (lines-again 1 None (Some text) (lines_in bytes) spells.form (subst (λ (ls : List (List ℕ)). Chain None ls (Some text)) (sym spells.lines) (all-again text h)))
+    ∙ ap (at_line (length (lines_in bytes) + 1)) (with_some-again text text.head.members h.head.some)

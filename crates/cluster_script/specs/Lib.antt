@@ -1,6 +1,10 @@
+pub mod Arguments
 pub mod Draft
+pub mod Faults
 pub mod Lines
+pub mod Members
 pub mod Numbers
+pub mod Options
 pub mod Reading
 pub mod Script
 pub mod Steps

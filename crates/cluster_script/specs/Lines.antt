@@ -1,10 +1,5 @@
 -- Bytes as lines.
-use Rattle.std.specs.Prelude.{ℕ, ◌==◌, ◌+◌, if◌then◌else◌, List, [], ◌∷◌, ◌++◌, Option, Some, None}
-
--- what follows an answer, if there is one
-abbrev pub on_some : {A B : Type 0} → Option A → (A → Option B) → Option B
-on_some None f = None
-on_some (Some x) f = f x
+use Rattle.std.specs.Prelude.{ℕ, ◌==◌, ◌+◌, nat_eq, nat_le, Bool, true, false, if◌then◌else◌, List, [], ◌∷◌, ◌++◌, Option, Some, None}
 
 -- lines, each ended by its line feed
 abbrev pub ended : List (List ℕ) → List ℕ
@@ -12,22 +7,28 @@ ended [] = []
 ended (line ∷ lines) = line ++ (10 ∷ ended lines)
 
 -- a byte before the first of the lines
-abbrev pub push_byte : ℕ → Option (List (List ℕ)) → Option (List (List ℕ))
-push_byte b (Some (line ∷ lines)) = Some ((b ∷ line) ∷ lines)
-push_byte b (Some []) = None
-push_byte b None = None
+abbrev pub push_byte : ℕ → List (List ℕ) → List (List ℕ)
+push_byte b [] = (b ∷ []) ∷ []
+push_byte b (line ∷ lines) = (b ∷ line) ∷ lines
 
--- lines before lines
-abbrev pub put_before : List (List ℕ) → Option (List (List ℕ)) → Option (List (List ℕ))
-put_before front lines = on_some lines (λ rest. Some (front ++ rest))
+-- the lines, each ended by a line feed; the last may lack it
+abbrev pub lines_in : List ℕ → List (List ℕ)
+lines_in [] = []
+lines_in (b ∷ bs) = if b == 10 then [] ∷ lines_in bs else push_byte b (lines_in bs)
 
--- the lines, if each is ended by a line feed
-abbrev pub cut_lines : List ℕ → Option (List (List ℕ))
-cut_lines [] = Some []
-cut_lines (b ∷ bs) = if b == 10 then put_before ([] ∷ []) (cut_lines bs) else push_byte b (cut_lines bs)
+-- an empty line, or a comment: a line that begins with '#'
+abbrev pub is_skipped : List ℕ → Bool
+is_skipped [] = true
+is_skipped (b ∷ bs) = b == 35
+
+-- the lines that count
+abbrev pub counted_lines : List (List ℕ) → List (List ℕ)
+counted_lines [] = []
+counted_lines (line ∷ lines) = if is_skipped line then counted_lines lines else line ∷ counted_lines lines
 
 abbrev pub one_more : Option ℕ → Option ℕ
-one_more n = on_some n (λ n. Some (n + 1))
+one_more None = None
+one_more (Some n) = Some (n + 1)
 
 -- where a byte stands first
 abbrev pub first_at : ℕ → List ℕ → Option ℕ

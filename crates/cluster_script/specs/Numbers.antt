@@ -1,6 +1,6 @@
 -- Numbers as decimal digits.
 use Rattle.std.specs.Prelude.{ℕ, ◌+◌, ◌-◌, ◌*◌, ◌^◌, ◌==◌, nat_le, nat_lt, ◌&&◌, Bool, if◌then◌else◌, List, [], ◌∷◌, Option, Some, None, length}
-use Rattle.cluster_script.specs.Lines.{on_some}
+use Rattle.cluster_script.specs.Options.{on_some}
 
 abbrev pub is_digit : ℕ → Bool
 is_digit b = nat_le 48 b && nat_le b 57

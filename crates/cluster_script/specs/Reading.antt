@@ -1,105 +1,176 @@
--- The script that bytes are: cut into lines, each of which adds to what stands before it.
-use Rattle.std.specs.Prelude.{ℕ, ◌≡◌, ◌+◌, ◌==◌, nat_le, nat_lt, ◌&&◌, Bool, true, false, if◌then◌else◌, List, [], ◌∷◌, ◌++◌, Option, Some, None, Result, Ok, Err, length, refl}
-use Rattle.pat_base.specs.Name.{name_of, name_bytes}
+-- The script that bytes are, or the first line with a fault and its first fault.
+use Rattle.std.specs.Prelude.{ℕ, ◌≡◌, ◌+◌, ◌<◌, nat_le, ◌==◌, Bool, true, false, ◌&&◌, ◌||◌, if◌then◌else◌, List, [], ◌∷◌, ◌++◌, Option, Some, None, Result, Ok, Err, codes, length}
+use Rattle.std.specs.List.{starts_with, list_any}
+use Rattle.std.specs.Str.{is_utf8}
+use Rattle.std.specs.Prelude.{nat_eq}
+use Rattle.pat_base.specs.Name.{name_of}
 use Rattle.pat_base.specs.declared.name.Name.{Name}
-use Rattle.pat_base.specs.declared.member_id.MemberId.{MemberId}
-use Rattle.std.specs.Str.{bytes_eq}
-use Rattle.std.proofs.lemmas.Bool.{ltb-true}
-use Rattle.cluster_script.specs.Lines.{on_some, one_more, cut_lines}
-use Rattle.cluster_script.specs.Numbers.{number}
-use Rattle.cluster_script.specs.Script.{ScriptText}
-use Rattle.cluster_script.specs.Steps.{total_ticks}
-use Rattle.cluster_script.specs.Words.{first_word}
+use Rattle.cluster_script.specs.Arguments.{line_of_words}
+use Rattle.cluster_script.specs.Faults.{on_ok}
+use Rattle.cluster_script.specs.Lines.{lines_in, is_skipped}
+use Rattle.cluster_script.specs.Members.{place_of}
+use Rattle.cluster_script.specs.Script.{HeadText, ScriptText}
+use Rattle.cluster_script.specs.Words.{keyword_of, cut_word}
+use Rattle.cluster_script.specs.declared.addition.Addition.{Addition}
+use Rattle.cluster_script.specs.declared.addition.Addition.TheVariants as additions
+use Rattle.cluster_script.specs.declared.fault.Fault.{Fault}
+use Rattle.cluster_script.specs.declared.fault.Fault.TheVariants as faults
 use Rattle.cluster_script.specs.declared.keyword.Keyword.{Keyword}
 use Rattle.cluster_script.specs.declared.keyword.Keyword.TheVariants as words
-use Rattle.cluster_script.specs.declared.line.Line.TheVariants as lines
-use Rattle.cluster_script.specs.declared.fault.ScriptFault.{ScriptFault}
-use Rattle.cluster_script.specs.declared.fault.ScriptFault.TheVariants as faults
+use Rattle.cluster_script.specs.declared.line.Line.{Line}
+use Rattle.cluster_script.specs.declared.script_fault.ScriptFault.{ScriptFault}
+use Rattle.cluster_script.specs.declared.script_fault.ScriptFault.TheVariants as script_faults
 
-unfoldable pub member_by : (number : ℕ) (test : Bool) → nat_lt number 16 ≡ test → Option MemberId
-member_by number true is = Some (record { number = number; below = ltb-true number 16 is })
-member_by number false is = None
+-- the options of members, none of which is built yet, begin so
+abbrev pub option_names : List (List ℕ)
+option_names = codes "host=" ∷ codes "nofailover=" ∷ codes "nosync=" ∷ codes "noloadbalance=" ∷ codes "priority=" ∷ codes "watchdog=" ∷ codes "device=" ∷ codes "margin=" ∷ []
 
--- the member of this number
-unfoldable pub member_of : ℕ → Option MemberId
-member_of number = member_by number (nat_lt number 16) refl
+-- an option stands right here
+abbrev pub begins_option : List ℕ → Bool
+begins_option bytes = list_any (starts_with nat_eq bytes) option_names
 
--- the place of the member of this name
-abbrev pub place_of : List Name → Name → Option ℕ
-place_of [] name = None
-place_of (member ∷ members) name = if bytes_eq (name_bytes member) (name_bytes name) then Some 0 else one_more (place_of members name)
+-- an option stands behind one of the blanks
+abbrev pub has_option : List ℕ → Bool
+has_option [] = false
+has_option (b ∷ bs) = ((b == 32) && begins_option bs) || has_option bs
 
--- the script with one more member, whose place says whether it is there already
-abbrev pub with_new_member : ScriptText → Name → Option ℕ → Option ScriptText
-with_new_member s name (Some place) = None
-with_new_member s name None =
-    if nat_lt (length s.head.members) 16 && (length s.body == 0)
-    then Some (record s { head = record s.head { members = s.head.members ++ name ∷ [] } })
-    else None
+-- a line of the head stands behind lines of the body
+abbrev pub in_head : List Line → Fault → Fault
+in_head [] fault = fault
+in_head (line ∷ body) fault = faults.HeadLate
 
-abbrev pub with_member : ScriptText → Option Name → Option ScriptText
-with_member s None = None
-with_member s (Some name) = with_new_member s name (place_of s.head.members name)
+abbrev pub declared_in_head : Name → List Line → Result Name Fault
+declared_in_head name [] = Ok name
+declared_in_head name (line ∷ body) = Err faults.HeadLate
 
-abbrev pub with_run : ScriptText → Option ℕ → Option ScriptText
-with_run s None = None
-with_run s (Some n) = if nat_le (total_ticks s.body + n) 1000000 then Some (record s { body = s.body ++ lines.Run n ∷ [] }) else None
+-- a name whose place says whether it is declared already
+abbrev pub declared_once : Name → List Line → Option ℕ → Result Name Fault
+declared_once name body (Some place) = Err faults.Duplicate
+declared_once name body None = declared_in_head name body
 
-abbrev pub with_hold : ScriptText → Option MemberId → Option ScriptText
-with_hold s None = None
-with_hold s (Some member) = Some (record s { body = s.body ++ lines.Hold member ∷ [] })
+abbrev pub named_member : List Name → List Line → Option Name → Option (List ℕ) → Result Name Fault
+named_member members body None rest = Err faults.BadName
+named_member members body (Some name) (Some words) = Err faults.BadOption
+named_member members body (Some name) None = declared_once name body (place_of members name)
 
--- the member of this name
-abbrev pub member_named : List Name → Option Name → Option MemberId
-member_named members None = None
-member_named members (Some name) = on_some (place_of members name) member_of
+-- a line 'member': its name, and no option
+abbrev pub new_member : List Name → List Line → Option (List ℕ) → Result Name Fault
+new_member members body None = Err (in_head body faults.WordCount)
+new_member members body (Some words) = if has_option words then Err faults.NotBuilt else named_member members body (name_of (cut_word words).0) (cut_word words).1
 
--- the script with one more line, of this first word and what stands behind it
-abbrev pub with_words : ScriptText → Keyword → List ℕ → Option ScriptText
-with_words s words.Cluster rest = None
-with_words s words.Member rest = with_member s (name_of rest)
-with_words s words.Run rest = with_run s (number rest)
-with_words s words.Hold rest = with_hold s (member_named s.head.members (name_of rest))
+-- the seventeenth line 'member' is unknown
+abbrev pub next_member : List Name → List Line → Option (List ℕ) → Result Name Fault
+next_member members body rest = if nat_le 16 (length members) then Err faults.BadWord else new_member members body rest
+
+abbrev pub named_twice : Option Name → Fault
+named_twice None = faults.BadName
+named_twice (Some name) = faults.Duplicate
+
+-- a second line 'cluster'
+abbrev pub second_cluster : Option (List ℕ) → Fault
+second_cluster None = faults.Duplicate
+second_cluster (Some words) = named_twice (name_of (cut_word words).0)
+
+-- what a line of this first word adds, from the words behind it
+abbrev pub addition_of : List Name → List Line → Keyword → Option (List ℕ) → Result Addition Fault
+addition_of members body words.Cluster rest = Err (second_cluster rest)
+addition_of members body words.Member rest = on_ok (next_member members body rest) (λ name. Ok (additions.Member name))
+addition_of members body keyword rest = on_ok (line_of_words members keyword rest) (λ line. Ok (additions.Body line))
+
+abbrev pub known_addition : List Name → List Line → Option Keyword → Option (List ℕ) → Result Addition Fault
+known_addition members body None rest = Err faults.BadWord
+known_addition members body (Some keyword) rest = addition_of members body keyword rest
+
+-- what a line adds
+abbrev pub addition_in : List Name → List Line → List ℕ → Result Addition Fault
+addition_in members body line = known_addition members body (keyword_of (cut_word line).0) (cut_word line).1
+
+-- the members behind what is added
+abbrev pub members_after : List Name → Addition → List Name
+members_after members (additions.Member name) = members ++ name ∷ []
+members_after members (additions.Body line) = members
+
+-- the body behind what is added
+abbrev pub body_after : List Line → Addition → List Line
+body_after body (additions.Member name) = body
+body_after body (additions.Body line) = body ++ line ∷ []
 
 -- the script with one more line
-abbrev pub with_line : ScriptText → List ℕ → Option ScriptText
-with_line s line = on_some (first_word line) (λ p. with_words s p.0 p.1)
+abbrev pub with_addition : ScriptText → Addition → ScriptText
+with_addition s added = record { head = record s.head { members = members_after s.head.members added }; body = body_after s.body added }
 
-abbrev pub with_lines : ScriptText → List (List ℕ) → Option ScriptText
-with_lines s [] = Some s
-with_lines s (line ∷ rest) = on_some (with_line s line) (λ t. with_lines t rest)
+abbrev pub with_line : ScriptText → List ℕ → Result ScriptText Fault
+with_line s line = on_ok (addition_in s.head.members s.body line) (λ added. Ok (with_addition s added))
+
+abbrev pub alone : Name → Option (List ℕ) → Result Name Fault
+alone name None = Ok name
+alone name (Some words) = Err faults.WordCount
+
+abbrev pub cluster_named : Option Name → Option (List ℕ) → Result Name Fault
+cluster_named None rest = Err faults.BadName
+cluster_named (Some name) rest = alone name rest
+
+-- the line 'cluster'
+abbrev pub cluster_of : Option (List ℕ) → Result Name Fault
+cluster_of None = Err faults.WordCount
+cluster_of (Some words) = cluster_named (name_of (cut_word words).0) (cut_word words).1
+
+abbrev pub begun_by : Option Keyword → Option (List ℕ) → Result Name Fault
+begun_by (Some words.Cluster) rest = cluster_of rest
+begun_by _ rest = Err faults.NoCluster
+
+-- the cluster of the first line that counts
+abbrev pub first_line : List ℕ → Result Name Fault
+first_line line = begun_by (keyword_of (cut_word line).0) (cut_word line).1
 
 -- a script of its first line alone
-abbrev pub named_cluster : Option Name → Option ScriptText
-named_cluster None = None
-named_cluster (Some name) = Some (record { head = record { cluster = name; members = [] }; body = [] })
+abbrev pub begun : Name → ScriptText
+begun name = record { head = record { cluster = name; members = [] }; body = [] }
 
-abbrev pub cluster_words : Keyword → List ℕ → Option ScriptText
-cluster_words words.Cluster rest = named_cluster (name_of rest)
-cluster_words words.Member rest = None
-cluster_words words.Run rest = None
-cluster_words words.Hold rest = None
+-- a line that counts, behind those before it
+abbrev pub after_counted : Option ScriptText → List ℕ → Result (Option ScriptText) Fault
+after_counted None line = on_ok (first_line line) (λ name. Ok (Some (begun name)))
+after_counted (Some s) line = on_ok (with_line s line) (λ t. Ok (Some t))
 
-abbrev pub first_line : List ℕ → Option ScriptText
-first_line line = on_some (first_word line) (λ p. cluster_words p.0 p.1)
+abbrev pub after_text : Option ScriptText → List ℕ → Result (Option ScriptText) Fault
+after_text s line = if is_skipped line then Ok s else after_counted s line
 
--- a script has a member
-abbrev pub whole_script : ScriptText → Option ScriptText
-whole_script s = if nat_lt 0 (length s.head.members) then Some s else None
+abbrev pub after_line : Option ScriptText → List ℕ → Result (Option ScriptText) Fault
+after_line s line = if is_utf8 line then (if nat_le (length line) 8192 then after_text s line else Err faults.TooLong) else Err faults.NotUtf8
 
-abbrev pub script_of_lines : List (List ℕ) → Option ScriptText
-script_of_lines [] = None
-script_of_lines (line ∷ rest) = on_some (first_line line) (λ s. on_some (with_lines s rest) whole_script)
+-- a member that a line adds is one of at most 16, and no other has its name
+abbrev pub IsNew : List Name → Addition → Type 0
+IsNew members (additions.Member name) = (length members < 16) × (place_of members name ≡ None)
+IsNew members (additions.Body line) = Unit {0}
 
-abbrev pub few_lines : List (List ℕ) → Option ScriptText
-few_lines lines = if nat_le (length lines) 100000 then script_of_lines lines else None
+-- a fault and its line
+abbrev pub at_line : {A : Type 0} → ℕ → Result A Fault → Result A (ℕ × Fault)
+at_line number (Ok x) = Ok x
+at_line number (Err fault) = Err (number, fault)
 
--- the script that the bytes are
-abbrev pub script_of : List ℕ → Option ScriptText
-script_of bytes = if nat_le (length bytes) 1048576 then on_some (cut_lines bytes) few_lines else None
+-- what lines say behind those before them, of which the first has this number
+abbrev pub after_lines : ℕ → Option ScriptText → List (List ℕ) → Result (Option ScriptText) (ℕ × Fault)
+after_lines number s [] = Ok s
+after_lines number s (line ∷ lines) = on_ok (at_line number (after_line s line)) (λ t. after_lines (number + 1) t lines)
+
+abbrev pub with_some : ScriptText → List Name → Result ScriptText Fault
+with_some s [] = Err faults.NoMember
+with_some s (member ∷ members) = Ok s
+
+-- a script has a cluster and a member
+abbrev pub finished : Option ScriptText → Result ScriptText Fault
+finished None = Err faults.NoCluster
+finished (Some s) = with_some s s.head.members
+
+abbrev pub script_of_lines : List (List ℕ) → Result ScriptText (ℕ × Fault)
+script_of_lines lines = on_ok (after_lines 1 None lines) (λ s. at_line (length lines + 1) (finished s))
+
+-- the script that the bytes are, or the first line with a fault and its first fault
+abbrev pub script_of : List ℕ → Result ScriptText (ℕ × Fault)
+script_of bytes = script_of_lines (lines_in bytes)
 
 -- what a reader answers, of what is to be read
-abbrev pub Gives : {X Y : Type 0} → (X → Y) → Result X ScriptFault → Option Y → Type 0
-Gives view (Ok x) read = read ≡ Some (view x)
-Gives view (Err faults.Memory) read = Unit {0}
-Gives view (Err faults.NotBuilt) read = read ≡ None
+abbrev pub Gives : {X Y : Type 0} → (X → Y) → Result X ScriptFault → Result Y (ℕ × Fault) → Type 0
+Gives view (Ok x) read = read ≡ Ok (view x)
+Gives view (Err script_faults.Memory) read = Unit {0}
+Gives view (Err (script_faults.At line fault)) read = read ≡ Err (line, fault)

@@ -1,168 +1,181 @@
 //! A script while its lines are read.
-ghost use Rattle.std.specs.Prelude.{ℕ, ◌≡◌, ◌<◌, ◌≤◌, ◌+◌, List, length, map, Option, Some, IfSome, IsTrue, ◌↔◌};
-ghost use Rattle.pat_base.specs.Name.{name_of};
+ghost use Rattle.std.specs.Prelude.{ℕ, ◌≡◌, ◌<◌, ◌≤◌, ◌+◌, ◌++◌, ◌∷◌, ◌^◌, List, [], length, map, Option, None, Some, Ok, IfOk, OnOk, OnErr, IfErr, IfSome};
+ghost use Rattle.std.specs.Option.{option_copied};
 ghost use Rattle.indexmap.specs.IndexMap.{keys};
-ghost use Rattle.cluster_script.specs.Lines.{on_some};
-ghost use Rattle.cluster_script.specs.Numbers.{number};
 ghost use Rattle.cluster_script.specs.Script.{ScriptText, IsScript};
-ghost use Rattle.cluster_script.specs.Reading.{Gives, place_of, member_of, member_named, with_member, with_run, with_hold, with_words, with_line, with_lines, first_line};
+ghost use Rattle.cluster_script.specs.Reading.{Gives, IsNew, addition_of, addition_in, members_after, body_after, after_counted, after_line, after_lines, at_line, finished};
 
+use crate::addition::Addition;
+use crate::arguments::line_of_words;
+use crate::head_lines::{first_line, next_member, second_cluster};
 use crate::keyword::Keyword;
-use crate::numbers::number;
-use crate::words::first_word;
-use crate::{Head, Line, MemberOptions, Script, ScriptFault};
+use crate::lines::{is_skipped, is_text};
+use crate::members::Members;
+use crate::words::{cut_word, keyword_of};
+use crate::{Fault, Head, Line, MemberOptions, Script, ScriptFault};
 use indexmap::IndexMap;
-use pat_base::{MemberId, Name};
+use pat_base::Name;
 use std::alloc::Global;
 use std::marker::Model;
 
-/// The most members that a script may have.
-const MEMBERS: usize = 16;
-/// The most ticks (of 100 ms) that the `run` lines of a script may add up to.
-const TICKS: u64 = 1_000_000;
+/// The longest line of a script, in bytes.
+const LONGEST_LINE: usize = 8_192;
 
 /// What the lines so far say.
 #[derive(Drop)]
 pub struct Draft {
-    cluster: Name,
-    members: IndexMap<Name, MemberOptions>,
+    cluster: Option<Name>,
+    members: Members,
     body: Vec<Line>,
-    ticks: u64,
 }
 
 impl Model for Draft {
-    ghost use Rattle.std.specs.Prelude.{◌≡◌, ◌≤◌, length};
+    ghost use Rattle.std.specs.Prelude.{Option};
     ghost use Rattle.indexmap.specs.IndexMap.{keys};
     ghost use Rattle.cluster_script.specs.Script.{ScriptText};
-    ghost use Rattle.cluster_script.specs.Draft.{IsDraft};
+    ghost use Rattle.cluster_script.specs.Draft.{IsDraft, draft_of};
 
-    ghost Value = { ScriptText };
+    ghost Value = { Option ScriptText };
 
-    ghost view = { λ d. record { head = record { cluster = d.cluster; members = keys d.members }; body = d.body.items } };
+    ghost view = { λ d. draft_of d.cluster (keys d.members) d.body.items };
 
-    ghost invariant = { λ d. IsDraft (keys d.members) d.body.items d.ticks };
+    ghost invariant = { λ d. IsDraft d.cluster (keys d.members) d.body.items };
 }
 
-/// The member of this name.
-fn member_named(members: &IndexMap<Name, MemberOptions>, name: &[u8]) -> Option<MemberId>
+/// What a line of this first word adds, from the words behind it. The one place where first words are told apart, but for
+/// those of lines of the body.
+fn addition_of(
+    members: &Members,
+    body: &[Line],
+    keyword: Keyword,
+    rest: Option<&[u8]>,
+) -> Result<Addition, Fault>
     requires { length (keys members.now) ≤ 16 }
-    ensures { result ≡ member_named (keys members.now) (name_of name.now) }
+    ensures value { result ≡ addition_of (keys members.now) body.now keyword (option_copied rest.entry) }
+    ensures new { IfOk result (IsNew (keys members.now)) }
 {
-    let name = Name::read(name)?;
-    let place = place_of(members, name)?;
-    MemberId::new(place as u8)
+    match keyword {
+        Keyword::Cluster => Err(second_cluster(rest)),
+        Keyword::Member => Ok(Addition::Member(next_member(members, body, rest)?)),
+        _ => Ok(Addition::Body(line_of_words(members, keyword, rest)?)),
+    }
 }
 
-/// The place of the member of this name.
-fn place_of(members: &IndexMap<Name, MemberOptions>, name: Name) -> Option<usize>
-    ensures place { result ≡ place_of (keys members.now) name }
-    ensures within { IfSome result (λ place. place < length (keys members.now)) }
+/// What a line adds.
+fn addition_in(members: &Members, body: &[Line], line: &[u8]) -> Result<Addition, Fault>
+    requires { length (keys members.now) ≤ 16 }
+    ensures value { result ≡ addition_in (keys members.now) body.now line.now }
+    ensures new { IfOk result (IsNew (keys members.now)) }
 {
-    members.get_index_of(&name)
+    let (word, rest) = cut_word(line);
+    match keyword_of(word) {
+        None => Err(Fault::BadWord),
+        Some(keyword) => addition_of(members, body, keyword, rest),
+    }
+}
+
+fn apply(members: &mut Members, body: &mut Vec<Line>, added: Addition) -> Result<(), ScriptFault>
+    requires { IsNew (keys members.old) added }
+    ensures members { OnOk result (keys members.new ≡ members_after (keys members.old) added) }
+    ensures body { OnOk result (body.new.items ≡ body_after body.old.items added) }
+    ensures memory { IfErr result (λ e. e ≡ ScriptFault.Memory) }
+    ensures same { OnErr result ((keys members.new ≡ keys members.old) × (body.new.items ≡ body.old.items)) }
+{
+    match added {
+        Addition::Member(name) => {
+            members.insert(name, MemberOptions {})?;
+        }
+        Addition::Body(line) => body.push(line)?,
+    }
+    Ok(())
+}
+
+/// A fault and its line.
+fn located<T: Drop>(line: u64, outcome: Result<T, Fault>) -> Result<T, ScriptFault>
+    ensures { Gives (λ x. x) result (at_line line outcome) }
+{
+    match outcome {
+        Ok(value) => Ok(value),
+        Err(fault) => Err(ScriptFault::At { line, fault }),
+    }
 }
 
 impl Draft {
-    /// A draft of the first line alone.
-    pub fn first(alloc: Global, line: &[u8]) -> Option<Draft>
-        ensures { result ≡ first_line line.now }
+    /// A draft of no line.
+    pub fn new(alloc: Global) -> Draft
+        ensures { result ≡ None }
     {
-        let (Keyword::Cluster, rest) = first_word(line)? else {
-            return None;
-        };
-        let cluster = Name::read(rest)?;
-        Some(Draft {
-            cluster,
+        Draft {
+            cluster: None,
             members: IndexMap::new(alloc),
             body: Vec::new(alloc),
-            ticks: 0,
-        })
-    }
-
-    fn add_member(&mut self, rest: &[u8]) -> Result<(), ScriptFault>
-        ensures { Gives (λ _. self.new) result (with_member self.old (name_of rest.now)) }
-    {
-        let Some(name) = Name::read(rest) else {
-            return Err(ScriptFault::NotBuilt);
-        };
-        if place_of(&self.members, name).is_some() {
-            return Err(ScriptFault::NotBuilt);
-        }
-        if self.members.len() >= MEMBERS || !self.body.is_empty() {
-            return Err(ScriptFault::NotBuilt);
-        }
-        self.members.insert(name, MemberOptions {})?;
-        Ok(())
-    }
-
-    #[tactic(auto, using(crate::proofs::Totals::draft_steps))]
-    fn add_run(&mut self, count: Option<u64>) -> Result<(), ScriptFault>
-        ensures { Gives (λ _. self.new) result (with_run self.old count) }
-    {
-        let Some(count) = count else {
-            return Err(ScriptFault::NotBuilt);
-        };
-        if count > TICKS - self.ticks {
-            return Err(ScriptFault::NotBuilt);
-        }
-        self.body.push(Line::Run(count))?;
-        self.ticks += count;
-        Ok(())
-    }
-
-    #[tactic(auto, using(crate::proofs::Totals::draft_steps))]
-    fn add_hold(&mut self, rest: &[u8]) -> Result<(), ScriptFault>
-        ensures { Gives (λ _. self.new) result (with_hold self.old (member_named self.old.head.members (name_of rest.now))) }
-    {
-        let Some(member) = member_named(&self.members, rest) else {
-            return Err(ScriptFault::NotBuilt);
-        };
-        self.body.push(Line::Hold(member))?;
-        Ok(())
-    }
-
-    /// One more line. The one place where first words are told apart.
-    fn add_line(&mut self, line: &[u8]) -> Result<(), ScriptFault>
-        ensures { Gives (λ _. self.new) result (with_line self.old line.now) }
-    {
-        let Some((keyword, rest)) = first_word(line) else {
-            return Err(ScriptFault::NotBuilt);
-        };
-        match keyword {
-            Keyword::Cluster => Err(ScriptFault::NotBuilt),
-            Keyword::Member => self.add_member(rest),
-            Keyword::Run => self.add_run(number(rest)),
-            Keyword::Hold => self.add_hold(rest),
         }
     }
 
-    /// More lines, in order. The first that fits no script ends it.
+    fn add_counted(&mut self, number: u64, line: &[u8]) -> Result<(), ScriptFault>
+        ensures { Gives (λ _. self.new) result (at_line number (after_counted self.old line.now)) }
+    {
+        if self.cluster.is_none() {
+            self.cluster = Some(located(number, first_line(line))?);
+            return Ok(());
+        }
+        let added = located(number, addition_in(&self.members, &self.body, line))?;
+        apply(&mut self.members, &mut self.body, added)
+    }
+
+    fn add_line(&mut self, number: u64, line: &[u8]) -> Result<(), ScriptFault>
+        ensures { Gives (λ _. self.new) result (at_line number (after_line self.old line.now)) }
+    {
+        if !is_text(line) {
+            return Err(ScriptFault::At {
+                line: number,
+                fault: Fault::NotUtf8,
+            });
+        }
+        if line.len() > LONGEST_LINE {
+            return Err(ScriptFault::At {
+                line: number,
+                fault: Fault::TooLong,
+            });
+        }
+        if is_skipped(line) {
+            return Ok(());
+        }
+        self.add_counted(number, line)
+    }
+
+    /// More lines, in order, of which the first is line 1. The first with a fault ends it.
     pub fn add_lines(&mut self, lines: &[&[u8]]) -> Result<(), ScriptFault>
-        ensures { Gives (λ _. self.new) result (with_lines self.old (map (λ line. line.now) lines.now)) }
+        ensures { Gives (λ _. self.new) result (after_lines 1 self.old (map (λ line. line.now) lines.now)) }
     {
-        for line in lines {
-            self.add_line(line)?;
+        for (place, line) in lines.iter().enumerate() {
+            self.add_line(place as u64 + 1, line)?;
         }
         Ok(())
     }
 
-    /// Whether no member was declared.
-    pub fn has_no_member(&self) -> bool
-        ensures { IsTrue result ↔ (length self.now.head.members ≡ 0) }
-    {
-        self.members.is_empty()
-    }
-
-    /// The script, once it is whole.
-    pub fn finish(self) -> Script
-        requires { IsScript self }
-        ensures { result ≡ self }
+    /// The script, once all lines are read. A fault stands at the line of this number.
+    pub fn finish(self, end: u64) -> Result<Script, ScriptFault>
+        requires { (text : ScriptText) → finished self ≡ Ok text → IsScript text }
+        ensures { Gives (λ script. script) result (at_line end (finished self)) }
     {
         let Draft {
             cluster,
             members,
             body,
-            ticks: _,
         } = self;
-        Script::new(Head::new(cluster, members), body)
+        let Some(cluster) = cluster else {
+            return Err(ScriptFault::At {
+                line: end,
+                fault: Fault::NoCluster,
+            });
+        };
+        if members.is_empty() {
+            return Err(ScriptFault::At {
+                line: end,
+                fault: Fault::NoMember,
+            });
+        }
+        Ok(Script::new(Head::new(cluster, members), body))
     }
 }

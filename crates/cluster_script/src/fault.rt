@@ -1,33 +1,108 @@
 //! Why bytes are no script.
 ghost use Rattle.std.specs.Prelude.{◌≡◌};
-ghost use Rattle.cluster_script.specs.declared.fault.ScriptFault.TheVariants.{Memory};
+ghost use Rattle.cluster_script.specs.Faults.{text_of, rank_of, earlier};
 
-use std::alloc::{AllocError, AllocFailed};
-use thiserror::Error;
+use std::fmt;
 
-/// Why no script was read.
-#[derive(Clone, Copy, Debug, PartialEq, Eq, Error)]
-pub enum ScriptFault {
-    /// Want of memory: nothing is said of the bytes.
-    #[error("out of memory")]
-    Memory,
-    /// The bytes are no script of a form that is built.
-    #[error("script not built")]
+/// What is wrong with a line. A line has its first fault in this order.
+#[derive(Clone, Copy, Debug, PartialEq, Eq)]
+pub enum Fault {
+    /// The line isn't UTF-8.
+    NotUtf8,
+    /// The line is longer than 8,192 bytes.
+    TooLong,
+    /// The first line that counts isn't `cluster`, or no line counts.
+    NoCluster,
+    /// The first word is none of a script's, or it is `member` for the seventeenth time.
+    BadWord,
+    /// A first word or an option that is still to be built.
     NotBuilt,
+    /// A word that has to be a name isn't one.
+    BadName,
+    /// A word that has to be a number isn't one.
+    BadNumber,
+    /// A word out of its list.
+    BadOption,
+    /// A cluster or a member is declared twice.
+    Duplicate,
+    /// A name that no line declares as a member's.
+    UnknownName,
+    /// The body begins, or the script ends, without a member.
+    NoMember,
+    /// A line of the head stands behind the body's first.
+    HeadLate,
+    /// A word is missing, or one is too many.
+    WordCount,
+    /// The configuration is none.
+    BadConfig,
+    /// The two ends of a link are one.
+    SameEnds,
 }
 
-impl From<AllocError> for ScriptFault {
-    ghost from_gives = { λ _ e. e ≡ Memory };
-
-    fn from(_: AllocError) -> Self {
-        ScriptFault::Memory
+/// What a fault is called.
+pub fn text_of(fault: Fault) -> &'static str
+    ensures { result.now ≡ text_of fault }
+{
+    match fault {
+        Fault::NotUtf8 => "not UTF-8",
+        Fault::TooLong => "line too long",
+        Fault::NoCluster => "no cluster line",
+        Fault::BadWord => "unknown line",
+        Fault::NotBuilt => "not built",
+        Fault::BadName => "bad name",
+        Fault::BadNumber => "bad number",
+        Fault::BadOption => "bad option",
+        Fault::Duplicate => "declared twice",
+        Fault::UnknownName => "unknown name",
+        Fault::NoMember => "no member",
+        Fault::HeadLate => "head line after body",
+        Fault::WordCount => "wrong number of words",
+        Fault::BadConfig => "bad configuration",
+        Fault::SameEnds => "same ends",
     }
 }
 
-impl<T: Drop> From<AllocFailed<T>> for ScriptFault {
-    ghost from_gives = { λ _ e. e ≡ Memory };
+/// The place of a fault in their order.
+fn rank_of(fault: Fault) -> u8
+    ensures { result ≡ rank_of fault }
+{
+    match fault {
+        Fault::NotUtf8 => 0,
+        Fault::TooLong => 1,
+        Fault::NoCluster => 2,
+        Fault::BadWord => 3,
+        Fault::NotBuilt => 4,
+        Fault::BadName => 5,
+        Fault::BadNumber => 6,
+        Fault::BadOption => 7,
+        Fault::Duplicate => 8,
+        Fault::UnknownName => 9,
+        Fault::NoMember => 10,
+        Fault::HeadLate => 11,
+        Fault::WordCount => 12,
+        Fault::BadConfig => 13,
+        Fault::SameEnds => 14,
+    }
+}
 
-    fn from(_: AllocFailed<T>) -> Self {
-        ScriptFault::Memory
+/// The fault that a line has of two.
+pub fn earlier(first: Fault, second: Fault) -> Fault
+    ensures { result ≡ earlier first second }
+{
+    if rank_of(first) <= rank_of(second) {
+        first
+    } else {
+        second
+    }
+}
+
+impl fmt::Display for Fault {
+    ghost use Rattle.std.specs.Prelude.{Some};
+    ghost use Rattle.cluster_script.specs.Faults.{text_of};
+
+    ghost output = { λ fault. Some (text_of fault) };
+
+    fn fmt<W: fmt::Write>(&self, f: &mut fmt::Formatter<W>) -> fmt::Result {
+        f.write_str(text_of(*self))
     }
 }

@@ -1,14 +1,14 @@
 //! What ties the reading of scripts to their spelling, in both directions.
-ghost use Rattle.std.specs.Prelude.{ℕ, ◌≡◌, List, Some};
+ghost use Rattle.std.specs.Prelude.{ℕ, ◌≡◌, List, Ok};
 ghost use Rattle.cluster_script.specs.Reading.{script_of};
-ghost use Rattle.cluster_script.specs.Script.{ScriptText, IsScript, spelling_of};
+ghost use Rattle.cluster_script.specs.Script.{ScriptText, IsScript, Spells, spelling_of};
 
 /// What is read as a script is one, and is spelled so.
 pub fn read_is_spelled()
-    ensures { (bytes : List ℕ) (text : ScriptText) → script_of bytes ≡ Some text → IsScript text × (bytes ≡ spelling_of text) }
+    ensures { (bytes : List ℕ) (text : ScriptText) → script_of bytes ≡ Ok text → IsScript text × Spells bytes text }
 {}
 
 /// What is spelled as a script is read as it.
 pub fn spelled_is_read()
-    ensures { (text : ScriptText) → IsScript text → script_of (spelling_of text) ≡ Some text }
+    ensures { (bytes : List ℕ) (text : ScriptText) → IsScript text → Spells bytes text → script_of bytes ≡ Ok text }
 {}

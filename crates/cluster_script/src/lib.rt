@@ -1,21 +1,27 @@
 //! The script of a run: its lines, what they say, and the one way to read them.
 #![tactic(auto)]
 
+mod addition;
+mod arguments;
 mod draft;
 mod fault;
 mod head;
+mod head_lines;
 mod keyword;
 mod laws;
 mod line;
 mod lines;
+mod members;
 mod numbers;
 mod reader;
 mod script;
+mod script_fault;
 mod words;
 
-pub use fault::ScriptFault;
+pub use fault::Fault;
 pub use head::{Head, MemberOptions};
 pub use laws::{read_is_spelled, spelled_is_read};
-pub use line::{Line, Step};
+pub use line::{Command, End, Line, Step};
 pub use reader::read;
 pub use script::Script;
+pub use script_fault::ScriptFault;

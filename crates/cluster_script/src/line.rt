@@ -1,20 +1,52 @@
 //! What a script tells the run to do.
 use pat_base::MemberId;
 
+/// One end of a link: a member, or the key store.
+#[derive(Clone, Copy, Debug, PartialEq, Eq)]
+pub enum End {
+    Store,
+    Member(MemberId),
+}
+
+/// What a line of a script's body asks for by itself. Ticks are of 100 ms, and messages are numbered from 1 in order of sending.
+#[derive(Clone, Copy, Debug, PartialEq, Eq)]
+pub enum Command {
+    /// `tick N`: N bare ticks.
+    Tick(u64),
+    /// `turn M`: the agent of this member is woken.
+    Turn(MemberId),
+    /// `deliver I`: the message of this number is delivered.
+    Deliver(u64),
+    /// `lose I`: the message of this number is lost.
+    Lose(u64),
+    /// `hold M`: the agent of this member is suspended.
+    Hold(MemberId),
+    /// `resume M`: the agent of this member goes on.
+    Resume(MemberId),
+    /// `kill M`: the agent of this member ends.
+    Kill(MemberId),
+    /// `restart M`: the agent of this member is started again.
+    Restart(MemberId),
+    /// `cut X Y`: the link between two ends, which differ, carries nothing.
+    Cut(End, End),
+    /// `join X Y`: the link between two ends, which differ, carries messages again.
+    Join(End, End),
+    /// `trace on`, `trace off`: whether lines of messages are printed.
+    Trace(bool),
+}
+
 /// A line of a script's body.
 #[derive(Clone, Copy, Debug, PartialEq, Eq)]
 pub enum Line {
-    /// `run N`: N ticks (of 100 ms) of the default schedule.
+    /// `run N`: N ticks of the default schedule.
     Run(u64),
-    /// `hold M`: the agent of this member is suspended.
-    Hold(MemberId),
+    Command(Command),
 }
 
 /// A step of a run: one tick of a `run` line, or another line of the body.
 #[derive(Clone, Copy, Debug, PartialEq, Eq)]
 pub enum Step {
-    /// One tick (100 ms) of the default schedule.
+    /// One tick of the default schedule.
     Tick,
-    /// The agent of this member is suspended.
-    Hold(MemberId),
+    Command(Command),
 }

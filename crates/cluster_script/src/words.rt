@@ -1,15 +1,37 @@
-//! The first word of a line.
+//! Words between blanks, and the first word of a line.
 ghost use Rattle.std.specs.Prelude.{◌≡◌, option_map};
-ghost use Rattle.cluster_script.specs.Words.{word_of, keyword_of, cut_word, first_word};
+ghost use Rattle.std.specs.Option.{option_copied};
+ghost use Rattle.cluster_script.specs.Words.{word_of, keyword_of, cut_word};
 
 use crate::keyword::Keyword;
 use crate::lines::first_at;
 
-const KEYWORDS: [Keyword; 4] = [
+const KEYWORDS: [Keyword; 25] = [
     Keyword::Cluster,
+    Keyword::Config,
+    Keyword::Base,
     Keyword::Member,
+    Keyword::Tick,
     Keyword::Run,
+    Keyword::Turn,
+    Keyword::Deliver,
+    Keyword::Lose,
     Keyword::Hold,
+    Keyword::Resume,
+    Keyword::Kill,
+    Keyword::Restart,
+    Keyword::Crash,
+    Keyword::Promote,
+    Keyword::Commit,
+    Keyword::Stream,
+    Keyword::Freeze,
+    Keyword::Thaw,
+    Keyword::Cut,
+    Keyword::Join,
+    Keyword::Slow,
+    Keyword::Rest,
+    Keyword::Ctl,
+    Keyword::Trace,
 ];
 
 fn word_of(keyword: Keyword) -> &'static [u8]
@@ -17,13 +39,35 @@ fn word_of(keyword: Keyword) -> &'static [u8]
 {
     match keyword {
         Keyword::Cluster => b"cluster",
+        Keyword::Config => b"config",
+        Keyword::Base => b"base",
         Keyword::Member => b"member",
+        Keyword::Tick => b"tick",
         Keyword::Run => b"run",
+        Keyword::Turn => b"turn",
+        Keyword::Deliver => b"deliver",
+        Keyword::Lose => b"lose",
         Keyword::Hold => b"hold",
+        Keyword::Resume => b"resume",
+        Keyword::Kill => b"kill",
+        Keyword::Restart => b"restart",
+        Keyword::Crash => b"crash",
+        Keyword::Promote => b"promote",
+        Keyword::Commit => b"commit",
+        Keyword::Stream => b"stream",
+        Keyword::Freeze => b"freeze",
+        Keyword::Thaw => b"thaw",
+        Keyword::Cut => b"cut",
+        Keyword::Join => b"join",
+        Keyword::Slow => b"slow",
+        Keyword::Rest => b"rest",
+        Keyword::Ctl => b"ctl",
+        Keyword::Trace => b"trace",
     }
 }
 
-fn keyword_of(word: &[u8]) -> Option<Keyword>
+/// The first word that these bytes are.
+pub fn keyword_of(word: &[u8]) -> Option<Keyword>
     ensures { result ≡ keyword_of word.now }
 {
     KEYWORDS
@@ -32,19 +76,12 @@ fn keyword_of(word: &[u8]) -> Option<Keyword>
         .find(|keyword| word == word_of(*keyword))
 }
 
-/// What stands before the first blank of a line, and what behind it.
-fn cut_word(line: &[u8]) -> Option<(&[u8], &[u8])>
-    ensures { option_map (λ p. (p.0.now, p.1.now)) result ≡ cut_word line.now }
+/// The word before the first blank, and what stands behind that blank, if there is one.
+pub fn cut_word(bytes: &[u8]) -> (&[u8], Option<&[u8]>)
+    ensures { (result.0.now, option_copied result.1) ≡ cut_word bytes.now }
 {
-    let end = first_at(b' ', line)?;
-    Some((&line[..end], &line[end + 1..]))
-}
-
-/// The first word of a line, and what stands behind its blank. `None` where a line has no blank, or another first word.
-pub fn first_word(line: &[u8]) -> Option<(Keyword, &[u8])>
-    ensures { option_map (λ p. (p.0, p.1.now)) result ≡ first_word line.now }
-{
-    let (word, rest) = cut_word(line)?;
-    let keyword = keyword_of(word)?;
-    Some((keyword, rest))
+    match first_at(b' ', bytes) {
+        None => (bytes, None),
+        Some(end) => (&bytes[..end], Some(&bytes[end + 1..])),
+    }
 }

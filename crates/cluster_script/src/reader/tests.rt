@@ -1,6 +1,6 @@
-//! Scripts that are read, and bytes that are none.
+//! Scripts that are read, and the first fault of bytes that are none.
 use super::read;
-use crate::{Line, ScriptFault};
+use crate::{Command, End, Fault, Line, ScriptFault};
 use std::alloc::Global;
 use std::test::Fail;
 
@@ -13,19 +13,19 @@ fn is_read(alloc: Global, bytes: &[u8]) -> bool {
     read(alloc, bytes).is_ok()
 }
 
-fn is_refused(alloc: Global, bytes: &[u8]) -> bool {
+fn has_fault(alloc: Global, bytes: &[u8], line: u64, fault: Fault) -> bool {
     match read(alloc, bytes) {
         Ok(_) => false,
-        Err(fault) => fault == ScriptFault::NotBuilt,
+        Err(found) => found == ScriptFault::At { line, fault },
     }
 }
 
-/// These bytes, and behind them so many times these.
-fn repeated(alloc: Global, front: &[u8], piece: &[u8], count: usize) -> Result<Vec<u8>, Fail> {
+/// The head of a script, and so many times this line behind it.
+fn with_body(alloc: Global, line: &[u8], count: usize) -> Result<Vec<u8>, Fail> {
     let mut bytes = Vec::new(alloc);
-    bytes.extend_from_slice(front)?;
+    bytes.extend_from_slice(HEAD)?;
     for _ in 0..count {
-        bytes.extend_from_slice(piece)?;
+        bytes.extend_from_slice(line)?;
     }
     Ok(bytes)
 }
@@ -33,94 +33,210 @@ fn repeated(alloc: Global, front: &[u8], piece: &[u8], count: usize) -> Result<V
 #[test]
 fn a_script_says_what_its_lines_say(rt: HostRuntime) -> Result<(), Fail> {
     let alloc = rt.alloc();
-    let script = read(
-        alloc,
-        b"cluster demo\nmember a\nmember demo\nrun 50\nhold demo\n",
-    )
-    .map_err(|_| "none")?;
+    let bytes =
+        b"# a run\n\ncluster demo\nmember a\nmember store\n#\nrun 50\ncut store a\ntrace off\ndeliver 7\nturn store";
+    let script = read(alloc, bytes).map_err(|_| "none")?;
     assert_eq!(rt; script.head().cluster().as_str(), "demo");
     assert_eq!(rt; script.head().member_count(), 2);
-    assert_eq!(rt; script.head().member(0).ok_or("none")?.as_str(), "a");
+    assert_eq!(rt; script.head().member(1).ok_or("none")?.as_str(), "store");
     assert!(rt; script.head().member(2).is_none());
-    assert_eq!(rt; script.len(), 2);
+    assert_eq!(rt; script.len(), 5);
     assert!(rt; !script.is_empty());
     assert_eq!(rt; *script.get(0).ok_or("none")?, Line::Run(50));
-    assert!(rt; matches!(script.get(1), Some(Line::Hold(member)) if member.number == 1));
-    assert!(rt; script.get(2).is_none());
+    assert!(rt;
+        matches!(script.get(1), Some(Line::Command(Command::Cut(End::Store, End::Member(member)))) if member.number == 0)
+    );
+    assert_eq!(rt;
+        *script.get(2).ok_or("none")?,
+        Line::Command(Command::Trace(false))
+    );
+    assert_eq!(rt;
+        *script.get(3).ok_or("none")?,
+        Line::Command(Command::Deliver(7))
+    );
+    assert!(rt;
+        matches!(script.get(4), Some(Line::Command(Command::Turn(member))) if member.number == 1)
+    );
+    assert!(rt; script.get(5).is_none());
     Ok(())
 }
 
 #[test]
-fn bytes_that_are_read(rt: HostRuntime) -> Result<(), Fail> {
+fn lines_that_are_read(rt: HostRuntime) -> Result<(), Fail> {
     let alloc = rt.alloc();
-    let scripts: [&[u8]; 5] = [
-        HEAD,
-        b"cluster a\nmember a\nrun 0\n",
-        b"cluster 0123456789abcdefghijklmnopqrst-_\nmember a\nrun 1000000\n",
-        b"cluster c\nmember a\nrun 999999\nrun 1\nhold a\nhold a\n",
-        &SEVENTEEN[..SEVENTEEN.len() - 9],
-    ];
-    for script in scripts {
-        assert!(rt; is_read(alloc, script));
-    }
-    let lines = repeated(alloc, HEAD, b"run 1\n", 99_997)?;
-    assert!(rt; is_read(alloc, &lines));
-    let front =
-        b"cluster c\nmember 0123456789abcdefghijklmnopqrst-_\nrun 0\nrun 0\nrun 0\nrun 0\nrun 0\n";
-    let longest = repeated(
-        alloc,
-        front,
-        b"hold 0123456789abcdefghijklmnopqrst-_\n",
-        27_592,
-    )?;
-    assert_eq!(rt; longest.len(), 1_048_576);
-    assert!(rt; is_read(alloc, &longest));
-    Ok(())
-}
-
-#[test]
-fn bytes_that_are_refused(rt: HostRuntime) -> Result<(), Fail> {
-    let alloc = rt.alloc();
-    let refused: [&[u8]; 24] = [
+    let lines: [&[u8]; 16] = [
         b"",
         b"\n",
-        b"cluster demo\n",
-        b"cluster demo\nmember a",
-        b"member a\n",
-        b"cluster demo\nrun 1\n",
-        b"cluster demo\nrun 1\nmember a\n",
-        b"cluster demo\nmember a\nrun 1\nmember b\n",
-        b"cluster demo\nmember a\nmember a\n",
-        b"cluster demo\ncluster demo\nmember a\n",
-        b"cluster Demo\nmember a\n",
-        b"cluster \nmember a\n",
-        b"cluster 0123456789abcdefghijklmnopqrst-_x\nmember a\n",
-        b"cluster demo\nmember a\nrun 01\n",
-        b"cluster demo\nmember a\nrun +1\n",
-        b"cluster demo\nmember a\nrun \n",
-        b"cluster demo\nmember a\nrun\n",
-        b"cluster demo\nmember a\nrun 1 \n",
-        b"cluster demo\nmember a\nrun 1000001\n",
-        b"cluster demo\nmember a\nrun 18446744073709551616\n",
-        b"cluster demo\nmember a\nhold b\n",
-        b"cluster demo\nmember a\ndance\n",
-        b"cluster demo\nmember a\n\n",
-        SEVENTEEN,
+        b"# \xc3\xa4",
+        b"tick 0",
+        b"tick 18446744073709551615\n",
+        b"run 1\n",
+        b"turn a\n",
+        b"deliver 1\n",
+        b"lose 1\n",
+        b"hold b\n",
+        b"resume b\n",
+        b"kill a\n",
+        b"restart a\n",
+        b"cut a b\n",
+        b"join store a\n",
+        b"trace on\n",
     ];
-    for bytes in refused {
-        assert!(rt; is_refused(alloc, bytes));
+    for line in lines {
+        assert!(rt; is_read(alloc, &with_body(alloc, line, 1)?));
     }
-    let lines = repeated(alloc, HEAD, b"run 1\n", 99_998)?;
-    assert!(rt; is_refused(alloc, &lines));
-    let front =
-        b"cluster c\nmember 0123456789abcdefghijklmnopqrst-_\nrun 0\nrun 0\nrun 0\nrun 0\nrun 10\n";
-    let longer = repeated(
-        alloc,
-        front,
-        b"hold 0123456789abcdefghijklmnopqrst-_\n",
-        27_592,
-    )?;
-    assert_eq!(rt; longer.len(), 1_048_577);
-    assert!(rt; is_refused(alloc, &longer));
+    assert!(rt; is_read(alloc, &SEVENTEEN[..SEVENTEEN.len() - 9]));
+    assert!(rt; is_read(alloc, &with_body(alloc, b"run 1000000\n", 1000)?));
+    Ok(())
+}
+
+#[test]
+fn whole_inputs_with_a_fault(rt: HostRuntime) -> Result<(), Fail> {
+    let alloc = rt.alloc();
+    let inputs: [(&[u8], u64, Fault); 16] = [
+        (b"", 1, Fault::NoCluster),
+        (b"\n# none\n", 3, Fault::NoCluster),
+        (b"# none", 2, Fault::NoCluster),
+        (b"member a\n", 1, Fault::NoCluster),
+        (b"\ndance\n", 2, Fault::NoCluster),
+        (b"cluster\n", 1, Fault::WordCount),
+        (b"cluster \n", 1, Fault::BadName),
+        (b"cluster a b\n", 1, Fault::WordCount),
+        (b"cluster A b\n", 1, Fault::BadName),
+        (b"cluster a\n", 2, Fault::NoMember),
+        (b"cluster a\n\n#", 4, Fault::NoMember),
+        (b"cluster a\ntick 1\n", 2, Fault::NoMember),
+        (b"cluster a\nhold\n", 2, Fault::NoMember),
+        (b"cluster a\ntick x\n", 2, Fault::BadNumber),
+        (b"cluster a\nhold b\n", 2, Fault::UnknownName),
+        (SEVENTEEN, 18, Fault::BadWord),
+    ];
+    for (bytes, line, fault) in inputs {
+        assert!(rt; has_fault(alloc, bytes, line, fault));
+    }
+    Ok(())
+}
+
+#[test]
+fn lines_with_a_fault(rt: HostRuntime) -> Result<(), Fail> {
+    let alloc = rt.alloc();
+    let lines: [(&[u8], Fault); 37] = [
+        (b"\xff", Fault::NotUtf8),
+        (b"# \xff", Fault::NotUtf8),
+        (b"dance", Fault::BadWord),
+        (b" tick 1", Fault::BadWord),
+        (b"runs 1", Fault::BadWord),
+        (b"member c nosync=true", Fault::NotBuilt),
+        (b"member C x nosync=true", Fault::NotBuilt),
+        (b"hold A b", Fault::BadName),
+        (b"hold ", Fault::BadName),
+        (b"cut c B", Fault::BadName),
+        (b"member C", Fault::BadName),
+        (b"cluster X", Fault::BadName),
+        (b"tick x y", Fault::BadNumber),
+        (b"tick ", Fault::BadNumber),
+        (b"tick 01", Fault::BadNumber),
+        (b"run 18446744073709551616", Fault::BadNumber),
+        (b"trace maybe", Fault::BadOption),
+        (b"member c d", Fault::BadOption),
+        (b"member a d", Fault::BadOption),
+        (b"member c host", Fault::BadOption),
+        (b"member a", Fault::Duplicate),
+        (b"cluster x", Fault::Duplicate),
+        (b"cluster", Fault::Duplicate),
+        (b"hold c d", Fault::UnknownName),
+        (b"cut a c", Fault::UnknownName),
+        (b"turn store", Fault::UnknownName),
+        (b"tick", Fault::WordCount),
+        (b"tick 1 ", Fault::WordCount),
+        (b"hold a b", Fault::WordCount),
+        (b"member", Fault::WordCount),
+        (b"cut a", Fault::WordCount),
+        (b"cut a a a", Fault::WordCount),
+        (b"trace on off", Fault::WordCount),
+        (b"cut a a", Fault::SameEnds),
+        (b"join store store", Fault::SameEnds),
+        (b"dance\n\xff", Fault::BadWord),
+        (b"tick x\ndance", Fault::BadNumber),
+    ];
+    for (line, fault) in lines {
+        assert!(rt; has_fault(alloc, &with_body(alloc, line, 1)?, 4, fault));
+    }
+    let late: [(&[u8], Fault); 4] = [
+        (b"tick 1\nmember c", Fault::HeadLate),
+        (b"tick 1\nmember", Fault::HeadLate),
+        (b"tick 1\nmember a", Fault::Duplicate),
+        (b"tick 1\ncluster x", Fault::Duplicate),
+    ];
+    for (line, fault) in late {
+        assert!(rt; has_fault(alloc, &with_body(alloc, line, 1)?, 5, fault));
+    }
+    Ok(())
+}
+
+#[test]
+fn lines_that_are_still_to_be_built(rt: HostRuntime) -> Result<(), Fail> {
+    let alloc = rt.alloc();
+    let lines: [&[u8]; 19] = [
+        b"config {}",
+        b"base 1",
+        b"crash a",
+        b"promote a",
+        b"commit a 1",
+        b"stream a 1",
+        b"freeze a",
+        b"thaw",
+        b"slow a stop 1",
+        b"rest a GET /",
+        b"ctl list",
+        b"member c host=h",
+        b"member c nofailover=true",
+        b"member c nosync=true",
+        b"member c noloadbalance=true",
+        b"member c priority=1",
+        b"member c watchdog=off",
+        b"member c device=ok",
+        b"member c margin=0",
+    ];
+    for line in lines {
+        assert!(rt; has_fault(alloc, &with_body(alloc, line, 1)?, 4, Fault::NotBuilt));
+    }
+    Ok(())
+}
+
+#[test]
+fn the_longest_line(rt: HostRuntime) -> Result<(), Fail> {
+    let alloc = rt.alloc();
+    let mut bytes = with_body(alloc, b"#", 8_192)?;
+    assert!(rt; is_read(alloc, &bytes));
+    bytes.push(b'#')?;
+    assert!(rt; has_fault(alloc, &bytes, 4, Fault::TooLong));
+    Ok(())
+}
+
+#[test]
+fn texts_of_faults(rt: HostRuntime) -> Result<(), Fail> {
+    let alloc = rt.alloc();
+    let texts = [
+        (Fault::NotUtf8, "line 7: not UTF-8"),
+        (Fault::TooLong, "line 7: line too long"),
+        (Fault::NoCluster, "line 7: no cluster line"),
+        (Fault::BadWord, "line 7: unknown line"),
+        (Fault::NotBuilt, "line 7: not built"),
+        (Fault::BadName, "line 7: bad name"),
+        (Fault::BadNumber, "line 7: bad number"),
+        (Fault::BadOption, "line 7: bad option"),
+        (Fault::Duplicate, "line 7: declared twice"),
+        (Fault::UnknownName, "line 7: unknown name"),
+        (Fault::NoMember, "line 7: no member"),
+        (Fault::HeadLate, "line 7: head line after body"),
+        (Fault::WordCount, "line 7: wrong number of words"),
+        (Fault::BadConfig, "line 7: bad configuration"),
+        (Fault::SameEnds, "line 7: same ends"),
+    ];
+    for (fault, text) in texts {
+        let found = ScriptFault::At { line: 7, fault };
+        assert_eq!(rt; format!(in alloc; "{found}")?.as_str(), text);
+    }
     Ok(())
 }

@@ -1,5 +1,6 @@
 use Rattle.std.proofs.Common.{◌≡◌, ◌+◌, drop, Some}
-use Rattle.cluster_script.specs.Lines.{first_at, on_some}
+use Rattle.cluster_script.specs.Lines.{first_at}
+use Rattle.cluster_script.specs.Options.{on_some}
 use Rattle.cluster_script.proofs.lines.first_at.Given as goal
 
 abbrev pub invariant-loop-place : goal.invariant-loop-place

@@ -1,6 +1,6 @@
-use Rattle.std.proofs.Common.{◌≡◌, drop, map}
-use Rattle.cluster_script.specs.Reading.{with_lines}
+use Rattle.std.proofs.Common.{◌≡◌, ◌+◌, drop, map}
+use Rattle.cluster_script.specs.Reading.{after_lines}
 use Rattle.cluster_script.proofs.draft.Draft.add_lines.Given as goal
 
-abbrev pub invariant-loop-line : goal.invariant-loop-line
-invariant-loop-line l = with_lines l.self (map (λ line. line.now) (drop l.line-index l.lines)) ≡ with_lines l.fn.self (map (λ line. line.now) l.lines)
+abbrev pub invariant-loop-place : goal.invariant-loop-place
+invariant-loop-place l = after_lines (l.place + 1) l.self (map (λ line. line.now) (drop l.place l.lines)) ≡ after_lines 1 l.fn.self (map (λ line. line.now) l.lines)

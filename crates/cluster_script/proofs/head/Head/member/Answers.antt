@@ -1,5 +1,5 @@
 use Rattle.std.proofs.Common.{sym}
-use Rattle.cluster_script.proofs.Members.{slice_get-keys_of}
+use Rattle.cluster_script.proofs.MemberLaws.{slice_get-keys_of}
 use Rattle.cluster_script.proofs.head.Head.member.Goals as goal
 
 pub returns-in-Some-clause-value : goal.returns-in-Some-clause-value

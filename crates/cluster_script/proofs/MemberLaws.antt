@@ -11,13 +11,12 @@ use Rattle.pat_base.specs.Name.{name_bytes}
 use Rattle.pat_base.specs.declared.name.Name.{Name}
 use Rattle.pat_base.specs.declared.member_id.MemberId.{MemberId}
 use Rattle.cluster_script.specs.Lines.{one_more}
-use Rattle.cluster_script.specs.Reading.{member_of, member_by, place_of, with_member}
-use Rattle.cluster_script.specs.Script.{ScriptText}
+use Rattle.cluster_script.specs.Members.{member_of, member_by, place_of}
 use Rattle.cluster_script.proofs.Places.{same_text}
 
 -- a member is its number
-pub same_member : (a b : MemberId) → a.number ≡ b.number → a ≡ b
-same_member a b e =
+pub same_member_id : (a b : MemberId) → a.number ≡ b.number → a ≡ b
+same_member_id a b e =
     subst
     (λ (n : ℕ). (below : n < 16) → ◌≡◌ {A = MemberId} a (record { number = n; below = below }))
     e
@@ -27,7 +26,7 @@ same_member a b e =
 made : (n : ℕ) (test : Bool) (is : nat_lt n 16 ≡ test) (r : Option MemberId) → IsSome r ↔ (n < 16) → IfSome r (λ m. m.number ≡ n) → r ≡ member_by n test is
 unfolding member_by
 made n true is None found value = let no : IsSome {T = MemberId} None = found.1 (ltb-true n 16 is) in cc
-made n true is (Some m) found value = ap Some (same_member m _ value)
+made n true is (Some m) found value = ap Some (same_member_id m _ value)
 made n false is None found value = refl
 made n false is (Some m) found value = let small : n < 16 = found.0 refl in absurd (grind (arith, nat_tests))
 
@@ -53,14 +52,6 @@ pub keys-insert_entry : {X : Type 0} (p : Name → Name → Bool) (name : Name) 
 keys-insert_entry p name v h [] none = refl
 keys-insert_entry p name v h (e ∷ es) none =
     rw (same_text (p name) name h e.0) (last-step (bytes_eq (name_bytes e.0) (name_bytes name)) e es (insert_entry p es name v) name v (place_of (keys_of es) name) none (λ n. keys-insert_entry p name v h es n))
-
-test-true : (n k : ℕ) → n < 16 → k ≡ 0 → (nat_lt n 16 && (k == 0)) ≡ true
-test-true n k a b = grind (arith, nat_tests)
-
--- one more member
-pub with_member-new : (s : ScriptText) (name : Name) (found : Option Name) → found ≡ Some name → place_of s.head.members name ≡ None → length s.head.members < 16 → length s.body ≡ 0
-    → with_member s found ≡ Some (record s { head = record s.head { members = s.head.members ++ name ∷ [] } })
-with_member-new s name found is none few empty = rw (is, none, test-true (length s.head.members) (length s.body) few empty) refl
 
 pub absent : {X : Type 0} (o : Option X) → is_some o ≡ false → o ≡ None
 absent None e = refl

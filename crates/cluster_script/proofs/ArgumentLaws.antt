@@ -1,0 +1,230 @@
+-- What a line says is spelled so.
+use Rattle.std.proofs.Common.{◌≡◌, ◌≢◌, ℕ, ◌+◌, ◌≤◌, ◌<◌, ◌^◌, ◌&&◌, ◌==◌, nat_le, nat_lt, Bool, true, false, cond, List, [], ◌∷◌, ◌++◌, length, map, slice_get, Option, Some, None, Result, Ok, Err, codes, refl, ◌∙◌, ap, sym, subst, zero, suc, arith, eq-eqb}
+use Rattle.std.specs.Fmt.{decimal}
+use Rattle.std.specs.Str.{bytes_eq}
+use Rattle.std.proofs.lemmas.Bool.Decides.{nat_tests}
+use Rattle.std.proofs.lemmas.Option.{slice_get_within}
+use Rattle.std.proofs.lemmas.Slice.Eq.{bytes_eq-Decides}
+use Rattle.pat_base.specs.Name.{name_bytes, name_of}
+use Rattle.pat_base.specs.declared.name.Name.{Name}
+use Rattle.pat_base.specs.declared.member_id.MemberId.{MemberId}
+use Rattle.pat_base.proofs.Names.{name_of-text}
+use Rattle.cluster_script.specs.Arguments.{some_or, number_in, switch_in, declared_member, member_in, end_in, missing_word, line_end, last_word, one_word, same_member, same_end, apart, second_end, two_ends, command, line_of_words}
+use Rattle.cluster_script.specs.Faults.{on_ok, both}
+use Rattle.cluster_script.specs.Members.{member_of, place_of, member_named}
+use Rattle.cluster_script.specs.Numbers.{number}
+use Rattle.cluster_script.specs.Script.{text_of_name, member_text, end_text, switch_text, two_texts, command_text, line_text, IsMember, IsEnd, IsLink, IsCommand, IsLine}
+use Rattle.cluster_script.specs.Words.{spelled, cut_word}
+use Rattle.cluster_script.specs.declared.fault.Fault.{Fault}
+use Rattle.cluster_script.specs.declared.fault.Fault.TheVariants as faults
+use Rattle.cluster_script.specs.declared.keyword.Keyword.{Keyword}
+use Rattle.cluster_script.specs.declared.keyword.Keyword.TheVariants as words
+use Rattle.cluster_script.specs.declared.line.End.{End}
+use Rattle.cluster_script.specs.declared.line.End.TheVariants as ends
+use Rattle.cluster_script.specs.declared.line.Command.{Command}
+use Rattle.cluster_script.specs.declared.line.Command.TheVariants as commands
+use Rattle.cluster_script.specs.declared.line.Line.{Line}
+use Rattle.cluster_script.specs.declared.line.Line.TheVariants as lines
+use Rattle.cluster_script.proofs.NameLaws.{place_of-Some, member_of-number}
+use Rattle.cluster_script.proofs.NumberLaws.{number-is, number-below}
+use Rattle.cluster_script.proofs.Outcomes.{some_is, none_is, ok_is, err_is, on_some-Some, on_ok-Ok, some_or-Ok, both-Ok, cond-Ok, cond-Err}
+use Rattle.cluster_script.proofs.WordLaws.{cut_word-None, cut_word-Some}
+
+-- a member that a word names
+pub record IsNamed (members : List Name) (word : List ℕ) (m : MemberId) : Type 0 where
+  pub text : member_text members m ≡ word
+  pub member : IsMember members m
+
+member-named : (members : List Name) (word : List ℕ) (m : MemberId) (o : Option Name) → name_of word ≡ o → declared_member members o ≡ Ok m → IsNamed members word m
+member-named members word m None is e = absurd (err_is _ m e)
+member-named members word m (Some name) is e =
+    let p = on_some-Some (place_of members name) member_of m (some_or-Ok faults.UnknownName (member_named members name) m e) in
+    let at : slice_get members p.0 ≡ Some name = place_of-Some members name p.0 p.1 in
+    let n : m.number ≡ p.0 = member_of-number p.0 m p.2 in
+    let inside : p.0 < length members = slice_get_within members p.0 name at in
+    record {
+      text = ap (λ k. text_of_name (slice_get members k)) n ∙ ap text_of_name at ∙ name_of-text word name is;
+      member = omega (arith, n, inside);
+    }
+
+pub member_in-Ok : (members : List Name) (word : List ℕ) (m : MemberId) → member_in members word ≡ Ok m → IsNamed members word m
+member_in-Ok members word m e = member-named members word m (name_of word) refl e
+
+-- an end that a word names
+pub record IsEndNamed (members : List Name) (word : List ℕ) (x : End) : Type 0 where
+  pub text : end_text members x ≡ word
+  pub is_end : IsEnd members x
+
+end-named : (members : List Name) (word : List ℕ) (x : End) (t : Bool) → bytes_eq word (codes "store") ≡ t → cond t (Ok ends.Store) (on_ok (member_in members word) (λ m. Ok (ends.Member m))) ≡ Ok x → IsEndNamed members word x
+end-named members word x true is e =
+    let same : ends.Store ≡ x = ok_is ends.Store x e in
+    let text : word ≡ codes "store" = (bytes_eq-Decides word (codes "store")).0 is in
+    subst (IsEndNamed members word) same (record { text = sym text; is_end = tt })
+end-named members word x false is e =
+    let p = on_ok-Ok (member_in members word) (λ m. Ok (ends.Member m)) x e in
+    let m = member_in-Ok members word p.0 p.1 in
+    let same : ends.Member p.0 ≡ x = ok_is (ends.Member p.0) x p.2 in
+    let other : member_text members p.0 ≢ codes "store" = λ h. other_word word is (sym m.text ∙ h) in
+    subst (IsEndNamed members word) same (record { text = m.text; is_end = (m.member, other) })
+  where
+    other_word : (word : List ℕ) → bytes_eq word (codes "store") ≡ false → word ≡ codes "store" → ⊥
+    other_word word unequal equal = let t : bytes_eq word (codes "store") ≡ true = (bytes_eq-Decides word (codes "store")).1 equal in cc
+
+pub end_in-Ok : (members : List Name) (word : List ℕ) (x : End) → end_in members word ≡ Ok x → IsEndNamed members word x
+end_in-Ok members word x e = end-named members word x (bytes_eq word (codes "store")) refl e
+
+no_more : (members : List Name) (rest : Option (List ℕ)) (u : Unit {0}) → line_end members rest ≡ Ok u → rest ≡ None
+no_more [] rest u e = absurd (err_is _ u e)
+no_more (m ∷ members) None u e = refl
+no_more (m ∷ members) (Some words) u e = absurd (err_is _ u e)
+
+-- the last word of a line
+pub last_word-Ok : {A : Type 0} (members : List Name) (r : Result A Fault) (rest : Option (List ℕ)) (x : A) → last_word members r rest ≡ Ok x → (r ≡ Ok x) × (rest ≡ None)
+last_word-Ok members r rest x e =
+    let p = on_ok-Ok r (λ x. on_ok (line_end members rest) (λ _. Ok x)) x e in
+    let q = on_ok-Ok (line_end members rest) (λ _. Ok p.0) x p.2 in
+    let same : p.0 ≡ x = ok_is p.0 x q.2 in
+    (p.1 ∙ ap Ok same, no_more members rest q.0 q.1)
+
+-- one word behind the first
+pub record HasWord {A : Type 0} (read : List ℕ → Result A Fault) (rest : Option (List ℕ)) (x : A) : Type 0 where
+  pub word : List ℕ
+  pub is : rest ≡ Some word
+  pub value : read word ≡ Ok x
+
+pub one_word-Ok : {A : Type 0} (members : List Name) (read : List ℕ → Result A Fault) (rest : Option (List ℕ)) (x : A) → one_word members read rest ≡ Ok x → HasWord read rest x
+one_word-Ok members read None x e = absurd (err_is _ x e)
+one_word-Ok members read (Some words) x e =
+    let p = last_word-Ok members (read (cut_word words).0) (cut_word words).1 x e in
+    let same : (cut_word words).0 ≡ words = cut_word-None words p.1 in
+    record { word = words; is = refl; value = ap read (sym same) ∙ p.0 }
+
+-- the two ends of a link behind the first word
+pub record HasLink (members : List Name) (rest : Option (List ℕ)) (first second : End) : Type 0 where
+  pub words : List ℕ
+  pub is : rest ≡ Some words
+  pub text : two_texts (end_text members first) (end_text members second) ≡ words
+  pub link : IsLink members first second
+
+same_end-refl : (x : End) → same_end x x ≡ true
+same_end-refl ends.Store = refl
+same_end-refl (ends.Member m) = eq-eqb m.number m.number refl
+
+different : (x y : End) → same_end x y ≡ false → x ≡ y → ⊥
+different x y unequal equal = let t : same_end x y ≡ true = subst (λ (z : End). same_end x z ≡ true) equal (same_end-refl x) in cc
+
+second-link : (members : List Name) (words : List ℕ) (first : Result End Fault) (rest : Option (List ℕ)) (p : End × End) → end_in members (cut_word words).0 ≡ first → (cut_word words).1 ≡ rest → second_end members first rest ≡ Ok p → HasLink members (Some words) p.0 p.1
+second-link members words first None p at is e =
+    let q = on_ok-Ok first (λ _. Err (missing_word members)) p e in
+    absurd (err_is _ p q.2)
+second-link members words first (Some more) p at is e =
+    let q = on_ok-Ok (last_word members (both first (end_in members (cut_word more).0)) (cut_word more).1) apart p e in
+    let l = last_word-Ok members (both first (end_in members (cut_word more).0)) (cut_word more).1 q.0 q.1 in
+    let b = both-Ok first (end_in members (cut_word more).0) q.0 l.0 in
+    let d = cond-Err (same_end q.0.0 q.0.1) (Ok q.0) faults.SameEnds p q.2 in
+    let same : q.0 ≡ p = ok_is q.0 p d.1 in
+    let x = end_in-Ok members (cut_word words).0 q.0.0 (at ∙ b.0) in
+    let y = end_in-Ok members (cut_word more).0 q.0.1 b.1 in
+    let last : (cut_word more).0 ≡ more = cut_word-None more l.1 in
+    let parts : words ≡ (cut_word words).0 ++ (32 ∷ more) = cut_word-Some words more is in
+    subst (λ (r : End × End). HasLink members (Some words) r.0 r.1) same (record {
+      words = words;
+      is = refl;
+      text = ap (λ t. two_texts t (end_text members q.0.1)) x.text ∙ ap (λ t. (cut_word words).0 ++ (32 ∷ t)) (y.text ∙ last) ∙ sym parts;
+      link = record { first_is = x.is_end; second_is = y.is_end; apart = different q.0.0 q.0.1 d.0 };
+    })
+
+pub two_ends-Ok : (members : List Name) (rest : Option (List ℕ)) (p : End × End) → two_ends members rest ≡ Ok p → HasLink members rest p.0 p.1
+two_ends-Ok members None p e = absurd (err_is _ p e)
+two_ends-Ok members (Some words) p e = second-link members words (end_in members (cut_word words).0) (cut_word words).1 p refl refl e
+
+-- 'on' and 'off'
+off-Ok : (word : List ℕ) (on : Bool) (t : Bool) → bytes_eq word (codes "off") ≡ t → cond t (Ok false) (Err faults.BadOption) ≡ Ok on → switch_text on ≡ word
+off-Ok word on true is e =
+    let same : false ≡ on = ok_is false on e in
+    ap switch_text (sym same) ∙ sym ((bytes_eq-Decides word (codes "off")).0 is)
+off-Ok word on false is e = absurd (err_is _ on e)
+
+on-Ok : (word : List ℕ) (on : Bool) (t : Bool) → bytes_eq word (codes "on") ≡ t → cond t (Ok true) (cond (bytes_eq word (codes "off")) (Ok false) (Err faults.BadOption)) ≡ Ok on → switch_text on ≡ word
+on-Ok word on true is e =
+    let same : true ≡ on = ok_is true on e in
+    ap switch_text (sym same) ∙ sym ((bytes_eq-Decides word (codes "on")).0 is)
+on-Ok word on false is e = off-Ok word on (bytes_eq word (codes "off")) refl e
+
+pub switch_in-Ok : (word : List ℕ) (on : Bool) → switch_in word ≡ Ok on → switch_text on ≡ word
+switch_in-Ok word on e = on-Ok word on (bytes_eq word (codes "on")) refl e
+
+-- what a line of this first word and these words says
+pub record Says (members : List Name) (keyword : Keyword) (rest : Option (List ℕ)) (line : Line) : Type 0 where
+  pub words : List ℕ
+  pub is : rest ≡ Some words
+  pub text : line_text members line ≡ spelled keyword words
+  pub fits : IsLine members line
+
+number-line : (members : List Name) (keyword : Keyword) (make : ℕ → Line) → ((n : ℕ) → line_text members (make n) ≡ spelled keyword (decimal n)) → ((n : ℕ) → n < 2 ^ 64 → IsLine members (make n))
+    → (rest : Option (List ℕ)) (line : Line) → on_ok (one_word members number_in rest) (λ n. Ok (make n)) ≡ Ok line → Says members keyword rest line
+number-line members keyword make text is_line rest line e =
+    let p = on_ok-Ok (one_word members number_in rest) (λ n. Ok (make n)) line e in
+    let w = one_word-Ok members number_in rest p.0 p.1 in
+    let n : number w.word ≡ Some p.0 = some_or-Ok faults.BadNumber (number w.word) p.0 w.value in
+    let same : make p.0 ≡ line = ok_is (make p.0) line p.2 in
+    subst (Says members keyword rest) same (record {
+      words = w.word;
+      is = w.is;
+      text = text p.0 ∙ ap (spelled keyword) (sym (number-is w.word p.0 n));
+      fits = is_line p.0 (number-below w.word p.0 n);
+    })
+
+member-line : (members : List Name) (keyword : Keyword) (make : MemberId → Line) → ((m : MemberId) → line_text members (make m) ≡ spelled keyword (member_text members m)) → ((m : MemberId) → IsMember members m → IsLine members (make m))
+    → (rest : Option (List ℕ)) (line : Line) → on_ok (one_word members (member_in members) rest) (λ m. Ok (make m)) ≡ Ok line → Says members keyword rest line
+member-line members keyword make text is_line rest line e =
+    let p = on_ok-Ok (one_word members (member_in members) rest) (λ m. Ok (make m)) line e in
+    let w = one_word-Ok members (member_in members) rest p.0 p.1 in
+    let m = member_in-Ok members w.word p.0 w.value in
+    let same : make p.0 ≡ line = ok_is (make p.0) line p.2 in
+    subst (Says members keyword rest) same (record {
+      words = w.word;
+      is = w.is;
+      text = text p.0 ∙ ap (spelled keyword) m.text;
+      fits = is_line p.0 m.member;
+    })
+
+link-line : (members : List Name) (keyword : Keyword) (make : End → End → Line) → ((x y : End) → line_text members (make x y) ≡ spelled keyword (two_texts (end_text members x) (end_text members y))) → ((x y : End) → IsLink members x y → IsLine members (make x y))
+    → (rest : Option (List ℕ)) (line : Line) → on_ok (two_ends members rest) (λ link. Ok (make link.0 link.1)) ≡ Ok line → Says members keyword rest line
+link-line members keyword make text is_line rest line e =
+    let p = on_ok-Ok (two_ends members rest) (λ link. Ok (make link.0 link.1)) line e in
+    let l = two_ends-Ok members rest p.0 p.1 in
+    let same : make p.0.0 p.0.1 ≡ line = ok_is (make p.0.0 p.0.1) line p.2 in
+    subst (Says members keyword rest) same (record {
+      words = l.words;
+      is = l.is;
+      text = text p.0.0 p.0.1 ∙ ap (spelled keyword) l.text;
+      fits = is_line p.0.0 p.0.1 l.link;
+    })
+
+trace-line : (members : List Name) (rest : Option (List ℕ)) (line : Line) → on_ok (one_word members switch_in rest) (λ on. command (commands.Trace on)) ≡ Ok line → Says members words.Trace rest line
+trace-line members rest line e =
+    let p = on_ok-Ok (one_word members switch_in rest) (λ on. command (commands.Trace on)) line e in
+    let w = one_word-Ok members switch_in rest p.0 p.1 in
+    let same : lines.Command (commands.Trace p.0) ≡ line = ok_is (lines.Command (commands.Trace p.0)) line p.2 in
+    subst (Says members words.Trace rest) same (record {
+      words = w.word;
+      is = w.is;
+      text = ap (spelled words.Trace) (switch_in-Ok w.word p.0 w.value);
+      fits = tt;
+    })
+
+pub line_of_words-Ok : (members : List Name) (keyword : Keyword) (rest : Option (List ℕ)) (line : Line) → line_of_words members keyword rest ≡ Ok line → Says members keyword rest line
+line_of_words-Ok members words.Tick rest line e = number-line members words.Tick (λ n. lines.Command (commands.Tick n)) (λ n. refl) (λ n h. h) rest line e
+line_of_words-Ok members words.Deliver rest line e = number-line members words.Deliver (λ n. lines.Command (commands.Deliver n)) (λ n. refl) (λ n h. h) rest line e
+line_of_words-Ok members words.Lose rest line e = number-line members words.Lose (λ n. lines.Command (commands.Lose n)) (λ n. refl) (λ n h. h) rest line e
+line_of_words-Ok members words.Run rest line e = number-line members words.Run (λ n. lines.Run n) (λ n. refl) (λ n h. h) rest line e
+line_of_words-Ok members words.Turn rest line e = member-line members words.Turn (λ m. lines.Command (commands.Turn m)) (λ m. refl) (λ m h. h) rest line e
+line_of_words-Ok members words.Hold rest line e = member-line members words.Hold (λ m. lines.Command (commands.Hold m)) (λ m. refl) (λ m h. h) rest line e
+line_of_words-Ok members words.Resume rest line e = member-line members words.Resume (λ m. lines.Command (commands.Resume m)) (λ m. refl) (λ m h. h) rest line e
+line_of_words-Ok members words.Kill rest line e = member-line members words.Kill (λ m. lines.Command (commands.Kill m)) (λ m. refl) (λ m h. h) rest line e
+line_of_words-Ok members words.Restart rest line e = member-line members words.Restart (λ m. lines.Command (commands.Restart m)) (λ m. refl) (λ m h. h) rest line e
+line_of_words-Ok members words.Cut rest line e = link-line members words.Cut (λ x y. lines.Command (commands.Cut x y)) (λ x y. refl) (λ x y h. h) rest line e
+line_of_words-Ok members words.Join rest line e = link-line members words.Join (λ x y. lines.Command (commands.Join x y)) (λ x y. refl) (λ x y h. h) rest line e
+line_of_words-Ok members words.Trace rest line e = trace-line members rest line e
+line_of_words-Ok members _ rest line e = absurd (err_is _ line e)

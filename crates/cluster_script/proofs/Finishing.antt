@@ -1,0 +1,14 @@
+-- A draft that is whole.
+use Rattle.std.proofs.Common.{◌≡◌, List, [], ◌∷◌, length, Option, Some, Result, Ok, refl, ap}
+use Rattle.pat_base.specs.declared.name.Name.{Name}
+use Rattle.cluster_script.specs.Draft.{draft_of}
+use Rattle.cluster_script.specs.Reading.{finished, with_some}
+use Rattle.cluster_script.specs.Script.{HeadText, ScriptText, IsScript}
+use Rattle.cluster_script.specs.declared.line.Line.{Line}
+
+pub finished-IsScript : (o : Option Name) (cluster : Name) (members : List Name) (body : List Line) → o ≡ Some cluster → (length members ≡ 0 → ⊥)
+    → ((text : ScriptText) → finished (draft_of o members body) ≡ Ok text → IsScript text)
+    → IsScript (record { head = record { cluster = cluster; members = members }; body = body })
+finished-IsScript o cluster [] body is some law = absurd (some refl)
+finished-IsScript o cluster (m ∷ members) body is some law =
+    law (record { head = record { cluster = cluster; members = m ∷ members }; body = body }) (ap (λ c. finished (draft_of c (m ∷ members) body)) is)

@@ -1,0 +1,58 @@
+-- Answers that may be missing or a fault.
+use Rattle.std.proofs.Common.{◌≡◌, Bool, true, false, cond, Option, Some, None, Result, Ok, Err, refl, ℕ}
+use Rattle.cluster_script.specs.Arguments.{some_or}
+use Rattle.cluster_script.specs.Faults.{on_ok, both}
+use Rattle.cluster_script.specs.Options.{on_some}
+use Rattle.cluster_script.specs.Reading.{at_line}
+use Rattle.cluster_script.specs.declared.fault.Fault.{Fault}
+
+pub some_is : {A : Type 0} (x y : A) → ◌≡◌ {A = Option A} (Some x) (Some y) → x ≡ y
+some_is x y e = cc
+
+pub none_is : {A : Type 0} (x : A) → ◌≡◌ {A = Option A} None (Some x) → ⊥
+none_is x e = cc
+
+pub ok_is : {A E : Type 0} (x y : A) → ◌≡◌ {A = Result A E} (Ok x) (Ok y) → x ≡ y
+ok_is x y e = cc
+
+pub err_is : {A E : Type 0} (f : E) (x : A) → ◌≡◌ {A = Result A E} (Err f) (Ok x) → ⊥
+err_is f x e = cc
+
+pub on_some-Some : {A B : Type 0} (o : Option A) (f : A → Option B) (y : B) → on_some o f ≡ Some y → (x : A) × (o ≡ Some x) × (f x ≡ Some y)
+on_some-Some None f y e = absurd (none_is y e)
+on_some-Some (Some x) f y e = (x, refl, e)
+
+pub on_ok-Ok : {A B E : Type 0} (r : Result A E) (f : A → Result B E) (y : B) → on_ok r f ≡ Ok y → (x : A) × (r ≡ Ok x) × (f x ≡ Ok y)
+on_ok-Ok (Ok x) f y e = (x, refl, e)
+on_ok-Ok (Err g) f y e = absurd (err_is g y e)
+
+pub at_line-Ok : {A : Type 0} (number : ℕ) (r : Result A Fault) (x : A) → at_line number r ≡ Ok x → r ≡ Ok x
+at_line-Ok number (Ok y) x e = let same : y ≡ x = ok_is y x e in rw same refl
+at_line-Ok number (Err f) x e = absurd (err_is (number, f) x e)
+
+pub some_or-Ok : {A : Type 0} (fault : Fault) (o : Option A) (x : A) → some_or fault o ≡ Ok x → o ≡ Some x
+some_or-Ok fault None x e = absurd (err_is fault x e)
+some_or-Ok fault (Some y) x e = let same : y ≡ x = ok_is y x e in rw same refl
+
+pub both-Ok : {A B : Type 0} (r : Result A Fault) (s : Result B Fault) (p : A × B) → both r s ≡ Ok p → (r ≡ Ok p.0) × (s ≡ Ok p.1)
+both-Ok (Ok x) (Ok y) p e = let same : (x, y) ≡ p = ok_is (x, y) p e in (rw (← same) refl, rw (← same) refl)
+both-Ok (Ok x) (Err f) p e = absurd (err_is f p e)
+both-Ok (Err f) (Ok y) p e = absurd (err_is f p e)
+both-Ok (Err f) (Err g) p e = absurd (err_is _ p e)
+
+-- a test that gives something
+pub cond-Some : {A : Type 0} (t : Bool) (o : Option A) (y : A) → cond t o None ≡ Some y → (t ≡ true) × (o ≡ Some y)
+cond-Some true o y e = (refl, e)
+cond-Some false o y e = absurd (none_is y e)
+
+pub cond-refuses : {A : Type 0} (t : Bool) (o : Option A) (y : A) → cond t None o ≡ Some y → (t ≡ false) × (o ≡ Some y)
+cond-refuses true o y e = absurd (none_is y e)
+cond-refuses false o y e = (refl, e)
+
+pub cond-Ok : {A E : Type 0} (t : Bool) (r : Result A E) (f : E) (y : A) → cond t r (Err f) ≡ Ok y → (t ≡ true) × (r ≡ Ok y)
+cond-Ok true r f y e = (refl, e)
+cond-Ok false r f y e = absurd (err_is f y e)
+
+pub cond-Err : {A E : Type 0} (t : Bool) (r : Result A E) (f : E) (y : A) → cond t (Err f) r ≡ Ok y → (t ≡ false) × (r ≡ Ok y)
+cond-Err true r f y e = absurd (err_is f y e)
+cond-Err false r f y e = (refl, e)

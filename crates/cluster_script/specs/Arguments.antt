@@ -1,0 +1,103 @@
+-- The words behind a line's first word. What stands there is judged in the order of the faults.
+use Rattle.std.specs.Prelude.{ℕ, ◌≡◌, ◌==◌, Bool, true, false, if◌then◌else◌, List, [], ◌∷◌, ◌++◌, Option, Some, None, Result, Ok, Err, codes, length}
+use Rattle.std.specs.Str.{bytes_eq}
+use Rattle.pat_base.specs.Name.{name_of, name_bytes}
+use Rattle.pat_base.specs.declared.name.Name.{Name}
+use Rattle.pat_base.specs.declared.member_id.MemberId.{MemberId}
+use Rattle.cluster_script.specs.Faults.{on_ok, both}
+use Rattle.cluster_script.specs.Members.{member_named}
+use Rattle.cluster_script.specs.Numbers.{number}
+use Rattle.cluster_script.specs.Words.{cut_word}
+use Rattle.cluster_script.specs.declared.fault.Fault.{Fault}
+use Rattle.cluster_script.specs.declared.fault.Fault.TheVariants as faults
+use Rattle.cluster_script.specs.declared.keyword.Keyword.{Keyword}
+use Rattle.cluster_script.specs.declared.keyword.Keyword.TheVariants as words
+use Rattle.cluster_script.specs.declared.line.End.{End}
+use Rattle.cluster_script.specs.declared.line.End.TheVariants as ends
+use Rattle.cluster_script.specs.declared.line.Command.{Command}
+use Rattle.cluster_script.specs.declared.line.Command.TheVariants as commands
+use Rattle.cluster_script.specs.declared.line.Line.{Line}
+use Rattle.cluster_script.specs.declared.line.Line.TheVariants as lines
+
+abbrev pub some_or : {A : Type 0} → Fault → Option A → Result A Fault
+some_or fault None = Err fault
+some_or fault (Some x) = Ok x
+
+-- a number
+abbrev pub number_in : List ℕ → Result ℕ Fault
+number_in word = some_or faults.BadNumber (number word)
+
+-- 'on' or 'off'
+abbrev pub switch_in : List ℕ → Result Bool Fault
+switch_in word = if bytes_eq word (codes "on") then Ok true else if bytes_eq word (codes "off") then Ok false else Err faults.BadOption
+
+abbrev pub declared_member : List Name → Option Name → Result MemberId Fault
+declared_member members None = Err faults.BadName
+declared_member members (Some name) = some_or faults.UnknownName (member_named members name)
+
+-- the name of a member
+abbrev pub member_in : List Name → List ℕ → Result MemberId Fault
+member_in members word = declared_member members (name_of word)
+
+-- an end of a link: 'store', or the name of a member
+abbrev pub end_in : List Name → List ℕ → Result End Fault
+end_in members word = if bytes_eq word (codes "store") then Ok ends.Store else on_ok (member_in members word) (λ member. Ok (ends.Member member))
+
+-- a word of a body line is missing
+abbrev pub missing_word : List Name → Fault
+missing_word [] = faults.NoMember
+missing_word (member ∷ members) = faults.WordCount
+
+-- a body line ends where its words end
+abbrev pub line_end : List Name → Option (List ℕ) → Result (Unit {0}) Fault
+line_end [] rest = Err faults.NoMember
+line_end (member ∷ members) None = Ok tt
+line_end (member ∷ members) (Some words) = Err faults.WordCount
+
+abbrev pub last_word : {A : Type 0} → List Name → Result A Fault → Option (List ℕ) → Result A Fault
+last_word members value rest = on_ok value (λ x. on_ok (line_end members rest) (λ _. Ok x))
+
+-- one word, read so
+abbrev pub one_word : {A : Type 0} → List Name → (List ℕ → Result A Fault) → Option (List ℕ) → Result A Fault
+one_word members read None = Err (missing_word members)
+one_word members read (Some words) = last_word members (read (cut_word words).0) (cut_word words).1
+
+abbrev pub same_member : MemberId → MemberId → Bool
+same_member first second = first.number == second.number
+
+abbrev pub same_end : End → End → Bool
+same_end ends.Store ends.Store = true
+same_end ends.Store (ends.Member member) = false
+same_end (ends.Member member) ends.Store = false
+same_end (ends.Member first) (ends.Member second) = same_member first second
+
+abbrev pub apart : End × End → Result (End × End) Fault
+apart link = if same_end link.0 link.1 then Err faults.SameEnds else Ok link
+
+abbrev pub second_end : List Name → Result End Fault → Option (List ℕ) → Result (End × End) Fault
+second_end members first None = on_ok first (λ _. Err (missing_word members))
+second_end members first (Some words) = on_ok (last_word members (both first (end_in members (cut_word words).0)) (cut_word words).1) apart
+
+-- the two ends of a link
+abbrev pub two_ends : List Name → Option (List ℕ) → Result (End × End) Fault
+two_ends members None = Err (missing_word members)
+two_ends members (Some words) = second_end members (end_in members (cut_word words).0) (cut_word words).1
+
+abbrev pub command : Command → Result Line Fault
+command c = Ok (lines.Command c)
+
+-- the line of the body with this first word, and these words behind it
+abbrev pub line_of_words : List Name → Keyword → Option (List ℕ) → Result Line Fault
+line_of_words members words.Tick rest = on_ok (one_word members number_in rest) (λ n. command (commands.Tick n))
+line_of_words members words.Deliver rest = on_ok (one_word members number_in rest) (λ n. command (commands.Deliver n))
+line_of_words members words.Lose rest = on_ok (one_word members number_in rest) (λ n. command (commands.Lose n))
+line_of_words members words.Run rest = on_ok (one_word members number_in rest) (λ n. Ok (lines.Run n))
+line_of_words members words.Turn rest = on_ok (one_word members (member_in members) rest) (λ member. command (commands.Turn member))
+line_of_words members words.Hold rest = on_ok (one_word members (member_in members) rest) (λ member. command (commands.Hold member))
+line_of_words members words.Resume rest = on_ok (one_word members (member_in members) rest) (λ member. command (commands.Resume member))
+line_of_words members words.Kill rest = on_ok (one_word members (member_in members) rest) (λ member. command (commands.Kill member))
+line_of_words members words.Restart rest = on_ok (one_word members (member_in members) rest) (λ member. command (commands.Restart member))
+line_of_words members words.Cut rest = on_ok (two_ends members rest) (λ link. command (commands.Cut link.0 link.1))
+line_of_words members words.Join rest = on_ok (two_ends members rest) (λ link. command (commands.Join link.0 link.1))
+line_of_words members words.Trace rest = on_ok (one_word members switch_in rest) (λ on. command (commands.Trace on))
+line_of_words members _ rest = Err faults.NotBuilt

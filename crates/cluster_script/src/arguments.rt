@@ -1,0 +1,208 @@
+//! The words behind a line's first word.
+ghost use Rattle.std.specs.Prelude.{ℕ, ◌≡◌, ◌≤◌, List, length, map};
+ghost use Rattle.std.specs.Option.{option_copied};
+ghost use Rattle.indexmap.specs.IndexMap.{keys};
+ghost use Rattle.cluster_script.specs.Faults.{both};
+ghost use Rattle.cluster_script.specs.Arguments.{number_in, switch_in, member_in, end_in, missing_word, line_end, one_word, same_end, apart, second_end, two_ends, line_of_words};
+
+use crate::fault::earlier;
+use crate::keyword::Keyword;
+use crate::members::{Members, member_named};
+use crate::numbers::number;
+use crate::words::cut_word;
+use crate::{Command, End, Fault, Line};
+use pat_base::{MemberId, Name};
+
+fn number_in(word: &[u8]) -> Result<u64, Fault>
+    ensures { result ≡ number_in word.now }
+{
+    match number(word) {
+        None => Err(Fault::BadNumber),
+        Some(n) => Ok(n),
+    }
+}
+
+fn switch_in(word: &[u8]) -> Result<bool, Fault>
+    ensures { result ≡ switch_in word.now }
+{
+    if word == b"on".as_slice() {
+        Ok(true)
+    } else if word == b"off".as_slice() {
+        Ok(false)
+    } else {
+        Err(Fault::BadOption)
+    }
+}
+
+fn member_in(members: &Members, word: &[u8]) -> Result<MemberId, Fault>
+    requires { length (keys members.now) ≤ 16 }
+    ensures { result ≡ member_in (keys members.now) word.now }
+{
+    let Some(name) = Name::read(word) else {
+        return Err(Fault::BadName);
+    };
+    match member_named(members, name) {
+        None => Err(Fault::UnknownName),
+        Some(member) => Ok(member),
+    }
+}
+
+fn end_in(members: &Members, word: &[u8]) -> Result<End, Fault>
+    requires { length (keys members.now) ≤ 16 }
+    ensures { result ≡ end_in (keys members.now) word.now }
+{
+    if word == b"store".as_slice() {
+        return Ok(End::Store);
+    }
+    match member_in(members, word) {
+        Ok(member) => Ok(End::Member(member)),
+        Err(fault) => Err(fault),
+    }
+}
+
+fn missing_word(members: &Members) -> Fault
+    ensures { result ≡ missing_word (keys members.now) }
+{
+    if members.is_empty() {
+        Fault::NoMember
+    } else {
+        Fault::WordCount
+    }
+}
+
+/// A line of the body ends where its words end.
+fn line_end(members: &Members, rest: Option<&[u8]>) -> Result<(), Fault>
+    ensures { result ≡ line_end (keys members.now) (option_copied rest.entry) }
+{
+    if members.is_empty() {
+        return Err(Fault::NoMember);
+    }
+    match rest {
+        None => Ok(()),
+        Some(_) => Err(Fault::WordCount),
+    }
+}
+
+fn one_number(members: &Members, rest: Option<&[u8]>) -> Result<u64, Fault>
+    ensures { result ≡ one_word (keys members.now) number_in (option_copied rest.entry) }
+{
+    let Some(words) = rest else {
+        return Err(missing_word(members));
+    };
+    let (word, rest) = cut_word(words);
+    let n = number_in(word)?;
+    line_end(members, rest)?;
+    Ok(n)
+}
+
+fn one_member(members: &Members, rest: Option<&[u8]>) -> Result<MemberId, Fault>
+    requires { length (keys members.now) ≤ 16 }
+    ensures { result ≡ one_word (keys members.now) (member_in (keys members.now)) (option_copied rest.entry) }
+{
+    let Some(words) = rest else {
+        return Err(missing_word(members));
+    };
+    let (word, rest) = cut_word(words);
+    let member = member_in(members, word)?;
+    line_end(members, rest)?;
+    Ok(member)
+}
+
+fn one_switch(members: &Members, rest: Option<&[u8]>) -> Result<bool, Fault>
+    ensures { result ≡ one_word (keys members.now) switch_in (option_copied rest.entry) }
+{
+    let Some(words) = rest else {
+        return Err(missing_word(members));
+    };
+    let (word, rest) = cut_word(words);
+    let on = switch_in(word)?;
+    line_end(members, rest)?;
+    Ok(on)
+}
+
+fn same_end(first: End, second: End) -> bool
+    ensures { result ≡ same_end first second }
+{
+    match (first, second) {
+        (End::Store, End::Store) => true,
+        (End::Member(a), End::Member(b)) => a.number == b.number,
+        _ => false,
+    }
+}
+
+fn both(first: Result<End, Fault>, second: Result<End, Fault>) -> Result<(End, End), Fault>
+    ensures { result ≡ both first second }
+{
+    match (first, second) {
+        (Ok(first), Ok(second)) => Ok((first, second)),
+        (Ok(_), Err(fault)) => Err(fault),
+        (Err(fault), Ok(_)) => Err(fault),
+        (Err(first), Err(second)) => Err(earlier(first, second)),
+    }
+}
+
+fn second_end(
+    members: &Members,
+    first: Result<End, Fault>,
+    rest: Option<&[u8]>,
+) -> Result<(End, End), Fault>
+    requires { length (keys members.now) ≤ 16 }
+    ensures { result ≡ second_end (keys members.now) first (option_copied rest.entry) }
+{
+    let Some(words) = rest else {
+        first?;
+        return Err(missing_word(members));
+    };
+    let (word, rest) = cut_word(words);
+    let (first, second) = both(first, end_in(members, word))?;
+    line_end(members, rest)?;
+    if same_end(first, second) {
+        Err(Fault::SameEnds)
+    } else {
+        Ok((first, second))
+    }
+}
+
+fn two_ends(members: &Members, rest: Option<&[u8]>) -> Result<(End, End), Fault>
+    requires { length (keys members.now) ≤ 16 }
+    ensures { result ≡ two_ends (keys members.now) (option_copied rest.entry) }
+{
+    let Some(words) = rest else {
+        return Err(missing_word(members));
+    };
+    let (word, rest) = cut_word(words);
+    second_end(members, end_in(members, word), rest)
+}
+
+/// The line of the body with this first word, and these words behind it.
+pub fn line_of_words(
+    members: &Members,
+    keyword: Keyword,
+    rest: Option<&[u8]>,
+) -> Result<Line, Fault>
+    requires { length (keys members.now) ≤ 16 }
+    ensures { result ≡ line_of_words (keys members.now) keyword (option_copied rest.entry) }
+{
+    let command = match keyword {
+        Keyword::Run => return Ok(Line::Run(one_number(members, rest)?)),
+        Keyword::Tick => Command::Tick(one_number(members, rest)?),
+        Keyword::Deliver => Command::Deliver(one_number(members, rest)?),
+        Keyword::Lose => Command::Lose(one_number(members, rest)?),
+        Keyword::Turn => Command::Turn(one_member(members, rest)?),
+        Keyword::Hold => Command::Hold(one_member(members, rest)?),
+        Keyword::Resume => Command::Resume(one_member(members, rest)?),
+        Keyword::Kill => Command::Kill(one_member(members, rest)?),
+        Keyword::Restart => Command::Restart(one_member(members, rest)?),
+        Keyword::Cut => {
+            let (first, second) = two_ends(members, rest)?;
+            Command::Cut(first, second)
+        }
+        Keyword::Join => {
+            let (first, second) = two_ends(members, rest)?;
+            Command::Join(first, second)
+        }
+        Keyword::Trace => Command::Trace(one_switch(members, rest)?),
+        _ => return Err(Fault::NotBuilt),
+    };
+    Ok(Line::Command(command))
+}

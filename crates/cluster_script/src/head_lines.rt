@@ -1,0 +1,137 @@
+//! The lines of a script's head.
+ghost use Rattle.std.specs.Prelude.{ℕ, ◌≡◌, ◌<◌, ◌≤◌, List, length, None, IfOk};
+ghost use Rattle.std.specs.Option.{option_copied};
+ghost use Rattle.indexmap.specs.IndexMap.{keys};
+ghost use Rattle.cluster_script.specs.Members.{place_of};
+ghost use Rattle.cluster_script.specs.Reading.{begins_option, has_option, in_head, declared_once, new_member, next_member, second_cluster, cluster_of, first_line};
+
+use crate::keyword::Keyword;
+use crate::members::{Members, place_of};
+use crate::words::{cut_word, keyword_of};
+use crate::{Fault, Line};
+use pat_base::Name;
+
+/// The most members that a script may have.
+const MEMBERS: usize = 16;
+
+/// Whether an option of a member stands right here.
+fn begins_option(bytes: &[u8]) -> bool
+    ensures { result ≡ begins_option bytes.now }
+{
+    bytes.starts_with(b"host=")
+        || bytes.starts_with(b"nofailover=")
+        || bytes.starts_with(b"nosync=")
+        || bytes.starts_with(b"noloadbalance=")
+        || bytes.starts_with(b"priority=")
+        || bytes.starts_with(b"watchdog=")
+        || bytes.starts_with(b"device=")
+        || bytes.starts_with(b"margin=")
+}
+
+/// Whether an option of a member stands behind one of the blanks.
+fn has_option(bytes: &[u8]) -> bool
+    ensures { result ≡ has_option bytes.now }
+{
+    for (place, b) in bytes.iter().enumerate() {
+        if *b == b' ' && begins_option(&bytes[place + 1..]) {
+            return true;
+        }
+    }
+    false
+}
+
+fn in_head(body: &[Line], fault: Fault) -> Fault
+    ensures { result ≡ in_head body.now fault }
+{
+    if body.is_empty() {
+        fault
+    } else {
+        Fault::HeadLate
+    }
+}
+
+fn named_member(members: &Members, body: &[Line], name: Name) -> Result<Name, Fault>
+    ensures value { result ≡ declared_once name body.now (place_of (keys members.now) name) }
+    ensures new { IfOk result (λ name. place_of (keys members.now) name ≡ None) }
+{
+    if place_of(members, name).is_some() {
+        return Err(Fault::Duplicate);
+    }
+    if body.is_empty() {
+        Ok(name)
+    } else {
+        Err(Fault::HeadLate)
+    }
+}
+
+fn new_member(members: &Members, body: &[Line], rest: Option<&[u8]>) -> Result<Name, Fault>
+    ensures value { result ≡ new_member (keys members.now) body.now (option_copied rest.entry) }
+    ensures new { IfOk result (λ name. place_of (keys members.now) name ≡ None) }
+{
+    let Some(words) = rest else {
+        return Err(in_head(body, Fault::WordCount));
+    };
+    if has_option(words) {
+        return Err(Fault::NotBuilt);
+    }
+    let (word, rest) = cut_word(words);
+    let Some(name) = Name::read(word) else {
+        return Err(Fault::BadName);
+    };
+    match rest {
+        Some(_) => Err(Fault::BadOption),
+        None => named_member(members, body, name),
+    }
+}
+
+/// The name of one more member, from the words of its line.
+pub fn next_member(members: &Members, body: &[Line], rest: Option<&[u8]>) -> Result<Name, Fault>
+    ensures value { result ≡ next_member (keys members.now) body.now (option_copied rest.entry) }
+    ensures new { IfOk result (λ name. place_of (keys members.now) name ≡ None) }
+    ensures few { IfOk result (λ _. length (keys members.now) < 16) }
+{
+    if members.len() >= MEMBERS {
+        return Err(Fault::BadWord);
+    }
+    new_member(members, body, rest)
+}
+
+/// Which fault a second line `cluster` has.
+pub fn second_cluster(rest: Option<&[u8]>) -> Fault
+    ensures { result ≡ second_cluster (option_copied rest.entry) }
+{
+    let Some(words) = rest else {
+        return Fault::Duplicate;
+    };
+    match Name::read(cut_word(words).0) {
+        None => Fault::BadName,
+        Some(_) => Fault::Duplicate,
+    }
+}
+
+fn cluster_of(rest: Option<&[u8]>) -> Result<Name, Fault>
+    ensures { result ≡ cluster_of (option_copied rest.entry) }
+{
+    let Some(words) = rest else {
+        return Err(Fault::WordCount);
+    };
+    let (word, rest) = cut_word(words);
+    let Some(name) = Name::read(word) else {
+        return Err(Fault::BadName);
+    };
+    match rest {
+        None => Ok(name),
+        Some(_) => Err(Fault::WordCount),
+    }
+}
+
+/// The name of the cluster, from the first line that counts.
+pub fn first_line(line: &[u8]) -> Result<Name, Fault>
+    ensures { result ≡ first_line line.now }
+{
+    let (word, rest) = cut_word(line);
+    match keyword_of(word) {
+        Some(Keyword::Cluster) => cluster_of(rest),
+        _ => Err(Fault::NoCluster),
+    }
+}
