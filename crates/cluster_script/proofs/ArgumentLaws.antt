@@ -215,7 +215,7 @@ trace-line members rest line e =
     })
 
 pub line_of_words-Ok : (members : List Name) (keyword : Keyword) (rest : Option (List ℕ)) (line : Line) → line_of_words members keyword rest ≡ Ok line → Says members keyword rest line
-line_of_words-Ok members words.Tick rest line e = number-line members words.Tick (λ n. lines.Command (commands.Tick n)) (λ n. refl) (λ n h. h) rest line e
+line_of_words-Ok members words.Tick rest line e = number-line members words.Tick (λ n. lines.Tick n) (λ n. refl) (λ n h. h) rest line e
 line_of_words-Ok members words.Deliver rest line e = number-line members words.Deliver (λ n. lines.Command (commands.Deliver n)) (λ n. refl) (λ n h. h) rest line e
 line_of_words-Ok members words.Lose rest line e = number-line members words.Lose (λ n. lines.Command (commands.Lose n)) (λ n. refl) (λ n h. h) rest line e
 line_of_words-Ok members words.Run rest line e = number-line members words.Run (λ n. lines.Run n) (λ n. refl) (λ n h. h) rest line e

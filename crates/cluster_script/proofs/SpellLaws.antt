@@ -161,7 +161,6 @@ record IsSaid (members : List Name) (line : Line) : Type 0 where
   pub in_body : (body : List Line) → addition_of members body keyword (Some words) ≡ Ok (additions.Body line)
 
 command-IsSaid : (members : List Name) (c : Command) → 0 < length members → AreDifferent members → IsCommand members c → IsSaid members (lines.Command c)
-command-IsSaid members (commands.Tick n) some h is = record { keyword = words.Tick; words = decimal n; text = refl; in_body = λ body. ap (λ r. on_ok (on_ok r (λ n. command (commands.Tick n))) (λ l. Ok (additions.Body l))) (number-again members n some is) }
 command-IsSaid members (commands.Turn m) some h is = record { keyword = words.Turn; words = member_text members m; text = refl; in_body = λ body. ap (λ r. on_ok (on_ok r (λ m. command (commands.Turn m))) (λ l. Ok (additions.Body l))) (member-again members m some h is) }
 command-IsSaid members (commands.Deliver n) some h is = record { keyword = words.Deliver; words = decimal n; text = refl; in_body = λ body. ap (λ r. on_ok (on_ok r (λ n. command (commands.Deliver n))) (λ l. Ok (additions.Body l))) (number-again members n some is) }
 command-IsSaid members (commands.Lose n) some h is = record { keyword = words.Lose; words = decimal n; text = refl; in_body = λ body. ap (λ r. on_ok (on_ok r (λ n. command (commands.Lose n))) (λ l. Ok (additions.Body l))) (number-again members n some is) }
@@ -175,6 +174,7 @@ command-IsSaid members (commands.Trace on) some h is = record { keyword = words.
 
 line-IsSaid : (members : List Name) (line : Line) → 0 < length members → AreDifferent members → IsLine members line → IsSaid members line
 line-IsSaid members (lines.Run n) some h is = record { keyword = words.Run; words = decimal n; text = refl; in_body = λ body. ap (λ r. on_ok (on_ok r (λ n. Ok (lines.Run n))) (λ l. Ok (additions.Body l))) (number-again members n some is) }
+line-IsSaid members (lines.Tick n) some h is = record { keyword = words.Tick; words = decimal n; text = refl; in_body = λ body. ap (λ r. on_ok (on_ok r (λ n. Ok (lines.Tick n))) (λ l. Ok (additions.Body l))) (number-again members n some is) }
 line-IsSaid members (lines.Command c) some h is = command-IsSaid members c some h is
 
 -- what a line of this first word and these words adds

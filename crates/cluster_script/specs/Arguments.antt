@@ -88,7 +88,7 @@ command c = Ok (lines.Command c)
 
 -- the line of the body with this first word, and these words behind it
 abbrev pub line_of_words : List Name → Keyword → Option (List ℕ) → Result Line Fault
-line_of_words members words.Tick rest = on_ok (one_word members number_in rest) (λ n. command (commands.Tick n))
+line_of_words members words.Tick rest = on_ok (one_word members number_in rest) (λ n. Ok (lines.Tick n))
 line_of_words members words.Deliver rest = on_ok (one_word members number_in rest) (λ n. command (commands.Deliver n))
 line_of_words members words.Lose rest = on_ok (one_word members number_in rest) (λ n. command (commands.Lose n))
 line_of_words members words.Run rest = on_ok (one_word members number_in rest) (λ n. Ok (lines.Run n))

@@ -54,7 +54,6 @@ abbrev pub member_line_text : Name → List ℕ
 member_line_text name = spelled words.Member (name_bytes name)
 
 abbrev pub command_text : List Name → Command → List ℕ
-command_text members (commands.Tick n) = spelled words.Tick (decimal n)
 command_text members (commands.Turn member) = spelled words.Turn (member_text members member)
 command_text members (commands.Deliver n) = spelled words.Deliver (decimal n)
 command_text members (commands.Lose n) = spelled words.Lose (decimal n)
@@ -68,6 +67,7 @@ command_text members (commands.Trace on) = spelled words.Trace (switch_text on)
 
 abbrev pub line_text : List Name → Line → List ℕ
 line_text members (lines.Run n) = spelled words.Run (decimal n)
+line_text members (lines.Tick n) = spelled words.Tick (decimal n)
 line_text members (lines.Command command) = command_text members command
 
 -- a line of the body, with its line feed
@@ -125,7 +125,6 @@ pub record IsLink (members : List Name) (first second : End) : Type 0 where
 
 -- a command that a line may be
 abbrev pub IsCommand : List Name → Command → Type 0
-IsCommand members (commands.Tick n) = n < 2 ^ 64
 IsCommand members (commands.Turn member) = IsMember members member
 IsCommand members (commands.Deliver n) = n < 2 ^ 64
 IsCommand members (commands.Lose n) = n < 2 ^ 64
@@ -140,6 +139,7 @@ IsCommand members (commands.Trace on) = Unit {0}
 -- a line that a body may have
 abbrev pub IsLine : List Name → Line → Type 0
 IsLine members (lines.Run n) = n < 2 ^ 64
+IsLine members (lines.Tick n) = n < 2 ^ 64
 IsLine members (lines.Command command) = IsCommand members command
 
 abbrev pub AllAreLines : List Name → List Line → Type 0

@@ -185,7 +185,7 @@ pub fn line_of_words(
 {
     let command = match keyword {
         Keyword::Run => return Ok(Line::Run(one_number(members, rest)?)),
-        Keyword::Tick => Command::Tick(one_number(members, rest)?),
+        Keyword::Tick => return Ok(Line::Tick(one_number(members, rest)?)),
         Keyword::Deliver => Command::Deliver(one_number(members, rest)?),
         Keyword::Lose => Command::Lose(one_number(members, rest)?),
         Keyword::Turn => Command::Turn(one_member(members, rest)?),

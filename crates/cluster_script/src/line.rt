@@ -11,8 +11,6 @@ pub enum End {
 /// What a line of a script's body asks for by itself. Ticks are of 100 ms, and messages are numbered from 1 in order of sending.
 #[derive(Clone, Copy, Debug, PartialEq, Eq)]
 pub enum Command {
-    /// `tick N`: N bare ticks.
-    Tick(u64),
     /// `turn M`: the agent of this member is woken.
     Turn(MemberId),
     /// `deliver I`: the message of this number is delivered.
@@ -40,13 +38,17 @@ pub enum Command {
 pub enum Line {
     /// `run N`: N ticks of the default schedule.
     Run(u64),
+    /// `tick N`: N bare ticks.
+    Tick(u64),
     Command(Command),
 }
 
-/// A step of a run: one tick of a `run` line, or another line of the body.
+/// A step of a run: one tick of a `run` or `tick` line, or another line of the body.
 #[derive(Clone, Copy, Debug, PartialEq, Eq)]
 pub enum Step {
     /// One tick of the default schedule.
+    Scheduled,
+    /// One bare tick.
     Tick,
     Command(Command),
 }
