@@ -1,5 +1,5 @@
 -- What a book of events leaves.
-use Rattle.std.specs.Prelude.{ℕ, ◌≡◌, ◌+◌, ◌*◌, true, List, [], ◌∷◌, Option, Some, None, length, slice_get, slice_set}
+use Rattle.std.specs.Prelude.{ℕ, ◌≡◌, ◌+◌, ◌*◌, true, false, List, [], ◌∷◌, Option, Some, None, length, slice_get, slice_set}
 use Rattle.pat_base.specs.declared.name.Name.{Name}
 use Rattle.lease_store.specs.Answers.{keys_kept}
 use Rattle.lease_store.specs.Defaults.{default_config, default_settings}
@@ -13,15 +13,19 @@ use Rattle.event_book.specs.declared.event.AgentEvent.TheVariants as agents
 use Rattle.event_book.specs.declared.member.Member.{Member}
 use Rattle.event_book.specs.declared.agent_state.AgentState.{AgentState}
 use Rattle.event_book.specs.Clock.{now_after}
-use Rattle.event_book.specs.Members.{members_from, agents_from}
+use Rattle.event_book.specs.declared.link.Link.{Link}
+use Rattle.event_book.specs.Links.{cuts_after}
+use Rattle.event_book.specs.Members.{members_from, agents_from, waiting_until}
 use Rattle.event_book.specs.Requests.{txn_of}
 
--- all that a book determines over the declared members: the clock, the keys, and the agents in the order of the members
+-- all that a book determines over the declared members: the clock, the keys, the agents in the order of the members, and the
+-- links that are cut
 pub record Facts : Type 0 where
   pub clock : ℕ
   pub keys : Keys
   pub members : List Member
   pub agents : List AgentState
+  pub cuts : List Link
 
 -- the keys after an event of this moment: a tick drops what is absent from then on, a grant writes
 abbrev pub keys_at : ℕ → Keys → Kind → Keys
@@ -45,6 +49,9 @@ changed states member change = changed_at states member.id.number change (slice_
 abbrev pub agents_at : ℕ → List AgentState → Kind → List AgentState
 agents_at now states (kinds.Agent (agents.Woken member)) = changed states member (λ state. record state { next_turn = record { 0 = now + loop_wait } })
 agents_at now states (kinds.Agent (agents.Suspended member)) = changed states member (λ state. record state { held = true })
+agents_at now states (kinds.Agent (agents.Resumed member)) = changed states member (λ state. record state { held = false })
+agents_at now states (kinds.Agent (agents.Killed member)) = changed states member (λ state. record state { running = false; held = false })
+agents_at now states (kinds.Agent (agents.Started member)) = changed states member (λ state. waiting_until (now + 1))
 agents_at now states _ = states
 
 -- what one more event leaves
@@ -54,6 +61,7 @@ after facts kind = record {
   keys = keys_at (now_after facts.clock kind) facts.keys kind;
   members = facts.members;
   agents = agents_at (now_after facts.clock kind) facts.agents kind;
+  cuts = cuts_after facts.cuts kind;
 }
 
 -- what these events leave
@@ -63,7 +71,7 @@ after_all facts (event ∷ events) = after_all (after facts event.kind) events
 
 -- what there is before the first event, over members of these names
 abbrev pub start_of : List Name → Facts
-start_of names = record { clock = 0; keys = first_keys default_settings; members = members_from 0 names; agents = agents_from 0 (length names) }
+start_of names = record { clock = 0; keys = first_keys default_settings; members = members_from 0 names; agents = agents_from 0 (length names); cuts = [] }
 
 -- a world is as a book over these members says
 pub record StandsFor (names : List Name) (book : List Event) (world : Facts) : Type 0 where

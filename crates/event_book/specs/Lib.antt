@@ -1,6 +1,7 @@
 pub mod Clock
 pub mod Facts
 pub mod Info
+pub mod Links
 pub mod Members
 pub mod Requests
 pub mod Text

@@ -1,5 +1,5 @@
 -- The declared members with their numbers.
-use Rattle.std.specs.Prelude.{ℕ, ◌+◌, List, [], ◌∷◌, Option, Some, None, false, zero, suc}
+use Rattle.std.specs.Prelude.{ℕ, ◌+◌, List, [], ◌∷◌, Option, Some, None, true, false, zero, suc}
 use Rattle.pat_base.specs.declared.member_id.MemberId.{MemberId}
 use Rattle.pat_base.specs.declared.name.Name.{Name}
 use Rattle.pat_base.specs.declared.ticks.Ticks.{Ticks}
@@ -16,9 +16,9 @@ abbrev pub members_from : ℕ → List Name → List Member
 members_from number [] = []
 members_from number (name ∷ names) = put_first (member_of number) name (members_from (number + 1) names)
 
--- an agent that isn't held, with its first turn at this moment
+-- an agent that runs, with its first turn at this moment
 abbrev pub waiting_until : ℕ → AgentState
-waiting_until moment = record { next_turn = record { 0 = moment }; held = false }
+waiting_until moment = record { next_turn = record { 0 = moment }; running = true; held = false }
 
 -- so many agents before the first event, the first of which has this number: member number i has its first turn at tick i + 1
 abbrev pub agents_from : ℕ → ℕ → List AgentState

@@ -12,6 +12,11 @@ use Rattle.event_book.specs.declared.event.StoreEvent.{StoreEvent}
 use Rattle.event_book.specs.declared.event.StoreEvent.TheVariants as stores
 use Rattle.event_book.specs.declared.event.AgentEvent.{AgentEvent}
 use Rattle.event_book.specs.declared.event.AgentEvent.TheVariants as agents
+use Rattle.event_book.specs.declared.event.LinkEvent.{LinkEvent}
+use Rattle.event_book.specs.declared.event.LinkEvent.TheVariants as links
+use Rattle.event_book.specs.declared.event.Note.{Note}
+use Rattle.event_book.specs.declared.event.Note.TheVariants as notes
+use Rattle.event_book.specs.Links.{end_text}
 
 abbrev pub store_line : ℕ → StoreEvent → Option (List ℕ)
 store_line tick (stores.Granted by (Create ttl)) = Some (decimal tick ++ (codes " " ++ (name_bytes by.name ++ codes " takes the leader key\n")))
@@ -23,11 +28,24 @@ store_line tick (stores.Expired holder) = Some (decimal tick ++ (codes " the lea
 abbrev pub agent_line : ℕ → AgentEvent → Option (List ℕ)
 agent_line tick (agents.Woken agent) = None
 agent_line tick (agents.Suspended agent) = Some (decimal tick ++ (codes " " ++ (name_bytes agent.name ++ codes " is held\n")))
+agent_line tick (agents.Resumed agent) = Some (decimal tick ++ (codes " " ++ (name_bytes agent.name ++ codes " resumes\n")))
+agent_line tick (agents.Killed agent) = Some (decimal tick ++ (codes " " ++ (name_bytes agent.name ++ codes " is killed\n")))
+agent_line tick (agents.Started agent) = Some (decimal tick ++ (codes " " ++ (name_bytes agent.name ++ codes " is started\n")))
+
+abbrev pub link_line : ℕ → LinkEvent → Option (List ℕ)
+link_line tick (links.Cut link) = Some (decimal tick ++ (codes " " ++ (end_text link.first ++ (codes " and " ++ (end_text link.second ++ codes " are cut\n")))))
+link_line tick (links.Joined link) = Some (decimal tick ++ (codes " " ++ (end_text link.first ++ (codes " and " ++ (end_text link.second ++ codes " are joined\n")))))
+
+abbrev pub note_line : ℕ → Note → Option (List ℕ)
+note_line tick (notes.AlreadyRunning agent) = Some (decimal tick ++ (codes " " ++ (name_bytes agent.name ++ codes " is already running\n")))
+note_line tick (notes.NoMessage number) = Some (decimal tick ++ (codes " no message " ++ (decimal number ++ codes "\n")))
 
 abbrev pub kind_line : ℕ → Kind → Option (List ℕ)
 kind_line tick kinds.Tick = None
 kind_line tick (kinds.Store happening) = store_line tick happening
 kind_line tick (kinds.Agent happening) = agent_line tick happening
+kind_line tick (kinds.Link happening) = link_line tick happening
+kind_line tick (kinds.Note note) = note_line tick note
 
 -- the line of an event with its line feed, if it has one
 abbrev pub line_of : Event → Option (List ℕ)

@@ -1,6 +1,6 @@
 //! What can happen. An event stands in the book only where something changed. It has the names that its line prints.
 
-use crate::{LeaseRequest, Member};
+use crate::{LeaseRequest, Link, Member};
 use lease_store::{Expected, Key};
 use pat_base::Ticks;
 
@@ -18,6 +18,8 @@ pub enum Kind {
     Tick,
     Store(StoreEvent),
     Agent(AgentEvent),
+    Link(LinkEvent),
+    Note(Note),
 }
 
 /// What happens at the key store.
@@ -46,6 +48,30 @@ pub enum StoreEvent {
 pub enum AgentEvent {
     /// The agent began a turn.
     Woken { agent: Member },
-    /// The agent is held: it does nothing until it is let go on.
+    /// The agent is held: it does nothing until it goes on.
     Suspended { agent: Member },
+    /// A held agent goes on.
+    Resumed { agent: Member },
+    /// The agent ended.
+    Killed { agent: Member },
+    /// An agent that had ended was started.
+    Started { agent: Member },
+}
+
+/// What happens to links.
+#[derive(Clone, Copy, Debug, PartialEq, Eq)]
+pub enum LinkEvent {
+    /// The link carries nothing from now on.
+    Cut(Link),
+    /// The link carries messages again.
+    Joined(Link),
+}
+
+/// What is printed of a request that changes nothing.
+#[derive(Clone, Copy, Debug, PartialEq, Eq)]
+pub enum Note {
+    /// The agent that was to be started runs already.
+    AlreadyRunning { agent: Member },
+    /// No message of this number is in flight.
+    NoMessage { number: u64 },
 }

@@ -4,12 +4,14 @@
 mod agent_state;
 mod event;
 mod info;
+mod link;
 mod member;
 mod printing;
 mod request;
 
 pub use agent_state::AgentState;
-pub use event::{AgentEvent, Event, Kind, StoreEvent};
+pub use event::{AgentEvent, Event, Kind, LinkEvent, Note, StoreEvent};
+pub use link::{Link, LinkEnd};
 pub use member::Member;
 pub use printing::text;
 pub use request::LeaseRequest;

@@ -1,8 +1,8 @@
 //! The printed line of an event.
 ghost use Rattle.std.specs.Prelude.{◌≡◌, IfOk, option_map, string_bytes};
-ghost use Rattle.event_book.specs.Text.{line_of, store_line, agent_line};
+ghost use Rattle.event_book.specs.Text.{line_of, store_line, agent_line, link_line, note_line};
 
-use crate::{AgentEvent, Event, Kind, LeaseRequest, StoreEvent};
+use crate::{AgentEvent, Event, Kind, LeaseRequest, LinkEvent, Note, StoreEvent};
 use pat_base::Ticks;
 use std::alloc::{AllocError, Global};
 
@@ -15,6 +15,8 @@ pub fn text(alloc: Global, event: &Event) -> Result<Option<String>, AllocError>
         Kind::Tick => Ok(None),
         Kind::Store(happening) => store_line(alloc, event.tick, happening),
         Kind::Agent(happening) => agent_line(alloc, event.tick, happening),
+        Kind::Link(happening) => link_line(alloc, event.tick, happening),
+        Kind::Note(note) => note_line(alloc, event.tick, note),
     }
 }
 
@@ -57,5 +59,44 @@ fn agent_line(alloc: Global, tick: Ticks, event: &AgentEvent) -> Result<Option<S
             let name = agent.name;
             Ok(Some(format!(in alloc; "{tick} {name} is held\n")?))
         }
+        AgentEvent::Resumed { agent } => {
+            let name = agent.name;
+            Ok(Some(format!(in alloc; "{tick} {name} resumes\n")?))
+        }
+        AgentEvent::Killed { agent } => {
+            let name = agent.name;
+            Ok(Some(format!(in alloc; "{tick} {name} is killed\n")?))
+        }
+        AgentEvent::Started { agent } => {
+            let name = agent.name;
+            Ok(Some(format!(in alloc; "{tick} {name} is started\n")?))
+        }
+    }
+}
+
+fn link_line(alloc: Global, tick: Ticks, event: &LinkEvent) -> Result<Option<String>, AllocError>
+    ensures { IfOk result (λ line. option_map string_bytes line ≡ link_line tick.0 event.now) }
+{
+    match *event {
+        LinkEvent::Cut(link) => {
+            let (first, second) = (link.first, link.second);
+            Ok(Some(format!(in alloc; "{tick} {first} and {second} are cut\n")?))
+        }
+        LinkEvent::Joined(link) => {
+            let (first, second) = (link.first, link.second);
+            Ok(Some(format!(in alloc; "{tick} {first} and {second} are joined\n")?))
+        }
+    }
+}
+
+fn note_line(alloc: Global, tick: Ticks, note: &Note) -> Result<Option<String>, AllocError>
+    ensures { IfOk result (λ line. option_map string_bytes line ≡ note_line tick.0 note.now) }
+{
+    match *note {
+        Note::AlreadyRunning { agent } => {
+            let name = agent.name;
+            Ok(Some(format!(in alloc; "{tick} {name} is already running\n")?))
+        }
+        Note::NoMessage { number } => Ok(Some(format!(in alloc; "{tick} no message {number}\n")?)),
     }
 }
