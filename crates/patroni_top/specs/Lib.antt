@@ -1,3 +1,4 @@
+pub mod Commands
 pub mod Next
 pub mod Printing
 pub mod Run
