@@ -1,9 +1,16 @@
 -- Turns, one after another.
 use Rattle.std.proofs.Common.{◌≡◌, ℕ, ◌+◌, ◌-◌, ◌≤◌, ◌<◌, ◌==◌, Bool, true, false, cond, List, [], ◌∷◌, ◌++◌, length, Option, Some, None, arith, append_assoc, refl, ◌∙◌, ap, sym, suc}
 use Rattle.event_book.specs.declared.event.Event.{Event}
-use Rattle.event_book.specs.Facts.{Facts, after_all}
+use Rattle.std.specs.Prelude.{slice_get}
+use Rattle.std.proofs.lemmas.List.{length-set}
+use Rattle.event_book.specs.declared.event.Kind.TheVariants as kinds
+use Rattle.event_book.specs.declared.event.AgentEvent.{AgentEvent}
+use Rattle.event_book.specs.declared.event.AgentEvent.TheVariants.{Woken}
+use Rattle.event_book.specs.declared.agent_state.AgentState.{AgentState}
+use Rattle.event_book.specs.declared.member.Member.{Member}
+use Rattle.event_book.specs.Facts.{Facts, after, after_all, agents_at, changed_at, subject_of, state_after}
 use Rattle.event_book.proofs.Runs.{after_all-append}
-use Rattle.patroni_top.specs.Next.{turns, turn_at}
+use Rattle.patroni_top.specs.Next.{turns, turn_at, due_member, stamped, answered, asked_by}
 
 pub turns-one : (facts : Facts) (place n k : ℕ) → n ≡ suc k → turns facts place n ≡ turn_at facts place ++ turns (after_all facts (turn_at facts place)) (place + 1) k
 turns-one facts place n k e = rw e refl
@@ -27,3 +34,19 @@ Taking-more start world new before events longer place count h taking state even
   event = rw (state, event) (append_assoc events (turn_at world place) (turns (after_all world (turn_at world place)) (place + 1) (count - (place + 1)))
       ∙ ap (λ t. events ++ t) (sym (turns-more world place count h)) ∙ taking.event);
 }
+
+-- a turn begins, and then the store decides
+pub turn-book : (facts mid : Facts) (member : Member) (place : ℕ) → due_member facts.clock (slice_get facts.members place) (slice_get facts.agents place) ≡ Some member → mid ≡ after facts (kinds.Agent (Woken member))
+    → stamped facts (kinds.Agent (Woken member) ∷ []) ++ stamped mid (answered mid member (asked_by mid member)) ≡ turn_at facts place
+turn-book facts mid member place due state = rw (due, state) refl
+
+pub act-state : (facts : Facts) (agents : List AgentState) (happening : AgentEvent) → agents ≡ agents_at facts.clock facts.agents (kinds.Agent happening) → ◌≡◌ {A = Facts} (record facts { agents = agents }) (after facts (kinds.Agent happening))
+act-state facts agents happening is = ap (λ (a : List AgentState). let f : Facts = record facts { agents = a } in f) is
+
+length-changed_at : (states : List AgentState) (number : ℕ) (change : AgentState → AgentState) (state : Option AgentState) → length (changed_at states number change state) ≡ length states
+length-changed_at states number change None = refl
+length-changed_at states number change (Some state) = length-set states number (change state)
+
+-- what happens to an agent leaves as many agents
+pub length-agents_at : (now : ℕ) (states : List AgentState) (happening : AgentEvent) → length (agents_at now states (kinds.Agent happening)) ≡ length states
+length-agents_at now states happening = length-changed_at states (subject_of happening).id.number (state_after now happening) (slice_get states (subject_of happening).id.number)

@@ -8,7 +8,7 @@ use Rattle.patroni_top.proofs.world.World.request.Goals as goal
 
 pub returns-clause-state : goal.returns-clause-state
 returns-clause-state c =
-    let before : Facts = record { clock = c.self.inside.clock.0; keys = c.self.inside.store; members = c.self.inside.members.items; agents = c.self.inside.agents.items } in
+    let before : Facts = record { clock = c.self.inside.clock.0; keys = c.self.inside.store; members = c.self.inside.members.items; agents = c.self.inside.agents.items; cuts = c.self.inside.cuts.items } in
     let tells = answer-tells before c.args.by c.args.request (decision_on before.keys before.clock (txn_of c.args.request)) c.apply-answer.new.self c.apply-answer.result c.in_ok-happening.happening
     (record {
       granted = rw c.txn.ensures at c.apply-answer.ensures.granted;
@@ -21,7 +21,7 @@ returns-clause-state c =
 
 pub returns-clause-event : goal.returns-clause-event
 returns-clause-event c =
-    let before : Facts = record { clock = c.self.inside.clock.0; keys = c.self.inside.store; members = c.self.inside.members.items; agents = c.self.inside.agents.items } in
+    let before : Facts = record { clock = c.self.inside.clock.0; keys = c.self.inside.store; members = c.self.inside.members.items; agents = c.self.inside.agents.items; cuts = c.self.inside.cuts.items } in
     let tells = answer-tells before c.args.by c.args.request (decision_on before.keys before.clock (txn_of c.args.request)) c.apply-answer.new.self c.apply-answer.result c.in_ok-happening.happening
     (record {
       granted = rw c.txn.ensures at c.apply-answer.ensures.granted;
