@@ -1,3 +1,4 @@
+pub mod Input
 pub mod Next
 pub mod Printing
 pub mod Run

@@ -3,11 +3,13 @@
 //! `run` is all that the program does. The world is a private part here until it has a crate of its own.
 #![tactic(auto)]
 
+mod ending;
 mod playing;
 mod print_error;
 mod printing;
 mod reading;
 mod status;
+mod texts;
 mod top;
 mod world;
 
