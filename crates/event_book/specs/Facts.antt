@@ -9,6 +9,7 @@ use Rattle.event_book.specs.declared.event.Event.{Event}
 use Rattle.event_book.specs.declared.event.Kind.{Kind}
 use Rattle.event_book.specs.declared.event.Kind.TheVariants as kinds
 use Rattle.event_book.specs.declared.event.StoreEvent.TheVariants as stores
+use Rattle.event_book.specs.declared.event.AgentEvent.{AgentEvent}
 use Rattle.event_book.specs.declared.event.AgentEvent.TheVariants as agents
 use Rattle.event_book.specs.declared.member.Member.{Member}
 use Rattle.event_book.specs.declared.agent_state.AgentState.{AgentState}
@@ -45,13 +46,25 @@ changed_at states number change (Some state) = slice_set states number (change s
 abbrev pub changed : List AgentState → Member → (AgentState → AgentState) → List AgentState
 changed states member change = changed_at states member.id.number change (slice_get states member.id.number)
 
+-- the member whose agent something happens to
+abbrev pub subject_of : AgentEvent → Member
+subject_of (agents.Woken member) = member
+subject_of (agents.Suspended member) = member
+subject_of (agents.Resumed member) = member
+subject_of (agents.Killed member) = member
+subject_of (agents.Started member) = member
+
+-- the agent after what happens to it at this moment; a kill ends a hold
+abbrev pub state_after : ℕ → AgentEvent → AgentState → AgentState
+state_after now (agents.Woken member) state = record state { next_turn = record { 0 = now + loop_wait } }
+state_after now (agents.Suspended member) state = record state { held = true }
+state_after now (agents.Resumed member) state = record state { held = false }
+state_after now (agents.Killed member) state = record state { running = false; held = false }
+state_after now (agents.Started member) state = waiting_until (now + 1)
+
 -- the agents after an event of this moment
 abbrev pub agents_at : ℕ → List AgentState → Kind → List AgentState
-agents_at now states (kinds.Agent (agents.Woken member)) = changed states member (λ state. record state { next_turn = record { 0 = now + loop_wait } })
-agents_at now states (kinds.Agent (agents.Suspended member)) = changed states member (λ state. record state { held = true })
-agents_at now states (kinds.Agent (agents.Resumed member)) = changed states member (λ state. record state { held = false })
-agents_at now states (kinds.Agent (agents.Killed member)) = changed states member (λ state. record state { running = false; held = false })
-agents_at now states (kinds.Agent (agents.Started member)) = changed states member (λ state. waiting_until (now + 1))
+agents_at now states (kinds.Agent happening) = changed states (subject_of happening) (state_after now happening)
 agents_at now states _ = states
 
 -- what one more event leaves

@@ -58,6 +58,24 @@ pub enum AgentEvent {
     Started { agent: Member },
 }
 
+impl AgentEvent {
+    ghost use Rattle.std.specs.Prelude.{◌≡◌};
+    ghost use Rattle.event_book.specs.Facts.{subject_of};
+
+    /// The member whose agent it happens to.
+    pub fn subject(self) -> Member
+        ensures { result ≡ subject_of self }
+    {
+        match self {
+            AgentEvent::Woken { agent } => agent,
+            AgentEvent::Suspended { agent } => agent,
+            AgentEvent::Resumed { agent } => agent,
+            AgentEvent::Killed { agent } => agent,
+            AgentEvent::Started { agent } => agent,
+        }
+    }
+}
+
 /// What happens to links.
 #[derive(Clone, Copy, Debug, PartialEq, Eq)]
 pub enum LinkEvent {

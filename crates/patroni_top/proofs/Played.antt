@@ -8,7 +8,6 @@ use Rattle.event_book.specs.Text.{lines_of}
 use Rattle.event_book.proofs.Runs.{after_all-append, lines_of-append}
 use Rattle.cluster_script.specs.declared.line.Line.{Line}
 use Rattle.cluster_script.specs.declared.line.Step.{Step}
-use Rattle.cluster_script.specs.declared.line.Step.TheVariants as steps
 use Rattle.cluster_script.specs.Steps.{steps_of, steps_of_line, total_ticks, ticks_of_line}
 use Rattle.patroni_top.specs.declared.print_error.PrintError.{PrintError}
 use Rattle.patroni_top.specs.Next.{next_events, run_from}
@@ -54,9 +53,9 @@ pub Playing-wants : (before now : Option (List ℕ)) (faults mid : ℕ) (CouldTa
 Playing-wants before now faults mid CouldTake CanTake CanTakeThen X Y result final e start world whole left piece rest p is takes err stops =
     TakesAll-stop before now faults mid CouldTake CanTake CanTakeThen X Y result final e (lines_of whole) (lines_of left) (lines_of piece) (lines_of rest) p.text (ap lines_of is ∙ lines_of-append piece rest) takes err stops
 
--- ticks that are left, one and then the others
-pub ticks-next : (facts new : Facts) (i n : ℕ) → i < n → new ≡ after_all facts (next_events facts steps.Tick) → run_from facts (replicate (n - i) steps.Tick) ≡ next_events facts steps.Tick ++ run_from new (replicate (n - (i + 1)) steps.Tick)
-ticks-next facts new i n h is =
+-- steps of one kind that are left, one and then the others
+pub ticks-next : (step : Step) (facts new : Facts) (i n : ℕ) → i < n → new ≡ after_all facts (next_events facts step) → run_from facts (replicate (n - i) step) ≡ next_events facts step ++ run_from new (replicate (n - (i + 1)) step)
+ticks-next step facts new i n h is =
     let e : n - i ≡ suc (n - (i + 1)) = omega arith in
     rw (e, is) refl
 

@@ -5,7 +5,7 @@ use Rattle.pat_base.specs.Outside.{Grew, GrewByPrefix}
 use Rattle.pat_base.proofs.Contents.{Grew-Grew, Grew-part, GrewByPrefix-more}
 use Rattle.event_book.specs.Facts.{Facts, after_all, start_of}
 use Rattle.event_book.specs.Text.{lines_of, summary_at}
-use Rattle.cluster_script.specs.Script.{ScriptText, IsScript, head_lines, body_lines, member_line_text, line_text}
+use Rattle.cluster_script.specs.Script.{ScriptText}
 use Rattle.cluster_script.specs.Steps.{steps_of, total_ticks}
 use Rattle.patroni_top.specs.declared.print_error.PrintError.{PrintError}
 use Rattle.patroni_top.specs.declared.print_error.PrintError.TheVariants.{Memory}
@@ -14,12 +14,9 @@ use Rattle.patroni_top.specs.Printing.{TakesAll}
 use Rattle.patroni_top.specs.Run.{run_of, output_of}
 use Rattle.patroni_top.specs.Room.{HasRoomFor}
 
-body-short : (s : ScriptText) → IsScript s → length s.body ≤ 100000
-body-short s is = omega (arith, is.lines, length-append (head_lines s.head) (body_lines s.head s.body), length-map s.body (line_text s.head))
-
--- no script brings a counter to its end
-pub has-room : (s : ScriptText) (world : Facts) → IsScript s → world ≡ start_of s.head.members → HasRoomFor world (total_ticks s.body + length s.body)
-has-room s world is start = rw start (record { clock = omega (arith, is.ticks, body-short s is); revision = omega (arith, is.ticks, body-short s is) })
+-- no script within the limits brings a counter to its end
+pub has-room : (s : ScriptText) (world : Facts) → (total_ticks s.body ≤ 1000000) × (length s.body ≤ 100000) → world ≡ start_of s.head.members → HasRoomFor world (total_ticks s.body + length s.body)
+has-room s world few start = rw start (record { clock = omega (arith, few.0, few.1); revision = omega (arith, few.0, few.1) })
 
 -- the world and the clock at the end are those of the book
 pub text-is : (s : ScriptText) (world new : Facts) (clock : ℕ) → world ≡ start_of s.head.members → new ≡ after_all world (run_from world (steps_of s.body)) → clock ≡ new.clock

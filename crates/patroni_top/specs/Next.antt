@@ -15,15 +15,22 @@ use Rattle.event_book.specs.declared.event.Event.{Event}
 use Rattle.event_book.specs.declared.event.Kind.{Kind}
 use Rattle.event_book.specs.declared.event.Kind.TheVariants as kinds
 use Rattle.event_book.specs.declared.event.StoreEvent.TheVariants as stores
-use Rattle.event_book.specs.declared.event.AgentEvent.TheVariants.{Woken, Suspended}
+use Rattle.event_book.specs.declared.event.AgentEvent.TheVariants.{Woken}
+use Rattle.event_book.specs.declared.event.Note.TheVariants.{NoMessage}
+use Rattle.event_book.specs.declared.link.Link.{Link}
+use Rattle.event_book.specs.declared.link.LinkEnd.TheVariants as link_ends
+use Rattle.event_book.specs.Links.{is_cut}
 use Rattle.event_book.specs.declared.member.Member.{Member}
 use Rattle.event_book.specs.declared.request.LeaseRequest.{LeaseRequest}
 use Rattle.event_book.specs.declared.request.LeaseRequest.TheVariants.{Create, Renew}
 use Rattle.event_book.specs.Requests.{txn_of}
 use Rattle.event_book.specs.declared.agent_state.AgentState.{AgentState}
 use Rattle.event_book.specs.Facts.{Facts, after, after_all}
+use Rattle.cluster_script.specs.declared.line.Command.{Command}
+use Rattle.cluster_script.specs.declared.line.Command.TheVariants as commands
 use Rattle.cluster_script.specs.declared.line.Step.{Step}
 use Rattle.cluster_script.specs.declared.line.Step.TheVariants as steps
+use Rattle.patroni_top.specs.Commands.{agent_of, agent_kinds, hold_of, resume_of, kill_of, restart_kinds, link_kinds, link_of, cut_of, join_of}
 
 -- the events of these kinds, one after another, each at its moment
 abbrev pub stamped : Facts → List Kind → List Event
@@ -59,7 +66,7 @@ answered facts member None = []
 answered facts member (Some request) = decided member request (decision_on facts.keys facts.clock (txn_of request)) ∷ []
 
 abbrev pub is_due : ℕ → AgentState → Bool
-is_due now state = not state.held && nat_le state.next_turn.0 now
+is_due now state = state.running && (not state.held && nat_le state.next_turn.0 now)
 
 -- the member, where its agent has a turn at this moment
 abbrev pub due_member : ℕ → Option Member → Option AgentState → Option Member
@@ -67,10 +74,18 @@ due_member now None state = None
 due_member now (Some member) None = None
 due_member now (Some member) (Some state) = if is_due now state then Some member else None
 
+-- the link of a member to the key store
+abbrev pub store_link : Member → Link
+store_link member = record { first = link_ends.Member member; second = link_ends.Store }
+
+-- what a member asks for in its turn: on a cut link it reads nothing
+abbrev pub asked_by : Facts → Member → Option LeaseRequest
+asked_by facts member = if is_cut facts.cuts (store_link member) then None else request_on member (key_at facts.keys facts.clock Leader)
+
 -- in its turn a member reads the leader key, and the store decides on what it asks for
 abbrev pub turn_of : Facts → Option Member → List Kind
 turn_of facts None = []
-turn_of facts (Some member) = kinds.Agent (Woken member) ∷ answered facts member (request_on member (key_at facts.keys facts.clock Leader))
+turn_of facts (Some member) = kinds.Agent (Woken member) ∷ answered facts member (asked_by facts member)
 
 -- the turn of the member at a place, if it is due
 abbrev pub turn_at : Facts → ℕ → List Event
@@ -93,20 +108,24 @@ expiry_of (Some holder) = kinds.Store (stores.Expired holder) ∷ []
 abbrev pub ticked : Facts → List Event
 ticked facts = stamped facts (kinds.Tick ∷ expiry_of (declared_member facts.members (expired_holder facts.keys (facts.clock + 1))))
 
-abbrev pub held_of : Option Member → List Kind
-held_of None = []
-held_of (Some member) = kinds.Agent (Suspended member) ∷ []
-
--- the agent of a member that isn't held becomes held
-abbrev pub hold_of : Option Member → Option AgentState → List Kind
-hold_of None state = []
-hold_of (Some member) None = []
-hold_of (Some member) (Some state) = if state.held then [] else kinds.Agent (Suspended member) ∷ []
+-- the events of a command
+abbrev pub command_events : Facts → Command → List Event
+command_events facts (commands.Turn member) = turn_at facts member.number
+command_events facts (commands.Deliver number) = stamped facts (kinds.Note (NoMessage number) ∷ [])
+command_events facts (commands.Lose number) = stamped facts (kinds.Note (NoMessage number) ∷ [])
+command_events facts (commands.Hold member) = stamped facts (agent_kinds (hold_of (agent_of facts member)))
+command_events facts (commands.Resume member) = stamped facts (agent_kinds (resume_of (agent_of facts member)))
+command_events facts (commands.Kill member) = stamped facts (agent_kinds (kill_of (agent_of facts member)))
+command_events facts (commands.Restart member) = stamped facts (restart_kinds (agent_of facts member))
+command_events facts (commands.Cut first second) = stamped facts (link_kinds (cut_of facts.cuts (link_of facts.members first second)))
+command_events facts (commands.Join first second) = stamped facts (link_kinds (join_of facts.cuts (link_of facts.members first second)))
+command_events facts (commands.Trace on) = []
 
 -- the events of a step
 abbrev pub next_events : Facts → Step → List Event
-next_events facts steps.Tick = ticked facts ++ turns (after_all facts (ticked facts)) 0 (length facts.members)
-next_events facts (steps.Hold member) = stamped facts (hold_of (slice_get facts.members member.number) (slice_get facts.agents member.number))
+next_events facts steps.Scheduled = ticked facts ++ turns (after_all facts (ticked facts)) 0 (length facts.members)
+next_events facts steps.Tick = ticked facts
+next_events facts (steps.Command command) = command_events facts command
 
 -- the events of these steps, one after another
 abbrev pub run_from : Facts → List Step → List Event

@@ -3,7 +3,9 @@
 //! `run` is all that the program does. The world is a private part here until it has a crate of its own.
 #![tactic(auto)]
 
+mod agents;
 mod ending;
+mod links;
 mod playing;
 mod print_error;
 mod printing;

@@ -19,6 +19,7 @@ use std::alloc::Global;
 
 /// Takes the steps of a script from its head on, and prints what happens and the closing summary.
 pub fn play<K: Sink>(alloc: Global, script: &Script, out: &mut K) -> Result<(), PrintError>
+    requires few { (total_ticks script.now.body ≤ 1000000) × (length script.now.body ≤ 100000) }
     ensures ok { OnOk result (Grew (K.content out.old) (K.content out.new) (output_of script.now)) }
     ensures part { OnErr result (GrewByPrefix (K.content out.old) (K.content out.new) (output_of script.now)) }
     ensures write { IsErrOf result PrintError.Write → Rose (K.faults out.old) (K.faults out.new) }
@@ -81,30 +82,32 @@ fn play_line<K: Sink>(
     ensures room { TakesAll (K.can_take out.old) (K.can_take out.new) result (lines_of (run_from world.old (steps_of_line line.now))) }
 {
     match line {
-        Line::Run(count) => play_ticks(alloc, world, *count, events, out),
-        Line::Hold(member) => play_step(alloc, world, &Step::Hold(*member), events, out),
+        Line::Run(count) => play_ticks(alloc, world, *count, &Step::Scheduled, events, out),
+        Line::Tick(count) => play_ticks(alloc, world, *count, &Step::Tick, events, out),
+        Line::Command(command) => play_step(alloc, world, &Step::Command(*command), events, out),
     }
 }
 
-/// So many ticks.
+/// So many ticks of one kind.
 fn play_ticks<K: Sink>(
     alloc: Global,
     world: &mut World,
     count: u64,
+    step: &Step,
     events: &mut Vec<Event>,
     out: &mut K,
 ) -> Result<(), PrintError>
     requires { HasRoomFor world.old count }
-    ensures state { OnOk result (world.new ≡ after_all world.old (run_from world.old (replicate count Step.Tick))) }
+    ensures state { OnOk result (world.new ≡ after_all world.old (run_from world.old (replicate count step.now))) }
     ensures steps { OnOk result ((steps : ℕ) → HasRoomFor world.old (count + steps) → HasRoomFor world.new steps) }
-    ensures ok { OnOk result (Grew (K.content out.old) (K.content out.new) (lines_of (run_from world.old (replicate count Step.Tick)))) }
-    ensures part { OnErr result (GrewByPrefix (K.content out.old) (K.content out.new) (lines_of (run_from world.old (replicate count Step.Tick)))) }
+    ensures ok { OnOk result (Grew (K.content out.old) (K.content out.new) (lines_of (run_from world.old (replicate count step.now)))) }
+    ensures part { OnErr result (GrewByPrefix (K.content out.old) (K.content out.new) (lines_of (run_from world.old (replicate count step.now)))) }
     ensures write { IsErrOf result PrintError.Write → Rose (K.faults out.old) (K.faults out.new) }
     ensures grows { K.faults out.old ≤ K.faults out.new }
-    ensures room { TakesAll (K.can_take out.old) (K.can_take out.new) result (lines_of (run_from world.old (replicate count Step.Tick))) }
+    ensures room { TakesAll (K.can_take out.old) (K.can_take out.new) result (lines_of (run_from world.old (replicate count step.now))) }
 {
-    for tick in 0..count {
-        play_step(alloc, world, &Step::Tick, events, out)?;
+    for done in 0..count {
+        play_step(alloc, world, step, events, out)?;
     }
     Ok(())
 }

@@ -6,26 +6,32 @@ ghost use Rattle.lease_store.specs.Answers.{holder_of};
 ghost use Rattle.lease_store.specs.Decision.{decision_on};
 ghost use Rattle.lease_store.specs.Keys.{key_at};
 ghost use Rattle.lease_store.specs.Writes.{ttl_of};
-ghost use Rattle.event_book.specs.Facts.{after, after_all, changed, agents_at, start_of};
+ghost use Rattle.event_book.specs.Facts.{after, after_all, start_of};
 ghost use Rattle.event_book.specs.Members.{members_from, agents_from};
 ghost use Rattle.event_book.specs.Requests.{txn_of};
-ghost use Rattle.patroni_top.specs.Next.{stamped, request_on, decided, answered, due_member, is_due, turn_of, turn_at, turns, declared_member, ticked, told_by, hold_of, held_of, next_events};
+ghost use Rattle.patroni_top.specs.Commands.{agent_of, agent_kinds, link_kinds, restart_kinds, link_of};
+ghost use Rattle.patroni_top.specs.Next.{stamped, request_on, decided, answered, asked_by, turn_at, turns, declared_member, ticked, told_by, command_events, next_events};
 ghost use Rattle.patroni_top.specs.Room.{HasRoomFor};
 
-use cluster_script::{Head, Step};
-use event_book::{AgentEvent, AgentState, Event, Kind, LeaseRequest, Member, StoreEvent};
+use crate::agents::{agent_at, change_agents, due_member, hold_of, kill_of, resume_of};
+use crate::links::{change_links, cut_of, is_off_store, join_of, link_of};
+use cluster_script::{Command, End, Head, Step};
+use event_book::{
+    AgentEvent, AgentState, Event, Kind, LeaseRequest, Link, LinkEvent, Member, Note, StoreEvent,
+};
 use lease_store::{Config, ConfigValue, Granted, Held, Key, Store, StoreRefusal, Value};
 use pat_base::{MemberId, Ticks};
 use std::alloc::{AllocError, Global};
 use std::marker::Model;
 
-/// A cluster at a moment: the clock, the key store, and the declared members with their agents.
+/// A cluster at a moment: the clock, the key store, the declared members with their agents, and the links that are cut.
 #[derive(Drop)]
 pub struct World {
     clock: Ticks,
     store: Store,
     members: Vec<Member>,
     agents: Vec<AgentState>,
+    cuts: Vec<Link>,
 }
 
 impl Model for World {
@@ -34,7 +40,7 @@ impl Model for World {
 
     ghost Value = { Facts };
 
-    ghost view = { λ w. record { clock = w.clock.0; keys = w.store; members = w.members.items; agents = w.agents.items } };
+    ghost view = { λ w. record { clock = w.clock.0; keys = w.store; members = w.members.items; agents = w.agents.items; cuts = w.cuts.items } };
 
     ghost invariant = { λ w. length w.members.items ≤ 16 };
 }
@@ -52,6 +58,7 @@ impl World {
             store,
             members,
             agents,
+            cuts: Vec::new(alloc),
         })
     }
 
@@ -73,14 +80,45 @@ impl World {
         let count = self.members.len();
         events.reserve(2 * count + 2)?;
         match step {
-            Step::Tick => {
+            Step::Scheduled => {
                 self.tick(events);
                 self.turns(count, events)
             }
-            Step::Hold(member) => {
-                self.hold(*member, events);
+            Step::Tick => {
+                self.tick(events);
                 Ok(())
             }
+            Step::Command(command) => self.command(command, events),
+        }
+    }
+
+    /// What a command comes to.
+    fn command(&mut self, command: &Command, events: &mut Vec<Event>) -> Result<(), AllocError>
+        requires clock { self.old.clock < 2 ^ 61 }
+        requires revision { self.old.keys.revision < 2 ^ 60 }
+        requires room { vec_len events.old + 2 ≤ vec_capacity events.old }
+        ensures state { OnOk result (self.new ≡ after_all self.old (command_events self.old command.now)) }
+        ensures event { OnOk result (events.new.items ≡ events.old.items ++ command_events self.old command.now) }
+        ensures clock { OnOk result (self.new.clock ≡ self.old.clock) }
+        ensures revision { OnOk result (self.new.keys.revision ≤ self.old.keys.revision + 1) }
+    {
+        match *command {
+            Command::Turn(member) => self.turn(member.number as usize, events),
+            Command::Deliver(number) => self.no_message(number, events),
+            Command::Lose(number) => self.no_message(number, events),
+            Command::Hold(member) => self.change_agent(hold_of(self.agent(member)), events),
+            Command::Resume(member) => self.change_agent(resume_of(self.agent(member)), events),
+            Command::Kill(member) => self.change_agent(kill_of(self.agent(member)), events),
+            Command::Restart(member) => self.restart(member, events),
+            Command::Cut(first, second) => {
+                let change = cut_of(&self.cuts, self.link(first, second));
+                self.change_link(change, events)
+            }
+            Command::Join(first, second) => {
+                let change = join_of(&self.cuts, self.link(first, second));
+                self.change_link(change, events)
+            }
+            Command::Trace(_) => Ok(()),
         }
     }
 
@@ -143,18 +181,21 @@ impl World {
         self.read_key(member, events)
     }
 
-    /// A member reads the leader key, and the store decides on what it asks for.
+    /// A member reads the leader key, unless its link is cut, and the store decides on what it asks for.
     fn read_key(&mut self, member: Member, events: &mut Vec<Event>) -> Result<(), AllocError>
         requires clock { self.old.clock < 2 ^ 61 }
         requires revision { self.old.keys.revision < 2 ^ 60 }
         requires room { vec_len events.old + 1 ≤ vec_capacity events.old }
-        ensures state { OnOk result (self.new ≡ after_all self.old (stamped self.old (answered self.old member (request_on member (key_at self.old.keys self.old.clock Key.Leader))))) }
-        ensures event { OnOk result (events.new.items ≡ events.old.items ++ stamped self.old (answered self.old member (request_on member (key_at self.old.keys self.old.clock Key.Leader)))) }
+        ensures state { OnOk result (self.new ≡ after_all self.old (stamped self.old (answered self.old member (asked_by self.old member)))) }
+        ensures event { OnOk result (events.new.items ≡ events.old.items ++ stamped self.old (answered self.old member (asked_by self.old member))) }
         ensures clock { OnOk result (self.new.clock ≡ self.old.clock) }
         ensures revision { OnOk result (self.new.keys.revision ≤ self.old.keys.revision + 1) }
         ensures len { OnOk result (vec_len events.new ≤ vec_len events.old + 1) }
         ensures room { OnOk result (vec_capacity events.old ≤ vec_capacity events.new) }
     {
+        if is_off_store(&self.cuts, member) {
+            return Ok(());
+        }
         let Some(request) = request_on(member, self.store.get(self.clock, Key::Leader)) else {
             return Ok(());
         };
@@ -185,18 +226,96 @@ impl World {
         Ok(())
     }
 
-    /// The agent of a member is held, where it isn't yet.
-    fn hold(&mut self, member: MemberId, events: &mut Vec<Event>)
+    /// The declared member of this number, and its agent.
+    fn agent(&self, id: MemberId) -> Option<(Member, AgentState)>
+        ensures { result ≡ agent_of self.now id }
+    {
+        agent_at(&self.members, &self.agents, id)
+    }
+
+    /// The link between two ends that a script names.
+    fn link(&self, first: End, second: End) -> Option<Link>
+        ensures { result ≡ link_of self.now.members first second }
+    {
+        link_of(&self.members, first, second)
+    }
+
+    /// A message of this number isn't in flight.
+    fn no_message(&mut self, number: u64, events: &mut Vec<Event>) -> Result<(), AllocError>
         requires clock { self.old.clock < 2 ^ 61 }
         requires room { vec_len events.old + 1 ≤ vec_capacity events.old }
-        ensures state { self.new ≡ after_all self.old (stamped self.old (hold_of (slice_get self.old.members member.number) (slice_get self.old.agents member.number))) }
-        ensures event { events.new.items ≡ events.old.items ++ stamped self.old (hold_of (slice_get self.old.members member.number) (slice_get self.old.agents member.number)) }
-        ensures clock { self.new.clock ≡ self.old.clock }
-        ensures revision { self.new.keys.revision ≡ self.old.keys.revision }
+        ensures state { OnOk result (self.new ≡ after self.old (Kind.Note (Note.NoMessage number))) }
+        ensures event { OnOk result (events.new.items ≡ events.old.items ++ stamped self.old (Kind.Note (Note.NoMessage number) ∷ [])) }
+        ensures clock { OnOk result (self.new.clock ≡ self.old.clock) }
+        ensures keys { OnOk result (self.new.keys ≡ self.old.keys) }
     {
-        if let Some(member) = free_member(&self.members, &self.agents, member) {
-            self.act(AgentEvent::Suspended { agent: member }, events);
+        note(events, self.clock, Kind::Note(Note::NoMessage { number }));
+        Ok(())
+    }
+
+    /// An agent is asked to start. It does where it doesn't run.
+    fn restart(&mut self, member: MemberId, events: &mut Vec<Event>) -> Result<(), AllocError>
+        requires clock { self.old.clock < 2 ^ 61 }
+        requires room { vec_len events.old + 1 ≤ vec_capacity events.old }
+        ensures state { OnOk result (self.new ≡ after_all self.old (stamped self.old (restart_kinds (agent_of self.old member)))) }
+        ensures event { OnOk result (events.new.items ≡ events.old.items ++ stamped self.old (restart_kinds (agent_of self.old member))) }
+        ensures clock { OnOk result (self.new.clock ≡ self.old.clock) }
+        ensures keys { OnOk result (self.new.keys ≡ self.old.keys) }
+    {
+        let Some((agent, state)) = self.agent(member) else {
+            return Ok(());
+        };
+        if state.running {
+            note(
+                events,
+                self.clock,
+                Kind::Note(Note::AlreadyRunning { agent }),
+            );
+        } else {
+            self.act(AgentEvent::Started { agent }, events);
         }
+        Ok(())
+    }
+
+    /// What happens to an agent, if anything does.
+    fn change_agent(
+        &mut self,
+        happening: Option<AgentEvent>,
+        events: &mut Vec<Event>,
+    ) -> Result<(), AllocError>
+        requires clock { self.old.clock < 2 ^ 61 }
+        requires room { vec_len events.old + 1 ≤ vec_capacity events.old }
+        ensures state { OnOk result (self.new ≡ after_all self.old (stamped self.old (agent_kinds happening))) }
+        ensures event { OnOk result (events.new.items ≡ events.old.items ++ stamped self.old (agent_kinds happening)) }
+        ensures clock { OnOk result (self.new.clock ≡ self.old.clock) }
+        ensures keys { OnOk result (self.new.keys ≡ self.old.keys) }
+    {
+        let Some(happening) = happening else {
+            return Ok(());
+        };
+        self.act(happening, events);
+        Ok(())
+    }
+
+    /// What happens to a link, if anything does.
+    fn change_link(
+        &mut self,
+        change: Option<LinkEvent>,
+        events: &mut Vec<Event>,
+    ) -> Result<(), AllocError>
+        requires clock { self.old.clock < 2 ^ 61 }
+        requires room { vec_len events.old + 1 ≤ vec_capacity events.old }
+        ensures state { OnOk result (self.new ≡ after_all self.old (stamped self.old (link_kinds change))) }
+        ensures event { OnOk result (events.new.items ≡ events.old.items ++ stamped self.old (link_kinds change)) }
+        ensures clock { OnOk result (self.new.clock ≡ self.old.clock) }
+        ensures keys { OnOk result (self.new.keys ≡ self.old.keys) }
+    {
+        let Some(change) = change else {
+            return Ok(());
+        };
+        change_links(&mut self.cuts, change)?;
+        note(events, self.clock, Kind::Link(change));
+        Ok(())
     }
 
     /// Something happens to an agent.
@@ -208,6 +327,7 @@ impl World {
         ensures clock { self.new.clock ≡ self.old.clock }
         ensures keys { self.new.keys ≡ self.old.keys }
         ensures members { self.new.members ≡ self.old.members }
+        ensures cuts { self.new.cuts ≡ self.old.cuts }
         ensures len { vec_len events.new ≡ vec_len events.old + 1 }
         ensures room { vec_capacity events.old ≤ vec_capacity events.new }
     {
@@ -248,6 +368,7 @@ fn agents_of(alloc: Global, count: usize) -> Result<Vec<AgentState>, AllocError>
     for place in 0..count {
         agents.push(AgentState {
             next_turn: Ticks(place as u64 + 1),
+            running: true,
             held: false,
         })?;
     }
@@ -262,66 +383,6 @@ fn note(events: &mut Vec<Event>, tick: Ticks, kind: Kind)
     ensures room { vec_capacity events.old ≤ vec_capacity events.new }
 {
     events.push(Event { tick, kind }).unwrap();
-}
-
-fn change_agents(agents: &mut [AgentState], now: Ticks, happening: AgentEvent)
-    requires { now.0 < 2 ^ 61 }
-    ensures { agents.new ≡ agents_at now.0 agents.old (Kind.Agent happening) }
-{
-    match happening {
-        AgentEvent::Woken { agent } => set_turn(
-            agents,
-            agent,
-            now + Config::defaults().loop_wait_ticks(),
-        ),
-        AgentEvent::Suspended { agent } => set_held(agents, agent),
-    }
-}
-
-fn set_turn(agents: &mut [AgentState], member: Member, next_turn: Ticks)
-    ensures { agents.new ≡ changed agents.old member (λ state. record state { next_turn = next_turn }) }
-{
-    let place = member.id.number as usize;
-    if place < agents.len() {
-        agents[place].next_turn = next_turn;
-    }
-}
-
-fn set_held(agents: &mut [AgentState], member: Member)
-    ensures { agents.new ≡ changed agents.old member (λ state. record state { held = true }) }
-{
-    let place = member.id.number as usize;
-    if place < agents.len() {
-        agents[place].held = true;
-    }
-}
-
-/// The member at a place, where its agent has a turn at this moment.
-fn due_member(now: Ticks, members: &[Member], agents: &[AgentState], place: usize) -> Option<Member>
-    ensures { result ≡ due_member now.0 (slice_get members.now place) (slice_get agents.now place) }
-{
-    let member = members.get(place)?;
-    let state = agents.get(place)?;
-    if is_due(now, state) {
-        Some(*member)
-    } else {
-        None
-    }
-}
-
-fn is_due(now: Ticks, state: &AgentState) -> bool
-    ensures { result ≡ is_due now.0 state.now }
-{
-    !state.held && state.next_turn <= now
-}
-
-/// The declared member of this number, where its agent isn't held.
-fn free_member(members: &[Member], agents: &[AgentState], id: MemberId) -> Option<Member>
-    ensures { held_of result ≡ hold_of (slice_get members.now id.number) (slice_get agents.now id.number) }
-{
-    let member = members.get(id.number as usize)?;
-    let state = agents.get(id.number as usize)?;
-    if state.held { None } else { Some(*member) }
 }
 
 /// The declared member of this number, if there is a number.

@@ -11,7 +11,7 @@ use Rattle.patroni_top.proofs.Whole.{has-room, text-is, TakesAll-then, TakesAll-
 use Rattle.patroni_top.proofs.playing.play.Goals as goal
 
 pub play_body-requires : goal.play_body-requires
-play_body-requires g c = has-room c.args.script.now c.in_ok-world.world c.head.ensures.script (c.in_ok-world.ensures ∙ ap (λ h. start_of h.members) c.head.ensures.value)
+play_body-requires g c = has-room c.args.script.now c.in_ok-world.world c.requires.few (c.in_ok-world.ensures ∙ ap (λ h. start_of h.members) c.head.ensures.value)
 
 pub returns-in_err-play_body-clause-part : goal.returns-in_err-play_body-clause-part
 returns-in_err-play_body-clause-part g c =

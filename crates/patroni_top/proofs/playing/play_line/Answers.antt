@@ -11,3 +11,11 @@ returns-in-Run-clause-steps g c =
     let ticks = ap ticks_of_line c.in-Run.is in
     steps more (HasRoomFor-fewer _ _ (c.in-Run.count + more) room (omega (arith, ticks))))
     c.play_ticks.ensures.steps
+
+pub returns-in-Tick-clause-steps : goal.returns-in-Tick-clause-steps
+returns-in-Tick-clause-steps g c =
+    on_ok_weaker c.play_ticks-in-Tick.result
+    (λ steps more room.
+    let ticks = ap ticks_of_line c.in-Tick.is in
+    steps more (HasRoomFor-fewer _ _ (c.in-Tick.count + more) room (omega (arith, ticks))))
+    c.play_ticks-in-Tick.ensures.steps

@@ -1,7 +1,6 @@
 use Rattle.std.proofs.Common.{◌+◌, ◌-◌, arith, ap, ◌∙◌, Err, refl, replicate}
 use Rattle.std.proofs.lemmas.Result.{err_from_is_err_and}
 use Rattle.pat_base.proofs.Contents.{OnErr-holds}
-use Rattle.cluster_script.specs.declared.line.Step.TheVariants as steps
 use Rattle.patroni_top.specs.Next.{next_events, run_from}
 use Rattle.patroni_top.proofs.Played.{HasRoomFor-fewer, Playing-more, Playing-stop, Playing-wants, ticks-next}
 use Rattle.patroni_top.proofs.playing.play_ticks.Goals as goal
@@ -9,30 +8,30 @@ use Rattle.patroni_top.proofs.playing.play_ticks.Goals as goal
 pub play_step-requires : goal.play_step-requires
 play_step-requires g c =
     let whole = HasRoomFor-fewer _ _ (c.args.count + 0) c.requires (omega arith) in
-    HasRoomFor-fewer _ _ 1 (c.loop-tick.invariant.steps 0 whole) (omega arith)
+    HasRoomFor-fewer _ _ 1 (c.loop-done.invariant.steps 0 whole) (omega arith)
 
-pub loop-tick-preserved : goal.loop-tick-preserved
-loop-tick-preserved g c =
+pub loop-done-preserved : goal.loop-done-preserved
+loop-done-preserved g c =
     let new = c.play_step.new.world in
     record {
-      steps = λ more room. c.in_ok-play_step.ensures.steps ((c.args.count - (c.loop-tick.tick + 1)) + more)
-          (HasRoomFor-fewer _ _ (1 + ((c.args.count - (c.loop-tick.tick + 1)) + more)) (c.loop-tick.invariant.steps more room) (omega arith));
-      playing = Playing-more _ _ _ _ _ _ _ _ _ _ c.play_step.result _ _ _ _ _ _ (next_events c.loop-tick.world steps.Tick) (run_from new (replicate (c.args.count - (c.loop-tick.tick + 1)) steps.Tick))
-          c.loop-tick.invariant.playing (ticks-next _ new c.loop-tick.tick c.args.count c.loop-tick-test.true c.in_ok-play_step.ensures.state)
+      steps = λ more room. c.in_ok-play_step.ensures.steps ((c.args.count - (c.loop-done.done + 1)) + more)
+          (HasRoomFor-fewer _ _ (1 + ((c.args.count - (c.loop-done.done + 1)) + more)) (c.loop-done.invariant.steps more room) (omega arith));
+      playing = Playing-more _ _ _ _ _ _ _ _ _ _ c.play_step.result _ _ _ _ _ _ (next_events c.loop-done.world c.args.step.now) (run_from new (replicate (c.args.count - (c.loop-done.done + 1)) c.args.step.now))
+          c.loop-done.invariant.playing (ticks-next c.args.step.now _ new c.loop-done.done c.args.count c.loop-done-test.true c.in_ok-play_step.ensures.state)
           c.in_ok-play_step.ensures.state c.in_ok-play_step.ensures.ok c.play_step.ensures.grows c.play_step.ensures.room c.in_ok-play_step.was;
     }
 
 pub returns-in_err-play_step-clause-part : goal.returns-in_err-play_step-clause-part
 returns-in_err-play_step-clause-part g c =
     OnErr-holds c.from_residual.result
-    (Playing-stop _ _ _ _ _ _ _ _ _ _ _ (next_events c.loop-tick.world steps.Tick) _
-    c.loop-tick.invariant.playing (ticks-next _ _ c.loop-tick.tick c.args.count c.loop-tick-test.true refl) c.in_err-play_step.ensures.part)
+    (Playing-stop _ _ _ _ _ _ _ _ _ _ _ (next_events c.loop-done.world c.args.step.now) _
+    c.loop-done.invariant.playing (ticks-next c.args.step.now _ _ c.loop-done.done c.args.count c.loop-done-test.true refl) c.in_err-play_step.ensures.part)
 
 pub returns-in_err-play_step-clause-room : goal.returns-in_err-play_step-clause-room
 returns-in_err-play_step-clause-room g c =
     let p = err_from_is_err_and c.from_residual.result c.from_residual.ensures.1 in
-    Playing-wants _ _ _ _ _ _ _ _ _ c.play_step.result c.from_residual.result c.in_err-play_step.field-0.0 _ _ _ _ (next_events c.loop-tick.world steps.Tick) _
-    c.loop-tick.invariant.playing (ticks-next _ _ c.loop-tick.tick c.args.count c.loop-tick-test.true refl) c.play_step.ensures.room c.in_err-play_step.was (p.1 ∙ ap Err p.2)
+    Playing-wants _ _ _ _ _ _ _ _ _ c.play_step.result c.from_residual.result c.in_err-play_step.field-0.0 _ _ _ _ (next_events c.loop-done.world c.args.step.now) _
+    c.loop-done.invariant.playing (ticks-next c.args.step.now _ _ c.loop-done.done c.args.count c.loop-done-test.true refl) c.play_step.ensures.room c.in_err-play_step.was (p.1 ∙ ap Err p.2)
 
 pub returns-clause-steps : goal.returns-clause-steps
-returns-clause-steps g c more room = HasRoomFor-fewer _ _ more (c.loop-tick.invariant.steps more room) (omega arith)
+returns-clause-steps g c more room = HasRoomFor-fewer _ _ more (c.loop-done.invariant.steps more room) (omega arith)

@@ -1,6 +1,5 @@
 use Rattle.std.proofs.Common.{ℕ, ◌+◌, ◌-◌, replicate}
 use Rattle.event_book.specs.Facts.{Facts}
-use Rattle.cluster_script.specs.declared.line.Step.TheVariants as steps
 use Rattle.patroni_top.specs.Next.{run_from}
 use Rattle.patroni_top.specs.Room.{HasRoomFor}
 use Rattle.patroni_top.proofs.Played.{Playing}
@@ -11,7 +10,7 @@ pub record Ticking (start world : Facts) (count left : ℕ) (On : Type 0) : Type
   pub steps : (more : ℕ) → HasRoomFor start (count + more) → HasRoomFor world (left + more)
   pub playing : On
 
-abbrev pub invariant-loop-tick : goal.invariant-loop-tick
-invariant-loop-tick g l = Ticking l.fn.world l.world l.count (l.count - l.tick)
+abbrev pub invariant-loop-done : goal.invariant-loop-done
+invariant-loop-done g l = Ticking l.fn.world l.world l.count (l.count - l.done)
     (Playing (g.K.Sink.content l.fn.out) (g.K.Sink.content l.out) (g.K.Sink.faults l.fn.out) (g.K.Sink.faults l.out) (g.K.Sink.can_take l.fn.out) (g.K.Sink.can_take l.out) l.fn.world l.world
-    (run_from l.fn.world (replicate l.count steps.Tick)) (run_from l.world (replicate (l.count - l.tick) steps.Tick)))
+    (run_from l.fn.world (replicate l.count l.step)) (run_from l.world (replicate (l.count - l.done) l.step)))
