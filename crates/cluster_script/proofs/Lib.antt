@@ -1,6 +1,7 @@
 pub mod ArgumentLaws
 pub mod Cutting
 pub mod Finishing
+pub mod LimitLaws
 pub mod MemberLaws
 pub mod NameLaws
 pub mod NumberLaws

@@ -1,6 +1,7 @@
 pub mod Arguments
 pub mod Draft
 pub mod Faults
+pub mod Limits
 pub mod Lines
 pub mod Members
 pub mod Numbers

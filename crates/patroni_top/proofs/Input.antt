@@ -1,30 +1,46 @@
 -- Input that is read up to one byte more than a script may have.
-use Rattle.std.proofs.Common.{◌≡◌, ℕ, ◌≤◌, ◌<◌, List, [], length, take, drop, Option, Some, None, nat_le, Bool, true, false, cond, arith, refl, ◌∙◌, ap, sym, take_all, inl, inr, ◌⊎◌}
+use Rattle.std.proofs.Common.{◌≡◌, ℕ, ◌≤◌, ◌<◌, nat_lt, List, [], length, take, drop, Option, Some, None, Bool, true, false, cond, arith, refl, ◌∙◌, ap, sym, subst, take_all, inl, inr, ◌⊎◌}
 use Rattle.std.proofs.lemmas.List.{length-take, drop_all}
 use Rattle.std.proofs.lemmas.Bool.Decides.{nat_tests}
 use Rattle.std.proofs.lemmas.Bool.{cases_lt}
-use Rattle.cluster_script.specs.Lines.{cut_lines, on_some}
-use Rattle.cluster_script.specs.Reading.{script_of, few_lines}
-use Rattle.cluster_script.specs.Script.{ScriptText}
+use Rattle.cluster_script.specs.Limits.{limit_of}
+use Rattle.cluster_script.specs.declared.limits.Limit.{Limit}
+use Rattle.cluster_script.specs.declared.limits.Limit.TheVariants.{Bytes}
+use Rattle.patroni_top.specs.Input.{Refuses}
+use Rattle.patroni_top.specs.declared.reading.InputError.{InputError}
+use Rattle.patroni_top.specs.declared.reading.InputError.TheVariants as refusals
 
-too-long : (bytes : List ℕ) → 1048576 < length bytes → script_of bytes ≡ None
+too-long : (bytes : List ℕ) → 1048576 < length bytes → limit_of bytes ≡ Some Bytes
 too-long bytes long =
-    let over : nat_le (length bytes) 1048576 ≡ false = grind (arith, nat_tests) in
+    let over : nat_lt 1048576 (length bytes) ≡ true = grind (arith, nat_tests) in
     rw over refl
 
--- one byte more than a script may have tells as much as all bytes
-pub script_of-take : (all : List ℕ) → script_of (take 1048577 all) ≡ script_of all
-script_of-take all = elim (cases_lt 1048576 (length all)) [
+-- one byte more than a script may have passes the limit that all bytes pass
+pub limit_of-take : (all : List ℕ) → limit_of (take 1048577 all) ≡ limit_of all
+limit_of-take all = elim (cases_lt 1048576 (length all)) [
   | inl long ↦ too-long (take 1048577 all) (omega (arith, length-take 1048577 all)) ∙ sym (too-long all long)
-  | inr short ↦ ap script_of (take_all 1048577 all (omega (arith, short)))
+  | inr short ↦ ap limit_of (take_all 1048577 all (omega (arith, short)))
 ]
 
--- a script was read to its end
-pub script-ends : (all : List ℕ) (s : ScriptText) → script_of (take 1048577 all) ≡ Some s → drop 1048577 all ≡ []
-script-ends all s is = elim (cases_lt 1048576 (length all)) [
-  | inl long ↦ absurd (clash (sym (too-long (take 1048577 all) (omega (arith, length-take 1048577 all))) ∙ is))
-  | inr short ↦ drop_all 1048577 all (omega (arith, short))
-]
+too-long-limits : (bytes : List ℕ) → 1048576 < length bytes → limit_of bytes ≡ None → ⊥
+too-long-limits bytes long none = clash (sym (too-long bytes long) ∙ none)
   where
-    clash : None ≡ Some s → ⊥
+    clash : Some Bytes ≡ None → ⊥
     clash e = cc
+
+-- where no limit is passed, all bytes were read
+pub reads-all : (all : List ℕ) → limit_of (take 1048577 all) ≡ None → (take 1048577 all ≡ all) × (drop 1048577 all ≡ [])
+reads-all all none = elim (cases_lt 1048576 (length all)) [
+  | inl long ↦ absurd (too-long-limits (take 1048577 all) (omega (arith, length-take 1048577 all)) none)
+  | inr short ↦ (take_all 1048577 all (omega (arith, short)), drop_all 1048577 all (omega (arith, short)))
+]
+
+refuses-front : (e : InputError) (all : List ℕ) → Refuses e (take 1048577 all) → Refuses e all
+refuses-front refusals.Memory all h = tt
+refuses-front refusals.Fault all h = tt
+refuses-front (refusals.At line fault) all h = subst (λ (bytes : List ℕ). Refuses (refusals.At line fault) bytes) (reads-all all h.0).0 h
+refuses-front (refusals.Limit limit) all h = sym (limit_of-take all) ∙ h
+
+-- a refusal says of all bytes what it says of those read
+pub refuses-all : (e : InputError) (read all : List ℕ) → read ≡ take 1048577 all → Refuses e read → Refuses e all
+refuses-all e read all is h = refuses-front e all (subst (λ (bytes : List ℕ). Refuses e bytes) is h)

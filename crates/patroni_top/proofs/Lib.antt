@@ -1,3 +1,4 @@
+pub mod Endings
 pub mod Input
 pub mod Played
 pub mod Progress

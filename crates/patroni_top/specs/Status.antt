@@ -1,6 +1,14 @@
 -- Exit statuses, and what is said of each on the error output.
-use Rattle.std.specs.Prelude.{ℕ, ◌≡◌, ◌≤◌, ◌⊎◌, List, [], Option, length, codes}
+use Rattle.std.specs.Prelude.{ℕ, ◌≡◌, ◌≤◌, ◌⊎◌, List, [], ◌++◌, Option, Some, None, Err, length, codes}
+use Rattle.std.specs.Fmt.{decimal}
 use Rattle.pat_base.specs.Outside.{Rose, Grew, GrewByPrefix}
+use Rattle.cluster_script.specs.declared.fault.Fault.{Fault}
+use Rattle.cluster_script.specs.declared.limits.Limit.{Limit}
+use Rattle.cluster_script.specs.Faults.{text_of}
+use Rattle.cluster_script.specs.Limits.{limit_text, limit_of}
+use Rattle.cluster_script.specs.Reading.{script_of}
+use Rattle.patroni_top.specs.declared.ending.Ending.{Ending}
+use Rattle.patroni_top.specs.declared.ending.Ending.TheVariants as endings
 use Rattle.patroni_top.specs.declared.status.Status.{Status}
 use Rattle.patroni_top.specs.declared.status.Status.TheVariants as statuses
 
@@ -11,15 +19,42 @@ code_of statuses.Usage = 2
 code_of statuses.ReadFault = 3
 code_of statuses.WriteFault = 4
 code_of statuses.Memory = 5
+code_of statuses.Limit = 7
+
+abbrev pub status_of : Ending → Status
+status_of endings.Done = statuses.Done
+status_of (endings.NotScript line fault) = statuses.NotScript
+status_of endings.Usage = statuses.Usage
+status_of endings.ReadFault = statuses.ReadFault
+status_of endings.WriteFault = statuses.WriteFault
+status_of endings.Memory = statuses.Memory
+status_of (endings.Limit limit) = statuses.Limit
+
+-- what an ending says of the bytes of the input
+abbrev pub Says : Ending → List ℕ → Type 0
+Says endings.Done bytes = Unit {0}
+Says (endings.NotScript line fault) bytes = (limit_of bytes ≡ None) × (script_of bytes ≡ Err (line, fault))
+Says endings.Usage bytes = Unit {0}
+Says endings.ReadFault bytes = Unit {0}
+Says endings.WriteFault bytes = Unit {0}
+Says endings.Memory bytes = Unit {0}
+Says (endings.Limit limit) bytes = limit_of bytes ≡ Some limit
+
+abbrev pub fault_line : ℕ → Fault → List ℕ
+fault_line line fault = codes "line " ++ (decimal line ++ (codes ": " ++ (text_of fault ++ codes "\n")))
+
+abbrev pub limit_line : Limit → List ℕ
+limit_line limit = codes "limit: " ++ (limit_text limit ++ codes "\n")
 
 -- the line on the error output
-abbrev pub message_of : Status → List ℕ
-message_of statuses.Done = []
-message_of statuses.NotScript = codes "script not built\n"
-message_of statuses.Usage = codes "usage: patroni_sim run | serve MEMBER ADDRESS COUNT | print | gen SEED COUNT\n"
-message_of statuses.ReadFault = codes "read fault\n"
-message_of statuses.WriteFault = codes "write fault\n"
-message_of statuses.Memory = codes "out of memory\n"
+abbrev pub message_of : Ending → List ℕ
+message_of endings.Done = []
+message_of (endings.NotScript line fault) = fault_line line fault
+message_of endings.Usage = codes "usage: patroni_sim run | serve MEMBER ADDRESS COUNT | print | gen SEED COUNT\n"
+message_of endings.ReadFault = codes "read fault\n"
+message_of endings.WriteFault = codes "write fault\n"
+message_of endings.Memory = codes "out of memory\n"
+message_of (endings.Limit limit) = limit_line limit
 
 -- the error output grew by a front of the line: by all of it, unless a fault came
 pub record IsTold (before after : Option (List ℕ)) (faults later : ℕ) (CanTake : ℕ → Type 0) (line : List ℕ) : Type 0 where

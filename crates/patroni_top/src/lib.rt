@@ -4,12 +4,14 @@
 #![tactic(auto)]
 
 mod agents;
+mod ending;
 mod links;
 mod playing;
 mod print_error;
 mod printing;
 mod reading;
 mod status;
+mod texts;
 mod top;
 mod world;
 

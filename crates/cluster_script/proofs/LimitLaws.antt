@@ -1,0 +1,87 @@
+-- What a script within the limits has at most.
+use Rattle.std.proofs.Common.{◌≡◌, ℕ, ◌+◌, ◌-◌, ◌^◌, ◌≤◌, ◌<◌, nat_lt, min, Bool, true, false, cond, List, [], ◌∷◌, ◌++◌, length, map, Option, Some, None, Ok, refl, ◌∙◌, ap, sym, subst, arith, length-append}
+use Rattle.std.specs.List.{sum_by, count_by}
+use Rattle.std.proofs.lemmas.Bool.Decides.{nat_tests}
+use Rattle.std.proofs.lemmas.List.{length-map}
+use Rattle.std.proofs.lemmas.List.Sums.{sum_by-append, sum_by-cons}
+use Rattle.pat_base.specs.declared.name.Name.{Name}
+use Rattle.cluster_script.specs.Lines.{lines_in, is_skipped, counted_lines}
+use Rattle.cluster_script.specs.Limits.{members_in, ticks_behind, ticks_or_none, ticks_of_words, ticks_in_line, ticks_in, limit_of_lines, limit_of}
+use Rattle.cluster_script.specs.Reading.{script_of}
+use Rattle.cluster_script.specs.Script.{ScriptText, IsLine, AllAreLines, line_text, head_lines, body_lines, lines_of}
+use Rattle.cluster_script.specs.Steps.{ticks_of_line, total_ticks}
+use Rattle.cluster_script.specs.Words.{keyword_of, cut_word, spelled}
+use Rattle.cluster_script.specs.declared.keyword.Keyword.TheVariants as words
+use Rattle.cluster_script.specs.declared.line.Line.{Line}
+use Rattle.cluster_script.specs.declared.line.Line.TheVariants as lines
+use Rattle.cluster_script.specs.declared.limits.Limit.{Limit}
+use Rattle.cluster_script.specs.declared.limits.Limit.TheVariants as limits
+use Rattle.cluster_script.proofs.NumberLaws.{number-decimal}
+use Rattle.cluster_script.proofs.ReadLaws.{read-is-spelled}
+
+-- a test that gives nothing
+none_passed : (t : Bool) (limit : Limit) (o : Option Limit) → cond t (Some limit) o ≡ None → (t ≡ false) × (o ≡ None)
+none_passed true limit o e = cc
+none_passed false limit o e = (refl, e)
+
+not-more : (most n : ℕ) → nat_lt most n ≡ false → n ≤ most
+not-more most n e = grind (arith, nat_tests)
+
+-- the lines that count are no more than all, and have no more ticks
+counted-length : (t : Bool) (line : List ℕ) (some rest : List (List ℕ)) → length some ≤ length rest → length (cond t some (line ∷ some)) ≤ length (line ∷ rest)
+counted-length true line some rest h = omega arith
+counted-length false line some rest h = omega arith
+
+fewer : (ls : List (List ℕ)) → length (counted_lines ls) ≤ length ls
+fewer [] = omega arith
+fewer (line ∷ rest) = counted-length (is_skipped line) line (counted_lines rest) rest (fewer rest)
+
+counted-ticks : (t : Bool) (line : List ℕ) (some : List (List ℕ)) (rest : ℕ) → sum_by ticks_in_line some ≤ rest → sum_by ticks_in_line (cond t some (line ∷ some)) ≤ ticks_in_line line + rest
+counted-ticks true line some rest h = omega arith
+counted-ticks false line some rest h = omega (arith, h, sum_by-cons ticks_in_line line some)
+
+fewer-ticks : (ls : List (List ℕ)) → sum_by ticks_in_line (counted_lines ls) ≤ sum_by ticks_in_line ls
+fewer-ticks [] = omega arith
+fewer-ticks (line ∷ rest) = rw sum_by-cons (counted-ticks (is_skipped line) line (counted_lines rest) (sum_by ticks_in_line rest) (fewer-ticks rest))
+
+-- a line has the ticks that its text has
+line-ticks : (members : List Name) (line : Line) → IsLine members line → ticks_of_line line ≤ ticks_in_line (line_text members line)
+line-ticks members (lines.Run n) h = let e : ticks_in_line (line_text members (lines.Run n)) ≡ n = ap ticks_or_none (number-decimal n h) in omega (arith, e)
+line-ticks members (lines.Tick n) h = let e : ticks_in_line (line_text members (lines.Tick n)) ≡ n = ap ticks_or_none (number-decimal n h) in omega (arith, e)
+line-ticks members (lines.Command c) h = omega arith
+
+body-ticks : (members : List Name) (body : List Line) → AllAreLines members body → total_ticks body ≤ sum_by ticks_in_line (body_lines members body)
+body-ticks members [] h = omega arith
+body-ticks members (line ∷ body) h = omega (arith, line-ticks members line h.0, body-ticks members body h.1, sum_by-cons ticks_in_line (line_text members line) (body_lines members body))
+
+-- the lines of a body are among those of its script
+all-ticks : (text : ScriptText) → sum_by ticks_in_line (body_lines text.head.members text.body) ≤ sum_by ticks_in_line (lines_of text)
+all-ticks text = omega (arith, sum_by-append ticks_in_line (head_lines text.head) (body_lines text.head.members text.body))
+
+all-lines : (text : ScriptText) → length text.body ≤ length (lines_of text)
+all-lines text = omega (arith, length-append (head_lines text.head) (body_lines text.head.members text.body), length-map text.body (line_text text.head.members))
+
+least : (n : ℕ) → min n (2 ^ 64 - 1) ≤ 1000000 → n ≤ 1000000
+least n h = omega arith
+
+-- lines that pass no limit
+lines-within : (ls : List (List ℕ)) → limit_of_lines ls ≡ None → (length ls ≤ 100000) × (sum_by ticks_in_line ls ≤ 1000000)
+lines-within ls none =
+    let l = none_passed (nat_lt 100000 (length ls)) limits.Lines _ none in
+    let m = none_passed (nat_lt 16 (members_in ls)) limits.Members _ l.1 in
+    let t = none_passed (nat_lt 1000000 (ticks_in ls)) limits.Ticks None m.1 in
+    (not-more 100000 (length ls) l.0, least (sum_by ticks_in_line ls) (not-more 1000000 (ticks_in ls) t.0))
+
+-- a script of lines that pass none
+text-within : (ls : List (List ℕ)) (text : ScriptText) → AllAreLines text.head.members text.body → counted_lines ls ≡ lines_of text → (length ls ≤ 100000) × (sum_by ticks_in_line ls ≤ 1000000)
+    → (total_ticks text.body ≤ 1000000) × (length text.body ≤ 100000)
+text-within ls text body same within =
+    let few : length (lines_of text) ≤ length ls = subst (λ (some : List (List ℕ)). length some ≤ length ls) same (fewer ls) in
+    let ticks : sum_by ticks_in_line (lines_of text) ≤ sum_by ticks_in_line ls = subst (λ (some : List (List ℕ)). sum_by ticks_in_line some ≤ sum_by ticks_in_line ls) same (fewer-ticks ls) in
+    (omega (arith, within.1, ticks, all-ticks text, body-ticks text.head.members text.body body), omega (arith, within.0, few, all-lines text))
+
+pub within-limits : (bytes : List ℕ) (text : ScriptText) → script_of bytes ≡ Ok text → limit_of bytes ≡ None → (total_ticks text.body ≤ 1000000) × (length text.body ≤ 100000)
+within-limits bytes text e none =
+    let read = read-is-spelled bytes text e in
+    let passed = none_passed (nat_lt 1048576 (length bytes)) limits.Bytes (limit_of_lines (lines_in bytes)) none in
+    text-within (lines_in bytes) text read.0.body read.1.lines (lines-within (lines_in bytes) passed.1)

@@ -1,0 +1,57 @@
+-- What a script has at most. It is counted on the bytes alone, whatever faults they have.
+use Rattle.std.specs.Prelude.{ℕ, ◌-◌, ◌^◌, nat_lt, min, Bool, true, false, if◌then◌else◌, List, Option, Some, None, codes, length, count_by, sum_by}
+use Rattle.cluster_script.specs.Lines.{lines_in}
+use Rattle.cluster_script.specs.Numbers.{number}
+use Rattle.cluster_script.specs.Words.{keyword_of, cut_word}
+use Rattle.cluster_script.specs.declared.keyword.Keyword.{Keyword}
+use Rattle.cluster_script.specs.declared.keyword.Keyword.TheVariants as words
+use Rattle.cluster_script.specs.declared.limits.Limit.{Limit}
+use Rattle.cluster_script.specs.declared.limits.Limit.TheVariants as limits
+
+abbrev pub limit_text : Limit → List ℕ
+limit_text limits.Bytes = codes "bytes"
+limit_text limits.Lines = codes "lines"
+limit_text limits.Members = codes "members"
+limit_text limits.Ticks = codes "ticks"
+
+abbrev pub is_member_word : Option Keyword → Bool
+is_member_word (Some words.Member) = true
+is_member_word _ = false
+
+-- a line whose first word is 'member', whatever follows
+abbrev pub is_member_line : List ℕ → Bool
+is_member_line line = is_member_word (keyword_of (cut_word line).0)
+
+-- the lines of members
+abbrev pub members_in : List (List ℕ) → ℕ
+members_in lines = count_by is_member_line lines
+
+-- a number, or no ticks
+abbrev pub ticks_or_none : Option ℕ → ℕ
+ticks_or_none None = 0
+ticks_or_none (Some n) = n
+
+-- the ticks of the words behind 'tick' or 'run': those of a number alone
+abbrev pub ticks_behind : Option (List ℕ) → ℕ
+ticks_behind None = 0
+ticks_behind (Some words) = ticks_or_none (number words)
+
+abbrev pub ticks_of_words : Option Keyword → Option (List ℕ) → ℕ
+ticks_of_words (Some words.Tick) rest = ticks_behind rest
+ticks_of_words (Some words.Run) rest = ticks_behind rest
+ticks_of_words _ rest = 0
+
+-- the ticks of a line: of 'tick N' and of 'run N' they are N, and any other has none
+abbrev pub ticks_in_line : List ℕ → ℕ
+ticks_in_line line = ticks_of_words (keyword_of (cut_word line).0) (cut_word line).1
+
+-- the ticks of all lines, which end at the greatest number of 64 bits
+abbrev pub ticks_in : List (List ℕ) → ℕ
+ticks_in lines = min (sum_by ticks_in_line lines) (2 ^ 64 - 1)
+
+abbrev pub limit_of_lines : List (List ℕ) → Option Limit
+limit_of_lines lines = if nat_lt 100000 (length lines) then Some limits.Lines else if nat_lt 16 (members_in lines) then Some limits.Members else if nat_lt 1000000 (ticks_in lines) then Some limits.Ticks else None
+
+-- the first limit that the bytes pass, if they pass any
+abbrev pub limit_of : List ℕ → Option Limit
+limit_of bytes = if nat_lt 1048576 (length bytes) then Some limits.Bytes else limit_of_lines (lines_in bytes)

@@ -1,0 +1,230 @@
+//! The limits of a script. Bytes that pass one are judged by it before any fault of their lines.
+ghost use Rattle.std.specs.Prelude.{ℕ, ◌≡◌, ◌≤◌, List, length, map, IfOk, None, Ok};
+ghost use Rattle.std.specs.Option.{option_copied};
+ghost use Rattle.cluster_script.specs.Limits.{limit_text, is_member_line, members_in, ticks_or_none, ticks_behind, ticks_in_line, ticks_in, limit_of_lines, limit_of};
+ghost use Rattle.cluster_script.specs.Reading.{script_of};
+ghost use Rattle.cluster_script.specs.Script.{ScriptText};
+ghost use Rattle.cluster_script.specs.Steps.{total_ticks};
+
+use crate::keyword::Keyword;
+use crate::lines::lines_in;
+use crate::numbers::number;
+use crate::words::{cut_word, keyword_of};
+use std::alloc::{AllocError, Global};
+use std::fmt;
+
+/// The most bytes of a script.
+const MOST_BYTES: usize = 1_048_576;
+
+/// The most lines of a script: its line feeds, and one for an unended last line.
+const MOST_LINES: usize = 100_000;
+
+/// The most lines of a script whose first word is `member`.
+const MOST_MEMBERS: usize = 16;
+
+/// The most ticks, of 100 ms, of all lines `tick N` and `run N` of a script.
+const MOST_TICKS: u64 = 1_000_000;
+
+/// A limit that a script may pass.
+#[derive(Clone, Copy, Debug, PartialEq, Eq)]
+pub enum Limit {
+    /// 1,048,576 bytes.
+    Bytes,
+    /// 100,000 lines: the line feeds, and one for an unended last line.
+    Lines,
+    /// 16 lines whose first word is `member`, whatever follows it.
+    Members,
+    /// 1,000,000 ticks of 100 ms, in all lines that are `tick N` or `run N` and nothing else.
+    Ticks,
+}
+
+/// What a limit is called.
+pub fn limit_text(limit: Limit) -> &'static str
+    ensures { result.now ≡ limit_text limit }
+{
+    match limit {
+        Limit::Bytes => "bytes",
+        Limit::Lines => "lines",
+        Limit::Members => "members",
+        Limit::Ticks => "ticks",
+    }
+}
+
+impl fmt::Display for Limit {
+    ghost use Rattle.std.specs.Prelude.{Some};
+    ghost use Rattle.cluster_script.specs.Limits.{limit_text};
+
+    ghost output = { λ limit. Some (limit_text limit) };
+
+    fn fmt<W: fmt::Write>(&self, f: &mut fmt::Formatter<W>) -> fmt::Result {
+        f.write_str(limit_text(*self))
+    }
+}
+
+/// Whether a line's first word is `member`.
+fn is_member_line(line: &[u8]) -> bool
+    ensures { result ≡ is_member_line line.now }
+{
+    let (word, _) = cut_word(line);
+    matches!(keyword_of(word), Some(Keyword::Member))
+}
+
+fn members_in(lines: &[&[u8]]) -> usize
+    ensures { result ≡ members_in (map (λ line. line.now) lines.now) }
+{
+    lines.iter().filter(|line| is_member_line(line)).count()
+}
+
+fn ticks_or_none(ticks: Option<u64>) -> u64
+    ensures { result ≡ ticks_or_none ticks }
+{
+    ticks.unwrap_or(0)
+}
+
+fn ticks_behind(rest: Option<&[u8]>) -> u64
+    ensures { result ≡ ticks_behind (option_copied rest.entry) }
+{
+    match rest {
+        None => 0,
+        Some(words) => ticks_or_none(number(words)),
+    }
+}
+
+/// The ticks of a line.
+fn ticks_in_line(line: &[u8]) -> u64
+    ensures { result ≡ ticks_in_line line.now }
+{
+    let (word, rest) = cut_word(line);
+    match keyword_of(word) {
+        Some(Keyword::Tick | Keyword::Run) => ticks_behind(rest),
+        _ => 0,
+    }
+}
+
+fn ticks_in(lines: &[&[u8]]) -> u64
+    ensures { result ≡ ticks_in (map (λ line. line.now) lines.now) }
+{
+    let mut ticks = 0u64;
+    for line in lines {
+        ticks = ticks.saturating_add(ticks_in_line(line));
+    }
+    ticks
+}
+
+fn limit_of_lines(lines: &[&[u8]]) -> Option<Limit>
+    ensures { result ≡ limit_of_lines (map (λ line. line.now) lines.now) }
+{
+    if lines.len() > MOST_LINES {
+        Some(Limit::Lines)
+    } else if members_in(lines) > MOST_MEMBERS {
+        Some(Limit::Members)
+    } else if ticks_in(lines) > MOST_TICKS {
+        Some(Limit::Ticks)
+    } else {
+        None
+    }
+}
+
+/// The first limit that the bytes pass, in the order of `Limit`, whether or not they are a script. Want of memory says
+/// nothing of them.
+pub fn limit_passed(alloc: Global, bytes: &[u8]) -> Result<Option<Limit>, AllocError>
+    ensures { IfOk result (λ limit. limit ≡ limit_of bytes.now) }
+{
+    if bytes.len() > MOST_BYTES {
+        return Ok(Some(Limit::Bytes));
+    }
+    let lines = lines_in(alloc, bytes)?;
+    Ok(limit_of_lines(&lines))
+}
+
+/// A script within the limits has at most 1,000,000 ticks, and a body of at most 100,000 lines.
+pub fn within_limits()
+    ensures { (bytes : List ℕ) (text : ScriptText) → script_of bytes ≡ Ok text → limit_of bytes ≡ None → (total_ticks text.body ≤ 1000000) × (length text.body ≤ 100000) }
+{}
+
+#[cfg(test)]
+mod tests {
+    use super::{Limit, limit_passed};
+    use std::alloc::Global;
+    use std::test::Fail;
+
+    fn passes(alloc: Global, bytes: &[u8]) -> Result<Option<Limit>, Fail> {
+        Ok(limit_passed(alloc, bytes)?)
+    }
+
+    #[test]
+    fn limits_at_their_edge_and_one_past_it(rt: HostRuntime) -> Result<(), Fail> {
+        let alloc = rt.alloc();
+        let cases: [(&[u8], Option<Limit>); 14] = [
+            (b"", None),
+            (b"tick 1000000", None),
+            (b"tick 1000001", Some(Limit::Ticks)),
+            (b"tick 600000\n#\nrun 400000\n", None),
+            (b"tick 600000\nno line\nrun 400001\n", Some(Limit::Ticks)),
+            (b"run 18446744073709551615\ntick 1\n", Some(Limit::Ticks)),
+            (
+                b"run 18446744073709551615\ntick 18446744073709551615\n",
+                Some(Limit::Ticks),
+            ),
+            (b"tick 18446744073709551616\n", None),
+            (b"tick 01000001\nrun +1000001\n", None),
+            (b"tick 1000001 \nrun 1000001 a\ntick  1000001\n", None),
+            (b"ticks 1000001\n#run 1000001\n run 1000001\n", None),
+            (
+                b"member\nmember a\nmember a b\nmember \nmember\nmember\nmember\nmember\nmember\nmember\nmember\nmember\nmember\nmember\nmember\nmember",
+                None,
+            ),
+            (
+                b"member\nmember a\nmember a b\nmember \nmember\nmember\nmember\nmember\nmember\nmember\nmember\nmember\nmember\nmember\nmember\nmember\nmember\ntick 1000001",
+                Some(Limit::Members),
+            ),
+            (
+                b"members\nmember\nmember\nmember\nmember\nmember\nmember\nmember\nmember\nmember\nmember\nmember\nmember\nmember\nmember\nmember\nmember",
+                None,
+            ),
+        ];
+        for (bytes, limit) in cases {
+            assert_eq!(rt; passes(alloc, bytes)?, limit);
+        }
+        Ok(())
+    }
+
+    #[test]
+    fn an_unended_last_line_is_one(rt: HostRuntime) -> Result<(), Fail> {
+        let alloc = rt.alloc();
+        let mut bytes: Vec<u8> = Vec::new(alloc);
+        for _ in 0..100_000 {
+            bytes.push(b'\n')?;
+        }
+        assert_eq!(rt; passes(alloc, &bytes)?, None);
+        bytes.push(b'a')?;
+        assert_eq!(rt; passes(alloc, &bytes)?, Some(Limit::Lines));
+        Ok(())
+    }
+
+    #[test]
+    fn bytes_come_first(rt: HostRuntime) -> Result<(), Fail> {
+        let alloc = rt.alloc();
+        let mut bytes: Vec<u8> = Vec::new(alloc);
+        bytes.resize(1_048_576, b'#')?;
+        assert_eq!(rt; passes(alloc, &bytes)?, None);
+        bytes.push(b'\n')?;
+        assert_eq!(rt; passes(alloc, &bytes)?, Some(Limit::Bytes));
+        Ok(())
+    }
+
+    #[test]
+    fn limits_have_names(rt: HostRuntime) -> Result<(), Fail> {
+        let alloc = rt.alloc();
+        let cases = [
+            (Limit::Bytes, "bytes"),
+            (Limit::Lines, "lines"),
+            (Limit::Members, "members"),
+            (Limit::Ticks, "ticks"),
+        ];
+        for (limit, text) in cases {
+            assert_eq!(rt; format!(in alloc; "{limit}")?.as_str(), text);
+        }
+        Ok(())
+    }
+}

@@ -1,0 +1,91 @@
+//! How a run ended, with what is told of it.
+ghost use Rattle.std.specs.Prelude.{◌≡◌, ◌≤◌, length};
+ghost use Rattle.patroni_top.specs.Status.{fault_line, limit_line, message_of};
+
+use crate::Status;
+use crate::texts::{limit_text, text_of};
+use arrayvec::ArrayString;
+use cluster_script::{Fault, Limit};
+use itoa::Buffer;
+
+/// A line of the error output. It lies in the value, so that no want of memory can shorten what is told.
+pub type Message = ArrayString<96>;
+
+/// How a run ended. It is a status, with what its line names.
+#[derive(Clone, Copy, Debug, PartialEq, Eq)]
+pub enum Ending {
+    Done,
+    /// The bytes pass no limit. The first line that has a fault, counted from 1, and its first fault.
+    NotScript { line: u64, fault: Fault },
+    Usage,
+    ReadFault,
+    WriteFault,
+    Memory,
+    /// The first limit that the bytes pass.
+    Limit(Limit),
+}
+
+impl Ending {
+    ghost use Rattle.patroni_top.specs.Status.{status_of};
+
+    pub fn status(self) -> Status
+        ensures { result ≡ status_of self }
+    {
+        match self {
+            Ending::Done => Status::Done,
+            Ending::NotScript { .. } => Status::NotScript,
+            Ending::Usage => Status::Usage,
+            Ending::ReadFault => Status::ReadFault,
+            Ending::WriteFault => Status::WriteFault,
+            Ending::Memory => Status::Memory,
+            Ending::Limit(_) => Status::Limit,
+        }
+    }
+}
+
+/// The line that is told of an ending: nothing of `Done`.
+pub fn message(ending: Ending) -> Message
+    ensures { result.bytes ≡ message_of ending }
+{
+    match ending {
+        Ending::Done => Message::new(),
+        Ending::NotScript { line, fault } => fault_line(line, fault),
+        Ending::Usage => line_of(
+            "usage: patroni_sim run | serve MEMBER ADDRESS COUNT | print | gen SEED COUNT\n",
+        ),
+        Ending::ReadFault => line_of("read fault\n"),
+        Ending::WriteFault => line_of("write fault\n"),
+        Ending::Memory => line_of("out of memory\n"),
+        Ending::Limit(limit) => limit_line(limit),
+    }
+}
+
+fn line_of(text: &str) -> Message
+    requires { length text.now ≤ 96 }
+    ensures { result.bytes ≡ text.now }
+{
+    let mut message = Message::new();
+    message.push_str(text);
+    message
+}
+
+fn fault_line(line: u64, fault: Fault) -> Message
+    ensures { result.bytes ≡ fault_line line fault }
+{
+    let mut digits = Buffer::new();
+    let mut message = line_of("line ");
+    message.push_str(digits.format(line));
+    message.push_str(": ");
+    message.push_str(text_of(fault));
+    message.push_str("\n");
+    message
+}
+
+fn limit_line(limit: Limit) -> Message
+    ensures { result.bytes ≡ limit_line limit }
+{
+    let mut message = line_of("limit: ");
+    message.push_str(limit_text(limit));
+    message.push_str("\n");
+    message
+}
