@@ -2,4 +2,5 @@ pub mod Answering
 pub mod Fences
 pub mod KeyLaws
 pub mod Keeping
+pub mod OneKey
 pub mod Placing

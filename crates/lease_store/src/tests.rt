@@ -7,7 +7,6 @@ use crate::{
     StoreRefusal, Txn,
 };
 use pat_base::{Host, Lsn, MemberId, MemberSet, Tags, Ticks, Word};
-use std::alloc::Global;
 use std::process::Abort;
 use std::test::Fail;
 
@@ -94,12 +93,20 @@ fn renew(rt: &impl Abort, revision: u64) -> Txn {
     }
 }
 
-fn keys(entries: &[(Key, Held)], alloc: Global) -> Result<Vec<(Key, u64)>, Fail> {
-    let mut keys = Vec::new(alloc);
-    for entry in entries {
-        keys.push((entry.0, entry.1.revision))?;
+/// Holds the entries at a moment against these keys with their revisions, in this order.
+fn has_entries(
+    rt: &impl Abort,
+    store: &Store,
+    at: Ticks,
+    wanted: &[(Key, u64)],
+) -> Result<(), Fail> {
+    let entries = store.entries(at)?;
+    assert_eq!(rt; entries.len(), wanted.len());
+    for (entry, wanted) in entries.iter().zip(wanted) {
+        assert_eq!(rt; entry.0, wanted.0);
+        assert_eq!(rt; entry.1.revision, wanted.1);
     }
-    Ok(keys)
+    Ok(())
 }
 
 #[test]
@@ -113,12 +120,11 @@ fn fencing(rt: HostRuntime) -> Result<(), Fail> {
         .get(Ticks(5), Key::Leader)
         .expect(&rt, "the leader key");
     assert_eq!(rt; leader.expiry, Some(Ticks(305)));
-    let late = ask(&rt, &mut store, Ticks(5), a, Txn::Release { revision: 2 });
+    let late = ask(&rt, &mut store, Ticks(5), a, release(2));
     assert_eq!(rt; late, mismatch(Key::Leader, Expected::Revision(3)));
     assert_eq!(rt; store.revision(), 3);
-    let entries = store.entries(Ticks(304))?;
     let wanted = [(Key::Leader, 3), (Key::Config, 1), (Key::Member(a), 3)];
-    assert_eq!(rt; keys(&entries, rt.alloc())?.as_slice(), wanted.as_slice());
+    has_entries(&rt, &store, Ticks(304), &wanted)?;
     assert_eq!(rt; store.drop_expired(Ticks(305)), Some(a));
     assert_eq!(rt; store.drop_expired(Ticks(305)), None);
     Ok(())
@@ -138,6 +144,14 @@ impl Row {
     }
 }
 
+fn release(revision: u64) -> Txn {
+    Txn::Release { revision }
+}
+
+fn claim(revision: u64, sync: Expected) -> Txn {
+    Txn::Claim { revision, sync }
+}
+
 fn set_sync(revision: u64, sync: Expected, standbys: MemberSet) -> Txn {
     Txn::SetSync {
         revision,
@@ -146,152 +160,120 @@ fn set_sync(revision: u64, sync: Expected, standbys: MemberSet) -> Txn {
     }
 }
 
-/// Requests of a cluster whose leader key is absent: each but the last is refused.
-fn before_the_lease(rt: &impl Abort, alloc: Global) -> Result<Vec<Row>, Fail> {
-    let (a, b) = (member(rt, 0), member(rt, 1));
-    let none = mismatch(Key::Leader, Expected::Absent);
-    let mut rows = Vec::new(alloc);
-    let touch = Txn::Touch {
-        info: info(rt),
-        ttl: TTL,
-    };
-    rows.push(Row::new(b, touch, Ok(2)))?;
-    rows.push(Row::new(a, renew(rt, 1), none))?;
-    rows.push(Row::new(a, Txn::Release { revision: 1 }, none))?;
-    let sync = Expected::Absent;
-    rows.push(Row::new(a, Txn::Claim { revision: 1, sync }, none))?;
-    rows.push(Row::new(a, set_sync(1, sync, MemberSet::empty()), none))?;
-    rows.push(Row::new(
-        a,
-        Txn::DropSync {
-            revision: 1,
-            sync: 1,
-        },
-        none,
-    ))?;
-    rows.push(Row::new(a, Txn::DropFailover { revision: 1 }, none))?;
-    let differs = mismatch(Key::Failsafe, Expected::Absent);
-    rows.push(Row::new(a, create(rt, Some(Expected::Revision(1))), differs))?;
-    rows.push(Row::new(a, create(rt, Some(Expected::Absent)), Ok(3)))?;
-    Ok(rows)
+fn drop_sync(revision: u64, sync: u64) -> Txn {
+    Txn::DropSync { revision, sync }
 }
 
-/// Requests about the lease, of which a has revision 3 and then 4.
-fn about_the_lease(rt: &impl Abort, alloc: Global) -> Result<Vec<Row>, Fail> {
+/// A failover from a to b.
+fn set_failover(rt: &impl Abort) -> Txn {
+    let failover = FailoverKey {
+        leader: Some(member(rt, 0)),
+        candidate: Some(member(rt, 1)),
+    };
+    Txn::SetFailover { failover, ttl: TTL }
+}
+
+fn drop_failover(revision: u64) -> Txn {
+    Txn::DropFailover { revision }
+}
+
+fn set_config(revision: u64, config: ConfigValue) -> Txn {
+    Txn::SetConfig { revision, config }
+}
+
+/// A renewal with all that it may carry.
+fn carries_all(rt: &impl Abort, revision: u64) -> Txn {
     let (a, b) = (member(rt, 0), member(rt, 1));
-    let mut rows = Vec::new(alloc);
-    let held = mismatch(Key::Leader, Expected::Revision(3));
-    rows.push(Row::new(b, create(rt, None), held))?;
-    rows.push(Row::new(b, create(rt, Some(Expected::Revision(9))), held))?;
     let row = HistoryRow {
         timeline: 1,
         at: end(rt),
         tick: Ticks(10),
         leader: a,
     };
-    let carries = Txn::Renew {
-        revision: 3,
+    Txn::Renew {
+        revision,
         info: info(rt),
         ttl: TTL,
         status: Some(end(rt)),
         row: Some(row),
         failsafe: Some(MemberSet::empty().with(a).with(b)),
+    }
+}
+
+/// Requests of a cluster whose leader key is absent: all but the first and the last are refused.
+fn before_the_lease(rt: &impl Abort) -> [Row; 9] {
+    let (a, b) = (member(rt, 0), member(rt, 1));
+    let none = mismatch(Key::Leader, Expected::Absent);
+    let differs = mismatch(Key::Failsafe, Expected::Absent);
+    let touch = Txn::Touch {
+        info: info(rt),
+        ttl: TTL,
     };
-    rows.push(Row::new(a, carries, Ok(4)))?;
-    let held = mismatch(Key::Leader, Expected::Revision(4));
-    rows.push(Row::new(a, renew(rt, 3), held))?;
-    rows.push(Row::new(a, Txn::Release { revision: 3 }, held))?;
-    Ok(rows)
+    [
+        Row::new(b, touch, Ok(2)),
+        Row::new(a, renew(rt, 1), none),
+        Row::new(a, release(1), none),
+        Row::new(a, claim(1, Expected::Absent), none),
+        Row::new(a, set_sync(1, Expected::Absent, MemberSet::empty()), none),
+        Row::new(a, drop_sync(1, 1), none),
+        Row::new(a, drop_failover(1), none),
+        Row::new(a, create(rt, Some(Expected::Revision(1))), differs),
+        Row::new(a, create(rt, Some(Expected::Absent)), Ok(3)),
+    ]
+}
+
+/// Requests about the lease, of which a has revision 3 and then 4.
+fn about_the_lease(rt: &impl Abort) -> [Row; 5] {
+    let (a, b) = (member(rt, 0), member(rt, 1));
+    let first = mismatch(Key::Leader, Expected::Revision(3));
+    let later = mismatch(Key::Leader, Expected::Revision(4));
+    [
+        Row::new(b, create(rt, None), first),
+        Row::new(b, create(rt, Some(Expected::Revision(9))), first),
+        Row::new(a, carries_all(rt, 3), Ok(4)),
+        Row::new(a, renew(rt, 3), later),
+        Row::new(a, release(3), later),
+    ]
 }
 
 /// Requests about the sync key, which is of revision 5 and then 6.
-fn about_the_sync_key(rt: &impl Abort, alloc: Global) -> Result<Vec<Row>, Fail> {
-    let (a, b) = (member(rt, 0), member(rt, 1));
-    let standbys = MemberSet::empty().with(b);
-    let held = mismatch(Key::Leader, Expected::Revision(4));
-    let mut rows = Vec::new(alloc);
-    let sync = Expected::Absent;
-    rows.push(Row::new(a, Txn::Claim { revision: 3, sync }, held))?;
-    let read = Expected::Revision(9);
-    let differs = mismatch(Key::Sync, Expected::Absent);
-    rows.push(Row::new(
-        a,
-        Txn::Claim {
-            revision: 4,
-            sync: read,
-        },
-        differs,
-    ))?;
-    rows.push(Row::new(a, Txn::Claim { revision: 4, sync }, Ok(5)))?;
-    rows.push(Row::new(a, set_sync(3, Expected::Revision(5), standbys), held))?;
-    let differs = mismatch(Key::Sync, Expected::Revision(5));
-    rows.push(Row::new(a, set_sync(4, sync, standbys), differs))?;
-    rows.push(Row::new(a, set_sync(4, Expected::Revision(5), standbys), Ok(6)))?;
-    rows.push(Row::new(
-        a,
-        Txn::DropSync {
-            revision: 3,
-            sync: 6,
-        },
-        held,
-    ))?;
-    let differs = mismatch(Key::Sync, Expected::Revision(6));
-    rows.push(Row::new(
-        a,
-        Txn::DropSync {
-            revision: 4,
-            sync: 5,
-        },
-        differs,
-    ))?;
-    rows.push(Row::new(
-        a,
-        Txn::DropSync {
-            revision: 4,
-            sync: 6,
-        },
-        Ok(7),
-    ))?;
-    Ok(rows)
+fn about_the_sync_key(rt: &impl Abort) -> [Row; 9] {
+    let a = member(rt, 0);
+    let standbys = MemberSet::empty().with(member(rt, 1));
+    let lost = mismatch(Key::Leader, Expected::Revision(4));
+    let none = mismatch(Key::Sync, Expected::Absent);
+    let first = mismatch(Key::Sync, Expected::Revision(5));
+    let later = mismatch(Key::Sync, Expected::Revision(6));
+    [
+        Row::new(a, claim(3, Expected::Absent), lost),
+        Row::new(a, claim(4, Expected::Revision(9)), none),
+        Row::new(a, claim(4, Expected::Absent), Ok(5)),
+        Row::new(a, set_sync(3, Expected::Revision(5), standbys), lost),
+        Row::new(a, set_sync(4, Expected::Absent, standbys), first),
+        Row::new(a, set_sync(4, Expected::Revision(5), standbys), Ok(6)),
+        Row::new(a, drop_sync(3, 6), lost),
+        Row::new(a, drop_sync(4, 5), later),
+        Row::new(a, drop_sync(4, 6), Ok(7)),
+    ]
 }
 
 /// Requests about the failover key and the configuration, and the end of the lease.
-fn about_the_rest(rt: &impl Abort, alloc: Global) -> Result<Vec<Row>, Fail> {
+fn about_the_rest(rt: &impl Abort, other: ConfigValue, config: ConfigValue) -> [Row; 8] {
     let (a, b) = (member(rt, 0), member(rt, 1));
-    let failover = FailoverKey {
-        leader: Some(a),
-        candidate: Some(b),
-    };
-    let held = mismatch(Key::Leader, Expected::Revision(4));
-    let mut rows = Vec::new(alloc);
-    rows.push(Row::new(b, Txn::SetFailover { failover, ttl: TTL }, Ok(8)))?;
-    let differs = mismatch(Key::Failover, Expected::Revision(8));
-    rows.push(Row::new(a, Txn::SetFailover { failover, ttl: TTL }, differs))?;
-    rows.push(Row::new(a, Txn::DropFailover { revision: 3 }, held))?;
-    rows.push(Row::new(a, Txn::DropFailover { revision: 4 }, Ok(9)))?;
-    let config = ConfigValue::defaults(alloc)?;
-    let differs = mismatch(Key::Config, Expected::Revision(1));
-    rows.push(Row::new(
-        b,
-        Txn::SetConfig {
-            revision: 2,
-            config,
-        },
-        differs,
-    ))?;
-    let config = ConfigValue::defaults(alloc)?;
-    rows.push(Row::new(
-        b,
-        Txn::SetConfig {
-            revision: 1,
-            config,
-        },
-        Ok(10),
-    ))?;
-    rows.push(Row::new(a, Txn::Release { revision: 4 }, Ok(11)))?;
-    let differs = mismatch(Key::Failsafe, Expected::Revision(4));
-    rows.push(Row::new(b, create(rt, Some(Expected::Absent)), differs))?;
-    Ok(rows)
+    let lost = mismatch(Key::Leader, Expected::Revision(4));
+    let asked = mismatch(Key::Failover, Expected::Revision(8));
+    let changed = mismatch(Key::Config, Expected::Revision(1));
+    let listed = mismatch(Key::Failsafe, Expected::Revision(4));
+    [
+        Row::new(b, set_failover(rt), Ok(8)),
+        Row::new(a, set_failover(rt), asked),
+        Row::new(a, drop_failover(3), lost),
+        Row::new(a, drop_failover(4), Ok(9)),
+        Row::new(b, set_config(2, other), changed),
+        Row::new(b, set_config(1, config), Ok(10)),
+        Row::new(a, release(4), Ok(11)),
+        Row::new(b, create(rt, Some(Expected::Absent)), listed),
+    ]
 }
 
 /// Asks all of these at tick 10, in order.
@@ -306,10 +288,18 @@ fn ask_all(rt: &impl Abort, store: &mut Store, rows: Vec<Row>) {
 fn each_transaction_is_granted_and_refused(rt: HostRuntime) -> Result<(), Fail> {
     let (a, b) = (member(&rt, 0), member(&rt, 1));
     let mut store = Store::new(rt.alloc(), ConfigValue::defaults(rt.alloc())?)?;
-    ask_all(&rt, &mut store, before_the_lease(&rt, rt.alloc())?);
-    ask_all(&rt, &mut store, about_the_lease(&rt, rt.alloc())?);
-    ask_all(&rt, &mut store, about_the_sync_key(&rt, rt.alloc())?);
-    ask_all(&rt, &mut store, about_the_rest(&rt, rt.alloc())?);
+    let rows = Vec::from_array(rt.alloc(), before_the_lease(&rt))?;
+    ask_all(&rt, &mut store, rows);
+    let rows = Vec::from_array(rt.alloc(), about_the_lease(&rt))?;
+    ask_all(&rt, &mut store, rows);
+    let rows = Vec::from_array(rt.alloc(), about_the_sync_key(&rt))?;
+    ask_all(&rt, &mut store, rows);
+    let (other, config) = (
+        ConfigValue::defaults(rt.alloc())?,
+        ConfigValue::defaults(rt.alloc())?,
+    );
+    let rows = Vec::from_array(rt.alloc(), about_the_rest(&rt, other, config))?;
+    ask_all(&rt, &mut store, rows);
     let wanted = [
         (Key::Config, 10),
         (Key::Member(a), 4),
@@ -318,8 +308,7 @@ fn each_transaction_is_granted_and_refused(rt: HostRuntime) -> Result<(), Fail> 
         (Key::History(1), 4),
         (Key::Failsafe, 4),
     ];
-    let entries = store.entries(Ticks(10))?;
-    assert_eq!(rt; keys(&entries, rt.alloc())?.as_slice(), wanted.as_slice());
+    has_entries(&rt, &store, Ticks(10), &wanted)?;
     Ok(())
 }
 
@@ -327,31 +316,18 @@ fn each_transaction_is_granted_and_refused(rt: HostRuntime) -> Result<(), Fail> 
 fn entries_are_in_the_order_of_the_keys(rt: HostRuntime) -> Result<(), Fail> {
     let (a, b) = (member(&rt, 0), member(&rt, 1));
     let mut store = Store::new(rt.alloc(), ConfigValue::defaults(rt.alloc())?)?;
-    ask_all(&rt, &mut store, before_the_lease(&rt, rt.alloc())?);
-    ask_all(&rt, &mut store, about_the_lease(&rt, rt.alloc())?);
-    let sync = Expected::Absent;
+    let rows = Vec::from_array(rt.alloc(), before_the_lease(&rt))?;
+    ask_all(&rt, &mut store, rows);
+    let rows = Vec::from_array(rt.alloc(), about_the_lease(&rt))?;
+    ask_all(&rt, &mut store, rows);
     assert_eq!(rt;
-        ask(
-            &rt,
-            &mut store,
-            Ticks(10),
-            a,
-            Txn::Claim { revision: 4, sync }
-        ),
+        ask(&rt, &mut store, Ticks(10), a, claim(4, Expected::Absent)),
         Ok(5)
     );
-    let failover = FailoverKey {
-        leader: None,
-        candidate: Some(b),
-    };
-    let asked = ask(
-        &rt,
-        &mut store,
-        Ticks(11),
-        b,
-        Txn::SetFailover { failover, ttl: TTL },
+    assert_eq!(rt;
+        ask(&rt, &mut store, Ticks(11), b, set_failover(&rt)),
+        Ok(6)
     );
-    assert_eq!(rt; asked, Ok(6));
     let wanted = [
         (Key::Leader, 4),
         (Key::Config, 1),
@@ -363,8 +339,7 @@ fn entries_are_in_the_order_of_the_keys(rt: HostRuntime) -> Result<(), Fail> {
         (Key::History(1), 4),
         (Key::Failsafe, 4),
     ];
-    let entries = store.entries(Ticks(12))?;
-    assert_eq!(rt; keys(&entries, rt.alloc())?.as_slice(), wanted.as_slice());
+    has_entries(&rt, &store, Ticks(12), &wanted)?;
     let left = [
         (Key::Config, 1),
         (Key::Failover, 6),
@@ -373,8 +348,7 @@ fn entries_are_in_the_order_of_the_keys(rt: HostRuntime) -> Result<(), Fail> {
         (Key::History(1), 4),
         (Key::Failsafe, 4),
     ];
-    let entries = store.entries(Ticks(310))?;
-    assert_eq!(rt; keys(&entries, rt.alloc())?.as_slice(), left.as_slice());
+    has_entries(&rt, &store, Ticks(310), &left)?;
     Ok(())
 }
 

@@ -1,0 +1,168 @@
+-- What a granted transaction leaves at one key, without the others.
+use Rattle.std.proofs.Common.{◌≡◌, ℕ, ◌+◌, ◌++◌, List, [], ◌∷◌, Option, Some, None, refl, sym, ap, ◌∙◌, cond, Bool, true, false, not}
+use Rattle.std.specs.Ordering.{eq_by_cmp}
+use Rattle.std.specs.FinMap.{find}
+use Rattle.pat_base.specs.declared.lsn.Lsn.{Lsn}
+use Rattle.pat_base.specs.declared.member_id.MemberId.{MemberId}
+use Rattle.pat_base.specs.declared.member_set.MemberSet.{MemberSet}
+use Rattle.lease_store.specs.declared.key.Key.{Key}
+use Rattle.lease_store.specs.declared.key.Key.TheVariants as keys
+use Rattle.lease_store.specs.declared.txn.Txn.{Txn}
+use Rattle.lease_store.specs.declared.txn.Txn.TheVariants as txns
+use Rattle.lease_store.specs.declared.value.HistoryRow.{HistoryRow}
+use Rattle.lease_store.specs.declared.value.Value.TheVariants as values
+use Rattle.lease_store.specs.Keys.{Keys}
+use Rattle.lease_store.specs.declared.value.Held.{Held}
+use Rattle.lease_store.specs.KeyOrder.{key_cmp}
+use Rattle.lease_store.specs.Writes.{Write, Sets, Leases, Extends, Deletes, later, extended, written, all_written, writes_of, keys_after, status_carried, row_carried, failsafe_carried, sync_value, nobody}
+use Rattle.lease_store.proofs.Keeping.{find_put, find_without, same_key}
+
+-- the same with an extended lease
+abbrev pub renewed : ℕ → ℕ → Option Held → Option Held
+renewed revision until None = None
+renewed revision until (Some held) = Some (record held { revision = revision; expiry = later until held.expiry })
+
+-- what is found at a key after a write
+abbrev pub found_after : ℕ → ℕ → Key → Option Held → Write → Option Held
+found_after revision now q found (Sets key value) = cond (eq_by_cmp key_cmp q key) (Some (record { value = value; revision = revision; expiry = None })) found
+found_after revision now q found (Leases key value ttl) = cond (eq_by_cmp key_cmp q key) (Some (record { value = value; revision = revision; expiry = Some (record { 0 = now + ttl.0 }) })) found
+found_after revision now q found (Extends key ttl) = cond (eq_by_cmp key_cmp q key) (renewed revision (now + ttl.0) found) found
+found_after revision now q found (Deletes key) = cond (not (eq_by_cmp key_cmp key q)) found None
+
+abbrev pub found_after_all : ℕ → ℕ → Key → Option Held → List Write → Option Held
+found_after_all revision now q found [] = found
+found_after_all revision now q found (write ∷ writes) = found_after_all revision now q (found_after revision now q found write) writes
+
+extended-chosen : (b : Bool) (revision until : ℕ) (held : Held) (found other : Option Held) → (b ≡ true → found ≡ other) → other ≡ Some held → cond b (Some (record held { revision = revision; expiry = later until held.expiry })) found ≡ cond b (renewed revision until found) found
+extended-chosen true revision until held found other same is = ap (renewed revision until) (sym (same refl ∙ is))
+extended-chosen false revision until held found other same is = refl
+
+none-chosen : (b : Bool) (revision until : ℕ) (found other : Option Held) → (b ≡ true → found ≡ other) → other ≡ None → found ≡ cond b (renewed revision until found) found
+none-chosen true revision until found other same is = same refl ∙ is ∙ ap (renewed revision until) (sym (same refl ∙ is))
+none-chosen false revision until found other same is = refl
+
+find-extended : (revision until : ℕ) (q key : Key) (es : List (Key × Held)) (found : Option Held) → find key_cmp key es ≡ found → find key_cmp q (extended revision until es key found) ≡ cond (eq_by_cmp key_cmp q key) (renewed revision until (find key_cmp q es)) (find key_cmp q es)
+find-extended revision until q key es None is = none-chosen (eq_by_cmp key_cmp q key) revision until (find key_cmp q es) (find key_cmp key es) (λ same. ap (λ k. find key_cmp k es) (same_key q key same)) is
+find-extended revision until q key es (Some held) is =
+    find_put q key (record held { revision = revision; expiry = later until held.expiry }) es
+    ∙ extended-chosen (eq_by_cmp key_cmp q key) revision until held (find key_cmp q es) (find key_cmp key es) (λ same. ap (λ k. find key_cmp k es) (same_key q key same)) is
+
+pub find_written : (revision now : ℕ) (q : Key) (es : List (Key × Held)) (write : Write) → find key_cmp q (written revision now es write) ≡ found_after revision now q (find key_cmp q es) write
+find_written revision now q es (Sets key value) = find_put q key (record { value = value; revision = revision; expiry = None }) es
+find_written revision now q es (Leases key value ttl) = find_put q key (record { value = value; revision = revision; expiry = Some (record { 0 = now + ttl.0 }) }) es
+find_written revision now q es (Extends key ttl) = find-extended revision (now + ttl.0) q key es (find key_cmp key es) refl
+find_written revision now q es (Deletes key) = find_without q key es
+
+-- what is found at a key after all writes of a transaction
+pub find_all_written : (revision now : ℕ) (q : Key) (es : List (Key × Held)) (writes : List Write) → find key_cmp q (all_written revision now es writes) ≡ found_after_all revision now q (find key_cmp q es) writes
+find_all_written revision now q es [] = refl
+find_all_written revision now q es (write ∷ writes) =
+    find_all_written revision now q (written revision now es write) writes
+    ∙ ap (λ found. found_after_all revision now q found writes) (find_written revision now q es write)
+
+-- ---- the leader key
+abbrev pub leader_after : ℕ → ℕ → MemberId → Txn → Option Held → Option Held
+leader_after revision now by (txns.Create info ttl failsafe) found = Some (record { value = values.Leader by; revision = revision; expiry = Some (record { 0 = now + ttl.0 }) })
+leader_after revision now by (txns.Renew compared info ttl status row failsafe) found = renewed revision (now + ttl.0) found
+leader_after revision now by (txns.Release compared) found = None
+leader_after revision now by _ found = found
+
+carried-leader : (revision now : ℕ) (found : Option Held) (status : Option Lsn) (row : Option HistoryRow) (failsafe : Option MemberSet) → found_after_all revision now keys.Leader found (status_carried status ++ (row_carried row ++ failsafe_carried failsafe)) ≡ found
+carried-leader revision now found None None None = refl
+carried-leader revision now found None None (Some members) = refl
+carried-leader revision now found None (Some row) None = refl
+carried-leader revision now found None (Some row) (Some members) = refl
+carried-leader revision now found (Some end) None None = refl
+carried-leader revision now found (Some end) None (Some members) = refl
+carried-leader revision now found (Some end) (Some row) None = refl
+carried-leader revision now found (Some end) (Some row) (Some members) = refl
+
+leader-written : (revision now : ℕ) (by : MemberId) (txn : Txn) (found : Option Held) → found_after_all revision now keys.Leader found (writes_of by txn) ≡ leader_after revision now by txn found
+leader-written revision now by (txns.Touch info ttl) found = refl
+leader-written revision now by (txns.Create info ttl failsafe) found = refl
+leader-written revision now by (txns.Renew compared info ttl status row failsafe) found = carried-leader revision now (renewed revision (now + ttl.0) found) status row failsafe
+leader-written revision now by (txns.Release compared) found = refl
+leader-written revision now by (txns.Claim compared sync) found = refl
+leader-written revision now by (txns.SetSync compared sync standbys) found = refl
+leader-written revision now by (txns.DropSync compared sync) found = refl
+leader-written revision now by (txns.SetFailover failover ttl) found = refl
+leader-written revision now by (txns.DropFailover compared) found = refl
+leader-written revision now by (txns.SetConfig compared config) found = refl
+
+-- what a granted transaction leaves at the leader key
+pub find_leader_after : (store : Keys) (now : ℕ) (by : MemberId) (txn : Txn) → find key_cmp keys.Leader (keys_after store now by txn).pairs ≡ leader_after (store.revision + 1) now by txn (find key_cmp keys.Leader store.pairs)
+find_leader_after store now by txn =
+    find_all_written (store.revision + 1) now keys.Leader store.pairs (writes_of by txn)
+    ∙ leader-written (store.revision + 1) now by txn (find key_cmp keys.Leader store.pairs)
+
+-- ---- the failsafe key
+abbrev pub failsafe_written : ℕ → Option MemberSet → Option Held → Option Held
+failsafe_written revision None found = found
+failsafe_written revision (Some members) found = Some (record { value = values.Failsafe members; revision = revision; expiry = None })
+
+abbrev pub failsafe_after : ℕ → Txn → Option Held → Option Held
+failsafe_after revision (txns.Renew compared info ttl status row failsafe) found = failsafe_written revision failsafe found
+failsafe_after revision _ found = found
+
+carried-failsafe : (revision now : ℕ) (found : Option Held) (status : Option Lsn) (row : Option HistoryRow) (failsafe : Option MemberSet) → found_after_all revision now keys.Failsafe found (status_carried status ++ (row_carried row ++ failsafe_carried failsafe)) ≡ failsafe_written revision failsafe found
+carried-failsafe revision now found None None None = refl
+carried-failsafe revision now found None None (Some members) = refl
+carried-failsafe revision now found None (Some row) None = refl
+carried-failsafe revision now found None (Some row) (Some members) = refl
+carried-failsafe revision now found (Some end) None None = refl
+carried-failsafe revision now found (Some end) None (Some members) = refl
+carried-failsafe revision now found (Some end) (Some row) None = refl
+carried-failsafe revision now found (Some end) (Some row) (Some members) = refl
+
+failsafe-written : (revision now : ℕ) (by : MemberId) (txn : Txn) (found : Option Held) → found_after_all revision now keys.Failsafe found (writes_of by txn) ≡ failsafe_after revision txn found
+failsafe-written revision now by (txns.Touch info ttl) found = refl
+failsafe-written revision now by (txns.Create info ttl failsafe) found = refl
+failsafe-written revision now by (txns.Renew compared info ttl status row failsafe) found = carried-failsafe revision now found status row failsafe
+failsafe-written revision now by (txns.Release compared) found = refl
+failsafe-written revision now by (txns.Claim compared sync) found = refl
+failsafe-written revision now by (txns.SetSync compared sync standbys) found = refl
+failsafe-written revision now by (txns.DropSync compared sync) found = refl
+failsafe-written revision now by (txns.SetFailover failover ttl) found = refl
+failsafe-written revision now by (txns.DropFailover compared) found = refl
+failsafe-written revision now by (txns.SetConfig compared config) found = refl
+
+-- what a granted transaction leaves at the failsafe key
+pub find_failsafe_after : (store : Keys) (now : ℕ) (by : MemberId) (txn : Txn) → find key_cmp keys.Failsafe (keys_after store now by txn).pairs ≡ failsafe_after (store.revision + 1) txn (find key_cmp keys.Failsafe store.pairs)
+find_failsafe_after store now by txn =
+    find_all_written (store.revision + 1) now keys.Failsafe store.pairs (writes_of by txn)
+    ∙ failsafe-written (store.revision + 1) now by txn (find key_cmp keys.Failsafe store.pairs)
+
+-- ---- the sync key
+abbrev pub sync_after : ℕ → MemberId → Txn → Option Held → Option Held
+sync_after revision by (txns.Claim compared sync) found = Some (record { value = sync_value by nobody; revision = revision; expiry = None })
+sync_after revision by (txns.SetSync compared sync standbys) found = Some (record { value = sync_value by standbys; revision = revision; expiry = None })
+sync_after revision by (txns.DropSync compared sync) found = None
+sync_after revision by _ found = found
+
+carried-sync : (revision now : ℕ) (found : Option Held) (status : Option Lsn) (row : Option HistoryRow) (failsafe : Option MemberSet) → found_after_all revision now keys.Sync found (status_carried status ++ (row_carried row ++ failsafe_carried failsafe)) ≡ found
+carried-sync revision now found None None None = refl
+carried-sync revision now found None None (Some members) = refl
+carried-sync revision now found None (Some row) None = refl
+carried-sync revision now found None (Some row) (Some members) = refl
+carried-sync revision now found (Some end) None None = refl
+carried-sync revision now found (Some end) None (Some members) = refl
+carried-sync revision now found (Some end) (Some row) None = refl
+carried-sync revision now found (Some end) (Some row) (Some members) = refl
+
+sync-written : (revision now : ℕ) (by : MemberId) (txn : Txn) (found : Option Held) → found_after_all revision now keys.Sync found (writes_of by txn) ≡ sync_after revision by txn found
+sync-written revision now by (txns.Touch info ttl) found = refl
+sync-written revision now by (txns.Create info ttl failsafe) found = refl
+sync-written revision now by (txns.Renew compared info ttl status row failsafe) found = carried-sync revision now found status row failsafe
+sync-written revision now by (txns.Release compared) found = refl
+sync-written revision now by (txns.Claim compared sync) found = refl
+sync-written revision now by (txns.SetSync compared sync standbys) found = refl
+sync-written revision now by (txns.DropSync compared sync) found = refl
+sync-written revision now by (txns.SetFailover failover ttl) found = refl
+sync-written revision now by (txns.DropFailover compared) found = refl
+sync-written revision now by (txns.SetConfig compared config) found = refl
+
+-- what a granted transaction leaves at the sync key
+pub find_sync_after : (store : Keys) (now : ℕ) (by : MemberId) (txn : Txn) → find key_cmp keys.Sync (keys_after store now by txn).pairs ≡ sync_after (store.revision + 1) by txn (find key_cmp keys.Sync store.pairs)
+find_sync_after store now by txn =
+    find_all_written (store.revision + 1) now keys.Sync store.pairs (writes_of by txn)
+    ∙ sync-written (store.revision + 1) now by txn (find key_cmp keys.Sync store.pairs)
