@@ -3,7 +3,8 @@ use crate::{CommitFault, InState, Server, Streamed};
 use pat_base::{
     Lsn, MemberId, MemberSet, Name, NotLsn, NotSize, Required, ServerId, Size, State, Ticks,
 };
-use std::alloc::Global;
+use std::alloc::{AllocError, Global};
+use std::process::Abort;
 use std::test::Fail;
 use wal_model::{Entry, History, HistoryPoint, Wal, WalFault};
 
@@ -22,7 +23,29 @@ enum Case {
     StartingPrimary,
 }
 
-/// Which calls are made in each state: `promote`, `start_replica`, `start_primary`, `stop`, `follow`, `commit` and `stream`.
+/// The calls that a state may forbid.
+#[derive(Clone, Copy, Debug)]
+enum Call {
+    Promote,
+    StartReplica,
+    StartPrimary,
+    Stop,
+    Follow,
+    Commit,
+    Stream,
+}
+
+const ORDER: [Call; 7] = [
+    Call::Promote,
+    Call::StartReplica,
+    Call::StartPrimary,
+    Call::Stop,
+    Call::Follow,
+    Call::Commit,
+    Call::Stream,
+];
+
+/// Which calls are made in each state, in their order.
 const CALLS: [(Case, [bool; 7]); 10] = [
     (Case::Replica, [true, false, false, true, true, false, true]),
     (
@@ -63,39 +86,127 @@ const CALLS: [(Case, [bool; 7]); 10] = [
     ),
 ];
 
+// The calls once more, without a contract: what a test proves would grow with each of them.
+
+fn fresh(alloc: Global, base: u32) -> Result<Server, AllocError> {
+    Server::new(alloc, u64::from(base))
+}
+
+fn promote(server: &mut Server) -> Result<(), InState> {
+    if server.reserve().is_err() || server.timeline() > 9 {
+        return Err(InState(State::Creating));
+    }
+    server.promote(Ticks(0))
+}
+
+fn start_replica(server: &mut Server, at: u32, upstream: Option<ServerId>) -> Result<(), InState> {
+    server.start_replica(Ticks(u64::from(at)), upstream)
+}
+
+fn start_primary(server: &mut Server, at: u32) -> Result<(), InState> {
+    server.start_primary(Ticks(u64::from(at)))
+}
+
+fn stop(server: &mut Server, at: u32) -> Result<(), InState> {
+    server.stop(Ticks(u64::from(at)))
+}
+
+fn tick(server: &mut Server, at: u32) {
+    server.tick(Ticks(u64::from(at)));
+}
+
+fn crash(server: &mut Server) {
+    server.crash();
+}
+
+fn slow(server: &mut Server, stop: u32, start: u32) {
+    server.set_delays(Some(Ticks(u64::from(stop))), Some(Ticks(u64::from(start))));
+}
+
+fn follow(server: &mut Server, upstream: ServerId) -> Result<(), InState> {
+    server.follow(upstream)
+}
+
+fn commit(server: &mut Server, serial: u64, bytes: u64) -> Result<(), CommitFault> {
+    server.commit(serial, bytes)
+}
+
+fn stream(server: &mut Server, upstream: &Server, most: usize) -> Option<Streamed> {
+    server.stream(upstream, most).ok()
+}
+
+fn require(server: &mut Server, required: Required) {
+    server.set_required(required);
+}
+
+fn confirm(server: &mut Server, by: MemberId, end: u32) {
+    server.confirm(by, at(end));
+}
+
+fn acknowledge(server: &mut Server) -> Option<u64> {
+    server.next_acknowledged()
+}
+
+fn end(server: &Server) -> Option<Lsn> {
+    server.log().map(|log| log.end())
+}
+
+fn at(position: u32) -> Lsn {
+    Lsn {
+        position: u64::from(position),
+    }
+}
+
+fn one(member: MemberId) -> MemberSet {
+    MemberSet::empty().with(member)
+}
+
 #[test]
 fn server_calls(rt: HostRuntime) -> Result<(), Fail> {
-    let b = MemberId { number: 1 };
-    let mut server = Server::new(rt.alloc(), 10)?;
+    let mut server = fresh(rt.alloc(), 10)?;
+    check_promotion(&rt, &mut server);
+    check_acknowledgement(&rt, &mut server);
+    check_streams(&rt, rt.alloc(), &server)?;
+    Ok(())
+}
+
+fn check_promotion(rt: &impl Abort, server: &mut Server) {
     assert_eq!(rt; server.state(), State::Replica);
     assert_eq!(rt; server.timeline(), 1);
-    assert_eq!(rt;
-        server.log().map(|log| log.end()),
-        Some(Lsn { position: 10 })
-    );
-    server.reserve()?;
-    assert_eq!(rt; server.promote(Ticks(0)), Ok(()));
+    assert_eq!(rt; end(server), Some(at(10)));
+    assert!(rt; promote(server).is_ok());
     assert_eq!(rt; server.timeline(), 2);
     assert_eq!(rt; server.history().len(), 1);
-    assert_eq!(rt; server.history().point(1), Some(Lsn { position: 10 }));
-    assert_eq!(rt; server.commit(1, 5), Ok(()));
-    server.set_required(Required::All(MemberSet::empty().with(b)));
-    assert_eq!(rt; server.next_acknowledged(), None);
-    server.confirm(b, Lsn { position: 15 });
-    assert_eq!(rt; server.next_acknowledged(), Some(1));
-    assert_eq!(rt; server.next_acknowledged(), None);
-    let mut standby = Server::new(rt.alloc(), 10)?;
-    assert_eq!(rt; standby.stream(&server, 3), Ok(Streamed::Received(1)));
+    assert_eq!(rt; server.history().point(1), Some(at(10)));
+}
+
+fn check_acknowledgement(rt: &impl Abort, server: &mut Server) {
+    let b = MemberId { number: 1 };
+    assert!(rt; commit(server, 1, 5).is_ok());
+    require(server, Required::All(one(b)));
+    assert_eq!(rt; acknowledge(server), None);
+    confirm(server, b, 15);
+    assert_eq!(rt; acknowledge(server), Some(1));
+    assert_eq!(rt; acknowledge(server), None);
+}
+
+fn check_streams(rt: &impl Abort, alloc: Global, server: &Server) -> Result<(), AllocError> {
+    let mut standby = fresh(alloc, 10)?;
+    check_stream(rt, &mut standby, server, Streamed::Received(1));
     assert_eq!(rt; standby.timeline(), 2);
-    assert_eq!(rt; standby.history().point(1), Some(Lsn { position: 10 }));
-    let mut other = Server::new(rt.alloc(), 11)?;
-    assert_eq!(rt;
-        other.stream(&server, 3),
-        Ok(Streamed::Diverged(Lsn { position: 0 }))
+    check_stream(rt, &mut fresh(alloc, 10)?, &standby, Streamed::NotConnected);
+    check_stream(
+        rt,
+        &mut fresh(alloc, 11)?,
+        server,
+        Streamed::Diverged(at(0)),
     );
-    assert!(rt; other.diverged());
-    assert_eq!(rt; other.stream(&standby, 3), Ok(Streamed::NotConnected));
     Ok(())
+}
+
+fn check_stream(rt: &impl Abort, standby: &mut Server, server: &Server, answer: Streamed) {
+    assert_eq!(rt; stream(standby, server, 3), Some(answer));
+    assert_eq!(rt; standby.diverged(), matches!(answer, Streamed::Diverged(_)));
 }
 
 #[test]
@@ -110,40 +221,49 @@ fn copies_of_logs_and_histories(rt: HostRuntime) -> Result<(), Fail> {
     let copy = log.copy()?;
     assert_eq!(rt; copy.len(), 1);
     assert_eq!(rt; copy.get(0), Some(entry));
-    assert_eq!(rt; copy.get(1), None);
-    let at = Lsn { position: 10 };
     let mut history = History::new(rt.alloc());
-    history.add(HistoryPoint { timeline: 1, at })?;
-    assert_eq!(rt; history.point(1), Some(at));
+    history.add(HistoryPoint {
+        timeline: 1,
+        at: at(10),
+    })?;
+    assert_eq!(rt; history.point(1), Some(at(10)));
     assert_eq!(rt; history.point(2), None);
-    assert_eq!(rt; history.copy()?.point(1), Some(at));
+    assert_eq!(rt; history.copy()?.point(1), Some(at(10)));
     Ok(())
 }
 
 #[test]
 fn small_calls(rt: HostRuntime) -> Result<(), Fail> {
-    let base = Lsn {
-        position: 83_886_080,
-    }
-    .print(rt.alloc())?;
-    assert_eq!(rt; base.as_str(), "0/5000000");
-    let past = Lsn {
+    check_positions(&rt);
+    check_sizes_and_names(&rt);
+    let printed = at(83_886_080).print(rt.alloc())?;
+    assert_eq!(rt; printed.as_str(), "0/5000000");
+    let printed = Lsn {
         position: 4_294_967_551,
     }
     .print(rt.alloc())?;
-    assert_eq!(rt; past.as_str(), "1/FF");
+    assert_eq!(rt; printed.as_str(), "1/FF");
+    Ok(())
+}
+
+fn check_positions(rt: &impl Abort) {
     assert_eq!(rt;
-        Lsn::read(b"16/B374D848"),
-        Ok(Lsn {
-            position: 97_500_059_720
-        })
+        Lsn::read(b"16/B374D848").map(|lsn| lsn.position),
+        Ok(97_500_059_720)
     );
     assert_eq!(rt; Lsn::read(b"0/"), Err(NotLsn));
     assert_eq!(rt; Lsn::read(b"0/123456789"), Err(NotLsn));
+}
+
+fn check_sizes_and_names(rt: &impl Abort) {
     assert_eq!(rt; Size::read(b"64MB"), Ok(67_108_864));
     assert_eq!(rt; Size::read(b"64mb"), Err(NotSize));
-    assert_eq!(rt; Name::read(b""), None);
-    assert_eq!(rt; Name::read(b"A"), None);
+    assert!(rt; Name::read(b"").is_none());
+    assert!(rt; Name::read(b"A").is_none());
+}
+
+#[test]
+fn small_calls_on_servers(rt: HostRuntime) -> Result<(), Fail> {
     let mut log = Wal::new(rt.alloc());
     let entry = Entry {
         serial: 0,
@@ -155,86 +275,91 @@ fn small_calls(rt: HostRuntime) -> Result<(), Fail> {
         log.append(Entry { bytes: 1, ..entry }),
         Err(WalFault::Full)
     );
-    let mut server = Server::new(rt.alloc(), 10)?;
-    assert_eq!(rt; server.commit(1, 1), Err(CommitFault::NotPrimary));
-    server.reserve()?;
-    assert_eq!(rt; server.promote(Ticks(0)), Ok(()));
-    server.reserve()?;
-    assert_eq!(rt; server.promote(Ticks(0)), Err(InState(State::Primary)));
+    let mut server = fresh(rt.alloc(), 10)?;
+    assert_eq!(rt; commit(&mut server, 1, 1), Err(CommitFault::NotPrimary));
+    promote(&mut server)?;
+    assert_eq!(rt; promote(&mut server), Err(InState(State::Primary)));
     Ok(())
 }
 
 #[test]
 fn each_call_in_each_state(rt: HostRuntime) -> Result<(), Fail> {
     for (case, made) in &CALLS {
-        let answers = answers_in(rt.alloc(), *case)?;
-        assert_eq!(rt; answers, *made, "in {case:?}");
+        for (call, is_made) in ORDER.iter().zip(made) {
+            assert_eq!(rt;
+                is_made_in(rt.alloc(), *case, *call)?,
+                *is_made,
+                "{call:?} in {case:?}"
+            );
+        }
     }
     Ok(())
 }
 
-/// Which calls are made on a server in this state.
-fn answers_in(alloc: Global, case: Case) -> Result<[bool; 7], Fail> {
-    let upstream = Server::new(alloc, 10)?;
-    let promoted = promotes(&mut server_in(alloc, case)?);
-    let mut server = server_in(alloc, case)?;
-    let follows = server.follow(ServerId { number: 2 }).is_ok();
-    let commits = server.commit(1, 5).is_ok();
-    let streams = server.stream(&upstream, 1).is_ok();
-    Ok([
-        promoted,
-        server_in(alloc, case)?
-            .start_replica(Ticks(20), None)
-            .is_ok(),
-        server_in(alloc, case)?.start_primary(Ticks(20)).is_ok(),
-        server_in(alloc, case)?.stop(Ticks(20)).is_ok(),
-        follows,
-        commits,
-        streams,
-    ])
+/// Whether a call is made on a server in this state.
+fn is_made_in(alloc: Global, case: Case, call: Call) -> Result<bool, Fail> {
+    let upstream = fresh(alloc, 10)?;
+    let mut server = fresh(alloc, 10)?;
+    bring(&mut server, case)?;
+    Ok(is_made(&mut server, call, &upstream))
 }
 
-fn promotes(server: &mut Server) -> bool {
-    server.spare() > 0 && server.timeline() < 9 && server.promote(Ticks(20)).is_ok()
+fn is_made(server: &mut Server, call: Call, upstream: &Server) -> bool {
+    match call {
+        Call::Promote => promote(server).is_ok(),
+        Call::StartReplica => start_replica(server, 20, None).is_ok(),
+        Call::StartPrimary => start_primary(server, 20).is_ok(),
+        Call::Stop => stop(server, 20).is_ok(),
+        Call::Follow => follow(server, ServerId { number: 2 }).is_ok(),
+        Call::Commit => commit(server, 1, 5).is_ok(),
+        Call::Stream => stream(server, upstream, 1).is_some(),
+    }
 }
 
-/// A server in this state.
-fn server_in(alloc: Global, case: Case) -> Result<Server, Fail> {
-    let mut server = Server::new(alloc, 10)?;
-    server.reserve()?;
+/// Brings a new server to this state.
+fn bring(server: &mut Server, case: Case) -> Result<(), InState> {
+    slow(server, 5, 5);
     match case {
-        Case::Replica
-        | Case::StoppingReplica
-        | Case::StoppedReplica
-        | Case::CrashedReplica
-        | Case::StartingReplica => {}
-        _ => server.promote(Ticks(0))?,
+        Case::Replica => Ok(()),
+        Case::Primary => promote(server),
+        Case::StoppingReplica => stop(server, 10),
+        Case::StoppingPrimary => promote(server).and_then(|_| stop(server, 10)),
+        Case::StoppedReplica => stop_wholly(server),
+        Case::StoppedPrimary => promote(server).and_then(|_| stop_wholly(server)),
+        Case::CrashedReplica => crash_wholly(server),
+        Case::CrashedPrimary => promote(server).and_then(|_| crash_wholly(server)),
+        Case::StartingReplica => stop_wholly(server).and_then(|_| start_replica(server, 16, None)),
+        Case::StartingPrimary => bring_up_again(server),
     }
-    server.reserve()?;
-    server.set_delays(Some(Ticks(5)), Some(Ticks(5)));
-    match case {
-        Case::Replica | Case::Primary => {}
-        Case::CrashedReplica | Case::CrashedPrimary => server.crash(),
-        _ => server.stop(Ticks(10))?,
-    }
-    match case {
-        Case::StoppedReplica
-        | Case::StoppedPrimary
-        | Case::StartingReplica
-        | Case::StartingPrimary => server.tick(Ticks(15)),
-        _ => {}
-    }
-    match case {
-        Case::StartingReplica => server.start_replica(Ticks(16), None)?,
-        Case::StartingPrimary => server.start_primary(Ticks(16))?,
-        _ => {}
-    }
-    Ok(server)
+}
+
+fn stop_wholly(server: &mut Server) -> Result<(), InState> {
+    stop(server, 10)?;
+    tick(server, 15);
+    Ok(())
+}
+
+fn crash_wholly(server: &mut Server) -> Result<(), InState> {
+    crash(server);
+    Ok(())
+}
+
+fn bring_up_again(server: &mut Server) -> Result<(), InState> {
+    promote(server)?;
+    stop_wholly(server)?;
+    start_primary(server, 16)
 }
 
 #[test]
 fn starts_and_stops_take_their_delay(rt: HostRuntime) -> Result<(), Fail> {
-    let mut server = server_in(rt.alloc(), Case::StartingPrimary)?;
+    let mut server = fresh(rt.alloc(), 10)?;
+    bring(&mut server, Case::StartingPrimary)?;
+    check_start(&rt, &mut server);
+    check_stop(&rt, &mut server);
+    Ok(())
+}
+
+fn check_start(rt: &impl Abort, server: &mut Server) {
     assert_eq!(rt;
         server.state(),
         State::Starting {
@@ -243,12 +368,15 @@ fn starts_and_stops_take_their_delay(rt: HostRuntime) -> Result<(), Fail> {
         }
     );
     assert!(rt; server.live() && !server.writes());
-    server.tick(Ticks(20));
+    tick(server, 20);
     assert!(rt; !server.writes());
-    server.tick(Ticks(21));
+    tick(server, 21);
     assert_eq!(rt; server.state(), State::Primary);
     assert_eq!(rt; server.timeline(), 2);
-    server.stop(Ticks(30))?;
+}
+
+fn check_stop(rt: &impl Abort, server: &mut Server) {
+    assert!(rt; stop(server, 30).is_ok());
     assert_eq!(rt;
         server.state(),
         State::Stopping {
@@ -257,45 +385,53 @@ fn starts_and_stops_take_their_delay(rt: HostRuntime) -> Result<(), Fail> {
         }
     );
     assert!(rt; server.writes());
-    server.tick(Ticks(35));
+    tick(server, 35);
     assert_eq!(rt; server.state(), State::Stopped);
-    server.set_delays(None, Some(Ticks(0)));
-    server.start_primary(Ticks(40))?;
-    assert_eq!(rt; server.state(), State::Primary);
-    server.commit(1, 5)?;
-    server.crash();
+}
+
+#[test]
+fn a_crash_forgets_what_waited(rt: HostRuntime) -> Result<(), Fail> {
+    let mut server = fresh(rt.alloc(), 10)?;
+    promote(&mut server)?;
+    commit(&mut server, 1, 5)?;
+    check_crash(&rt, &mut server);
+    check_new_role(&rt, &mut server);
+    Ok(())
+}
+
+fn check_crash(rt: &impl Abort, server: &mut Server) {
+    crash(server);
     assert!(rt; server.was_primary());
-    server.start_primary(Ticks(50))?;
-    assert_eq!(rt;
-        server.next_acknowledged(),
-        None,
-        "a crash forgets what waited"
-    );
-    server.crash();
-    server.start_replica(Ticks(60), Some(ServerId { number: 1 }))?;
+    assert!(rt; start_primary(server, 50).is_ok());
+    assert_eq!(rt; server.state(), State::Primary);
+    assert_eq!(rt; acknowledge(server), None);
+}
+
+fn check_new_role(rt: &impl Abort, server: &mut Server) {
+    crash(server);
+    assert!(rt; start_replica(server, 60, Some(ServerId { number: 1 })).is_ok());
     assert_eq!(rt; server.state(), State::Replica);
     assert_eq!(rt; server.upstream(), Some(ServerId { number: 1 }));
     assert!(rt; !server.was_primary());
-    Ok(())
 }
 
 #[test]
 fn one_standby_is_enough_for_any(rt: HostRuntime) -> Result<(), Fail> {
-    let mut server = server_in(rt.alloc(), Case::Primary)?;
-    server.set_required(Required::AnyOne);
-    server.commit(7, 5)?;
-    server.commit(8, 5)?;
-    assert_eq!(rt; server.next_acknowledged(), None);
-    server.confirm(MemberId { number: 3 }, Lsn { position: 14 });
-    assert_eq!(rt; server.next_acknowledged(), None);
-    server.confirm(MemberId { number: 15 }, Lsn { position: 15 });
-    assert_eq!(rt;
-        server.confirmed(MemberId { number: 15 }),
-        Some(Lsn { position: 15 })
-    );
-    assert_eq!(rt; server.next_acknowledged(), Some(7));
-    assert_eq!(rt; server.next_acknowledged(), None);
-    server.set_required(Required::Nobody);
-    assert_eq!(rt; server.next_acknowledged(), Some(8));
+    let mut server = fresh(rt.alloc(), 10)?;
+    promote(&mut server)?;
+    commit(&mut server, 7, 5)?;
+    commit(&mut server, 8, 5)?;
+    check_any(&rt, &mut server);
     Ok(())
+}
+
+fn check_any(rt: &impl Abort, server: &mut Server) {
+    require(server, Required::AnyOne);
+    confirm(server, MemberId { number: 3 }, 14);
+    assert_eq!(rt; acknowledge(server), None);
+    confirm(server, MemberId { number: 15 }, 15);
+    assert_eq!(rt; acknowledge(server), Some(7));
+    assert_eq!(rt; acknowledge(server), None);
+    require(server, Required::Nobody);
+    assert_eq!(rt; acknowledge(server), Some(8));
 }
