@@ -1,17 +1,15 @@
 -- What a script within the limits has at most.
-use Rattle.std.proofs.Common.{◌≡◌, ℕ, ◌+◌, ◌-◌, ◌^◌, ◌≤◌, ◌<◌, nat_lt, min, Bool, true, false, cond, List, [], ◌∷◌, ◌++◌, length, map, Option, Some, None, Ok, refl, ◌∙◌, ap, sym, subst, arith, length-append}
-use Rattle.std.specs.List.{sum_by, count_by}
+use Rattle.std.proofs.Common.{◌≡◌, ℕ, ◌+◌, ◌-◌, ◌^◌, ◌≤◌, nat_lt, min, Bool, true, false, cond, List, [], ◌∷◌, length, Option, Some, None, Ok, refl, ap, subst, arith, length-append}
+use Rattle.std.specs.List.{sum_by}
 use Rattle.std.proofs.lemmas.Bool.Decides.{nat_tests}
 use Rattle.std.proofs.lemmas.List.{length-map}
 use Rattle.std.proofs.lemmas.List.Sums.{sum_by-append, sum_by-cons}
 use Rattle.pat_base.specs.declared.name.Name.{Name}
 use Rattle.cluster_script.specs.Lines.{lines_in, is_skipped, counted_lines}
-use Rattle.cluster_script.specs.Limits.{members_in, ticks_behind, ticks_or_none, ticks_of_words, ticks_in_line, ticks_in, limit_of_lines, limit_of}
+use Rattle.cluster_script.specs.Limits.{members_in, ticks_or_none, ticks_in_line, ticks_in, limit_of_lines, limit_of}
 use Rattle.cluster_script.specs.Reading.{script_of}
 use Rattle.cluster_script.specs.Script.{ScriptText, IsLine, AllAreLines, line_text, head_lines, body_lines, lines_of}
 use Rattle.cluster_script.specs.Steps.{ticks_of_line, total_ticks}
-use Rattle.cluster_script.specs.Words.{keyword_of, cut_word, spelled}
-use Rattle.cluster_script.specs.declared.keyword.Keyword.TheVariants as words
 use Rattle.cluster_script.specs.declared.line.Line.{Line}
 use Rattle.cluster_script.specs.declared.line.Line.TheVariants as lines
 use Rattle.cluster_script.specs.declared.limits.Limit.{Limit}
