@@ -1,5 +1,6 @@
 pub mod Arguments
 pub mod Draft
+pub mod FaultTexts
 pub mod Faults
 pub mod Lines
 pub mod Members

@@ -20,7 +20,7 @@ mod words;
 
 pub use fault::Fault;
 pub use head::{Head, MemberOptions};
-pub use laws::{read_is_spelled, spelled_is_read};
+pub use laws::{canonical_spelling_is_read, read_is_spelled, spelled_is_read};
 pub use line::{Command, End, Line, Step};
 pub use reader::read;
 pub use script::Script;
