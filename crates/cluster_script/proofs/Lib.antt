@@ -1,4 +1,5 @@
 pub mod ArgumentLaws
+pub mod CanonLaws
 pub mod Cutting
 pub mod Finishing
 pub mod LimitLaws

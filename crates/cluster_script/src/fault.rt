@@ -1,5 +1,5 @@
 //! Why bytes are no script.
-ghost use Rattle.std.specs.Prelude.{◌≡◌};
+ghost use Rattle.std.specs.Prelude.{◌≡◌, ◌≤◌, length};
 ghost use Rattle.cluster_script.specs.Faults.{text_of, rank_of, earlier};
 
 use std::fmt;
@@ -39,9 +39,10 @@ pub enum Fault {
     SameEnds,
 }
 
-/// What a fault is called.
-pub fn text_of(fault: Fault) -> &'static str
-    ensures { result.now ≡ text_of fault }
+/// What a fault is called, in at most 32 bytes.
+pub fn fault_text(fault: Fault) -> &'static str
+    ensures text { result.now ≡ text_of fault }
+    ensures short { length result.now ≤ 32 }
 {
     match fault {
         Fault::NotUtf8 => "not UTF-8",
@@ -103,6 +104,6 @@ impl fmt::Display for Fault {
     ghost output = { λ fault. Some (text_of fault) };
 
     fn fmt<W: fmt::Write>(&self, f: &mut fmt::Formatter<W>) -> fmt::Result {
-        f.write_str(text_of(*self))
+        f.write_str(fault_text(*self))
     }
 }

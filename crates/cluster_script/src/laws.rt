@@ -12,3 +12,8 @@ pub fn read_is_spelled()
 pub fn spelled_is_read()
     ensures { (bytes : List ℕ) (text : ScriptText) → IsScript text → Spells bytes text → script_of bytes ≡ Ok text }
 {}
+
+/// The bytes of a script's lines and nothing else are read as it.
+pub fn canonical_spelling_is_read()
+    ensures { (text : ScriptText) → IsScript text → Spells (spelling_of text) text × (script_of (spelling_of text) ≡ Ok text) }
+{}

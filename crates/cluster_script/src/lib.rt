@@ -19,10 +19,10 @@ mod script;
 mod script_fault;
 mod words;
 
-pub use fault::Fault;
+pub use fault::{Fault, fault_text};
 pub use head::{Head, MemberOptions};
-pub use laws::{read_is_spelled, spelled_is_read};
-pub use limits::{Limit, limit_passed, within_limits};
+pub use laws::{canonical_spelling_is_read, read_is_spelled, spelled_is_read};
+pub use limits::{Limit, limit_passed, limit_text, within_limits};
 pub use line::{Command, End, Line, Step};
 pub use reader::read;
 pub use script::Script;

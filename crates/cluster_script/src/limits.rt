@@ -38,9 +38,10 @@ pub enum Limit {
     Ticks,
 }
 
-/// What a limit is called.
+/// What a limit is called, in at most 32 bytes.
 pub fn limit_text(limit: Limit) -> &'static str
-    ensures { result.now ≡ limit_text limit }
+    ensures text { result.now ≡ limit_text limit }
+    ensures short { length result.now ≤ 32 }
 {
     match limit {
         Limit::Bytes => "bytes",

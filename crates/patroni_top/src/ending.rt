@@ -3,9 +3,8 @@ ghost use Rattle.std.specs.Prelude.{◌≡◌, ◌≤◌, length};
 ghost use Rattle.patroni_top.specs.Status.{fault_line, limit_line, message_of};
 
 use crate::Status;
-use crate::texts::{limit_text, text_of};
 use arrayvec::ArrayString;
-use cluster_script::{Fault, Limit};
+use cluster_script::{Fault, Limit, fault_text, limit_text};
 use itoa::Buffer;
 
 /// A line of the error output. It lies in the value, so that no want of memory can shorten what is told.
@@ -76,7 +75,7 @@ fn fault_line(line: u64, fault: Fault) -> Message
     let mut message = line_of("line ");
     message.push_str(digits.format(line));
     message.push_str(": ");
-    message.push_str(text_of(fault));
+    message.push_str(fault_text(fault));
     message.push_str("\n");
     message
 }

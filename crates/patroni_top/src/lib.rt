@@ -11,7 +11,6 @@ mod print_error;
 mod printing;
 mod reading;
 mod status;
-mod texts;
 mod top;
 mod world;
 

@@ -1,0 +1,231 @@
+-- The lines of a script and nothing else spell it.
+use Rattle.std.proofs.Common.{◌≡◌, ℕ, ◌+◌, ◌^◌, ◌≤◌, ◌<◌, ◌&&◌, ◌||◌, ◌==◌, nat_le, nat_lt, not, Bool, true, false, cond, IsTrue, List, [], ◌∷◌, ◌++◌, length, map, slice_get, get_or, Option, Some, None, codes, Ok, ◌%◌, refl, ◌∙◌, ap, sym, subst, zero, suc, arith, length-append}
+use Rattle.std.specs.Fmt.{decimal}
+use Rattle.std.specs.List.{list_all}
+use Rattle.std.specs.Str.{is_utf8, IsAscii}
+use Rattle.std.proofs.lemmas.Bool.Decides.{nat_tests}
+use Rattle.std.proofs.lemmas.Fmt.{decimal_by_steps, length-decimal-le}
+use Rattle.std.proofs.lemmas.Str.{IsUtf8-from_ascii, is_utf8-from_IsUtf8}
+use Rattle.std.proofs.lemmas.Str.Ascii.{IsAscii-nil}
+use Rattle.pat_base.specs.Name.{name_bytes}
+use Rattle.pat_base.specs.NameText.{is_name, is_name_byte, is_name-length}
+use Rattle.pat_base.specs.declared.name.Name.{Name}
+use Rattle.pat_base.specs.declared.member_id.MemberId.{MemberId}
+use Rattle.cluster_script.specs.Lines.{ended, lines_in, push_byte, is_skipped, counted_lines}
+use Rattle.cluster_script.specs.Reading.{script_of}
+use Rattle.cluster_script.specs.Script.{HeadText, ScriptText, IsScript, IsMember, IsEnd, IsLink, IsCommand, IsLine, AllAreLines, text_of_name, member_text, end_text, switch_text, two_texts, command_text, cluster_text, member_line_text, line_text, head_lines, body_lines, lines_of, spelling_of, IsInForm, AllInForm, Spells}
+use Rattle.cluster_script.specs.Words.{spelled, word_of}
+use Rattle.cluster_script.specs.declared.keyword.Keyword.{Keyword}
+use Rattle.cluster_script.specs.declared.keyword.Keyword.TheVariants as words
+use Rattle.cluster_script.specs.declared.line.End.{End}
+use Rattle.cluster_script.specs.declared.line.End.TheVariants as ends
+use Rattle.cluster_script.specs.declared.line.Command.{Command}
+use Rattle.cluster_script.specs.declared.line.Command.TheVariants as commands
+use Rattle.cluster_script.specs.declared.line.Line.{Line}
+use Rattle.cluster_script.specs.declared.line.Line.TheVariants as lines
+use Rattle.cluster_script.proofs.Outcomes.{ok_is}
+use Rattle.cluster_script.proofs.SpellLaws.{spelled-is-read}
+use Rattle.cluster_script.proofs.WordLaws.{spelled-counts}
+
+-- a byte of ASCII that ends no line
+abbrev is_plain : ℕ → Bool
+is_plain b = nat_lt b 128 && not (b == 10)
+
+and-left : (a b : Bool) → (a && b) ≡ true → a ≡ true
+and-left true b h = refl
+and-left false b h = h
+
+and-right : (a b : Bool) → (a && b) ≡ true → b ≡ true
+and-right true b h = h
+and-right false b h = cc
+
+both-true : (a b : Bool) → a ≡ true → b ≡ true → (a && b) ≡ true
+both-true a b x y = rw (x, y) refl
+
+-- words of plain bytes, and no more than so many
+record IsPlain (text : List ℕ) (most : ℕ) : Type 0 where
+  pub plain : list_all is_plain text ≡ true
+  pub short : length text ≤ most
+
+plain-append : (xs ys : List ℕ) → list_all is_plain xs ≡ true → list_all is_plain ys ≡ true → list_all is_plain (xs ++ ys) ≡ true
+plain-append [] ys h k = k
+plain-append (x ∷ xs) ys h k =
+    both-true (is_plain x) (list_all is_plain (xs ++ ys)) (and-left (is_plain x) (list_all is_plain xs) h) (plain-append xs ys (and-right (is_plain x) (list_all is_plain xs) h) k)
+
+IsPlain-append : (xs ys : List ℕ) (m n : ℕ) → IsPlain xs m → IsPlain ys n → IsPlain (xs ++ ys) (m + n)
+IsPlain-append xs ys m n h k = record { plain = plain-append xs ys h.plain k.plain; short = omega (arith, length-append xs ys, h.short, k.short) }
+
+IsPlain-most : (xs : List ℕ) (m n : ℕ) → m ≤ n → IsPlain xs m → IsPlain xs n
+IsPlain-most xs m n le h = record { plain = h.plain; short = omega (arith, h.short) }
+
+blank-IsPlain : (rest : List ℕ) (n : ℕ) → IsPlain rest n → IsPlain (32 ∷ rest) (n + 1)
+blank-IsPlain rest n h = record { plain = h.plain; short = omega (arith, h.short) }
+
+name-byte : (b : ℕ) → is_name_byte b ≡ true → is_plain b ≡ true
+name-byte b h = grind (arith, nat_tests)
+
+name-bytes : (v : List ℕ) → list_all is_name_byte v ≡ true → list_all is_plain v ≡ true
+name-bytes [] h = refl
+name-bytes (b ∷ bs) h =
+    both-true (is_plain b) (list_all is_plain bs) (name-byte b (and-left (is_name_byte b) (list_all is_name_byte bs) h)) (name-bytes bs (and-right (is_name_byte b) (list_all is_name_byte bs) h))
+
+text-IsPlain : (v : List ℕ) → is_name v ≡ true → IsPlain v 32
+text-IsPlain v h = record { plain = name-bytes v (and-right (nat_lt 0 (length v) && nat_le (length v) 32) (list_all is_name_byte v) h); short = is_name-length v h }
+
+name-IsPlain : (name : Name) → IsPlain (name_bytes name) 32
+name-IsPlain name = text-IsPlain (name_bytes name) name.text
+
+some_name-IsPlain : (o : Option Name) → IsPlain (text_of_name o) 32
+some_name-IsPlain None = record { plain = refl; short = omega arith }
+some_name-IsPlain (Some name) = name-IsPlain name
+
+end-IsPlain : (members : List Name) (x : End) → IsPlain (end_text members x) 32
+end-IsPlain members ends.Store = record { plain = refl; short = omega arith }
+end-IsPlain members (ends.Member m) = some_name-IsPlain (slice_get members m.number)
+
+a_digit : (d : ℕ) → d < 10 → list_all is_plain ((48 + d) ∷ []) ≡ true
+a_digit d h = let t : is_plain (48 + d) ≡ true = grind (arith, nat_tests) in rw t refl
+
+decimal-IsPlain : (n : ℕ) → n < 2 ^ 64 → IsPlain (decimal n) 20
+decimal-IsPlain n fits = record {
+  plain = decimal_by_steps (λ n ds. list_all is_plain ds ≡ true) (λ n h. a_digit n h) (λ n ds h front. plain-append ds ((48 + n % 10) ∷ []) front (a_digit (n % 10) (omega arith))) n fits;
+  short = length-decimal-le 20 n (omega arith) (omega arith) fits;
+}
+
+word-IsPlain : (keyword : Keyword) → IsPlain (word_of keyword) 7
+word-IsPlain words.Cluster = record { plain = refl; short = omega arith }
+word-IsPlain words.Config = record { plain = refl; short = omega arith }
+word-IsPlain words.Base = record { plain = refl; short = omega arith }
+word-IsPlain words.Member = record { plain = refl; short = omega arith }
+word-IsPlain words.Tick = record { plain = refl; short = omega arith }
+word-IsPlain words.Run = record { plain = refl; short = omega arith }
+word-IsPlain words.Turn = record { plain = refl; short = omega arith }
+word-IsPlain words.Deliver = record { plain = refl; short = omega arith }
+word-IsPlain words.Lose = record { plain = refl; short = omega arith }
+word-IsPlain words.Hold = record { plain = refl; short = omega arith }
+word-IsPlain words.Resume = record { plain = refl; short = omega arith }
+word-IsPlain words.Kill = record { plain = refl; short = omega arith }
+word-IsPlain words.Restart = record { plain = refl; short = omega arith }
+word-IsPlain words.Crash = record { plain = refl; short = omega arith }
+word-IsPlain words.Promote = record { plain = refl; short = omega arith }
+word-IsPlain words.Commit = record { plain = refl; short = omega arith }
+word-IsPlain words.Stream = record { plain = refl; short = omega arith }
+word-IsPlain words.Freeze = record { plain = refl; short = omega arith }
+word-IsPlain words.Thaw = record { plain = refl; short = omega arith }
+word-IsPlain words.Cut = record { plain = refl; short = omega arith }
+word-IsPlain words.Join = record { plain = refl; short = omega arith }
+word-IsPlain words.Slow = record { plain = refl; short = omega arith }
+word-IsPlain words.Rest = record { plain = refl; short = omega arith }
+word-IsPlain words.Ctl = record { plain = refl; short = omega arith }
+word-IsPlain words.Trace = record { plain = refl; short = omega arith }
+
+-- a line that a script has
+record IsLineText (line : List ℕ) : Type 0 where
+  pub plain : list_all is_plain line ≡ true
+  pub short : length line ≤ 8192
+  pub counts : is_skipped line ≡ false
+
+spelled-IsLineText : (keyword : Keyword) (rest : List ℕ) → IsPlain rest 100 → IsLineText (spelled keyword rest)
+spelled-IsLineText keyword rest h =
+    let p : IsPlain (spelled keyword rest) (7 + (100 + 1)) = IsPlain-append (word_of keyword) (32 ∷ rest) 7 (100 + 1) (word-IsPlain keyword) (blank-IsPlain rest 100 h) in
+    record { plain = p.plain; short = omega (arith, p.short); counts = spelled-counts keyword rest }
+
+link-IsPlain : (members : List Name) (x y : End) → IsPlain (two_texts (end_text members x) (end_text members y)) 100
+link-IsPlain members x y =
+    IsPlain-most (two_texts (end_text members x) (end_text members y)) (32 + (32 + 1)) 100 (omega arith)
+    (IsPlain-append (end_text members x) (32 ∷ end_text members y) 32 (32 + 1) (end-IsPlain members x) (blank-IsPlain (end_text members y) 32 (end-IsPlain members y)))
+
+switch-IsPlain : (on : Bool) → IsPlain (switch_text on) 100
+switch-IsPlain true = record { plain = refl; short = omega arith }
+switch-IsPlain false = record { plain = refl; short = omega arith }
+
+number-IsPlain : (n : ℕ) → n < 2 ^ 64 → IsPlain (decimal n) 100
+number-IsPlain n fits = IsPlain-most (decimal n) 20 100 (omega arith) (decimal-IsPlain n fits)
+
+member-IsPlain : (members : List Name) (m : MemberId) → IsPlain (member_text members m) 100
+member-IsPlain members m = IsPlain-most (member_text members m) 32 100 (omega arith) (some_name-IsPlain (slice_get members m.number))
+
+command-IsLineText : (members : List Name) (c : Command) → IsCommand members c → IsLineText (command_text members c)
+command-IsLineText members (commands.Tick n) is = spelled-IsLineText words.Tick (decimal n) (number-IsPlain n is)
+command-IsLineText members (commands.Turn m) is = spelled-IsLineText words.Turn (member_text members m) (member-IsPlain members m)
+command-IsLineText members (commands.Deliver n) is = spelled-IsLineText words.Deliver (decimal n) (number-IsPlain n is)
+command-IsLineText members (commands.Lose n) is = spelled-IsLineText words.Lose (decimal n) (number-IsPlain n is)
+command-IsLineText members (commands.Hold m) is = spelled-IsLineText words.Hold (member_text members m) (member-IsPlain members m)
+command-IsLineText members (commands.Resume m) is = spelled-IsLineText words.Resume (member_text members m) (member-IsPlain members m)
+command-IsLineText members (commands.Kill m) is = spelled-IsLineText words.Kill (member_text members m) (member-IsPlain members m)
+command-IsLineText members (commands.Restart m) is = spelled-IsLineText words.Restart (member_text members m) (member-IsPlain members m)
+command-IsLineText members (commands.Cut x y) is = spelled-IsLineText words.Cut (two_texts (end_text members x) (end_text members y)) (link-IsPlain members x y)
+command-IsLineText members (commands.Join x y) is = spelled-IsLineText words.Join (two_texts (end_text members x) (end_text members y)) (link-IsPlain members x y)
+command-IsLineText members (commands.Trace on) is = spelled-IsLineText words.Trace (switch_text on) (switch-IsPlain on)
+
+line-IsLineText : (members : List Name) (line : Line) → IsLine members line → IsLineText (line_text members line)
+line-IsLineText members (lines.Run n) is = spelled-IsLineText words.Run (decimal n) (number-IsPlain n is)
+line-IsLineText members (lines.Command c) is = command-IsLineText members c is
+
+name-line : (keyword : Keyword) (name : Name) → IsLineText (spelled keyword (name_bytes name))
+name-line keyword name = spelled-IsLineText keyword (name_bytes name) (IsPlain-most (name_bytes name) 32 100 (omega arith) (name-IsPlain name))
+
+abbrev AllLineTexts : List (List ℕ) → Type 0
+AllLineTexts [] = Unit {0}
+AllLineTexts (line ∷ rest) = IsLineText line × AllLineTexts rest
+
+AllLineTexts-append : (xs ys : List (List ℕ)) → AllLineTexts xs → AllLineTexts ys → AllLineTexts (xs ++ ys)
+AllLineTexts-append [] ys h k = k
+AllLineTexts-append (x ∷ xs) ys h k = (h.0, AllLineTexts-append xs ys h.1 k)
+
+members-AllLineTexts : (members : List Name) → AllLineTexts (map member_line_text members)
+members-AllLineTexts [] = tt
+members-AllLineTexts (m ∷ members) = (name-line words.Member m, members-AllLineTexts members)
+
+body-AllLineTexts : (members : List Name) (body : List Line) → AllAreLines members body → AllLineTexts (body_lines members body)
+body-AllLineTexts members [] is = tt
+body-AllLineTexts members (line ∷ body) is = (line-IsLineText members line is.0, body-AllLineTexts members body is.1)
+
+script-AllLineTexts : (s : ScriptText) → IsScript s → AllLineTexts (lines_of s)
+script-AllLineTexts s h = (
+  name-line words.Cluster s.head.cluster,
+  AllLineTexts-append (map member_line_text s.head.members) (body_lines s.head.members s.body) (members-AllLineTexts s.head.members) (body-AllLineTexts s.head.members s.body h.body),
+)
+
+-- such lines are text of few bytes, and are cut again
+ascii-byte : (b : ℕ) → is_plain b ≡ true → b < 128
+ascii-byte b h = grind (arith, nat_tests)
+
+no-feed : (b : ℕ) → is_plain b ≡ true → (b == 10) ≡ false
+no-feed b h = grind (arith, nat_tests)
+
+plain-ascii : (v : List ℕ) → list_all is_plain v ≡ true → (i : ℕ) → get_or v i 0 < 128
+plain-ascii [] h i = IsAscii-nil i
+plain-ascii (b ∷ bs) h zero = ascii-byte b (and-left (is_plain b) (list_all is_plain bs) h)
+plain-ascii (b ∷ bs) h (suc i) = plain-ascii bs (and-right (is_plain b) (list_all is_plain bs) h) i
+
+plain-is_utf8 : (v : List ℕ) → list_all is_plain v ≡ true → is_utf8 v ≡ true
+plain-is_utf8 v h = is_utf8-from_IsUtf8 v (IsUtf8-from_ascii v (plain-ascii v h))
+
+line-again : (line rest : List ℕ) → list_all is_plain line ≡ true → lines_in (line ++ (10 ∷ rest)) ≡ line ∷ lines_in rest
+line-again [] rest h = refl
+line-again (b ∷ bs) rest h =
+    rw (no-feed b (and-left (is_plain b) (list_all is_plain bs) h), line-again bs rest (and-right (is_plain b) (list_all is_plain bs) h)) refl
+
+lines-again : (lines : List (List ℕ)) → AllLineTexts lines → lines_in (ended lines) ≡ lines
+lines-again [] h = refl
+lines-again (line ∷ lines) h = line-again line (ended lines) h.0.plain ∙ ap (λ ls. line ∷ ls) (lines-again lines h.1)
+
+all-count : (lines : List (List ℕ)) → AllLineTexts lines → counted_lines lines ≡ lines
+all-count [] h = refl
+all-count (line ∷ lines) h = rw (h.0.counts, all-count lines h.1) refl
+
+all-in-form : (lines : List (List ℕ)) → AllLineTexts lines → AllInForm lines
+all-in-form [] h = tt
+all-in-form (line ∷ lines) h = (record { text = plain-is_utf8 line h.0.plain; short = h.0.short }, all-in-form lines h.1)
+
+pub spelling-Spells : (s : ScriptText) → IsScript s → Spells (spelling_of s) s
+spelling-Spells s h =
+    let texts : AllLineTexts (lines_of s) = script-AllLineTexts s h in
+    record {
+      form = subst AllInForm (sym (lines-again (lines_of s) texts)) (all-in-form (lines_of s) texts);
+      lines = ap counted_lines (lines-again (lines_of s) texts) ∙ all-count (lines_of s) texts;
+    }
+
+pub spelling-is-read : (s : ScriptText) → IsScript s → script_of (spelling_of s) ≡ Ok s
+spelling-is-read s h = spelled-is-read (spelling_of s) s h (spelling-Spells s h)
