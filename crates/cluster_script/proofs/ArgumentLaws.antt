@@ -1,19 +1,18 @@
 -- What a line says is spelled so.
-use Rattle.std.proofs.Common.{◌≡◌, ◌≢◌, ℕ, ◌+◌, ◌≤◌, ◌<◌, ◌^◌, ◌&&◌, ◌==◌, nat_le, nat_lt, Bool, true, false, cond, List, [], ◌∷◌, ◌++◌, length, map, slice_get, Option, Some, None, Result, Ok, Err, codes, refl, ◌∙◌, ap, sym, subst, zero, suc, arith, eq-eqb}
+use Rattle.std.proofs.Common.{◌≡◌, ◌≢◌, ℕ, ◌<◌, ◌^◌, Bool, true, false, cond, List, [], ◌∷◌, ◌++◌, length, slice_get, Option, Some, None, Result, Ok, Err, codes, refl, ◌∙◌, ap, sym, subst, arith, eq-eqb}
 use Rattle.std.specs.Fmt.{decimal}
 use Rattle.std.specs.Str.{bytes_eq}
-use Rattle.std.proofs.lemmas.Bool.Decides.{nat_tests}
 use Rattle.std.proofs.lemmas.Option.{slice_get_within}
 use Rattle.std.proofs.lemmas.Slice.Eq.{bytes_eq-Decides}
-use Rattle.pat_base.specs.Name.{name_bytes, name_of}
+use Rattle.pat_base.specs.Name.{name_of}
 use Rattle.pat_base.specs.declared.name.Name.{Name}
 use Rattle.pat_base.specs.declared.member_id.MemberId.{MemberId}
 use Rattle.pat_base.proofs.Names.{name_of-text}
-use Rattle.cluster_script.specs.Arguments.{some_or, number_in, switch_in, declared_member, member_in, end_in, missing_word, line_end, last_word, one_word, same_member, same_end, apart, second_end, two_ends, command, line_of_words}
+use Rattle.cluster_script.specs.Arguments.{number_in, switch_in, declared_member, member_in, end_in, missing_word, line_end, last_word, one_word, same_end, apart, second_end, two_ends, command, line_of_words}
 use Rattle.cluster_script.specs.Faults.{on_ok, both}
 use Rattle.cluster_script.specs.Members.{member_of, place_of, member_named}
 use Rattle.cluster_script.specs.Numbers.{number}
-use Rattle.cluster_script.specs.Script.{text_of_name, member_text, end_text, switch_text, two_texts, command_text, line_text, IsMember, IsEnd, IsLink, IsCommand, IsLine}
+use Rattle.cluster_script.specs.Script.{text_of_name, member_text, end_text, switch_text, two_texts, line_text, IsMember, IsEnd, IsLink, IsLine}
 use Rattle.cluster_script.specs.Words.{spelled, cut_word}
 use Rattle.cluster_script.specs.declared.fault.Fault.{Fault}
 use Rattle.cluster_script.specs.declared.fault.Fault.TheVariants as faults
@@ -21,13 +20,12 @@ use Rattle.cluster_script.specs.declared.keyword.Keyword.{Keyword}
 use Rattle.cluster_script.specs.declared.keyword.Keyword.TheVariants as words
 use Rattle.cluster_script.specs.declared.line.End.{End}
 use Rattle.cluster_script.specs.declared.line.End.TheVariants as ends
-use Rattle.cluster_script.specs.declared.line.Command.{Command}
 use Rattle.cluster_script.specs.declared.line.Command.TheVariants as commands
 use Rattle.cluster_script.specs.declared.line.Line.{Line}
 use Rattle.cluster_script.specs.declared.line.Line.TheVariants as lines
 use Rattle.cluster_script.proofs.NameLaws.{place_of-Some, member_of-number}
 use Rattle.cluster_script.proofs.NumberLaws.{number-is, number-below}
-use Rattle.cluster_script.proofs.Outcomes.{some_is, none_is, ok_is, err_is, on_some-Some, on_ok-Ok, some_or-Ok, both-Ok, cond-Ok, cond-Err}
+use Rattle.cluster_script.proofs.Outcomes.{ok_is, err_is, on_some-Some, on_ok-Ok, some_or-Ok, both-Ok, cond-Err}
 use Rattle.cluster_script.proofs.WordLaws.{cut_word-None, cut_word-Some}
 
 -- a member that a word names

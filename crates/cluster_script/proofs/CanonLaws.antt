@@ -1,8 +1,8 @@
 -- The lines of a script and nothing else spell it.
-use Rattle.std.proofs.Common.{◌≡◌, ℕ, ◌+◌, ◌^◌, ◌≤◌, ◌<◌, ◌&&◌, ◌||◌, ◌==◌, nat_le, nat_lt, not, Bool, true, false, cond, IsTrue, List, [], ◌∷◌, ◌++◌, length, map, slice_get, get_or, Option, Some, None, codes, Ok, ◌%◌, refl, ◌∙◌, ap, sym, subst, zero, suc, arith, length-append}
+use Rattle.std.proofs.Common.{◌≡◌, ℕ, ◌+◌, ◌^◌, ◌≤◌, ◌<◌, ◌&&◌, ◌==◌, nat_le, nat_lt, not, Bool, true, false, List, [], ◌∷◌, ◌++◌, length, map, slice_get, get_or, Option, Some, None, Ok, ◌%◌, refl, ◌∙◌, ap, sym, subst, zero, suc, arith, length-append}
 use Rattle.std.specs.Fmt.{decimal}
 use Rattle.std.specs.List.{list_all}
-use Rattle.std.specs.Str.{is_utf8, IsAscii}
+use Rattle.std.specs.Str.{is_utf8}
 use Rattle.std.proofs.lemmas.Bool.Decides.{nat_tests}
 use Rattle.std.proofs.lemmas.Fmt.{decimal_by_steps, length-decimal-le}
 use Rattle.std.proofs.lemmas.Str.{IsUtf8-from_ascii, is_utf8-from_IsUtf8}
@@ -11,9 +11,9 @@ use Rattle.pat_base.specs.Name.{name_bytes}
 use Rattle.pat_base.specs.NameText.{is_name, is_name_byte, is_name-length}
 use Rattle.pat_base.specs.declared.name.Name.{Name}
 use Rattle.pat_base.specs.declared.member_id.MemberId.{MemberId}
-use Rattle.cluster_script.specs.Lines.{ended, lines_in, push_byte, is_skipped, counted_lines}
+use Rattle.cluster_script.specs.Lines.{ended, lines_in, is_skipped, counted_lines}
 use Rattle.cluster_script.specs.Reading.{script_of}
-use Rattle.cluster_script.specs.Script.{HeadText, ScriptText, IsScript, IsMember, IsEnd, IsLink, IsCommand, IsLine, AllAreLines, text_of_name, member_text, end_text, switch_text, two_texts, command_text, cluster_text, member_line_text, line_text, head_lines, body_lines, lines_of, spelling_of, IsInForm, AllInForm, Spells}
+use Rattle.cluster_script.specs.Script.{ScriptText, IsScript, IsCommand, IsLine, AllAreLines, text_of_name, member_text, end_text, switch_text, two_texts, command_text, member_line_text, line_text, body_lines, lines_of, spelling_of, AllInForm, Spells}
 use Rattle.cluster_script.specs.Words.{spelled, word_of}
 use Rattle.cluster_script.specs.declared.keyword.Keyword.{Keyword}
 use Rattle.cluster_script.specs.declared.keyword.Keyword.TheVariants as words
@@ -23,7 +23,6 @@ use Rattle.cluster_script.specs.declared.line.Command.{Command}
 use Rattle.cluster_script.specs.declared.line.Command.TheVariants as commands
 use Rattle.cluster_script.specs.declared.line.Line.{Line}
 use Rattle.cluster_script.specs.declared.line.Line.TheVariants as lines
-use Rattle.cluster_script.proofs.Outcomes.{ok_is}
 use Rattle.cluster_script.proofs.SpellLaws.{spelled-is-read}
 use Rattle.cluster_script.proofs.WordLaws.{spelled-counts}
 

@@ -1,5 +1,5 @@
 -- Lines from the front.
-use Rattle.std.proofs.Common.{◌≡◌, ℕ, ◌+◌, ◌-◌, ◌<◌, ◌==◌, Bool, true, false, cond, List, [], ◌∷◌, ◌++◌, length, take, drop, Option, Some, None, arith, append_assoc, refl, ◌∙◌, ap, sym, zero, suc, take_all, length-drop}
+use Rattle.std.proofs.Common.{◌≡◌, ℕ, ◌+◌, ◌-◌, ◌<◌, ◌==◌, Bool, true, false, cond, List, [], ◌∷◌, ◌++◌, length, take, drop, Option, Some, None, arith, append_assoc, refl, ◌∙◌, ap, sym, suc, take_all, length-drop}
 use Rattle.cluster_script.specs.Lines.{lines_in, first_at, push_byte, one_more}
 
 cut-step : (t : Bool) (b : ℕ) (bs : List ℕ) (o : Option ℕ) (n : ℕ) → ((m : ℕ) → o ≡ Some m → lines_in bs ≡ take m bs ∷ lines_in (drop 1 (drop m bs))) → cond t (Some 0) (one_more o) ≡ Some n → cond t ([] ∷ lines_in bs) (push_byte b (lines_in bs)) ≡ take n (b ∷ bs) ∷ lines_in (drop 1 (drop n (b ∷ bs)))

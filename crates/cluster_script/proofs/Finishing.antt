@@ -1,9 +1,9 @@
 -- A draft that is whole.
-use Rattle.std.proofs.Common.{◌≡◌, List, [], ◌∷◌, length, Option, Some, Result, Ok, refl, ap}
+use Rattle.std.proofs.Common.{◌≡◌, List, [], ◌∷◌, length, Option, Some, Ok, refl, ap}
 use Rattle.pat_base.specs.declared.name.Name.{Name}
 use Rattle.cluster_script.specs.Draft.{draft_of}
-use Rattle.cluster_script.specs.Reading.{finished, with_some}
-use Rattle.cluster_script.specs.Script.{HeadText, ScriptText, IsScript}
+use Rattle.cluster_script.specs.Reading.{finished}
+use Rattle.cluster_script.specs.Script.{ScriptText, IsScript}
 use Rattle.cluster_script.specs.declared.line.Line.{Line}
 
 pub finished-IsScript : (o : Option Name) (cluster : Name) (members : List Name) (body : List Line) → o ≡ Some cluster → (length members ≡ 0 → ⊥)

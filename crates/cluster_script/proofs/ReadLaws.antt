@@ -1,5 +1,5 @@
 -- What is read as a script is one, and is spelled so.
-use Rattle.std.proofs.Common.{◌≡◌, ℕ, ◌+◌, ◌≤◌, ◌<◌, nat_le, nat_lt, Bool, true, false, cond, List, [], ◌∷◌, ◌++◌, length, map, Option, Some, None, Result, Ok, Err, refl, ◌∙◌, ap, sym, subst, zero, suc, arith, append_assoc, append-nil, length-append}
+use Rattle.std.proofs.Common.{◌≡◌, ℕ, ◌+◌, ◌≤◌, ◌<◌, nat_le, Bool, true, false, cond, List, [], ◌∷◌, ◌++◌, length, map, Option, Some, None, Ok, Err, refl, ◌∙◌, ap, sym, subst, arith, append_assoc, append-nil, length-append}
 use Rattle.std.specs.Str.{is_utf8}
 use Rattle.std.proofs.lemmas.Bool.Decides.{nat_tests}
 use Rattle.std.proofs.lemmas.List.{map-append}
@@ -10,24 +10,18 @@ use Rattle.cluster_script.specs.Arguments.{line_of_words}
 use Rattle.cluster_script.specs.Faults.{on_ok}
 use Rattle.cluster_script.specs.Lines.{lines_in, is_skipped, counted_lines}
 use Rattle.cluster_script.specs.Members.{place_of}
-use Rattle.cluster_script.specs.Reading.{has_option, declared_in_head, declared_once, named_member, new_member, next_member, second_cluster, addition_of, known_addition, addition_in, members_after, body_after, with_addition, with_line, alone, cluster_named, cluster_of, begun_by, first_line, begun, after_counted, after_text, after_line, after_lines, at_line, with_some, finished, script_of_lines, script_of}
-use Rattle.cluster_script.specs.Script.{HeadText, ScriptText, IsHead, IsScript, IsMember, IsEnd, IsLink, IsCommand, IsLine, AllAreLines, cluster_text, member_line_text, line_text, head_lines, body_lines, lines_of, IsInForm, AllInForm, Spells, member_text, text_of_name}
-use Rattle.cluster_script.specs.Words.{spelled, keyword_of, cut_word, word_of}
+use Rattle.cluster_script.specs.Reading.{has_option, declared_in_head, declared_once, named_member, new_member, next_member, addition_of, known_addition, addition_in, with_addition, with_line, alone, cluster_named, cluster_of, begun_by, first_line, begun, after_counted, after_text, after_line, after_lines, at_line, with_some, finished, script_of}
+use Rattle.cluster_script.specs.Script.{ScriptText, IsScript, IsLine, AllAreLines, cluster_text, member_line_text, line_text, head_lines, body_lines, lines_of, IsInForm, AllInForm, Spells}
+use Rattle.cluster_script.specs.Words.{spelled, keyword_of, cut_word}
 use Rattle.cluster_script.specs.declared.addition.Addition.{Addition}
 use Rattle.cluster_script.specs.declared.addition.Addition.TheVariants as additions
-use Rattle.cluster_script.specs.declared.fault.Fault.{Fault}
 use Rattle.cluster_script.specs.declared.fault.Fault.TheVariants as faults
 use Rattle.cluster_script.specs.declared.keyword.Keyword.{Keyword}
 use Rattle.cluster_script.specs.declared.keyword.Keyword.TheVariants as words
-use Rattle.cluster_script.specs.declared.line.End.{End}
-use Rattle.cluster_script.specs.declared.line.End.TheVariants as ends
-use Rattle.cluster_script.specs.declared.line.Command.{Command}
-use Rattle.cluster_script.specs.declared.line.Command.TheVariants as commands
 use Rattle.cluster_script.specs.declared.line.Line.{Line}
-use Rattle.cluster_script.specs.declared.line.Line.TheVariants as lines
-use Rattle.cluster_script.proofs.ArgumentLaws.{Says, line_of_words-Ok}
-use Rattle.cluster_script.proofs.NameLaws.{AreDifferent, AreDifferent-push, place_of-None, slice_get-push}
-use Rattle.cluster_script.proofs.Outcomes.{some_is, none_is, ok_is, err_is, on_ok-Ok, at_line-Ok, cond-Ok, cond-Err}
+use Rattle.cluster_script.proofs.ArgumentLaws.{line_of_words-Ok}
+use Rattle.cluster_script.proofs.NameLaws.{AreDifferent, AreDifferent-push}
+use Rattle.cluster_script.proofs.Outcomes.{ok_is, err_is, on_ok-Ok, at_line-Ok, cond-Ok, cond-Err}
 use Rattle.cluster_script.proofs.WordLaws.{cut_word-None, cut_word-Some, keyword_of-is}
 
 -- what a line adds, and how it is spelled

@@ -1,8 +1,8 @@
 -- What is spelled as a script is read as it.
-use Rattle.std.proofs.Common.{◌≡◌, ◌≢◌, ℕ, ◌+◌, ◌^◌, ◌≤◌, ◌<◌, ◌&&◌, ◌||◌, ◌==◌, nat_le, nat_lt, Bool, true, false, cond, IsTrue, List, [], ◌∷◌, ◌++◌, length, map, slice_get, Option, Some, None, Result, Ok, Err, codes, refl, ◌∙◌, ap, sym, subst, zero, suc, arith, append_assoc, append-nil, length-append}
+use Rattle.std.proofs.Common.{◌≡◌, ◌≢◌, ℕ, ◌+◌, ◌^◌, ◌≤◌, ◌<◌, ◌&&◌, ◌==◌, nat_le, nat_lt, Bool, true, false, cond, List, [], ◌∷◌, ◌++◌, length, map, slice_get, Option, Some, None, Result, Ok, Err, codes, refl, ◌∙◌, ap, sym, subst, zero, suc, arith, append_assoc, append-nil, length-append}
 use Rattle.std.specs.Fmt.{decimal}
 use Rattle.std.specs.List.{list_all}
-use Rattle.std.specs.Str.{bytes_eq, is_utf8}
+use Rattle.std.specs.Str.{bytes_eq}
 use Rattle.std.proofs.lemmas.Bool.{eqb-true}
 use Rattle.std.proofs.lemmas.Bool.Decides.{nat_tests}
 use Rattle.std.proofs.lemmas.Option.{slice_get_within}
@@ -10,24 +10,21 @@ use Rattle.std.proofs.lemmas.Slice.Eq.{bytes_eq-Decides}
 use Rattle.pat_base.specs.NameText.{is_name, is_name_byte}
 use Rattle.pat_base.specs.declared.member_id.MemberId.{MemberId}
 use Rattle.pat_base.proofs.Names.{name_of-name_bytes}
-use Rattle.cluster_script.specs.Members.{member_of, member_named}
+use Rattle.cluster_script.specs.Members.{member_of}
 use Rattle.cluster_script.specs.Numbers.{number}
 use Rattle.cluster_script.specs.Lines.{first_at}
 use Rattle.cluster_script.specs.Options.{on_some}
-use Rattle.cluster_script.specs.Arguments.{some_or, number_in, switch_in, declared_member, member_in, end_in, line_end, last_word, one_word, same_member, same_end, apart, second_end, two_ends, command}
+use Rattle.cluster_script.specs.Arguments.{some_or, number_in, switch_in, declared_member, member_in, end_in, line_end, last_word, one_word, same_end, apart, second_end, two_ends, command}
 use Rattle.cluster_script.specs.Faults.{both}
-use Rattle.cluster_script.specs.Script.{end_text, switch_text, two_texts, command_text}
+use Rattle.cluster_script.specs.Script.{end_text, switch_text, two_texts}
 use Rattle.pat_base.specs.Name.{name_bytes, name_of}
 use Rattle.pat_base.specs.declared.name.Name.{Name}
-use Rattle.pat_base.proofs.Names.{name_of-text}
-use Rattle.cluster_script.specs.Arguments.{line_of_words}
 use Rattle.cluster_script.specs.Faults.{on_ok}
 use Rattle.cluster_script.specs.Lines.{lines_in, is_skipped, counted_lines}
 use Rattle.cluster_script.specs.Members.{place_of}
-use Rattle.cluster_script.specs.Reading.{has_option, declared_in_head, declared_once, named_member, new_member, next_member, second_cluster, addition_of, known_addition, addition_in, members_after, body_after, with_addition, with_line, alone, cluster_named, cluster_of, begun_by, first_line, begun, after_counted, after_text, after_line, after_lines, at_line, with_some, finished, script_of_lines, script_of}
-use Rattle.cluster_script.specs.Script.{HeadText, ScriptText, IsHead, IsScript, IsMember, IsEnd, IsLink, IsCommand, IsLine, AllAreLines, cluster_text, member_line_text, line_text, head_lines, body_lines, lines_of, IsInForm, AllInForm, Spells, member_text, text_of_name}
-use Rattle.cluster_script.specs.Words.{spelled, keyword_of, cut_word, word_of}
-use Rattle.cluster_script.specs.declared.addition.Addition.{Addition}
+use Rattle.cluster_script.specs.Reading.{has_option, declared_once, named_member, new_member, next_member, addition_of, known_addition, addition_in, with_addition, with_line, cluster_named, begun_by, first_line, begun, after_counted, after_text, after_line, after_lines, at_line, with_some, finished, script_of}
+use Rattle.cluster_script.specs.Script.{HeadText, ScriptText, IsHead, IsScript, IsMember, IsEnd, IsLink, IsCommand, IsLine, AllAreLines, cluster_text, member_line_text, line_text, body_lines, lines_of, IsInForm, AllInForm, Spells, member_text, text_of_name}
+use Rattle.cluster_script.specs.Words.{spelled, keyword_of, cut_word}
 use Rattle.cluster_script.specs.declared.addition.Addition.TheVariants as additions
 use Rattle.cluster_script.specs.declared.fault.Fault.{Fault}
 use Rattle.cluster_script.specs.declared.fault.Fault.TheVariants as faults

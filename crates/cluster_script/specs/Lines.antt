@@ -1,5 +1,5 @@
 -- Bytes as lines.
-use Rattle.std.specs.Prelude.{ℕ, ◌==◌, ◌+◌, nat_eq, nat_le, Bool, true, false, if◌then◌else◌, List, [], ◌∷◌, ◌++◌, Option, Some, None}
+use Rattle.std.specs.Prelude.{ℕ, ◌==◌, ◌+◌, Bool, true, if◌then◌else◌, List, [], ◌∷◌, ◌++◌, Option, Some, None}
 
 -- lines, each ended by its line feed
 abbrev pub ended : List (List ℕ) → List ℕ

@@ -1,5 +1,5 @@
 -- The script that bytes are, or the first line with a fault and its first fault.
-use Rattle.std.specs.Prelude.{ℕ, ◌≡◌, ◌+◌, ◌<◌, nat_le, ◌==◌, Bool, true, false, ◌&&◌, ◌||◌, if◌then◌else◌, List, [], ◌∷◌, ◌++◌, Option, Some, None, Result, Ok, Err, codes, length}
+use Rattle.std.specs.Prelude.{ℕ, ◌≡◌, ◌+◌, ◌<◌, nat_le, ◌==◌, Bool, false, ◌&&◌, ◌||◌, if◌then◌else◌, List, [], ◌∷◌, ◌++◌, Option, Some, None, Result, Ok, Err, codes, length}
 use Rattle.std.specs.List.{starts_with, list_any}
 use Rattle.std.specs.Str.{is_utf8}
 use Rattle.std.specs.Prelude.{nat_eq}
@@ -9,7 +9,7 @@ use Rattle.cluster_script.specs.Arguments.{line_of_words}
 use Rattle.cluster_script.specs.Faults.{on_ok}
 use Rattle.cluster_script.specs.Lines.{lines_in, is_skipped}
 use Rattle.cluster_script.specs.Members.{place_of}
-use Rattle.cluster_script.specs.Script.{HeadText, ScriptText}
+use Rattle.cluster_script.specs.Script.{ScriptText}
 use Rattle.cluster_script.specs.Words.{keyword_of, cut_word}
 use Rattle.cluster_script.specs.declared.addition.Addition.{Addition}
 use Rattle.cluster_script.specs.declared.addition.Addition.TheVariants as additions

@@ -1,10 +1,9 @@
-use Rattle.std.proofs.Common.{◌≡◌, ◌<◌, ◌++◌, ◌∷◌, [], ◌∙◌, sym, ap, subst, None, length}
+use Rattle.std.proofs.Common.{◌≡◌, ◌<◌, ◌∙◌, ap, subst, None, length}
 use Rattle.std.specs.Map.{keys_of}
 use Rattle.indexmap.specs.IndexMap.{keys}
 use Rattle.pat_base.proofs.Names.{same_fields-Decides}
-use Rattle.pat_base.specs.declared.name.Name.{Name}
 use Rattle.cluster_script.specs.Members.{place_of}
-use Rattle.cluster_script.specs.Reading.{IsNew, members_after}
+use Rattle.cluster_script.specs.Reading.{IsNew}
 use Rattle.cluster_script.specs.declared.addition.Addition.{Addition}
 use Rattle.cluster_script.proofs.MemberLaws.{keys-insert_entry}
 use Rattle.cluster_script.proofs.draft.apply.Goals as goal

@@ -1,4 +1,3 @@
-use Rattle.std.proofs.Common.{◌≡◌}
 use Rattle.cluster_script.proofs.MemberLaws.{member_of-is}
 use Rattle.cluster_script.proofs.members.member_named.Goals as goal
 

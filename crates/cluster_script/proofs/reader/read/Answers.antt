@@ -1,4 +1,4 @@
-use Rattle.std.proofs.Common.{◌≡◌, List, ℕ, map, Option, Some, None, Ok, sym, ap, ◌∙◌}
+use Rattle.std.proofs.Common.{◌≡◌, List, ℕ, map, Option, None, Ok, sym, ap, ◌∙◌}
 use Rattle.cluster_script.specs.Lines.{lines_in}
 use Rattle.cluster_script.specs.Reading.{after_lines}
 use Rattle.cluster_script.specs.Script.{ScriptText}

@@ -1,8 +1,6 @@
-use Rattle.std.proofs.Common.{◌≡◌, List, length, sym, ◌∙◌, arith, IsTrue, true, false}
+use Rattle.std.proofs.Common.{◌≡◌, length, sym, ◌∙◌, true, false}
 use Rattle.std.proofs.lemmas.List.{length-map}
 use Rattle.indexmap.specs.IndexMap.{keys}
-use Rattle.pat_base.specs.declared.name.Name.{Name}
-use Rattle.cluster_script.specs.Script.{ScriptText, IsScript}
 use Rattle.cluster_script.proofs.Finishing.{finished-IsScript}
 use Rattle.cluster_script.proofs.draft.Draft.finish.Goals as goal
 
