@@ -145,7 +145,6 @@ member-IsPlain : (members : List Name) (m : MemberId) → IsPlain (member_text m
 member-IsPlain members m = IsPlain-most (member_text members m) 32 100 (omega arith) (some_name-IsPlain (slice_get members m.number))
 
 command-IsLineText : (members : List Name) (c : Command) → IsCommand members c → IsLineText (command_text members c)
-command-IsLineText members (commands.Tick n) is = spelled-IsLineText words.Tick (decimal n) (number-IsPlain n is)
 command-IsLineText members (commands.Turn m) is = spelled-IsLineText words.Turn (member_text members m) (member-IsPlain members m)
 command-IsLineText members (commands.Deliver n) is = spelled-IsLineText words.Deliver (decimal n) (number-IsPlain n is)
 command-IsLineText members (commands.Lose n) is = spelled-IsLineText words.Lose (decimal n) (number-IsPlain n is)
@@ -159,6 +158,7 @@ command-IsLineText members (commands.Trace on) is = spelled-IsLineText words.Tra
 
 line-IsLineText : (members : List Name) (line : Line) → IsLine members line → IsLineText (line_text members line)
 line-IsLineText members (lines.Run n) is = spelled-IsLineText words.Run (decimal n) (number-IsPlain n is)
+line-IsLineText members (lines.Tick n) is = spelled-IsLineText words.Tick (decimal n) (number-IsPlain n is)
 line-IsLineText members (lines.Command c) is = command-IsLineText members c is
 
 name-line : (keyword : Keyword) (name : Name) → IsLineText (spelled keyword (name_bytes name))
