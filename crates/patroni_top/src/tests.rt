@@ -2,6 +2,7 @@
 use super::*;
 use pat_base::{MemorySink, MemorySource};
 use std::alloc::{AllocError, Global};
+use std::process::Abort;
 use std::test::Fail;
 
 const KEY_PASSED_ON: &str = "cluster demo\nmember a\nmember b\nrun 50\nhold a\nrun 310\n";
@@ -94,7 +95,7 @@ fn refusals_of_the_first_form(rt: HostRuntime) -> Result<(), Fail> {
     };
     for (word, script, faults, status, err) in [
         ("runs", KEY_PASSED_ON, NO_FAULTS, 2, usage),
-        ("run", dance, NO_FAULTS, 1, "script not built\n"),
+        ("run", dance, NO_FAULTS, 1, "line 4: unknown line\n"),
         ("run", KEY_PASSED_ON, input_fails, 3, "read fault\n"),
         ("run", KEY_PASSED_ON, out_fails, 4, "write fault\n"),
     ] {
@@ -156,6 +157,99 @@ fn a_fault_at_each_call(rt: HostRuntime) -> Result<(), Fail> {
     )?;
     assert_eq!(rt; ended.status, 2);
     assert_eq!(rt; ended.err.as_slice(), b"".as_slice());
+    Ok(())
+}
+
+/// Checks that a script gives this status and this line on `err`, and nothing on `out`.
+fn refuses(
+    rt: &impl Abort,
+    alloc: Global,
+    script: &str,
+    status: u8,
+    err: &str,
+) -> Result<(), Fail> {
+    let ended = run_in_memory(alloc, "run", script, NO_FAULTS)?;
+    assert_eq!(rt; ended.err.as_slice(), err.as_bytes(), "{err}");
+    assert_eq!(rt; ended.status, status, "{err}");
+    assert_eq!(rt; ended.out.as_slice(), b"".as_slice(), "{err}");
+    Ok(())
+}
+
+#[test]
+fn empty_input(rt: HostRuntime) -> Result<(), Fail> {
+    refuses(&rt, rt.alloc(), "", 1, "line 1: no cluster line\n")
+}
+
+#[test]
+fn faulty_scripts(rt: HostRuntime) -> Result<(), Fail> {
+    for (script, err) in [
+        ("# nothing\n\n", "line 3: no cluster line\n"),
+        ("member a\n", "line 1: no cluster line\n"),
+        ("cluster demo\n", "line 2: no member\n"),
+        (
+            "cluster demo\nmember a\nmember a\n",
+            "line 3: declared twice\n",
+        ),
+        ("cluster demo\nmember a\nhold b\n", "line 3: unknown name\n"),
+        (
+            "cluster demo\nmember a\nrun x\nhold b\n",
+            "line 3: bad number\n",
+        ),
+        (
+            "cluster demo\nmember a\nhold\n",
+            "line 3: wrong number of words\n",
+        ),
+        (
+            "cluster demo\n\n# a note\nmember a\nrun 5\nmember b\n",
+            "line 6: head line after body\n",
+        ),
+    ] {
+        refuses(&rt, rt.alloc(), script, 1, err)?;
+    }
+    Ok(())
+}
+
+/// A text with another so many times behind it.
+fn repeated(alloc: Global, head: &str, piece: &str, count: u64) -> Result<String, AllocError> {
+    let mut text = String::from_str(alloc, head)?;
+    for _ in 0..count {
+        text.push_str(piece)?;
+    }
+    Ok(text)
+}
+
+#[test]
+fn limits_one_past_their_edge(rt: HostRuntime) -> Result<(), Fail> {
+    let bytes = "################################################################";
+    for (head, piece, count, err) in [
+        ("#", bytes, 16_384, "limit: bytes\n"),
+        ("cluster demo\nmember a\n", "#\n", 99_999, "limit: lines\n"),
+        ("cluster demo\n", "member a\n", 17, "limit: members\n"),
+        (
+            "cluster demo\nmember a\n",
+            "tick 1000001\n",
+            1,
+            "limit: ticks\n",
+        ),
+    ] {
+        let script = repeated(rt.alloc(), head, piece, count)?;
+        refuses(&rt, rt.alloc(), script.as_str(), 7, err)?;
+    }
+    Ok(())
+}
+
+#[test]
+fn a_limit_comes_before_a_fault(rt: HostRuntime) -> Result<(), Fail> {
+    refuses(&rt, rt.alloc(), "dance\nrun 1000001\n", 7, "limit: ticks\n")
+}
+
+#[test]
+fn as_many_lines_as_a_script_may_have(rt: HostRuntime) -> Result<(), Fail> {
+    let alloc = rt.alloc();
+    let script = repeated(alloc, "cluster demo\nmember a\n", "#\n", 99_998)?;
+    let ended = run_in_memory(alloc, "run", script.as_str(), NO_FAULTS)?;
+    assert_eq!(rt; ended.status, 0);
+    assert_eq!(rt; ended.out.as_slice(), b"end at 0\n".as_slice());
     Ok(())
 }
 

@@ -10,9 +10,9 @@ pub returns-in-Ok-clause-script : goal.returns-in-Ok-clause-script
 returns-in-Ok-clause-script g c =
     IfOk-weaker c.script_in.result _ _
     (λ script read all is.
-        let front = sym (c.deref.ensures.value ∙ c.in-Ok.ensures.bytes all is) in
-        let none = ap limit_of front ∙ read.0 in
-        (sym (limit_of-take all) ∙ none, ap script_of (sym (reads-all all none).0 ∙ front) ∙ read.1))
+    let front = sym (c.deref.ensures.value ∙ c.in-Ok.ensures.bytes all is) in
+    let none = ap limit_of front ∙ read.0 in
+    (sym (limit_of-take all) ∙ none, ap script_of (sym (reads-all all none).0 ∙ front) ∙ read.1))
     c.script_in.ensures.script
 
 pub returns-in-Ok-clause-end : goal.returns-in-Ok-clause-end
