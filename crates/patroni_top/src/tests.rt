@@ -81,6 +81,30 @@ fn the_key_passed_on(rt: HostRuntime) -> Result<(), Fail> {
 }
 
 #[test]
+fn commands_on_agents_and_links(rt: HostRuntime) -> Result<(), Fail> {
+    let alloc = rt.alloc();
+    for (script, printed) in [
+        (
+            "cluster demo\nmember a\nmember b\nrun 50\ncut a store\ncut store a\nrun 310\njoin store a\nrun 100\n",
+            "1 a takes the leader key\n50 a and store are cut\n301 the leader key of a expires\n302 b takes the leader key\n360 store and a are joined\nend at 460\n",
+        ),
+        (
+            "cluster demo\nmember a\nrun 50\nkill a\nkill a\nrestart a\nrestart a\nhold a\nhold a\nresume a\nresume a\nrun 1\n",
+            "1 a takes the leader key\n50 a is killed\n50 a is started\n50 a is already running\n50 a is held\n50 a resumes\nend at 51\n",
+        ),
+        (
+            "cluster demo\nmember a\ntick 1\nturn a\nturn a\ntick 299\nturn a\ndeliver 7\nlose 8\ntrace on\nrun 2",
+            "1 a takes the leader key\n300 no message 7\n300 no message 8\nend at 302\n",
+        ),
+    ] {
+        let ended = run_in_memory(alloc, "run", script, NO_FAULTS)?;
+        assert_eq!(rt; ended.status, 0, "{script}");
+        assert_eq!(rt; ended.out.as_slice(), printed.as_bytes(), "{script}");
+    }
+    Ok(())
+}
+
+#[test]
 fn refusals_of_the_first_form(rt: HostRuntime) -> Result<(), Fail> {
     let alloc = rt.alloc();
     let usage = "usage: patroni_sim run | serve MEMBER ADDRESS COUNT | print | gen SEED COUNT\n";
