@@ -1,5 +1,5 @@
 -- What a book of events leaves.
-use Rattle.std.specs.Prelude.{ℕ, ◌≡◌, ◌+◌, ◌*◌, true, false, List, [], ◌∷◌, Option, Some, None, length, slice_get, slice_set}
+use Rattle.std.specs.Prelude.{ℕ, ◌+◌, ◌*◌, true, false, List, [], ◌∷◌, Option, Some, None, length, slice_get, slice_set}
 use Rattle.pat_base.specs.declared.name.Name.{Name}
 use Rattle.lease_store.specs.Answers.{keys_kept}
 use Rattle.lease_store.specs.Defaults.{default_config, default_settings}
@@ -85,7 +85,3 @@ after_all facts (event ∷ events) = after_all (after facts event.kind) events
 -- what there is before the first event, over members of these names
 abbrev pub start_of : List Name → Facts
 start_of names = record { clock = 0; keys = first_keys default_settings; members = members_from 0 names; agents = agents_from 0 (length names); cuts = [] }
-
--- a world is as a book over these members says
-pub record StandsFor (names : List Name) (book : List Event) (world : Facts) : Type 0 where
-  pub is : world ≡ after_all (start_of names) book
