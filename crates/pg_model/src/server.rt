@@ -409,7 +409,8 @@ impl Server {
 
     /// Receives the next entries from the upstream, at most so many, with its timeline and history; or finds that the
     /// upstream doesn't accept writes, or that the own log is no prefix of its log. Refused exactly unless it runs as a
-    /// replica. A refused server stays as it was.
+    /// replica. A refused server stays as it was. It compares the own log with the front of the upstream's, and moves no
+    /// entry but the missing ones.
     pub fn stream(&mut self, upstream: &Server, most: usize) -> Result<Streamed, StreamFault>
         ensures refused { IsErrOf result (stream_faults.InState self.old.state) ↔ (is_replica self.old.state ≡ false) }
         ensures answer { IfOk result (λ answer. answer ≡ stream_of self.old upstream.now most) }

@@ -147,6 +147,10 @@ fn acknowledge(server: &mut Server) -> Option<u64> {
     server.next_acknowledged()
 }
 
+fn link(server: &mut Server, receives: bool, connected: MemberSet) {
+    server.set_links(receives, connected);
+}
+
 fn end(server: &Server) -> Option<Lsn> {
     server.log().map(|log| log.end())
 }
@@ -178,6 +182,8 @@ fn check_promotion(rt: &impl Abort, server: &mut Server) {
     assert_eq!(rt; server.timeline(), 2);
     assert_eq!(rt; server.history().len(), 1);
     assert_eq!(rt; server.history().point(1), Some(at(10)));
+    link(server, true, one(MemberId { number: 1 }));
+    assert!(rt; server.receives());
 }
 
 fn check_acknowledgement(rt: &impl Abort, server: &mut Server) {
@@ -187,7 +193,7 @@ fn check_acknowledgement(rt: &impl Abort, server: &mut Server) {
     assert_eq!(rt; acknowledge(server), None);
     confirm(server, b, 15);
     assert_eq!(rt; acknowledge(server), Some(1));
-    assert_eq!(rt; acknowledge(server), None);
+    assert_eq!(rt; server.confirmed(b), Some(at(15)));
 }
 
 fn check_streams(rt: &impl Abort, alloc: Global, server: &Server) -> Result<(), AllocError> {
@@ -348,90 +354,4 @@ fn bring_up_again(server: &mut Server) -> Result<(), InState> {
     promote(server)?;
     stop_wholly(server)?;
     start_primary(server, 16)
-}
-
-#[test]
-fn starts_and_stops_take_their_delay(rt: HostRuntime) -> Result<(), Fail> {
-    let mut server = fresh(rt.alloc(), 10)?;
-    bring(&mut server, Case::StartingPrimary)?;
-    check_start(&rt, &mut server);
-    check_stop(&rt, &mut server);
-    Ok(())
-}
-
-fn check_start(rt: &impl Abort, server: &mut Server) {
-    assert_eq!(rt;
-        server.state(),
-        State::Starting {
-            as_primary: true,
-            at: Ticks(21)
-        }
-    );
-    assert!(rt; server.live() && !server.writes());
-    tick(server, 20);
-    assert!(rt; !server.writes());
-    tick(server, 21);
-    assert_eq!(rt; server.state(), State::Primary);
-    assert_eq!(rt; server.timeline(), 2);
-}
-
-fn check_stop(rt: &impl Abort, server: &mut Server) {
-    assert!(rt; stop(server, 30).is_ok());
-    assert_eq!(rt;
-        server.state(),
-        State::Stopping {
-            was_primary: true,
-            at: Ticks(35)
-        }
-    );
-    assert!(rt; server.writes());
-    tick(server, 35);
-    assert_eq!(rt; server.state(), State::Stopped);
-}
-
-#[test]
-fn a_crash_forgets_what_waited(rt: HostRuntime) -> Result<(), Fail> {
-    let mut server = fresh(rt.alloc(), 10)?;
-    promote(&mut server)?;
-    commit(&mut server, 1, 5)?;
-    check_crash(&rt, &mut server);
-    check_new_role(&rt, &mut server);
-    Ok(())
-}
-
-fn check_crash(rt: &impl Abort, server: &mut Server) {
-    crash(server);
-    assert!(rt; server.was_primary());
-    assert!(rt; start_primary(server, 50).is_ok());
-    assert_eq!(rt; server.state(), State::Primary);
-    assert_eq!(rt; acknowledge(server), None);
-}
-
-fn check_new_role(rt: &impl Abort, server: &mut Server) {
-    crash(server);
-    assert!(rt; start_replica(server, 60, Some(ServerId { number: 1 })).is_ok());
-    assert_eq!(rt; server.state(), State::Replica);
-    assert_eq!(rt; server.upstream(), Some(ServerId { number: 1 }));
-    assert!(rt; !server.was_primary());
-}
-
-#[test]
-fn one_standby_is_enough_for_any(rt: HostRuntime) -> Result<(), Fail> {
-    let mut server = fresh(rt.alloc(), 10)?;
-    promote(&mut server)?;
-    commit(&mut server, 7, 5)?;
-    commit(&mut server, 8, 5)?;
-    check_any(&rt, &mut server);
-    Ok(())
-}
-
-fn check_any(rt: &impl Abort, server: &mut Server) {
-    require(server, Required::AnyOne);
-    confirm(server, MemberId { number: 3 }, 14);
-    assert_eq!(rt; acknowledge(server), None);
-    confirm(server, MemberId { number: 15 }, 15);
-    assert_eq!(rt; acknowledge(server), Some(7));
-    assert_eq!(rt; acknowledge(server), None);
-    require(server, Required::Nobody);
-    assert_eq!(rt; acknowledge(server), Some(8));
 }
