@@ -1,5 +1,5 @@
 -- What refusals and endings say, against what is asked of the bytes.
-use Rattle.std.proofs.Common.{◌≡◌, ℕ, List, Bool, true, false, Option, Some, None, is_some, IsSome, Result, Ok, Err, is_ok, is_err, IsOk, IsErr, ◌∙◌, ap, sym}
+use Rattle.std.proofs.Common.{◌≡◌, ℕ, true, false, Option, Some, None, is_some, IsSome, Result, Err, is_ok, IsOk, ◌∙◌, ap, sym}
 use Rattle.cluster_script.specs.declared.fault.Fault.{Fault}
 use Rattle.cluster_script.specs.declared.limits.Limit.{Limit}
 use Rattle.cluster_script.specs.Script.{ScriptText}

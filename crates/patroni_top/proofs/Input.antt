@@ -1,10 +1,9 @@
 -- Input that is read up to one byte more than a script may have.
-use Rattle.std.proofs.Common.{◌≡◌, ℕ, ◌≤◌, ◌<◌, nat_lt, List, [], length, take, drop, Option, Some, None, Bool, true, false, cond, arith, refl, ◌∙◌, ap, sym, subst, take_all, inl, inr, ◌⊎◌}
+use Rattle.std.proofs.Common.{◌≡◌, ℕ, ◌<◌, nat_lt, List, [], length, take, drop, Some, None, true, arith, refl, ◌∙◌, ap, sym, subst, take_all, inl, inr}
 use Rattle.std.proofs.lemmas.List.{length-take, drop_all}
 use Rattle.std.proofs.lemmas.Bool.Decides.{nat_tests}
 use Rattle.std.proofs.lemmas.Bool.{cases_lt}
 use Rattle.cluster_script.specs.Limits.{limit_of}
-use Rattle.cluster_script.specs.declared.limits.Limit.{Limit}
 use Rattle.cluster_script.specs.declared.limits.Limit.TheVariants.{Bytes}
 use Rattle.patroni_top.specs.Input.{Refuses}
 use Rattle.patroni_top.specs.declared.reading.InputError.{InputError}

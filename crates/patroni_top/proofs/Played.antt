@@ -1,5 +1,5 @@
 -- A run on its way: what is left, from the world as it is, is the rest of the whole.
-use Rattle.std.proofs.Common.{◌≡◌, ℕ, ◌+◌, ◌-◌, ◌≤◌, ◌<◌, List, [], ◌∷◌, ◌++◌, length, drop, Option, Some, Result, Ok, Err, arith, append_assoc, refl, ◌∙◌, ap, sym, suc, replicate, subst}
+use Rattle.std.proofs.Common.{◌≡◌, ℕ, ◌+◌, ◌-◌, ◌≤◌, ◌<◌, List, [], ◌∷◌, ◌++◌, length, drop, Option, Some, Result, Ok, Err, arith, append_assoc, refl, ◌∙◌, ap, sym, suc, replicate}
 use Rattle.std.specs.Prelude.{slice_get}
 use Rattle.pat_base.specs.Outside.{Grew, GrewByPrefix}
 use Rattle.event_book.specs.declared.event.Event.{Event}
@@ -13,7 +13,7 @@ use Rattle.patroni_top.specs.declared.print_error.PrintError.{PrintError}
 use Rattle.patroni_top.specs.Next.{next_events, run_from}
 use Rattle.patroni_top.specs.Printing.{TakesAll}
 use Rattle.patroni_top.specs.Room.{HasRoomFor}
-use Rattle.patroni_top.proofs.Progress.{Progress, Progress-start, Progress-more, Progress-end, Progress-room, Progress-stop, TakesAll-stop}
+use Rattle.patroni_top.proofs.Progress.{Progress, Progress-start, Progress-more, Progress-stop, TakesAll-stop}
 use Rattle.patroni_top.proofs.Starting.{drop-get}
 
 pub run_from-append : (facts : Facts) (xs ys : List Step) → run_from facts (xs ++ ys) ≡ run_from facts xs ++ run_from (after_all facts (run_from facts xs)) ys

@@ -1,5 +1,5 @@
 -- Output that is printed piece by piece: what was printed and what is left are the whole.
-use Rattle.std.proofs.Common.{◌≡◌, ℕ, ◌+◌, ◌-◌, ◌≤◌, List, [], ◌++◌, length, Option, Some, Result, Ok, Err, MatchResult, arith, append_assoc, append-nil, length-append, refl, ◌∙◌, ap, sym, subst}
+use Rattle.std.proofs.Common.{◌≡◌, ℕ, ◌-◌, ◌≤◌, List, [], ◌++◌, length, Option, Result, Ok, Err, MatchResult, arith, append_assoc, append-nil, length-append, refl, ◌∙◌, ap, sym, subst}
 use Rattle.pat_base.specs.Outside.{Grew, GrewByPrefix}
 use Rattle.pat_base.proofs.Contents.{Grew-nothing, Grew-Grew, Grew-part, GrewByPrefix-more}
 use Rattle.patroni_top.specs.declared.print_error.PrintError.{PrintError}

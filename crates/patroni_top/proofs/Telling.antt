@@ -1,5 +1,5 @@
 -- What is told on the error output.
-use Rattle.std.proofs.Common.{◌≡◌, ℕ, ◌≤◌, ◌-◌, List, length, Option, Result, Ok, Err, OnOk, OnErr, IsOk, true, false, inl, inr, subst}
+use Rattle.std.proofs.Common.{◌≡◌, ℕ, ◌≤◌, ◌-◌, List, length, Option, Result, Ok, Err, OnOk, OnErr, IsOk, inl, inr, subst}
 use Rattle.pat_base.specs.declared.outside.Failed.{Failed}
 use Rattle.pat_base.specs.Outside.{Rose, Grew, GrewByPrefix}
 use Rattle.pat_base.proofs.Contents.{GrewByPrefix-all}

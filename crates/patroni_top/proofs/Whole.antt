@@ -1,8 +1,5 @@
 -- A whole run: the lines of its book, and then the summary.
-use Rattle.std.proofs.Common.{◌≡◌, ℕ, ◌+◌, ◌-◌, ◌≤◌, ◌<◌, ◌++◌, List, [], ◌∷◌, length, map, Option, Result, Ok, Err, MatchResult, arith, refl, ◌∙◌, ap, sym, subst, length-append}
-use Rattle.std.proofs.lemmas.List.{length-map}
-use Rattle.pat_base.specs.Outside.{Grew, GrewByPrefix}
-use Rattle.pat_base.proofs.Contents.{Grew-Grew, Grew-part, GrewByPrefix-more}
+use Rattle.std.proofs.Common.{◌≡◌, ℕ, ◌+◌, ◌-◌, ◌≤◌, ◌++◌, List, length, Result, Ok, Err, MatchResult, arith, ◌∙◌, ap, sym, subst, length-append}
 use Rattle.event_book.specs.Facts.{Facts, after_all, start_of}
 use Rattle.event_book.specs.Text.{lines_of, summary_at}
 use Rattle.cluster_script.specs.Script.{ScriptText}
@@ -11,7 +8,7 @@ use Rattle.patroni_top.specs.declared.print_error.PrintError.{PrintError}
 use Rattle.patroni_top.specs.declared.print_error.PrintError.TheVariants.{Memory}
 use Rattle.patroni_top.specs.Next.{run_from}
 use Rattle.patroni_top.specs.Printing.{TakesAll}
-use Rattle.patroni_top.specs.Run.{run_of, output_of}
+use Rattle.patroni_top.specs.Run.{output_of}
 use Rattle.patroni_top.specs.Room.{HasRoomFor}
 
 -- no script within the limits brings a counter to its end

@@ -1,4 +1,4 @@
-use Rattle.std.proofs.Common.{◌≡◌, ◌∙◌, ◌++◌, ℕ, List, ap, sym, subst, refl, Err, Option}
+use Rattle.std.proofs.Common.{◌∙◌, ℕ, List, ap, subst, refl, Err}
 use Rattle.std.proofs.lemmas.Result.{on_ok_weaker, on_err_weaker, err_from_is_err_and}
 use Rattle.pat_base.specs.Outside.{Grew, GrewByPrefix}
 use Rattle.pat_base.proofs.Contents.{OnErr-holds, Grew-Grew, Grew-part, GrewByPrefix-more}

@@ -1,6 +1,5 @@
-use Rattle.std.proofs.Common.{◌≡◌, ◌∙◌, ap, sym, Some, None, Ok, take}
+use Rattle.std.proofs.Common.{◌∙◌, ap, sym, Some}
 use Rattle.std.proofs.lemmas.Result.{IfOk-weaker, IfErr-weaker}
-use Rattle.pat_base.specs.Outside.{Told}
 use Rattle.cluster_script.specs.Limits.{limit_of}
 use Rattle.cluster_script.specs.Reading.{script_of}
 use Rattle.patroni_top.proofs.Input.{limit_of-take, reads-all, refuses-all}

@@ -1,6 +1,5 @@
-use Rattle.std.proofs.Common.{◌≡◌, ◌∙◌, ap, sym, map, List, [], ◌∷◌, length, ◌<◌, ◌≤◌, get_or, String, Global, ℕ, arith, true, refl, zero, suc}
+use Rattle.std.proofs.Common.{◌≡◌, ◌∙◌, ap, sym, map, List, [], ◌∷◌, length, ◌<◌, ◌≤◌, get_or, String, Global, ℕ, arith}
 use Rattle.std.specs.String.{string_bytes}
-use Rattle.std.specs.Str.{bytes_eq}
 use Rattle.std.proofs.lemmas.Slice.Eq.{bytes_eq-Decides}
 use Rattle.patroni_top.proofs.top.is_run.Goals as goal
 

@@ -1,4 +1,4 @@
-use Rattle.std.proofs.Common.{◌≡◌, refl, ap, is_some, is_err}
+use Rattle.std.proofs.Common.{refl, ap, is_some, is_err}
 use Rattle.patroni_top.proofs.Endings.{none-is-not-some, some-is-not-none, err-is-not-ok}
 use Rattle.patroni_top.proofs.top.run_script.Goals as goal
 

@@ -1,9 +1,9 @@
-use Rattle.std.proofs.Common.{◌≡◌, ◌∙◌, ◌++◌, [], ◌∷◌, ap, sym}
+use Rattle.std.proofs.Common.{◌∙◌, ◌++◌, [], ◌∷◌, ap}
 use Rattle.lease_store.specs.Decision.{decision_on}
 use Rattle.event_book.specs.Facts.{Facts, after}
 use Rattle.event_book.specs.Requests.{txn_of}
 use Rattle.patroni_top.specs.Next.{decided, stamped}
-use Rattle.patroni_top.proofs.Requesting.{Tells, answer-tells}
+use Rattle.patroni_top.proofs.Requesting.{answer-tells}
 use Rattle.patroni_top.proofs.world.World.request.Goals as goal
 
 pub returns-clause-state : goal.returns-clause-state
