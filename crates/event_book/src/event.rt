@@ -1,52 +1,178 @@
 //! What can happen. An event stands in the book only where something changed. It has the names that its line prints.
 
-use crate::{LeaseRequest, Link, Member};
-use lease_store::{Expected, Key};
-use pat_base::Ticks;
+use crate::{Basis, Bytes, Link, Member, Message, Names, Reason, ServerOf};
+use lease_store::{Action, Bar, Expected, Key, Txn, TxnKind};
+use pat_base::{Lsn, Name, Required, Ticks};
+use wal_model::Entry;
 
 /// A happening, at a moment.
-#[derive(Clone, Copy, Debug, PartialEq, Eq)]
+#[derive(Debug, Drop)]
 pub struct Event {
     pub tick: Ticks,
     pub kind: Kind,
 }
 
 /// Happenings by what they concern.
-#[derive(Clone, Copy, Debug, PartialEq, Eq)]
+#[derive(Debug, Drop)]
 pub enum Kind {
     /// The clock grew by one tick.
     Tick,
+    Message(MessageEvent),
     Store(StoreEvent),
+    Watchdog(WatchdogEvent),
+    Server(ServerEvent),
+    Log(LogEvent),
+    Replication(ReplicationEvent),
     Agent(AgentEvent),
     Link(LinkEvent),
     Note(Note),
 }
 
+/// What happens to messages. They are numbered from 1 in order of sending.
+#[derive(Debug, Drop)]
+pub enum MessageEvent {
+    /// The message was sent.
+    Sent { number: u64, message: Message },
+    /// The message came to its receiver.
+    Delivered { number: u64 },
+    /// The message will never come.
+    Lost { number: u64 },
+}
+
 /// What happens at the key store.
-#[derive(Clone, Copy, Debug, PartialEq, Eq)]
+#[derive(Debug, Drop)]
 pub enum StoreEvent {
-    /// A member's request was granted.
+    /// The request that this message carries was granted. `standbys` are the names that a sync write publishes.
     Granted {
+        number: u64,
         by: Member,
-        request: LeaseRequest,
+        txn: Txn,
+        standbys: Names,
     },
-    /// A member's request was refused: this key isn't as the request expects.
+    /// The request that this message carries was refused: this key isn't as the request expects.
     Refused {
+        number: u64,
         by: Member,
-        request: LeaseRequest,
+        request: TxnKind,
         key: Key,
         found: Expected,
     },
     /// The leader key of this member was dropped at its expiry.
-    Expired {
-        holder: Member,
+    LeaderExpired { holder: Member },
+    /// Another key was dropped at its expiry.
+    Expired { key: Key },
+}
+
+/// What happens to watchdogs, and to the holds that members take for a leader that can't reach the key store.
+#[derive(Debug, Drop)]
+pub enum WatchdogEvent {
+    /// The member's watchdog got its first deadline, on the answer of this number.
+    Armed {
+        member: Member,
+        until: Ticks,
+        answer: u64,
+    },
+    /// The watchdog got a new deadline.
+    Fed {
+        member: Member,
+        until: Ticks,
+        basis: Basis,
+    },
+    /// The watchdog has no deadline any more.
+    Disarmed { member: Member },
+    /// The watchdog reset its machine: the agent ended, and the server crashed.
+    Reset { member: Member },
+    /// The member acknowledged the failsafe request of this number in this run of its sender. It doesn't take the
+    /// leader key before the moment `until`.
+    HoldTaken {
+        member: Member,
+        until: Ticks,
+        from: Member,
+        run: u64,
+        sequence: u64,
     },
 }
 
+/// What happens to servers, but for their logs.
+#[derive(Debug, Drop)]
+pub enum ServerEvent {
+    /// The server accepts writes from now on.
+    Began { server: ServerOf, timeline: u64 },
+    /// It accepts writes no longer.
+    Ended { server: ServerOf },
+    /// It ended without a shutdown.
+    Crashed { server: ServerOf },
+    /// Its operator promoted it.
+    Promoted { server: ServerOf },
+    /// It starts as a replica.
+    StartsAsReplica { server: ServerOf },
+    /// It follows another server.
+    Follows { server: ServerOf, upstream: ServerOf },
+    /// Its log was found to be no beginning of its upstream's: the two part at this position.
+    Diverged {
+        server: ServerOf,
+        upstream: ServerOf,
+        at: Lsn,
+    },
+    /// Nothing is streamed to it by a tick of `run`.
+    Frozen { server: ServerOf },
+    /// It is streamed to again.
+    Thawed { server: ServerOf },
+    /// Its later stops and starts take so long, each as before where nothing is said of it.
+    Slowed {
+        server: ServerOf,
+        stop: Option<Ticks>,
+        start: Option<Ticks>,
+    },
+}
+
+/// What happens to logs.
+#[derive(Debug, Drop)]
+pub enum LogEvent {
+    /// A client's commit stands at the end of the log.
+    Appended { server: ServerOf, entry: Entry },
+    /// The next so many entries of another server's log stand at its end.
+    Received {
+        server: ServerOf,
+        from: ServerOf,
+        count: u64,
+    },
+    /// It was rewound to what it had in common with another server's log: so many entries, which end at this position.
+    Rewound {
+        server: ServerOf,
+        from: ServerOf,
+        kept: u64,
+        at: Lsn,
+    },
+    /// It is a copy of another server's log.
+    Copied { server: ServerOf, from: ServerOf },
+    /// The server has no log any more.
+    Wiped { server: ServerOf },
+}
+
+/// What happens in synchronous replication.
+#[derive(Debug, Drop)]
+pub enum ReplicationEvent {
+    /// Commits of this server wait for these from now on. `names` are those of the members of a set.
+    RequiredSet {
+        server: ServerOf,
+        required: Required,
+        names: Names,
+    },
+    /// A member has flushed the log of this server up to this position.
+    Confirmed {
+        server: ServerOf,
+        by: Member,
+        end: Lsn,
+    },
+    /// The client of this commit was told that it is stored.
+    Acknowledged { server: ServerOf, commit: u64 },
+}
+
 /// What happens to agents.
-#[derive(Clone, Copy, Debug, PartialEq, Eq)]
+#[derive(Debug, Drop)]
 pub enum AgentEvent {
-    /// The agent began a turn.
+    /// The agent was woken.
     Woken { agent: Member },
     /// The agent is held: it does nothing until it goes on.
     Suspended { agent: Member },
@@ -54,30 +180,16 @@ pub enum AgentEvent {
     Resumed { agent: Member },
     /// The agent ended.
     Killed { agent: Member },
-    /// An agent that had ended was started.
-    Started { agent: Member },
-}
-
-impl AgentEvent {
-    ghost use Rattle.std.specs.Prelude.{◌≡◌};
-    ghost use Rattle.event_book.specs.Facts.{subject_of};
-
-    /// The member whose agent it happens to.
-    pub fn subject(self) -> Member
-        ensures { result ≡ subject_of self }
-    {
-        match self {
-            AgentEvent::Woken { agent } => agent,
-            AgentEvent::Suspended { agent } => agent,
-            AgentEvent::Resumed { agent } => agent,
-            AgentEvent::Killed { agent } => agent,
-            AgentEvent::Started { agent } => agent,
-        }
-    }
+    /// An agent that had ended was started. This is its run of this number.
+    Started { agent: Member, run: u64 },
+    /// A request of an operator, which passed its checks, came to the agent.
+    Operated { agent: Member, action: Action },
+    /// The agent took the leader key though the sync key doesn't name it, since a failover names it.
+    Passed { agent: Member },
 }
 
 /// What happens to links.
-#[derive(Clone, Copy, Debug, PartialEq, Eq)]
+#[derive(Debug, Drop)]
 pub enum LinkEvent {
     /// The link carries nothing from now on.
     Cut(Link),
@@ -85,11 +197,44 @@ pub enum LinkEvent {
     Joined(Link),
 }
 
-/// What is printed of a request that changes nothing.
-#[derive(Clone, Copy, Debug, PartialEq, Eq)]
+/// What is printed, and read by no definition.
+#[derive(Debug, Drop)]
 pub enum Note {
+    /// The member has no watchdog that can be armed, and needs one.
+    CannotArm { member: Member },
+    /// The member's watchdog rests while the cluster is paused.
+    DisablesWatchdog { member: Member },
+    EndsServer { member: Member, reason: Reason },
+    /// The member keeps the leader key without beginning to write.
+    PostponesPromotion { member: Member },
+    /// Why the member doesn't ask for a free leader key, with the name of the member that bars it, if one does.
+    DoesNotRace {
+        member: Member,
+        bar: Bar,
+        by: Option<Name>,
+    },
+    HandsOver { member: Member, candidate: Member },
+    /// In a pause, a primary has no lease.
+    RunsWithoutKey { member: Member },
+    /// All members that a primary asked, as it can't reach the key store, accept that it stays primary.
+    StaysByFailsafe { member: Member },
+    /// The server doesn't accept writes.
+    RefusesCommit { server: ServerOf },
     /// The agent that was to be started runs already.
     AlreadyRunning { agent: Member },
     /// No message of this number is in flight.
     NoMessage { number: u64 },
+    /// The link of this message is cut, or its receiver is held.
+    Undeliverable { number: u64 },
+    /// What the agent's REST interface answered.
+    Answered {
+        agent: Member,
+        status: u16,
+        body: Bytes,
+    },
+    /// The agent is held or doesn't run, so its REST interface answers nothing.
+    NoAnswer { agent: Member },
+    ConnectionFailed,
+    /// A line that patronictl prints.
+    Told { line: Bytes },
 }

@@ -1,3 +1,4 @@
+pub mod Absent
 pub mod Answering
 pub mod Fences
 pub mod KeyLaws

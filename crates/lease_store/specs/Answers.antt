@@ -1,5 +1,5 @@
 -- What the store answers.
-use Rattle.std.specs.Prelude.{ℕ, if◌then◌else◌, List, filter, Option, Some, None, Result, Ok, Err}
+use Rattle.std.specs.Prelude.{ℕ, if◌then◌else◌, List, filter, map, not, Option, Some, None, Result, Ok, Err}
 use Rattle.std.specs.FinMap.{find}
 use Rattle.pat_base.specs.declared.member_id.MemberId.{MemberId}
 use Rattle.lease_store.specs.declared.key.Key.{Key}
@@ -21,6 +21,14 @@ answer_to (Refusal key found) = Err (Mismatch key found)
 -- the pairs of the keys that are present
 abbrev pub present_pairs : ℕ → List (Key × Held) → List (Key × Held)
 present_pairs now pairs = filter (λ pair. is_present now pair.1.expiry) pairs
+
+-- the keys of these pairs that are absent
+abbrev pub absent_keys : ℕ → List (Key × Held) → List Key
+absent_keys now pairs = map (λ pair. pair.0) (filter (λ pair. not (is_present now pair.1.expiry)) pairs)
+
+-- the keys that are held and absent, in order
+abbrev pub expired_keys : Keys → ℕ → List Key
+expired_keys store now = absent_keys now store.pairs
 
 -- the store without its absent keys
 abbrev pub keys_kept : Keys → ℕ → Keys

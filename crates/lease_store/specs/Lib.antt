@@ -8,5 +8,6 @@ pub mod Keys
 pub mod Kinds
 pub mod Places
 pub mod Settings
+pub mod TxnKinds
 pub mod Words
 pub mod Writes

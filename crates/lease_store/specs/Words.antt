@@ -1,10 +1,12 @@
--- The words for keys and findings in printed lines.
+-- The words for keys, findings and kinds of transactions in printed lines.
 use Rattle.std.specs.Prelude.{ℕ, List, ◌++◌, codes}
 use Rattle.std.specs.Fmt.{decimal}
 use Rattle.lease_store.specs.declared.key.Key.{Key}
 use Rattle.lease_store.specs.declared.key.Key.TheVariants.{Leader, Config, Member, Failover, Sync, Status, History, Failsafe}
 use Rattle.lease_store.specs.declared.txn.Expected.{Expected}
 use Rattle.lease_store.specs.declared.txn.Expected.TheVariants.{Absent, Revision}
+use Rattle.lease_store.specs.declared.txn_kind.TxnKind.{TxnKind}
+use Rattle.lease_store.specs.declared.txn_kind.TxnKind.TheVariants as kinds
 
 abbrev pub key_text : Key → List ℕ
 key_text Leader = codes "leader"
@@ -19,3 +21,14 @@ key_text Failsafe = codes "failsafe"
 abbrev pub finding_text : Expected → List ℕ
 finding_text Absent = codes "is absent"
 finding_text (Revision revision) = codes "has revision " ++ decimal revision
+
+abbrev pub kind_text : TxnKind → List ℕ
+kind_text kinds.Touch = codes "touch"
+kind_text kinds.Create = codes "create"
+kind_text kinds.Renewal = codes "renewal"
+kind_text kinds.Release = codes "release"
+kind_text kinds.Claim = codes "claim"
+kind_text kinds.SyncWrite = codes "sync write"
+kind_text kinds.FailoverWrite = codes "failover write"
+kind_text kinds.FailoverRemoval = codes "failover removal"
+kind_text kinds.ConfigurationWrite = codes "configuration write"

@@ -15,10 +15,12 @@ mod store;
 #[cfg(test)]
 mod tests;
 mod txn;
+mod txn_kind;
 mod value;
 mod writes;
 
 pub use action::{Action, Asked, Bar, Move};
+pub use compares::held_at;
 pub use config::Config;
 pub use config_value::ConfigValue;
 pub use granted::Granted;
@@ -27,4 +29,5 @@ pub use laws::fencing;
 pub use refusal::StoreRefusal;
 pub use store::Store;
 pub use txn::{Expected, Txn};
+pub use txn_kind::TxnKind;
 pub use value::{FailoverKey, Held, HistoryRow, MemberInfo, SyncKey, Value};

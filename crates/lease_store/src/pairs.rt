@@ -1,10 +1,12 @@
 //! Pairs of keys and what is held there, in the order of the keys.
-ghost use Rattle.std.specs.Prelude.{◌≡◌, ◌≤◌, ◌+◌, ◌++◌, IfOk, IfErr, IsTrue, vec_len, vec_capacity};
+ghost use Rattle.std.specs.Prelude.{◌≡◌, ◌≤◌, ◌+◌, ◌++◌, IfOk, IfErr, IsTrue, vec_len, vec_capacity, not};
+ghost use Rattle.std.specs.List.{list_any};
 ghost use Rattle.std.specs.FinMap.{find, put, is_sorted};
 ghost use Rattle.lease_store.specs.KeyOrder.{key_cmp};
 ghost use Rattle.lease_store.specs.Places.{IsPlaceOf, IsGapFor};
 ghost use Rattle.lease_store.specs.Writes.{extended, later, without};
-ghost use Rattle.lease_store.specs.Answers.{present_pairs};
+ghost use Rattle.lease_store.specs.Answers.{present_pairs, absent_keys};
+ghost use Rattle.lease_store.specs.Keys.{is_present};
 
 use crate::compares::is_present;
 use crate::order::compare;
@@ -78,7 +80,34 @@ pub fn delete(pairs: &mut Vec<(Key, Held)>, key: Key)
 pub fn drop_absent(pairs: &mut Vec<(Key, Held)>, now: Ticks)
     ensures { pairs.new.items ≡ present_pairs now.0 pairs.old.items }
 {
+    if !has_absent(pairs, now) {
+        return;
+    }
     pairs.retain(|pair| is_present(now, pair.1.expiry));
+}
+
+/// Whether a key is held that is absent at this moment. In most ticks none is.
+fn has_absent(pairs: &[(Key, Held)], now: Ticks) -> bool
+    ensures { result ≡ list_any (λ pair. not (is_present now.0 pair.1.expiry)) pairs.now }
+{
+    pairs.iter().any(|pair| !is_present(now, pair.1.expiry))
+}
+
+/// The keys that are absent at a moment. It fails only for want of memory.
+pub fn absent_keys(
+    alloc: Global,
+    pairs: &[(Key, Held)],
+    now: Ticks,
+) -> Result<Vec<Key>, AllocError>
+    ensures { IfOk result (λ keys. keys.items ≡ absent_keys now.0 pairs.now) }
+{
+    let mut keys = Vec::new(alloc);
+    for pair in pairs {
+        if !is_present(now, pair.1.expiry) {
+            keys.push(pair.0)?;
+        }
+    }
+    Ok(keys)
 }
 
 /// Copies of the pairs whose keys are present at a moment. It fails only for want of memory.

@@ -1,7 +1,7 @@
 //! The store.
 ghost use Rattle.std.specs.Prelude.{ℕ, ◌≡◌, ◌≤◌, ◌<◌, ◌+◌, ◌^◌, ◌↔◌, IsTrue, IsSome, IsNone, IfSome, Some, None, OnOk, OnErr, IfOk, option_copied, Err};
 ghost use Rattle.std.specs.FinMap.{find, is_sorted};
-ghost use Rattle.lease_store.specs.Answers.{present_pairs, keys_kept, holder_lost, expired_holder};
+ghost use Rattle.lease_store.specs.Answers.{present_pairs, keys_kept, holder_lost, expired_holder, expired_keys};
 ghost use Rattle.lease_store.specs.declared.txn.Expected.{Expected};
 ghost use Rattle.lease_store.specs.Decision.{Grant, Refusal, decision_on};
 ghost use Rattle.lease_store.specs.KeyOrder.{key_cmp};
@@ -11,7 +11,7 @@ ghost use Rattle.lease_store.specs.Kinds.{IsOfKind};
 ghost use Rattle.lease_store.specs.Writes.{keys_after, is_lease, ttl_of};
 
 use crate::compares::{check, held_at, is_present, present_at};
-use crate::pairs::{copies_of_present, drop_absent};
+use crate::pairs::{absent_keys, copies_of_present, drop_absent};
 use crate::writes::{MOST, Stamp, grant, is_lease};
 use crate::{ConfigValue, Granted, Held, Key, StoreRefusal, Txn, Value};
 use pat_base::{MemberId, Ticks};
@@ -95,6 +95,13 @@ impl Store {
         };
         grant(&mut self.pairs, stamp, by, txn);
         Ok(Granted::of(self.revision, by, leased))
+    }
+
+    /// The keys that are held and absent at this moment, in the order of `Key`. It fails only for want of memory.
+    pub fn expired(&self, now: Ticks) -> Result<Vec<Key>, AllocError>
+        ensures { IfOk result (λ keys. keys.items ≡ expired_keys self.now now.0) }
+    {
+        absent_keys(*self.pairs.allocator(), &self.pairs, now)
     }
 
     /// Drops every key that is absent at this moment. Answers the holder of the leader key where that one was dropped.

@@ -1,0 +1,17 @@
+-- Which kind of transaction a request is.
+use Rattle.lease_store.specs.declared.txn.Txn.{Txn}
+use Rattle.lease_store.specs.declared.txn.Txn.TheVariants as txns
+use Rattle.lease_store.specs.declared.txn_kind.TxnKind.{TxnKind}
+use Rattle.lease_store.specs.declared.txn_kind.TxnKind.TheVariants.{Touch, Create, Renewal, Release, Claim, SyncWrite, FailoverWrite, FailoverRemoval, ConfigurationWrite}
+
+abbrev pub kind_of : Txn → TxnKind
+kind_of (txns.Touch info ttl) = Touch
+kind_of (txns.Create info ttl failsafe) = Create
+kind_of (txns.Renew revision info ttl status row failsafe) = Renewal
+kind_of (txns.Release revision) = Release
+kind_of (txns.Claim revision sync) = Claim
+kind_of (txns.SetSync revision sync standbys) = SyncWrite
+kind_of (txns.DropSync revision sync) = SyncWrite
+kind_of (txns.SetFailover failover ttl) = FailoverWrite
+kind_of (txns.DropFailover revision) = FailoverRemoval
+kind_of (txns.SetConfig revision config) = ConfigurationWrite

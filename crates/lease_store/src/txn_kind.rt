@@ -1,0 +1,61 @@
+//! Kinds of transactions.
+
+use crate::Txn;
+use std::fmt;
+
+/// What kind of transaction a request is.
+#[derive(Clone, Copy, Debug, PartialEq, Eq)]
+pub enum TxnKind {
+    Touch,
+    Create,
+    Renewal,
+    Release,
+    Claim,
+    /// A new sync key, or none.
+    SyncWrite,
+    FailoverWrite,
+    FailoverRemoval,
+    ConfigurationWrite,
+}
+
+impl fmt::Display for TxnKind {
+    ghost use Rattle.std.specs.Prelude.{Some};
+    ghost use Rattle.lease_store.specs.Words.{kind_text};
+
+    ghost output = { λ kind. Some (kind_text kind) };
+
+    fn fmt<W: fmt::Write>(&self, f: &mut fmt::Formatter<W>) -> fmt::Result {
+        match self {
+            TxnKind::Touch => f.write_str("touch"),
+            TxnKind::Create => f.write_str("create"),
+            TxnKind::Renewal => f.write_str("renewal"),
+            TxnKind::Release => f.write_str("release"),
+            TxnKind::Claim => f.write_str("claim"),
+            TxnKind::SyncWrite => f.write_str("sync write"),
+            TxnKind::FailoverWrite => f.write_str("failover write"),
+            TxnKind::FailoverRemoval => f.write_str("failover removal"),
+            TxnKind::ConfigurationWrite => f.write_str("configuration write"),
+        }
+    }
+}
+
+impl Txn {
+    ghost use Rattle.std.specs.Prelude.{◌≡◌};
+    ghost use Rattle.lease_store.specs.TxnKinds.{kind_of};
+
+    pub fn kind(&self) -> TxnKind
+        ensures { result ≡ kind_of self.now }
+    {
+        match self {
+            Txn::Touch { .. } => TxnKind::Touch,
+            Txn::Create { .. } => TxnKind::Create,
+            Txn::Renew { .. } => TxnKind::Renewal,
+            Txn::Release { .. } => TxnKind::Release,
+            Txn::Claim { .. } => TxnKind::Claim,
+            Txn::SetSync { .. } | Txn::DropSync { .. } => TxnKind::SyncWrite,
+            Txn::SetFailover { .. } => TxnKind::FailoverWrite,
+            Txn::DropFailover { .. } => TxnKind::FailoverRemoval,
+            Txn::SetConfig { .. } => TxnKind::ConfigurationWrite,
+        }
+    }
+}
