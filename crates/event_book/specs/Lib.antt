@@ -1,8 +1,10 @@
+pub mod Agents
+pub mod Bodies
 pub mod Clock
 pub mod Facts
-pub mod Info
+pub mod Flight
+pub mod Keys
 pub mod Links
 pub mod Members
-pub mod Requests
 pub mod Text
 pub use Rattle.pat_base.specs.MemberId

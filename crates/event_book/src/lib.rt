@@ -3,15 +3,23 @@
 
 mod agent_state;
 mod event;
-mod info;
 mod link;
 mod member;
+mod message;
+mod names;
+mod peer_answer;
 mod printing;
-mod request;
+mod reason;
 
 pub use agent_state::AgentState;
-pub use event::{AgentEvent, Event, Kind, LinkEvent, Note, StoreEvent};
+pub use event::{
+    AgentEvent, Event, Kind, LinkEvent, LogEvent, MessageEvent, Note, ReplicationEvent,
+    ServerEvent, StoreEvent, WatchdogEvent,
+};
 pub use link::{Link, LinkEnd};
-pub use member::Member;
+pub use member::{Member, ServerOf};
+pub use message::{Body, Message};
+pub use names::{Bytes, Names};
+pub use peer_answer::PeerAnswer;
 pub use printing::text;
-pub use request::LeaseRequest;
+pub use reason::{Basis, Reason};

@@ -1,8 +1,11 @@
 //! Messages.
+ghost use Rattle.std.specs.Prelude.{◌≡◌, IfOk};
 
 use crate::{LinkEnd, PeerAnswer};
 use lease_store::{Expected, Key, Txn};
 use pat_base::Ticks;
+use std::alloc::AllocError;
+use std::fmt;
 
 /// A message between an agent and the key store, or between two agents. `run` and `sequence` name the question by the
 /// run of the agent that asks and by the number of the question in that run; an answer has those of its question.
@@ -41,4 +44,75 @@ pub enum Body {
     Beg { ttl: Ticks },
     /// An agent's answer to `Beg`.
     Held { yes: bool },
+}
+
+/// The kind of message in a word or two.
+impl fmt::Display for Body {
+    ghost use Rattle.std.specs.Prelude.{Some};
+    ghost use Rattle.event_book.specs.Bodies.{body_text};
+
+    ghost output = { λ body. Some (body_text body) };
+
+    fn fmt<W: fmt::Write>(&self, f: &mut fmt::Formatter<W>) -> fmt::Result {
+        match self {
+            Body::Read => f.write_str("read"),
+            Body::Request(txn) => {
+                let kind = txn.kind();
+                write!(f, "{kind}")
+            }
+            Body::Snapshot => f.write_str("snapshot"),
+            Body::Granted { .. } => f.write_str("granted"),
+            Body::Refused { .. } => f.write_str("refused"),
+            Body::Ask => f.write_str("ask"),
+            Body::Answer(_) => f.write_str("answer"),
+            Body::Beg { .. } => f.write_str("failsafe"),
+            Body::Held { .. } => f.write_str("failsafe answer"),
+        }
+    }
+}
+
+impl Body {
+    /// Another alike. It fails only for want of memory.
+    pub fn copy(&self) -> Result<Body, AllocError>
+        ensures { IfOk result (λ body. body ≡ self.now) }
+    {
+        let copy = match self {
+            Body::Read => Body::Read,
+            Body::Request(txn) => Body::Request(txn.copy()?),
+            Body::Snapshot => Body::Snapshot,
+            Body::Granted { request, leased } => Body::Granted {
+                request: *request,
+                leased: *leased,
+            },
+            Body::Refused {
+                request,
+                key,
+                found,
+            } => Body::Refused {
+                request: *request,
+                key: *key,
+                found: *found,
+            },
+            Body::Ask => Body::Ask,
+            Body::Answer(answer) => Body::Answer(*answer),
+            Body::Beg { ttl } => Body::Beg { ttl: *ttl },
+            Body::Held { yes } => Body::Held { yes: *yes },
+        };
+        Ok(copy)
+    }
+}
+
+impl Message {
+    /// Another alike. It fails only for want of memory.
+    pub fn copy(&self) -> Result<Message, AllocError>
+        ensures { IfOk result (λ message. message ≡ self.now) }
+    {
+        Ok(Message {
+            from: self.from,
+            to: self.to,
+            run: self.run,
+            sequence: self.sequence,
+            body: self.body.copy()?,
+        })
+    }
 }

@@ -1,60 +1,100 @@
 //! The printed line of an event.
 ghost use Rattle.std.specs.Prelude.{◌≡◌, IfOk, option_map, string_bytes};
-ghost use Rattle.event_book.specs.Text.{line_of, store_line, agent_line, link_line, note_line};
+ghost use Rattle.pat_base.specs.Name.{name_bytes};
+ghost use Rattle.event_book.specs.Text.{line_of, message_line, store_line, granted_line, agent_line, link_line, note_line};
 
-use crate::{AgentEvent, Event, Kind, LeaseRequest, LinkEvent, Note, StoreEvent};
+use crate::{AgentEvent, Event, Kind, LinkEvent, Member, MessageEvent, Note, StoreEvent};
+use lease_store::Txn;
 use pat_base::Ticks;
 use std::alloc::{AllocError, Global};
 
-/// The printed line of an event with its line feed. `None` exactly for the events that have no line. It fails only for
-/// want of memory.
-pub fn text(alloc: Global, event: &Event) -> Result<Option<String>, AllocError>
-    ensures { IfOk result (λ line. option_map string_bytes line ≡ line_of event.now) }
+/// The printed line of an event with its line feed. `None` exactly for the events that have no line; some have one only
+/// while messages are traced. It fails only for want of memory.
+pub fn text(alloc: Global, event: &Event, trace: bool) -> Result<Option<String>, AllocError>
+    ensures { IfOk result (λ line. option_map string_bytes line ≡ line_of trace event.now) }
 {
     match &event.kind {
         Kind::Tick => Ok(None),
+        Kind::Message(happening) => message_line(alloc, trace, event.tick, happening),
         Kind::Store(happening) => store_line(alloc, event.tick, happening),
+        Kind::Watchdog(_) | Kind::Server(_) | Kind::Log(_) | Kind::Replication(_) => Ok(None),
         Kind::Agent(happening) => agent_line(alloc, event.tick, happening),
         Kind::Link(happening) => link_line(alloc, event.tick, happening),
         Kind::Note(note) => note_line(alloc, event.tick, note),
     }
 }
 
+fn message_line(
+    alloc: Global,
+    trace: bool,
+    tick: Ticks,
+    event: &MessageEvent,
+) -> Result<Option<String>, AllocError>
+    ensures { IfOk result (λ line. option_map string_bytes line ≡ message_line trace tick.0 event.now) }
+{
+    if !trace {
+        return Ok(None);
+    }
+    match event {
+        MessageEvent::Sent { number, message } => {
+            let (from, to, body) = (message.from, message.to, &message.body);
+            Ok(Some(format!(in alloc;
+                "{tick} message {number} from {from} to {to}: {body}\n"
+            )?))
+        }
+        MessageEvent::Delivered { number } => {
+            Ok(Some(format!(in alloc; "{tick} message {number} is delivered\n")?))
+        }
+        MessageEvent::Lost { number } => {
+            Ok(Some(format!(in alloc; "{tick} message {number} is lost\n")?))
+        }
+    }
+}
+
 fn store_line(alloc: Global, tick: Ticks, event: &StoreEvent) -> Result<Option<String>, AllocError>
     ensures { IfOk result (λ line. option_map string_bytes line ≡ store_line tick.0 event.now) }
 {
-    match *event {
-        StoreEvent::Granted {
-            by,
-            request: LeaseRequest::Create { .. },
-        } => {
-            let name = by.name;
-            Ok(Some(format!(in alloc; "{tick} {name} takes the leader key\n")?))
-        }
-        StoreEvent::Granted { .. } => Ok(None),
+    match event {
+        StoreEvent::Granted { by, txn, .. } => granted_line(alloc, tick, *by, txn),
         StoreEvent::Refused {
             by,
             request,
             key,
             found,
+            ..
         } => {
             let name = by.name;
             Ok(Some(format!(in alloc;
                 "{tick} the {request} of {name} is refused, {key} {found}\n"
             )?))
         }
-        StoreEvent::Expired { holder } => {
+        StoreEvent::LeaderExpired { holder } => {
             let name = holder.name;
             Ok(Some(format!(in alloc; "{tick} the leader key of {name} expires\n")?))
         }
+        StoreEvent::Expired { .. } => Ok(None),
+    }
+}
+
+fn granted_line(
+    alloc: Global,
+    tick: Ticks,
+    by: Member,
+    txn: &Txn,
+) -> Result<Option<String>, AllocError>
+    ensures { IfOk result (λ line. option_map string_bytes line ≡ granted_line tick.0 (name_bytes by.name) txn.now) }
+{
+    let name = by.name;
+    match txn {
+        Txn::Create { .. } => Ok(Some(format!(in alloc; "{tick} {name} takes the leader key\n")?)),
+        _ => Ok(None),
     }
 }
 
 fn agent_line(alloc: Global, tick: Ticks, event: &AgentEvent) -> Result<Option<String>, AllocError>
     ensures { IfOk result (λ line. option_map string_bytes line ≡ agent_line tick.0 event.now) }
 {
-    match *event {
-        AgentEvent::Woken { .. } => Ok(None),
+    match event {
         AgentEvent::Suspended { agent } => {
             let name = agent.name;
             Ok(Some(format!(in alloc; "{tick} {name} is held\n")?))
@@ -67,17 +107,18 @@ fn agent_line(alloc: Global, tick: Ticks, event: &AgentEvent) -> Result<Option<S
             let name = agent.name;
             Ok(Some(format!(in alloc; "{tick} {name} is killed\n")?))
         }
-        AgentEvent::Started { agent } => {
+        AgentEvent::Started { agent, .. } => {
             let name = agent.name;
             Ok(Some(format!(in alloc; "{tick} {name} is started\n")?))
         }
+        _ => Ok(None),
     }
 }
 
 fn link_line(alloc: Global, tick: Ticks, event: &LinkEvent) -> Result<Option<String>, AllocError>
     ensures { IfOk result (λ line. option_map string_bytes line ≡ link_line tick.0 event.now) }
 {
-    match *event {
+    match event {
         LinkEvent::Cut(link) => {
             let (first, second) = (link.first, link.second);
             Ok(Some(format!(in alloc; "{tick} {first} and {second} are cut\n")?))
@@ -92,11 +133,15 @@ fn link_line(alloc: Global, tick: Ticks, event: &LinkEvent) -> Result<Option<Str
 fn note_line(alloc: Global, tick: Ticks, note: &Note) -> Result<Option<String>, AllocError>
     ensures { IfOk result (λ line. option_map string_bytes line ≡ note_line tick.0 note.now) }
 {
-    match *note {
+    match note {
         Note::AlreadyRunning { agent } => {
             let name = agent.name;
             Ok(Some(format!(in alloc; "{tick} {name} is already running\n")?))
         }
         Note::NoMessage { number } => Ok(Some(format!(in alloc; "{tick} no message {number}\n")?)),
+        Note::Undeliverable { number } => Ok(Some(format!(in alloc;
+            "{tick} message {number} cannot be delivered\n"
+        )?)),
+        _ => Ok(None),
     }
 }
