@@ -1,5 +1,5 @@
 -- What commands of a script come to.
-use Rattle.std.specs.Prelude.{◌&&◌, not, if◌then◌else◌, List, [], ◌∷◌, Option, Some, None, slice_get}
+use Rattle.std.specs.Prelude.{◌+◌, ◌&&◌, not, if◌then◌else◌, List, [], ◌∷◌, Option, Some, None, slice_get}
 use Rattle.pat_base.specs.declared.member_id.MemberId.{MemberId}
 use Rattle.event_book.specs.declared.event.Kind.{Kind}
 use Rattle.event_book.specs.declared.event.Kind.TheVariants as kinds
@@ -9,38 +9,28 @@ use Rattle.event_book.specs.declared.event.LinkEvent.{LinkEvent}
 use Rattle.event_book.specs.declared.event.LinkEvent.TheVariants as changes
 use Rattle.event_book.specs.declared.event.Note.TheVariants.{AlreadyRunning}
 use Rattle.event_book.specs.declared.member.Member.{Member}
-use Rattle.event_book.specs.declared.agent_state.AgentState.{AgentState}
 use Rattle.event_book.specs.declared.link.Link.{Link}
 use Rattle.event_book.specs.declared.link.LinkEnd.{LinkEnd}
 use Rattle.event_book.specs.declared.link.LinkEnd.TheVariants as link_ends
-use Rattle.event_book.specs.Facts.{Facts}
 use Rattle.event_book.specs.Links.{is_cut}
+use Rattle.patroni_top.specs.declared.phase.Seat.{Seat}
 use Rattle.cluster_script.specs.declared.line.End.{End}
 use Rattle.cluster_script.specs.declared.line.End.TheVariants as ends
 
-abbrev pub with_state : Option Member → Option AgentState → Option (Member × AgentState)
-with_state None state = None
-with_state (Some member) None = None
-with_state (Some member) (Some state) = Some (member, state)
-
--- the declared member of this number, and its agent
-abbrev pub agent_of : Facts → MemberId → Option (Member × AgentState)
-agent_of facts id = with_state (slice_get facts.members id.number) (slice_get facts.agents id.number)
-
 -- an agent that runs and isn't held becomes held
-abbrev pub hold_of : Option (Member × AgentState) → Option AgentEvent
+abbrev pub hold_of : Option Seat → Option AgentEvent
 hold_of None = None
-hold_of (Some agent) = if agent.1.running && not agent.1.held then Some (Suspended agent.0) else None
+hold_of (Some seat) = if seat.state.running && not seat.state.held then Some (Suspended seat.member) else None
 
 -- a held agent goes on
-abbrev pub resume_of : Option (Member × AgentState) → Option AgentEvent
+abbrev pub resume_of : Option Seat → Option AgentEvent
 resume_of None = None
-resume_of (Some agent) = if agent.1.held then Some (Resumed agent.0) else None
+resume_of (Some seat) = if seat.state.held then Some (Resumed seat.member) else None
 
 -- an agent that runs ends
-abbrev pub kill_of : Option (Member × AgentState) → Option AgentEvent
+abbrev pub kill_of : Option Seat → Option AgentEvent
 kill_of None = None
-kill_of (Some agent) = if agent.1.running then Some (Killed agent.0) else None
+kill_of (Some seat) = if seat.state.running then Some (Killed seat.member) else None
 
 abbrev pub member_end : Option Member → Option LinkEnd
 member_end None = None
@@ -79,7 +69,7 @@ abbrev pub link_kinds : Option LinkEvent → List Kind
 link_kinds None = []
 link_kinds (Some happening) = kinds.Link happening ∷ []
 
--- an agent that doesn't run is started; of one that runs it is said that it does
-abbrev pub restart_kinds : Option (Member × AgentState) → List Kind
+-- an agent that doesn't run is started, in its next run; of one that runs it is said that it does
+abbrev pub restart_kinds : Option Seat → List Kind
 restart_kinds None = []
-restart_kinds (Some agent) = if agent.1.running then kinds.Note (AlreadyRunning agent.0) ∷ [] else kinds.Agent (Started agent.0) ∷ []
+restart_kinds (Some seat) = if seat.state.running then kinds.Note (AlreadyRunning seat.member) ∷ [] else kinds.Agent (Started seat.member (seat.state.run + 1)) ∷ []

@@ -1,7 +1,15 @@
+pub mod Calm
+pub mod Cluster
 pub mod Commands
+pub mod Info
 pub mod Input
+pub mod Launches
 pub mod Next
 pub mod Printing
 pub mod Room
 pub mod Run
+pub mod Short
 pub mod Status
+pub mod Took
+pub mod Turns
+pub mod Ways

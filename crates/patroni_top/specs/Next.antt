@@ -1,133 +1,266 @@
 -- What happens in a step.
-use Rattle.std.specs.Prelude.{ℕ, ◌+◌, ◌*◌, ◌==◌, ◌&&◌, not, nat_le, Bool, if◌then◌else◌, List, [], ◌∷◌, ◌++◌, Option, Some, None, Result, Ok, Err, slice_get, length, zero, suc}
+use Rattle.std.specs.Prelude.{ℕ, ◌+◌, ◌&&◌, not, nat_le, Bool, true, false, if◌then◌else◌, List, [], ◌∷◌, ◌++◌, Option, Some, None, option_map, slice_get, length, zero, suc}
+use Rattle.std.specs.Map.{keys_of}
 use Rattle.pat_base.specs.declared.member_id.MemberId.{MemberId}
-use Rattle.pat_base.specs.declared.ticks.Ticks.{Ticks}
-use Rattle.lease_store.specs.declared.value.Held.{Held}
-use Rattle.lease_store.specs.declared.granted.Granted.{Granted}
-use Rattle.lease_store.specs.declared.key.Key.TheVariants.{Leader}
-use Rattle.lease_store.specs.declared.refusal.StoreRefusal.{StoreRefusal}
-use Rattle.lease_store.specs.declared.refusal.StoreRefusal.TheVariants.{Mismatch, Memory}
-use Rattle.lease_store.specs.Answers.{expired_holder, holder_of}
+use Rattle.lease_store.specs.declared.key.Key.{Key}
+use Rattle.lease_store.specs.declared.key.Key.TheVariants as keys
+use Rattle.lease_store.specs.declared.txn.Txn.{Txn}
+use Rattle.lease_store.specs.Answers.{expired_holder, expired_keys}
 use Rattle.lease_store.specs.Decision.{Decision, Grant, Refusal, decision_on}
-use Rattle.lease_store.specs.Defaults.{default_config}
-use Rattle.lease_store.specs.Keys.{key_at}
+use Rattle.lease_store.specs.TxnKinds.{kind_of}
+use Rattle.lease_store.specs.Writes.{is_lease}
+use Rattle.event_book.specs.declared.agent_state.AgentState.{AgentState}
 use Rattle.event_book.specs.declared.event.Event.{Event}
 use Rattle.event_book.specs.declared.event.Kind.{Kind}
 use Rattle.event_book.specs.declared.event.Kind.TheVariants as kinds
+use Rattle.event_book.specs.declared.event.MessageEvent.TheVariants.{Sent, Delivered, Lost}
 use Rattle.event_book.specs.declared.event.StoreEvent.TheVariants as stores
 use Rattle.event_book.specs.declared.event.AgentEvent.TheVariants.{Woken}
-use Rattle.event_book.specs.declared.event.Note.TheVariants.{NoMessage}
-use Rattle.event_book.specs.declared.link.Link.{Link}
+use Rattle.event_book.specs.declared.event.Note.TheVariants.{NoMessage, Undeliverable}
+use Rattle.event_book.specs.declared.link.LinkEnd.{LinkEnd}
 use Rattle.event_book.specs.declared.link.LinkEnd.TheVariants as link_ends
-use Rattle.event_book.specs.Links.{is_cut}
 use Rattle.event_book.specs.declared.member.Member.{Member}
-use Rattle.event_book.specs.declared.request.LeaseRequest.{LeaseRequest}
-use Rattle.event_book.specs.declared.request.LeaseRequest.TheVariants.{Create, Renew}
-use Rattle.event_book.specs.Requests.{txn_of}
-use Rattle.event_book.specs.declared.agent_state.AgentState.{AgentState}
-use Rattle.event_book.specs.Facts.{Facts, after, after_all}
+use Rattle.event_book.specs.declared.message.Body.{Body}
+use Rattle.event_book.specs.declared.message.Body.TheVariants as bodies
+use Rattle.event_book.specs.declared.message.Message.{Message}
+use Rattle.event_book.specs.Flight.{Flight, InFlightFacts, in_flight}
 use Rattle.cluster_script.specs.declared.line.Command.{Command}
 use Rattle.cluster_script.specs.declared.line.Command.TheVariants as commands
 use Rattle.cluster_script.specs.declared.line.Step.{Step}
 use Rattle.cluster_script.specs.declared.line.Step.TheVariants as steps
-use Rattle.patroni_top.specs.Commands.{agent_of, agent_kinds, hold_of, resume_of, kill_of, restart_kinds, link_kinds, link_of, cut_of, join_of}
+use Rattle.patroni_top.specs.declared.phase.Phase.{Phase}
+use Rattle.patroni_top.specs.declared.phase.Reaction.{Reaction}
+use Rattle.patroni_top.specs.declared.phase.Seat.{Seat}
+use Rattle.patroni_top.specs.declared.way.Way.{Way}
+use Rattle.patroni_top.specs.declared.way.Way.TheVariants as ways
+use Rattle.patroni_top.specs.Cluster.{Cluster, moved, moved_all}
+use Rattle.patroni_top.specs.Commands.{agent_kinds, hold_of, resume_of, kill_of, restart_kinds, link_kinds, link_of, cut_of, join_of}
+use Rattle.patroni_top.specs.Turns.{is_due, woken, heard}
+use Rattle.patroni_top.specs.Ways.{way_of}
 
--- the events of these kinds, one after another, each at its moment
-abbrev pub stamped : Facts → List Kind → List Event
-stamped facts [] = []
-stamped facts (kind ∷ more) = record { tick = record { 0 = (after facts kind).clock }; kind = kind } ∷ stamped (after facts kind) more
+-- one happening, at its moment
+abbrev pub happens : Cluster → Kind → List Event
+happens cluster kind = record { tick = record { 0 = (moved cluster kind).book.clock }; kind = kind } ∷ []
 
--- how long a lease lasts, in ticks
-abbrev pub lease : Ticks
-lease = record { 0 = 10 * default_config.ttl }
+-- happenings, one after another
+abbrev pub all_happen : Cluster → List Kind → List Event
+all_happen cluster [] = []
+all_happen cluster (kind ∷ more) = happens cluster kind ++ all_happen (moved cluster kind) more
 
-abbrev pub renewal_of : Member → ℕ → Option MemberId → Option LeaseRequest
-renewal_of member revision None = None
-renewal_of member revision (Some holder) = if holder.number == member.id.number then Some (Renew revision lease) else None
+-- these happenings at one moment
+abbrev pub stamped : Ticks → List Kind → List Event
+stamped tick kinds = map (λ kind. record { tick = tick; kind = kind }) kinds
 
--- what a member asks for on reading the leader key: an absent key for itself, its own for longer, of another's nothing
-abbrev pub request_on : Member → Option Held → Option LeaseRequest
-request_on member None = Some (Create lease)
-request_on member (Some held) = renewal_of member held.revision (holder_of held.value)
+-- these events, and then what comes after them
+abbrev pub then : Cluster → List Event → (Cluster → List Event) → List Event
+then cluster events more = events ++ more (moved_all cluster events)
 
--- the store's decision on a request, as an event
-abbrev pub decided : Member → LeaseRequest → Decision → Kind
-decided by request Grant = kinds.Store (stores.Granted by request)
-decided by request (Refusal key found) = kinds.Store (stores.Refused by request key found)
+-- so many messages may be in flight
+abbrev pub most_in_flight : ℕ
+most_in_flight = 65536
 
--- what an answer of the store tells, unless memory is wanting
-abbrev pub told_by : Member → LeaseRequest → Result Granted StoreRefusal → Option Kind
-told_by by request (Ok granted) = Some (kinds.Store (stores.Granted by request))
-told_by by request (Err (Mismatch key found)) = Some (kinds.Store (stores.Refused by request key found))
-told_by by request (Err Memory) = None
+abbrev pub lost_at_once : Bool → ℕ → List Kind
+lost_at_once true number = kinds.Message (Lost number) ∷ []
+lost_at_once false number = []
 
-abbrev pub answered : Facts → Member → Option LeaseRequest → List Kind
-answered facts member None = []
-answered facts member (Some request) = decided member request (decision_on facts.keys facts.clock (txn_of request)) ∷ []
+-- a message is sent under the next number; one that is sent beyond the most in flight is lost at once
+abbrev pub sends : Cluster → Message → List Event
+sends cluster message =
+    all_happen cluster (kinds.Message (Sent (cluster.book.sent + 1) message) ∷ lost_at_once (nat_le most_in_flight (length cluster.book.flight)) (cluster.book.sent + 1))
 
-abbrev pub is_due : ℕ → AgentState → Bool
-is_due now state = state.running && (not state.held && nat_le state.next_turn.0 now)
+abbrev pub seat_of : Member → Option AgentState → Option Phase → Option Seat
+seat_of member (Some state) (Some phase) = Some (record { member = member; state = state; phase = phase })
+seat_of member _ _ = None
 
--- the member, where its agent has a turn at this moment
-abbrev pub due_member : ℕ → Option Member → Option AgentState → Option Member
-due_member now None state = None
-due_member now (Some member) None = None
-due_member now (Some member) (Some state) = if is_due now state then Some member else None
+-- a member with its agent
+abbrev pub seat_for : Cluster → Member → Option Seat
+seat_for cluster member = seat_of member (slice_get cluster.book.agents member.id.number) (slice_get cluster.phases member.id.number)
 
--- the link of a member to the key store
-abbrev pub store_link : Member → Link
-store_link member = record { first = link_ends.Member member; second = link_ends.Store }
+abbrev pub seat_if : Cluster → Option Member → Option Seat
+seat_if cluster None = None
+seat_if cluster (Some member) = seat_for cluster member
 
--- what a member asks for in its turn: on a cut link it reads nothing
-abbrev pub asked_by : Facts → Member → Option LeaseRequest
-asked_by facts member = if is_cut facts.cuts (store_link member) then None else request_on member (key_at facts.keys facts.clock Leader)
+-- the declared member of this number with its agent
+abbrev pub seat_at : Cluster → ℕ → Option Seat
+seat_at cluster place = seat_if cluster (slice_get cluster.book.members place)
 
--- in its turn a member reads the leader key, and the store decides on what it asks for
-abbrev pub turn_of : Facts → Option Member → List Kind
-turn_of facts None = []
-turn_of facts (Some member) = kinds.Agent (Woken member) ∷ answered facts member (asked_by facts member)
+-- what an agent asks of the store
+abbrev pub question : Seat → Reaction → Body → Message
+question seat reaction body = record { from = link_ends.Member seat.member; to = link_ends.Store; run = seat.state.run; sequence = reaction.phase.sequence; body = body }
 
--- the turn of the member at a place, if it is due
-abbrev pub turn_at : Facts → ℕ → List Event
-turn_at facts place = stamped facts (turn_of facts (due_member facts.clock (slice_get facts.members place) (slice_get facts.agents place)))
+abbrev pub asked : Cluster → Seat → Reaction → Option Body → List Event
+asked cluster seat reaction None = []
+asked cluster seat reaction (Some body) = sends cluster (question seat reaction body)
 
--- the turns of so many members from a place on, in script order
-abbrev pub turns : Facts → ℕ → ℕ → List Event
-turns facts place zero = []
-turns facts place (suc count) = turn_at facts place ++ turns (after_all facts (turn_at facts place)) (place + 1) count
+-- an agent sends what its reaction asks
+abbrev pub reacts : Cluster → Seat → Reaction → List Event
+reacts cluster seat reaction = asked cluster seat reaction reaction.asks
+
+-- an agent that runs, isn't held and has something to do
+abbrev pub is_ready : ℕ → Seat → Bool
+is_ready now seat = seat.state.running && (not seat.state.held && is_due now seat.phase)
+
+abbrev pub woken_at : Cluster → Seat → List Event
+woken_at cluster seat = then cluster (happens cluster (kinds.Agent (Woken seat.member))) (λ later. reacts later seat (woken cluster.book.clock seat.phase))
+
+abbrev pub wake : Cluster → Option Seat → List Event
+wake cluster None = []
+wake cluster (Some seat) = if is_ready cluster.book.clock seat then woken_at cluster seat else []
+
+-- the agent of a member is woken, where it has something to do
+abbrev pub wake_at : Cluster → ℕ → List Event
+wake_at cluster place = wake cluster (seat_at cluster place)
+
+-- the agents of so many members from a place on are woken, in script order
+abbrev pub wakes : Cluster → ℕ → ℕ → List Event
+wakes cluster place zero = []
+wakes cluster place (suc count) = then cluster (wake_at cluster place) (λ later. wakes later (place + 1) count)
+
+-- an answer of the store
+abbrev pub answer_to : Message → Body → Message
+answer_to message body = record { from = link_ends.Store; to = message.from; run = message.run; sequence = message.sequence; body = body }
+
+-- the store's decision on the request that a message carries, as an event. No request names standbys yet
+abbrev pub decided : ℕ → Member → Txn → Decision → Kind
+decided number by txn Grant = kinds.Store (stores.Granted number by txn [])
+decided number by txn (Refusal key found) = kinds.Store (stores.Refused number by (kind_of txn) key found)
+
+-- and what the store answers
+abbrev pub decision_told : ℕ → Txn → Decision → Body
+decision_told number txn Grant = bodies.Granted number (is_lease txn)
+decision_told number txn (Refusal key found) = bodies.Refused number key found
+
+abbrev pub decides : Cluster → ℕ → Message → Txn → Decision → LinkEnd → List Event
+decides cluster number message txn decision link_ends.Store = []
+decides cluster number message txn decision (link_ends.Member by) =
+    then cluster (happens cluster (decided number by txn decision)) (λ later. sends later (answer_to message (decision_told number txn decision)))
+
+abbrev pub answers_body : Cluster → ℕ → Message → Body → List Event
+answers_body cluster number message bodies.Read = sends cluster (answer_to message bodies.Snapshot)
+answers_body cluster number message (bodies.Request txn) = decides cluster number message txn (decision_on cluster.book.keys cluster.book.clock txn) message.from
+answers_body cluster number message _ = []
+
+-- the store answers a read with a snapshot, and a request with its decision
+abbrev pub answers : Cluster → ℕ → Message → List Event
+answers cluster number message = answers_body cluster number message message.body
+
+-- what the agent of a member does on a message
+abbrev pub listened : Cluster → InFlightFacts → Member → Option (Seat × Reaction)
+listened cluster message member = option_map (λ seat. (seat, heard cluster.book.clock member.id message seat.phase)) (seat_for cluster member)
+
+abbrev pub reacts_if : Cluster → Option (Seat × Reaction) → List Event
+reacts_if cluster None = []
+reacts_if cluster (Some heard) = reacts cluster heard.0 heard.1
+
+-- the agent of a member acts on a message that comes
+abbrev pub hears : Cluster → ℕ → InFlightFacts → Member → List Event
+hears cluster number message member = then cluster (happens cluster (kinds.Message (Delivered number))) (λ later. reacts_if later (listened cluster message member))
+
+abbrev pub comes_to : Cluster → ℕ → InFlightFacts → LinkEnd → List Event
+comes_to cluster number message link_ends.Store = then cluster (happens cluster (kinds.Message (Delivered number))) (λ later. answers later number message.message)
+comes_to cluster number message (link_ends.Member member) = hears cluster number message member
+
+-- a message comes to its receiver, which acts on it
+abbrev pub comes : Cluster → ℕ → InFlightFacts → List Event
+comes cluster number message = comes_to cluster number message message.message.to
+
+abbrev pub comes_found : Cluster → ℕ → Option InFlightFacts → List Event
+comes_found cluster number None = []
+comes_found cluster number (Some message) = comes cluster number message
+
+abbrev pub goes : Cluster → ℕ → InFlightFacts → Way → List Event
+goes cluster number message ways.Open = comes cluster number message
+goes cluster number message ways.Cut = happens cluster (kinds.Message (Lost number))
+goes cluster number message ways.Held = []
+goes cluster number message ways.Gone = happens cluster (kinds.Message (Lost number))
+
+abbrev pub moves_found : Cluster → ℕ → Option InFlightFacts → List Event
+moves_found cluster number None = []
+moves_found cluster number (Some message) = goes cluster number message (way_of cluster.book.cuts cluster.book.agents message.message)
+
+-- a message in flight comes to its receiver, is lost, or is kept for a receiver that is held
+abbrev pub moves : Cluster → ℕ → List Event
+moves cluster number = moves_found cluster number (in_flight cluster.book.flight number)
+
+-- these messages, one after another
+abbrev pub all_move : Cluster → List ℕ → List Event
+all_move cluster [] = []
+all_move cluster (number ∷ more) = then cluster (moves cluster number) (λ later. all_move later more)
+
+-- each due agent is woken, and then each message that is in flight at that point moves, in the order of numbers
+abbrev pub round : Cluster → List Event
+round cluster = then cluster (wakes cluster 0 (length cluster.book.members)) (λ later. all_move later (keys_of later.book.flight))
+
+abbrev pub is_empty : List Event → Bool
+is_empty [] = true
+is_empty (event ∷ events) = false
+
+-- at most so many rounds; a round in which nothing happens is the last
+abbrev pub rounds : Cluster → ℕ → List Event
+rounds cluster zero = []
+rounds cluster (suc count) = if is_empty (round cluster) then [] else then cluster (round cluster) (λ later. rounds later count)
+
+abbrev pub most_rounds : ℕ
+most_rounds = 40
 
 abbrev pub declared_member : List Member → Option MemberId → Option Member
 declared_member members None = None
 declared_member members (Some id) = slice_get members id.number
 
-abbrev pub expiry_of : Option Member → List Kind
-expiry_of None = []
-expiry_of (Some holder) = kinds.Store (stores.Expired holder) ∷ []
+abbrev pub leader_expiry : Option Member → List Kind
+leader_expiry None = []
+leader_expiry (Some holder) = kinds.Store (stores.LeaderExpired holder) ∷ []
+
+-- the expiry of a key, as an event; that of the leader key names its holder
+abbrev pub expiry_of : Option Member → Key → List Kind
+expiry_of holder keys.Leader = leader_expiry holder
+expiry_of holder key = kinds.Store (stores.Expired key) ∷ []
+
+abbrev pub expiries_of : Option Member → List Key → List Kind
+expiries_of holder [] = []
+expiries_of holder (key ∷ more) = expiry_of holder key ++ expiries_of holder more
 
 -- the clock grows by one, and what has expired is dropped
-abbrev pub ticked : Facts → List Event
-ticked facts = stamped facts (kinds.Tick ∷ expiry_of (declared_member facts.members (expired_holder facts.keys (facts.clock + 1))))
+abbrev pub ticks : Cluster → List Event
+ticks cluster = all_happen cluster
+    (kinds.Tick ∷ expiries_of (declared_member cluster.book.members (expired_holder cluster.book.keys (cluster.book.clock + 1))) (expired_keys cluster.book.keys (cluster.book.clock + 1)))
+
+-- a script delivers a message where nothing stands in its way
+abbrev pub delivers_on : Cluster → ℕ → InFlightFacts → Way → List Event
+delivers_on cluster number message ways.Open = comes cluster number message
+delivers_on cluster number message ways.Cut = happens cluster (kinds.Note (Undeliverable number))
+delivers_on cluster number message ways.Held = happens cluster (kinds.Note (Undeliverable number))
+delivers_on cluster number message ways.Gone = happens cluster (kinds.Message (Lost number))
+
+abbrev pub delivers : Cluster → ℕ → Option InFlightFacts → List Event
+delivers cluster number None = happens cluster (kinds.Note (NoMessage number))
+delivers cluster number (Some message) = delivers_on cluster number message (way_of cluster.book.cuts cluster.book.agents message.message)
+
+-- a script loses a message that is in flight, wherever it goes
+abbrev pub loses : Cluster → ℕ → Option InFlightFacts → List Event
+loses cluster number None = happens cluster (kinds.Note (NoMessage number))
+loses cluster number (Some message) = happens cluster (kinds.Message (Lost number))
 
 -- the events of a command
-abbrev pub command_events : Facts → Command → List Event
-command_events facts (commands.Turn member) = turn_at facts member.number
-command_events facts (commands.Deliver number) = stamped facts (kinds.Note (NoMessage number) ∷ [])
-command_events facts (commands.Lose number) = stamped facts (kinds.Note (NoMessage number) ∷ [])
-command_events facts (commands.Hold member) = stamped facts (agent_kinds (hold_of (agent_of facts member)))
-command_events facts (commands.Resume member) = stamped facts (agent_kinds (resume_of (agent_of facts member)))
-command_events facts (commands.Kill member) = stamped facts (agent_kinds (kill_of (agent_of facts member)))
-command_events facts (commands.Restart member) = stamped facts (restart_kinds (agent_of facts member))
-command_events facts (commands.Cut first second) = stamped facts (link_kinds (cut_of facts.cuts (link_of facts.members first second)))
-command_events facts (commands.Join first second) = stamped facts (link_kinds (join_of facts.cuts (link_of facts.members first second)))
-command_events facts (commands.Trace on) = []
+abbrev pub command_events : Cluster → Command → List Event
+command_events cluster (commands.Turn member) = wake_at cluster member.number
+command_events cluster (commands.Deliver number) = delivers cluster number (in_flight cluster.book.flight number)
+command_events cluster (commands.Lose number) = loses cluster number (in_flight cluster.book.flight number)
+command_events cluster (commands.Hold member) = all_happen cluster (agent_kinds (hold_of (seat_at cluster member.number)))
+command_events cluster (commands.Resume member) = all_happen cluster (agent_kinds (resume_of (seat_at cluster member.number)))
+command_events cluster (commands.Kill member) = all_happen cluster (agent_kinds (kill_of (seat_at cluster member.number)))
+command_events cluster (commands.Restart member) = all_happen cluster (restart_kinds (seat_at cluster member.number))
+command_events cluster (commands.Cut first second) = all_happen cluster (link_kinds (cut_of cluster.book.cuts (link_of cluster.book.members first second)))
+command_events cluster (commands.Join first second) = all_happen cluster (link_kinds (join_of cluster.book.cuts (link_of cluster.book.members first second)))
+command_events cluster (commands.Trace on) = []
 
 -- the events of a step
-abbrev pub next_events : Facts → Step → List Event
-next_events facts steps.Scheduled = ticked facts ++ turns (after_all facts (ticked facts)) 0 (length facts.members)
-next_events facts steps.Tick = ticked facts
-next_events facts (steps.Command command) = command_events facts command
+abbrev pub next_events : Cluster → Step → List Event
+next_events cluster steps.Scheduled = then cluster (ticks cluster) (λ later. rounds later most_rounds)
+next_events cluster steps.Tick = ticks cluster
+next_events cluster (steps.Command command) = command_events cluster command
 
 -- the events of these steps, one after another
-abbrev pub run_from : Facts → List Step → List Event
-run_from facts [] = []
-run_from facts (step ∷ more) = next_events facts step ++ run_from (after_all facts (next_events facts step)) more
+abbrev pub run_from : Cluster → List Step → List Event
+run_from cluster [] = []
+run_from cluster (step ∷ more) = then cluster (next_events cluster step) (λ later. run_from later more)

@@ -1,8 +1,25 @@
--- How far a world may go.
-use Rattle.std.specs.Prelude.{ℕ, ◌+◌, ◌*◌, ◌^◌, ◌<◌}
-use Rattle.event_book.specs.Facts.{Facts}
+-- How far a cluster may go.
+use Rattle.std.specs.Prelude.{ℕ, ◌+◌, ◌*◌, ◌^◌, ◌<◌, ◌≤◌, IfSome, slice_get}
+use Rattle.patroni_top.specs.Cluster.{Cluster}
+use Rattle.patroni_top.specs.declared.phase.Phase.{Phase}
 
--- so many more steps can't bring a counter to its end: a tick counts the clock up by one and the revision by one for each member
-pub record HasRoomFor (facts : Facts) (steps : ℕ) : Type 0 where
-  pub clock : facts.clock + steps < 2 ^ 60
-  pub revision : facts.keys.revision + 16 * steps < 2 ^ 60
+-- the questions of an agent have so many more numbers, and its last turn isn't ahead of the clock
+pub record PhaseHasRoom (clock events : ℕ) (phase : Phase) : Type 0 where
+  pub sequence : phase.sequence + events < 2 ^ 60
+  pub turn : phase.turn.0 ≤ clock
+
+-- so many more events can't bring a counter to its end: each counts one up by one at most
+pub record HasRoom (cluster : Cluster) (events : ℕ) : Type 0 where
+  pub clock : cluster.book.clock + events < 2 ^ 60
+  pub revision : cluster.book.keys.revision + events < 2 ^ 60
+  pub sent : cluster.book.sent + events < 2 ^ 60
+  pub runs : (place : ℕ) → IfSome (slice_get cluster.book.agents place) (λ state. state.run + events < 2 ^ 60)
+  pub phases : (place : ℕ) → IfSome (slice_get cluster.phases place) (PhaseHasRoom cluster.book.clock events)
+
+-- more than the events of any step
+abbrev pub step_cost : ℕ
+step_cost = 2 ^ 24
+
+-- so many more steps can't bring a counter to its end
+pub record HasRoomFor (cluster : Cluster) (steps : ℕ) : Type 0 where
+  pub room : HasRoom cluster (step_cost * steps)

@@ -1,7 +1,6 @@
 -- The run of a script, and its text.
-use Rattle.std.specs.Prelude.{ℕ, List, [], ◌++◌, Option, Some, None, Result, Ok, Err}
+use Rattle.std.specs.Prelude.{ℕ, Bool, false, List, [], ◌∷◌, ◌++◌, Option, Some, None, Result, Ok, Err}
 use Rattle.event_book.specs.declared.event.Event.{Event}
-use Rattle.event_book.specs.Facts.{Facts, after_all, start_of}
 use Rattle.event_book.specs.Text.{lines_of, summary_at}
 use Rattle.cluster_script.specs.declared.fault.Fault.{Fault}
 use Rattle.cluster_script.specs.declared.limits.Limit.{Limit}
@@ -9,19 +8,42 @@ use Rattle.cluster_script.specs.Limits.{limit_of}
 use Rattle.cluster_script.specs.Reading.{script_of}
 use Rattle.cluster_script.specs.Script.{ScriptText}
 use Rattle.cluster_script.specs.Steps.{steps_of}
-use Rattle.patroni_top.specs.Next.{run_from}
+use Rattle.cluster_script.specs.declared.line.Command.{Command}
+use Rattle.cluster_script.specs.declared.line.Command.TheVariants as commands
+use Rattle.cluster_script.specs.declared.line.Step.{Step}
+use Rattle.cluster_script.specs.declared.line.Step.TheVariants as steps
+use Rattle.patroni_top.specs.Cluster.{Cluster, cluster_of, moved_all}
+use Rattle.patroni_top.specs.Next.{next_events, run_from}
 
 -- the book of a script: what happens from its head on, step by step
 abbrev pub run_of : ScriptText → List Event
-run_of script = run_from (start_of script.head.members) (steps_of script.body)
+run_of script = run_from (cluster_of script.head.members) (steps_of script.body)
 
--- the printed text of a book over these members: its lines, and then the summary
-abbrev pub text_of : Facts → List Event → List ℕ
-text_of start book = lines_of book ++ summary_at (after_all start book).clock
+abbrev pub traced_by : Bool → Command → Bool
+traced_by trace (commands.Trace on) = on
+traced_by trace _ = trace
 
--- the printed run of a script
+-- whether messages are traced after a step
+abbrev pub traced_after : Bool → Step → Bool
+traced_after trace (steps.Command command) = traced_by trace command
+traced_after trace _ = trace
+
+abbrev pub traced_all : Bool → List Step → Bool
+traced_all trace [] = trace
+traced_all trace (step ∷ more) = traced_all (traced_after trace step) more
+
+-- the lines of these steps, from a cluster on
+abbrev pub printed_from : Cluster → Bool → List Step → List ℕ
+printed_from cluster trace [] = []
+printed_from cluster trace (step ∷ more) =
+    let events = next_events cluster step in
+    lines_of trace events ++ printed_from (moved_all cluster events) (traced_after trace step) more
+
+-- the printed run of a script: its lines, those of messages only while they are traced, and then the summary
 abbrev pub output_of : ScriptText → List ℕ
-output_of script = text_of (start_of script.head.members) (run_of script)
+output_of script =
+    let start = cluster_of script.head.members in
+    printed_from start false (steps_of script.body) ++ summary_at (moved_all start (run_of script)).book.clock
 
 abbrev pub output_or_none : Option Limit → Result ScriptText (ℕ × Fault) → List ℕ
 output_or_none (Some limit) read = []

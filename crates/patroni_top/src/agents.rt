@@ -1,123 +1,135 @@
-//! Agents of members: when one has a turn, and what commands change of it.
-ghost use Rattle.std.specs.Prelude.{◌≡◌, ◌^◌, ◌<◌, slice_get};
-ghost use Rattle.event_book.specs.Facts.{agents_at, state_after};
-ghost use Rattle.patroni_top.specs.Commands.{hold_of, resume_of, kill_of, with_state};
-ghost use Rattle.patroni_top.specs.Next.{due_member, is_due};
+//! Agents of members: what commands change of them, and which are ready.
+ghost use Rattle.std.specs.Prelude.{◌≡◌, slice_get, true, false, IfSome};
+ghost use Rattle.event_book.specs.Agents.{agents_by, changed, running_in};
+ghost use Rattle.patroni_top.specs.Calm.{IsCalm};
+ghost use Rattle.patroni_top.specs.Commands.{hold_of, resume_of, kill_of};
+ghost use Rattle.patroni_top.specs.Next.{is_ready, seat_of};
 
-use event_book::{AgentEvent, AgentState, Kind, Member};
-use lease_store::Config;
-use pat_base::{MemberId, Ticks};
+use crate::agent::is_due;
+use crate::phase::{Phase, Seat};
+use event_book::{AgentEvent, AgentState, Member};
+use pat_base::Ticks;
 
-/// The declared member of this number, and its agent.
-pub fn agent_at(
-    members: &[Member],
-    agents: &[AgentState],
-    id: MemberId,
-) -> Option<(Member, AgentState)>
-    ensures { result ≡ with_state (slice_get members.now id.number) (slice_get agents.now id.number) }
+/// A member with its agent.
+pub fn seat_for(agents: &[AgentState], phases: &[Phase], member: Member) -> Option<Seat>
+    ensures { result ≡ seat_of member (slice_get agents.now member.id.number) (slice_get phases.now member.id.number) }
 {
-    let member = members.get(id.number as usize)?;
-    let state = agents.get(id.number as usize)?;
-    Some((*member, *state))
+    let place = member.id.number as usize;
+    let state = *agents.get(place)?;
+    let phase = *phases.get(place)?;
+    Some(Seat {
+        member,
+        state,
+        phase,
+    })
 }
 
-/// The member at a place, where its agent has a turn at this moment.
-pub fn due_member(
-    now: Ticks,
-    members: &[Member],
-    agents: &[AgentState],
-    place: usize,
-) -> Option<Member>
-    ensures { result ≡ due_member now.0 (slice_get members.now place) (slice_get agents.now place) }
+/// Whether the agent runs, isn't held and has something to do.
+pub fn is_ready(now: Ticks, seat: &Seat) -> bool
+    ensures { result ≡ is_ready now.0 seat.now }
 {
-    let member = members.get(place)?;
-    let state = agents.get(place)?;
-    if is_due(now, state) {
-        Some(*member)
-    } else {
-        None
-    }
-}
-
-fn is_due(now: Ticks, state: &AgentState) -> bool
-    ensures { result ≡ is_due now.0 state.now }
-{
-    state.running && !state.held && state.next_turn <= now
+    seat.state.running && !seat.state.held && is_due(now, &seat.phase)
 }
 
 /// A hold: what happens where the agent runs and isn't held.
-pub fn hold_of(agent: Option<(Member, AgentState)>) -> Option<AgentEvent>
-    ensures { result ≡ hold_of agent }
+pub fn hold_of(seat: Option<Seat>) -> Option<AgentEvent>
+    ensures event { result ≡ hold_of seat }
+    ensures calm { IfSome result IsCalm }
 {
-    let (member, state) = agent?;
-    if state.running && !state.held {
-        Some(AgentEvent::Suspended { agent: member })
+    let seat = seat?;
+    if seat.state.running && !seat.state.held {
+        Some(AgentEvent::Suspended { agent: seat.member })
     } else {
         None
     }
 }
 
 /// The end of a hold: what happens where the agent is held.
-pub fn resume_of(agent: Option<(Member, AgentState)>) -> Option<AgentEvent>
-    ensures { result ≡ resume_of agent }
+pub fn resume_of(seat: Option<Seat>) -> Option<AgentEvent>
+    ensures event { result ≡ resume_of seat }
+    ensures calm { IfSome result IsCalm }
 {
-    let (member, state) = agent?;
-    if state.held {
-        Some(AgentEvent::Resumed { agent: member })
+    let seat = seat?;
+    if seat.state.held {
+        Some(AgentEvent::Resumed { agent: seat.member })
     } else {
         None
     }
 }
 
 /// The end of an agent: what happens where it runs.
-pub fn kill_of(agent: Option<(Member, AgentState)>) -> Option<AgentEvent>
-    ensures { result ≡ kill_of agent }
+pub fn kill_of(seat: Option<Seat>) -> Option<AgentEvent>
+    ensures event { result ≡ kill_of seat }
+    ensures calm { IfSome result IsCalm }
 {
-    let (member, state) = agent?;
-    if state.running {
-        Some(AgentEvent::Killed { agent: member })
+    let seat = seat?;
+    if seat.state.running {
+        Some(AgentEvent::Killed { agent: seat.member })
     } else {
         None
     }
 }
 
 /// The agents after what happens to one of them.
-pub fn change_agents(agents: &mut [AgentState], now: Ticks, happening: AgentEvent)
-    requires { now.0 < 2 ^ 61 }
-    ensures { agents.new ≡ agents_at now.0 agents.old (Kind.Agent happening) }
+pub fn change_agents(agents: &mut [AgentState], happening: &AgentEvent)
+    ensures { agents.new ≡ agents_by agents.old happening.now }
 {
-    let place = happening.subject().id.number as usize;
-    if place < agents.len() {
-        agents[place] = state_after(now, happening, agents[place]);
+    match happening {
+        AgentEvent::Suspended { agent } => suspend(agents, *agent),
+        AgentEvent::Resumed { agent } => resume(agents, *agent),
+        AgentEvent::Killed { agent } => end(agents, *agent),
+        AgentEvent::Started { agent, run } => begin(agents, *agent, *run),
+        _ => {}
     }
 }
 
-fn state_after(now: Ticks, happening: AgentEvent, state: AgentState) -> AgentState
-    requires { now.0 < 2 ^ 61 }
-    ensures { result ≡ state_after now.0 happening state }
+fn suspend(agents: &mut [AgentState], agent: Member)
+    ensures { agents.new ≡ changed agents.old agent (λ state. record state { held = true }) }
 {
-    match happening {
-        AgentEvent::Woken { agent: _ } => AgentState {
-            next_turn: now + Config::defaults().loop_wait_ticks(),
-            ..state
-        },
-        AgentEvent::Suspended { agent: _ } => AgentState {
-            held: true,
-            ..state
-        },
-        AgentEvent::Resumed { agent: _ } => AgentState {
-            held: false,
-            ..state
-        },
-        AgentEvent::Killed { agent: _ } => AgentState {
-            running: false,
-            held: false,
-            ..state
-        },
-        AgentEvent::Started { agent: _ } => AgentState {
-            next_turn: Ticks(now.0 + 1),
+    let place = agent.id.number as usize;
+    if place < agents.len() {
+        agents[place].held = true;
+    }
+}
+
+fn resume(agents: &mut [AgentState], agent: Member)
+    ensures { agents.new ≡ changed agents.old agent (λ state. record state { held = false }) }
+{
+    let place = agent.id.number as usize;
+    if place < agents.len() {
+        agents[place].held = false;
+    }
+}
+
+fn end(agents: &mut [AgentState], agent: Member)
+    ensures { agents.new ≡ changed agents.old agent (λ state. record state { running = false; held = false }) }
+{
+    let place = agent.id.number as usize;
+    if place < agents.len() {
+        agents[place].running = false;
+        agents[place].held = false;
+    }
+}
+
+fn begin(agents: &mut [AgentState], agent: Member, run: u64)
+    ensures { agents.new ≡ changed agents.old agent (λ state. running_in run) }
+{
+    let place = agent.id.number as usize;
+    if place < agents.len() {
+        agents[place] = AgentState {
             running: true,
             held: false,
-        },
+            run,
+        };
+    }
+}
+
+/// Lets the agent of a member stand here from now on.
+pub fn set_phase(phases: &mut [Phase], agent: Member, phase: Phase)
+    ensures { phases.new ≡ changed phases.old agent (λ before. phase) }
+{
+    let place = agent.id.number as usize;
+    if place < phases.len() {
+        phases[place] = phase;
     }
 }

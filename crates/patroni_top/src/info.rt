@@ -1,6 +1,6 @@
 //! What members tell of themselves.
 ghost use Rattle.std.specs.Prelude.{◌≡◌};
-ghost use Rattle.event_book.specs.Info.{bare_info};
+ghost use Rattle.patroni_top.specs.Info.{bare_info};
 
 use lease_store::MemberInfo;
 use pat_base::{Host, Tags, Word};

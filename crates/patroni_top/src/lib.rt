@@ -3,15 +3,21 @@
 //! `run` is all that the program does. The world is a private part here until it has a crate of its own.
 #![tactic(auto)]
 
+mod agent;
 mod agents;
 mod ending;
+mod flight;
+mod info;
 mod links;
+mod phase;
 mod playing;
 mod print_error;
 mod printing;
 mod reading;
 mod status;
 mod top;
+mod way;
+mod ways;
 mod world;
 
 pub use status::Status;

@@ -2,7 +2,6 @@
 ghost use Rattle.std.specs.Prelude.{◌≡◌, OnOk};
 ghost use Rattle.event_book.specs.Links.{cuts_after, is_cut};
 ghost use Rattle.patroni_top.specs.Commands.{cut_of, join_of, end_of, link_of};
-ghost use Rattle.patroni_top.specs.Next.{store_link};
 
 use cluster_script::End;
 use event_book::{Kind, Link, LinkEnd, LinkEvent, Member};
@@ -29,20 +28,8 @@ fn end_of(members: &[Member], end: End) -> Option<LinkEnd>
     }
 }
 
-/// Whether a member's link to the key store is cut.
-pub fn is_off_store(cuts: &[Link], member: Member) -> bool
-    ensures { result ≡ is_cut cuts.now (store_link member) }
-{
-    is_cut(
-        cuts,
-        Link {
-            first: LinkEnd::Member(member),
-            second: LinkEnd::Store,
-        },
-    )
-}
-
-fn is_cut(cuts: &[Link], link: Link) -> bool
+/// Whether a link is among those that are cut.
+pub fn is_cut(cuts: &[Link], link: Link) -> bool
     ensures { result ≡ is_cut cuts.now link }
 {
     cuts.iter().any(|other| other.is_same(link))
@@ -73,16 +60,16 @@ pub fn join_of(cuts: &[Link], link: Option<Link>) -> Option<LinkEvent>
 }
 
 /// The links that are cut after what happens to one. It fails only for want of memory.
-pub fn change_links(cuts: &mut Vec<Link>, change: LinkEvent) -> Result<(), AllocError>
-    ensures { OnOk result (cuts.new.items ≡ cuts_after cuts.old.items (Kind.Link change)) }
+pub fn change_links(cuts: &mut Vec<Link>, change: &LinkEvent) -> Result<(), AllocError>
+    ensures { OnOk result (cuts.new.items ≡ cuts_after cuts.old.items (Kind.Link change.now)) }
 {
     match change {
         LinkEvent::Cut(link) => {
-            cuts.push(link)?;
+            cuts.push(*link)?;
             Ok(())
         }
         LinkEvent::Joined(link) => {
-            cuts.retain(|other| !other.is_same(link));
+            cuts.retain(|other| !other.is_same(*link));
             Ok(())
         }
     }

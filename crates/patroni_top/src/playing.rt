@@ -1,18 +1,18 @@
 //! Steps, and what they print.
 ghost use Rattle.std.specs.Prelude.{ℕ, ◌≡◌, ◌<◌, ◌≤◌, ◌+◌, ◌∷◌, [], length, OnOk, OnErr, IsErrOf, replicate, slice_get, Some};
 ghost use Rattle.pat_base.specs.Outside.{Grew, GrewByPrefix, Rose};
-ghost use Rattle.event_book.specs.Facts.{after_all};
 ghost use Rattle.event_book.specs.Text.{lines_of};
 ghost use Rattle.cluster_script.specs.Steps.{steps_of_line, steps_of, ticks_of_line, total_ticks};
+ghost use Rattle.patroni_top.specs.Cluster.{moved_all};
 ghost use Rattle.patroni_top.specs.Next.{next_events, run_from};
 ghost use Rattle.patroni_top.specs.Printing.{TakesAll};
-ghost use Rattle.patroni_top.specs.Run.{output_of};
+ghost use Rattle.patroni_top.specs.Run.{output_of, printed_from, traced_after, traced_all};
 ghost use Rattle.patroni_top.specs.Room.{HasRoomFor};
 
 use crate::print_error::PrintError;
 use crate::printing::{print_events, print_summary};
 use crate::world::World;
-use cluster_script::{Line, Script, Step};
+use cluster_script::{Command, Line, Script, Step};
 use event_book::Event;
 use pat_base::Sink;
 use std::alloc::Global;
@@ -27,7 +27,8 @@ pub fn play<K: Sink>(alloc: Global, script: &Script, out: &mut K) -> Result<(), 
     ensures room { TakesAll (K.can_take out.old) (K.can_take out.new) result (output_of script.now) }
 {
     let mut world = World::new(alloc, script.head())?;
-    play_body(alloc, script, &mut world, out)?;
+    let mut trace = false;
+    play_body(alloc, script, &mut world, &mut trace, out)?;
     print_summary(alloc, world.clock(), out)
 }
 
@@ -36,20 +37,22 @@ fn play_body<K: Sink>(
     alloc: Global,
     script: &Script,
     world: &mut World,
+    trace: &mut bool,
     out: &mut K,
 ) -> Result<(), PrintError>
     requires { HasRoomFor world.old (total_ticks script.now.body + length script.now.body) }
-    ensures state { OnOk result (world.new ≡ after_all world.old (run_from world.old (steps_of script.now.body))) }
-    ensures ok { OnOk result (Grew (K.content out.old) (K.content out.new) (lines_of (run_from world.old (steps_of script.now.body)))) }
-    ensures part { OnErr result (GrewByPrefix (K.content out.old) (K.content out.new) (lines_of (run_from world.old (steps_of script.now.body)))) }
+    ensures state { OnOk result (world.new ≡ moved_all world.old (run_from world.old (steps_of script.now.body))) }
+    ensures trace { OnOk result (trace.new ≡ traced_all trace.old (steps_of script.now.body)) }
+    ensures ok { OnOk result (Grew (K.content out.old) (K.content out.new) (printed_from world.old trace.old (steps_of script.now.body))) }
+    ensures part { OnErr result (GrewByPrefix (K.content out.old) (K.content out.new) (printed_from world.old trace.old (steps_of script.now.body))) }
     ensures write { IsErrOf result PrintError.Write → Rose (K.faults out.old) (K.faults out.new) }
     ensures grows { K.faults out.old ≤ K.faults out.new }
-    ensures room { TakesAll (K.can_take out.old) (K.can_take out.new) result (lines_of (run_from world.old (steps_of script.now.body))) }
+    ensures room { TakesAll (K.can_take out.old) (K.can_take out.new) result (printed_from world.old trace.old (steps_of script.now.body)) }
 {
     let mut events = Vec::new(alloc);
     for place in 0..script.len() {
         let line = line_at(script, place);
-        play_line(alloc, world, &line, &mut events, out)?;
+        play_line(alloc, world, trace, &line, &mut events, out)?;
     }
     Ok(())
 }
@@ -68,23 +71,32 @@ fn line_at(script: &Script, place: usize) -> Line
 fn play_line<K: Sink>(
     alloc: Global,
     world: &mut World,
+    trace: &mut bool,
     line: &Line,
     events: &mut Vec<Event>,
     out: &mut K,
 ) -> Result<(), PrintError>
     requires { HasRoomFor world.old (ticks_of_line line.now + 1) }
-    ensures state { OnOk result (world.new ≡ after_all world.old (run_from world.old (steps_of_line line.now))) }
+    ensures state { OnOk result (world.new ≡ moved_all world.old (run_from world.old (steps_of_line line.now))) }
+    ensures trace { OnOk result (trace.new ≡ traced_all trace.old (steps_of_line line.now)) }
     ensures steps { OnOk result ((steps : ℕ) → HasRoomFor world.old (ticks_of_line line.now + 1 + steps) → HasRoomFor world.new steps) }
-    ensures ok { OnOk result (Grew (K.content out.old) (K.content out.new) (lines_of (run_from world.old (steps_of_line line.now)))) }
-    ensures part { OnErr result (GrewByPrefix (K.content out.old) (K.content out.new) (lines_of (run_from world.old (steps_of_line line.now)))) }
+    ensures ok { OnOk result (Grew (K.content out.old) (K.content out.new) (printed_from world.old trace.old (steps_of_line line.now))) }
+    ensures part { OnErr result (GrewByPrefix (K.content out.old) (K.content out.new) (printed_from world.old trace.old (steps_of_line line.now))) }
     ensures write { IsErrOf result PrintError.Write → Rose (K.faults out.old) (K.faults out.new) }
     ensures grows { K.faults out.old ≤ K.faults out.new }
-    ensures room { TakesAll (K.can_take out.old) (K.can_take out.new) result (lines_of (run_from world.old (steps_of_line line.now))) }
+    ensures room { TakesAll (K.can_take out.old) (K.can_take out.new) result (printed_from world.old trace.old (steps_of_line line.now)) }
 {
     match line {
-        Line::Run(count) => play_ticks(alloc, world, *count, &Step::Scheduled, events, out),
-        Line::Tick(count) => play_ticks(alloc, world, *count, &Step::Tick, events, out),
-        Line::Command(command) => play_step(alloc, world, &Step::Command(*command), events, out),
+        Line::Run(count) => play_ticks(alloc, world, trace, *count, &Step::Scheduled, events, out),
+        Line::Tick(count) => play_ticks(alloc, world, trace, *count, &Step::Tick, events, out),
+        Line::Command(command) => play_step(
+            alloc,
+            world,
+            trace,
+            &Step::Command(*command),
+            events,
+            out,
+        ),
     }
 }
 
@@ -92,22 +104,24 @@ fn play_line<K: Sink>(
 fn play_ticks<K: Sink>(
     alloc: Global,
     world: &mut World,
+    trace: &mut bool,
     count: u64,
     step: &Step,
     events: &mut Vec<Event>,
     out: &mut K,
 ) -> Result<(), PrintError>
     requires { HasRoomFor world.old count }
-    ensures state { OnOk result (world.new ≡ after_all world.old (run_from world.old (replicate count step.now))) }
+    ensures state { OnOk result (world.new ≡ moved_all world.old (run_from world.old (replicate count step.now))) }
+    ensures trace { OnOk result (trace.new ≡ traced_all trace.old (replicate count step.now)) }
     ensures steps { OnOk result ((steps : ℕ) → HasRoomFor world.old (count + steps) → HasRoomFor world.new steps) }
-    ensures ok { OnOk result (Grew (K.content out.old) (K.content out.new) (lines_of (run_from world.old (replicate count step.now)))) }
-    ensures part { OnErr result (GrewByPrefix (K.content out.old) (K.content out.new) (lines_of (run_from world.old (replicate count step.now)))) }
+    ensures ok { OnOk result (Grew (K.content out.old) (K.content out.new) (printed_from world.old trace.old (replicate count step.now))) }
+    ensures part { OnErr result (GrewByPrefix (K.content out.old) (K.content out.new) (printed_from world.old trace.old (replicate count step.now))) }
     ensures write { IsErrOf result PrintError.Write → Rose (K.faults out.old) (K.faults out.new) }
     ensures grows { K.faults out.old ≤ K.faults out.new }
-    ensures room { TakesAll (K.can_take out.old) (K.can_take out.new) result (lines_of (run_from world.old (replicate count step.now))) }
+    ensures room { TakesAll (K.can_take out.old) (K.can_take out.new) result (printed_from world.old trace.old (replicate count step.now)) }
 {
     for done in 0..count {
-        play_step(alloc, world, step, events, out)?;
+        play_step(alloc, world, trace, step, events, out)?;
     }
     Ok(())
 }
@@ -116,20 +130,34 @@ fn play_ticks<K: Sink>(
 fn play_step<K: Sink>(
     alloc: Global,
     world: &mut World,
+    trace: &mut bool,
     step: &Step,
     events: &mut Vec<Event>,
     out: &mut K,
 ) -> Result<(), PrintError>
     requires { HasRoomFor world.old 1 }
-    ensures state { OnOk result (world.new ≡ after_all world.old (next_events world.old step.now)) }
+    ensures state { OnOk result (world.new ≡ moved_all world.old (next_events world.old step.now)) }
+    ensures trace { OnOk result (trace.new ≡ traced_after trace.old step.now) }
     ensures steps { OnOk result ((steps : ℕ) → HasRoomFor world.old (1 + steps) → HasRoomFor world.new steps) }
-    ensures ok { OnOk result (Grew (K.content out.old) (K.content out.new) (lines_of (next_events world.old step.now))) }
-    ensures part { OnErr result (GrewByPrefix (K.content out.old) (K.content out.new) (lines_of (next_events world.old step.now))) }
+    ensures ok { OnOk result (Grew (K.content out.old) (K.content out.new) (lines_of trace.old (next_events world.old step.now))) }
+    ensures part { OnErr result (GrewByPrefix (K.content out.old) (K.content out.new) (lines_of trace.old (next_events world.old step.now))) }
     ensures write { IsErrOf result PrintError.Write → Rose (K.faults out.old) (K.faults out.new) }
     ensures grows { K.faults out.old ≤ K.faults out.new }
-    ensures room { TakesAll (K.can_take out.old) (K.can_take out.new) result (lines_of (next_events world.old step.now)) }
+    ensures room { TakesAll (K.can_take out.old) (K.can_take out.new) result (lines_of trace.old (next_events world.old step.now)) }
 {
     events.clear();
     world.step(step, events)?;
-    print_events(alloc, events, out)
+    print_events(alloc, events, *trace, out)?;
+    *trace = traced_after(*trace, step);
+    Ok(())
+}
+
+/// Whether messages are traced after a step.
+fn traced_after(trace: bool, step: &Step) -> bool
+    ensures { result ≡ traced_after trace step.now }
+{
+    match step {
+        Step::Command(Command::Trace(on)) => *on,
+        _ => trace,
+    }
 }

@@ -9,28 +9,38 @@ use event_book::{Event, text};
 use pat_base::{Sink, Ticks, write_all};
 use std::alloc::Global;
 
-/// Writes the lines of events, each in one piece.
-pub fn print_events<K: Sink>(alloc: Global, events: &[Event], out: &mut K) -> Result<(), PrintError>
-    ensures ok { OnOk result (Grew (K.content out.old) (K.content out.new) (lines_of events.now)) }
-    ensures part { OnErr result (GrewByPrefix (K.content out.old) (K.content out.new) (lines_of events.now)) }
+/// Writes the lines of events, each in one piece. Those of messages are written only while messages are traced.
+pub fn print_events<K: Sink>(
+    alloc: Global,
+    events: &[Event],
+    trace: bool,
+    out: &mut K,
+) -> Result<(), PrintError>
+    ensures ok { OnOk result (Grew (K.content out.old) (K.content out.new) (lines_of trace events.now)) }
+    ensures part { OnErr result (GrewByPrefix (K.content out.old) (K.content out.new) (lines_of trace events.now)) }
     ensures write { IsErrOf result PrintError.Write → Rose (K.faults out.old) (K.faults out.new) }
     ensures grows { K.faults out.old ≤ K.faults out.new }
-    ensures room { TakesAll (K.can_take out.old) (K.can_take out.new) result (lines_of events.now) }
+    ensures room { TakesAll (K.can_take out.old) (K.can_take out.new) result (lines_of trace events.now) }
 {
     for event in events {
-        print_event(alloc, event, out)?;
+        print_event(alloc, event, trace, out)?;
     }
     Ok(())
 }
 
-fn print_event<K: Sink>(alloc: Global, event: &Event, out: &mut K) -> Result<(), PrintError>
-    ensures ok { OnOk result (Grew (K.content out.old) (K.content out.new) (bytes_or_none (line_of event.now))) }
-    ensures part { OnErr result (GrewByPrefix (K.content out.old) (K.content out.new) (bytes_or_none (line_of event.now))) }
+fn print_event<K: Sink>(
+    alloc: Global,
+    event: &Event,
+    trace: bool,
+    out: &mut K,
+) -> Result<(), PrintError>
+    ensures ok { OnOk result (Grew (K.content out.old) (K.content out.new) (bytes_or_none (line_of trace event.now))) }
+    ensures part { OnErr result (GrewByPrefix (K.content out.old) (K.content out.new) (bytes_or_none (line_of trace event.now))) }
     ensures write { IsErrOf result PrintError.Write → Rose (K.faults out.old) (K.faults out.new) }
     ensures grows { K.faults out.old ≤ K.faults out.new }
-    ensures room { TakesAll (K.can_take out.old) (K.can_take out.new) result (bytes_or_none (line_of event.now)) }
+    ensures room { TakesAll (K.can_take out.old) (K.can_take out.new) result (bytes_or_none (line_of trace event.now)) }
 {
-    if let Some(line) = text(alloc, event)? {
+    if let Some(line) = text(alloc, event, trace)? {
         write_all(out, line.as_bytes())?;
     }
     Ok(())

@@ -93,8 +93,12 @@ fn commands_on_agents_and_links(rt: HostRuntime) -> Result<(), Fail> {
             "1 a takes the leader key\n50 a is killed\n50 a is started\n50 a is already running\n50 a is held\n50 a resumes\nend at 51\n",
         ),
         (
-            "cluster demo\nmember a\ntick 1\nturn a\nturn a\ntick 299\nturn a\ndeliver 7\nlose 8\ntrace on\nrun 2",
-            "1 a takes the leader key\n300 no message 7\n300 no message 8\nend at 302\n",
+            "cluster demo\nmember a\ntick 1\nturn a\nturn a\ndeliver 1\ndeliver 2\ndeliver 3\ndeliver 7\nlose 8\n",
+            "1 a takes the leader key\n1 no message 7\n1 no message 8\nend at 1\n",
+        ),
+        (
+            "cluster demo\nmember a\nmember b\ntick 2\nturn a\nturn b\ndeliver 1\ndeliver 2\ndeliver 3\ndeliver 4\ndeliver 5\ndeliver 6\n",
+            "2 a takes the leader key\n2 the create of b is refused, leader has revision 2\nend at 2\n",
         ),
     ] {
         let ended = run_in_memory(alloc, "run", script, NO_FAULTS)?;

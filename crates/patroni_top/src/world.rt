@@ -1,46 +1,61 @@
 //! The world: it takes the steps of a script and hands out what happens.
-ghost use Rattle.std.specs.Prelude.{ℕ, ◌≡◌, ◌<◌, ◌≤◌, ◌+◌, ◌*◌, ◌^◌, ◌++◌, [], ◌∷◌, length, OnOk, OnErr, IfOk, IfSome, vec_len, vec_capacity, slice_get, Some, true};
-ghost use Rattle.std.specs.Option.{option_copied};
-ghost use Rattle.pat_base.specs.MemberId.{member_of};
-ghost use Rattle.lease_store.specs.Answers.{holder_of};
+ghost use Rattle.std.specs.Prelude.{ℕ, ◌≡◌, ◌≤◌, ◌+◌, ◌*◌, ◌++◌, ◌∷◌, [], length, OnOk, OnErr, IfOk, slice_get, Some, None, option_map};
+ghost use Rattle.lease_store.specs.Answers.{present_pairs};
 ghost use Rattle.lease_store.specs.Decision.{decision_on};
-ghost use Rattle.lease_store.specs.Keys.{key_at};
-ghost use Rattle.lease_store.specs.Writes.{ttl_of};
-ghost use Rattle.event_book.specs.Facts.{after, after_all, start_of};
-ghost use Rattle.event_book.specs.Members.{members_from, agents_from};
-ghost use Rattle.event_book.specs.Requests.{txn_of};
-ghost use Rattle.patroni_top.specs.Commands.{agent_of, agent_kinds, link_kinds, restart_kinds, link_of};
-ghost use Rattle.patroni_top.specs.Next.{stamped, request_on, decided, answered, asked_by, turn_at, turns, declared_member, ticked, told_by, command_events, next_events};
-ghost use Rattle.patroni_top.specs.Room.{HasRoomFor};
+ghost use Rattle.event_book.specs.Flight.{in_flight, snapshot_for, grant_for};
+ghost use Rattle.cluster_script.specs.Script.{HeadText};
+ghost use Rattle.patroni_top.specs.Cluster.{Cluster, cluster_of, moved, first_phases};
+ghost use Rattle.patroni_top.specs.Commands.{agent_kinds, link_kinds, restart_kinds, link_of, cut_of, join_of, hold_of, resume_of, kill_of};
+ghost use Rattle.patroni_top.specs.Next.{all_happen, happens, then, sends, seat_for, seat_at, reacts, wake_at, wakes, answers, decides, decided, decision_told, comes_found, moves, all_move, round, rounds, most_rounds, expiries_of, ticks, delivers, loses, command_events, next_events};
+ghost use Rattle.patroni_top.specs.Room.{HasRoom, HasRoomFor};
+ghost use Rattle.patroni_top.specs.Short.{IsShort, AsksShortly};
+ghost use Rattle.patroni_top.specs.Took.{Took};
 
-use crate::agents::{agent_at, change_agents, due_member, hold_of, kill_of, resume_of};
-use crate::links::{change_links, cut_of, is_off_store, join_of, link_of};
+use crate::agent::{fresh_phase, heard, woken};
+use crate::agents::{change_agents, hold_of, is_ready, kill_of, resume_of, seat_for, set_phase};
+use crate::flight::{Flight, InFlight};
+use crate::links::{change_links, cut_of, join_of, link_of};
+use crate::phase::{Phase, Reaction, Seat};
+use crate::way::Way;
+use crate::ways::way_of;
 use cluster_script::{Command, End, Head, Step};
 use event_book::{
-    AgentEvent, AgentState, Event, Kind, LeaseRequest, Link, LinkEvent, Member, Note, StoreEvent,
+    AgentEvent, AgentState, Body, Event, Kind, Link, LinkEnd, LinkEvent, Member, Message,
+    MessageEvent, Names, Note, StoreEvent,
 };
-use lease_store::{Config, ConfigValue, Granted, Held, Key, Store, StoreRefusal, Value};
+use lease_store::{ConfigValue, Granted, Held, Key, Store, StoreRefusal, Txn};
 use pat_base::{MemberId, Ticks};
 use std::alloc::{AllocError, Global};
 use std::marker::Model;
 
-/// A cluster at a moment: the clock, the key store, the declared members with their agents, and the links that are cut.
+/// The most rounds of one tick.
+const MOST_ROUNDS: usize = 40;
+
+/// A cluster at a moment: the clock, the key store, the declared members with their agents, the links that are cut, and
+/// the messages in flight.
 #[derive(Drop)]
 pub struct World {
+    alloc: Global,
     clock: Ticks,
     store: Store,
     members: Vec<Member>,
     agents: Vec<AgentState>,
+    phases: Vec<Phase>,
     cuts: Vec<Link>,
+    flight: Flight,
+    sent: u64,
 }
 
 impl Model for World {
     ghost use Rattle.std.specs.Prelude.{◌≤◌, length};
-    ghost use Rattle.event_book.specs.Facts.{Facts};
+    ghost use Rattle.patroni_top.specs.Cluster.{Cluster};
 
-    ghost Value = { Facts };
+    ghost Value = { Cluster };
 
-    ghost view = { λ w. record { clock = w.clock.0; keys = w.store; members = w.members.items; agents = w.agents.items; cuts = w.cuts.items } };
+    ghost view = { λ w. record {
+      book = record { clock = w.clock.0; keys = w.store; members = w.members.items; agents = w.agents.items; cuts = w.cuts.items; flight = w.flight; sent = w.sent };
+      phases = w.phases.items;
+    } };
 
     ghost invariant = { λ w. length w.members.items ≤ 16 };
 }
@@ -48,23 +63,28 @@ impl Model for World {
 impl World {
     /// The world of a script's head, before the first step. It fails only for want of memory.
     pub fn new(alloc: Global, head: &Head) -> Result<World, AllocError>
-        ensures { IfOk result (λ world. world ≡ start_of head.now.members) }
+        ensures { IfOk result (λ world. world ≡ cluster_of head.now.members) }
     {
         let members = members_of(alloc, head)?;
         let agents = agents_of(alloc, head.member_count())?;
+        let phases = phases_of(alloc, head.member_count())?;
         let store = Store::new(alloc, ConfigValue::defaults(alloc)?)?;
         Ok(World {
+            alloc,
             clock: Ticks(0),
             store,
             members,
             agents,
+            phases,
             cuts: Vec::new(alloc),
+            flight: Flight::new(alloc),
+            sent: 0,
         })
     }
 
     /// The moment.
     pub fn clock(&self) -> Ticks
-        ensures { result.0 ≡ self.now.clock }
+        ensures { result.0 ≡ self.now.book.clock }
     {
         self.clock
     }
@@ -73,42 +93,30 @@ impl World {
     /// the world and the events aren't to be used any more.
     pub fn step(&mut self, step: &Step, events: &mut Vec<Event>) -> Result<(), AllocError>
         requires { HasRoomFor self.old 1 }
-        ensures event { OnOk result (events.new.items ≡ events.old.items ++ next_events self.old step.now) }
-        ensures state { OnOk result (self.new ≡ after_all self.old (next_events self.old step.now)) }
-        ensures room { OnOk result ((steps : ℕ) → HasRoomFor self.old (1 + steps) → HasRoomFor self.new steps) }
+        ensures { OnOk result (Took self.old self.new events.old.items events.new.items (next_events self.old step.now) 16777216) }
     {
-        let count = self.members.len();
-        events.reserve(2 * count + 2)?;
         match step {
             Step::Scheduled => {
-                self.tick(events);
-                self.turns(count, events)
+                self.tick(events)?;
+                self.rounds(events)
             }
-            Step::Tick => {
-                self.tick(events);
-                Ok(())
-            }
+            Step::Tick => self.tick(events),
             Step::Command(command) => self.command(command, events),
         }
     }
 
     /// What a command comes to.
     fn command(&mut self, command: &Command, events: &mut Vec<Event>) -> Result<(), AllocError>
-        requires clock { self.old.clock < 2 ^ 61 }
-        requires revision { self.old.keys.revision < 2 ^ 60 }
-        requires room { vec_len events.old + 2 ≤ vec_capacity events.old }
-        ensures state { OnOk result (self.new ≡ after_all self.old (command_events self.old command.now)) }
-        ensures event { OnOk result (events.new.items ≡ events.old.items ++ command_events self.old command.now) }
-        ensures clock { OnOk result (self.new.clock ≡ self.old.clock) }
-        ensures revision { OnOk result (self.new.keys.revision ≤ self.old.keys.revision + 1) }
+        requires { HasRoom self.old 4 }
+        ensures { OnOk result (Took self.old self.new events.old.items events.new.items (command_events self.old command.now) 4) }
     {
         match *command {
-            Command::Turn(member) => self.turn(member.number as usize, events),
-            Command::Deliver(number) => self.no_message(number, events),
-            Command::Lose(number) => self.no_message(number, events),
-            Command::Hold(member) => self.change_agent(hold_of(self.agent(member)), events),
-            Command::Resume(member) => self.change_agent(resume_of(self.agent(member)), events),
-            Command::Kill(member) => self.change_agent(kill_of(self.agent(member)), events),
+            Command::Turn(member) => self.wake(member.number as usize, events),
+            Command::Deliver(number) => self.deliver(number, events),
+            Command::Lose(number) => self.lose(number, events),
+            Command::Hold(member) => self.change_agent(hold_of(self.seat(member)), events),
+            Command::Resume(member) => self.change_agent(resume_of(self.seat(member)), events),
+            Command::Kill(member) => self.change_agent(kill_of(self.seat(member)), events),
             Command::Restart(member) => self.restart(member, events),
             Command::Cut(first, second) => {
                 let change = cut_of(&self.cuts, self.link(first, second));
@@ -123,158 +131,389 @@ impl World {
     }
 
     /// The clock grows by one, and the keys that have expired are dropped.
-    fn tick(&mut self, events: &mut Vec<Event>)
-        requires clock { self.old.clock < 2 ^ 60 }
-        requires room { vec_len events.old + 2 ≤ vec_capacity events.old }
-        ensures state { self.new ≡ after_all self.old (ticked self.old) }
-        ensures event { events.new.items ≡ events.old.items ++ ticked self.old }
-        ensures clock { self.new.clock ≡ self.old.clock + 1 }
-        ensures revision { self.new.keys.revision ≡ self.old.keys.revision }
-        ensures members { self.new.members ≡ self.old.members }
-        ensures len { vec_len events.new ≤ vec_len events.old + 2 }
-        ensures room { vec_capacity events.old ≤ vec_capacity events.new }
+    fn tick(&mut self, events: &mut Vec<Event>) -> Result<(), AllocError>
+        requires { HasRoom self.old 1 }
+        ensures { OnOk result (Took self.old self.new events.old.items events.new.items (ticks self.old) 1) }
     {
         self.clock = Ticks(self.clock.0 + 1);
-        note(events, self.clock, Kind::Tick);
-        let expired = self.store.drop_expired(self.clock);
-        if let Some(holder) = declared_member(&self.members, expired) {
+        note(events, self.clock, Kind::Tick)?;
+        let expired = self.store.expired(self.clock)?;
+        let holder = self.store.drop_expired(self.clock);
+        let holder = declared_member(&self.members, holder);
+        note_expiries(events, self.clock, holder, &expired)
+    }
+
+    /// The rounds of a tick. A round in which nothing happens is the last.
+    fn rounds(&mut self, events: &mut Vec<Event>) -> Result<(), AllocError>
+        requires { HasRoom self.old 10487680 }
+        ensures { OnOk result (Took self.old self.new events.old.items events.new.items (rounds self.old most_rounds) 10487680) }
+    {
+        for _ in 0..MOST_ROUNDS {
+            let before = events.len();
+            self.round(events)?;
+            if events.len() == before {
+                return Ok(());
+            }
+        }
+        Ok(())
+    }
+
+    /// A round: each due agent is woken, and then each message that is in flight at that point moves.
+    fn round(&mut self, events: &mut Vec<Event>) -> Result<(), AllocError>
+        requires { HasRoom self.old 262192 }
+        ensures { OnOk result (Took self.old self.new events.old.items events.new.items (round self.old) 262192) }
+    {
+        let count = self.members.len();
+        self.wakes(count, events)?;
+        let numbers = self.flight.numbers(self.alloc)?;
+        self.all_move(&numbers, events)
+    }
+
+    /// The agents are woken where they have something to do, in script order.
+    fn wakes(&mut self, count: usize, events: &mut Vec<Event>) -> Result<(), AllocError>
+        requires { HasRoom self.old (3 * count) }
+        ensures { OnOk result (Took self.old self.new events.old.items events.new.items (wakes self.old 0 count) (3 * count)) }
+    {
+        for place in 0..count {
+            self.wake(place, events)?;
+        }
+        Ok(())
+    }
+
+    /// The agent at a place is woken, where it has something to do.
+    fn wake(&mut self, place: usize, events: &mut Vec<Event>) -> Result<(), AllocError>
+        requires { HasRoom self.old 3 }
+        ensures { OnOk result (Took self.old self.new events.old.items events.new.items (wake_at self.old place) 3) }
+    {
+        let Some(seat) = self.seat_at(place) else {
+            return Ok(());
+        };
+        if !is_ready(self.clock, &seat) {
+            return Ok(());
+        }
+        let reaction = woken(self.clock, seat.phase);
+        set_phase(&mut self.phases, seat.member, reaction.phase);
+        let woken = AgentEvent::Woken { agent: seat.member };
+        note(events, self.clock, Kind::Agent(woken))?;
+        self.react(&seat, reaction, events)
+    }
+
+    /// These messages move, one after another.
+    fn all_move(&mut self, numbers: &[u64], events: &mut Vec<Event>) -> Result<(), AllocError>
+        requires { HasRoom self.old (4 * length numbers.now) }
+        ensures { OnOk result (Took self.old self.new events.old.items events.new.items (all_move self.old numbers.now) (4 * length numbers.now)) }
+    {
+        for number in numbers {
+            self.move_message(*number, events)?;
+        }
+        Ok(())
+    }
+
+    /// A message comes to its receiver, is lost, or is kept for a receiver that is held.
+    fn move_message(&mut self, number: u64, events: &mut Vec<Event>) -> Result<(), AllocError>
+        requires { HasRoom self.old 4 }
+        ensures { OnOk result (Took self.old self.new events.old.items events.new.items (moves self.old number) 4) }
+    {
+        match self.way(number) {
+            None | Some(Way::Held) => Ok(()),
+            Some(Way::Open) => self.arrive(number, events),
+            Some(Way::Cut | Way::Gone) => self.drop_message(number, events),
+        }
+    }
+
+    /// A script delivers a message, where it is in flight and nothing stands in its way.
+    fn deliver(&mut self, number: u64, events: &mut Vec<Event>) -> Result<(), AllocError>
+        requires { HasRoom self.old 4 }
+        ensures { OnOk result (Took self.old self.new events.old.items events.new.items (delivers self.old number (in_flight self.old.book.flight number)) 4) }
+    {
+        match self.way(number) {
+            None => note(events, self.clock, Kind::Note(Note::NoMessage { number })),
+            Some(Way::Open) => self.arrive(number, events),
+            Some(Way::Gone) => self.drop_message(number, events),
+            Some(Way::Cut | Way::Held) => {
+                note(
+                    events,
+                    self.clock,
+                    Kind::Note(Note::Undeliverable { number }),
+                )
+            }
+        }
+    }
+
+    /// A script loses a message, where it is in flight.
+    fn lose(&mut self, number: u64, events: &mut Vec<Event>) -> Result<(), AllocError>
+        requires { HasRoom self.old 1 }
+        ensures { OnOk result (Took self.old self.new events.old.items events.new.items (loses self.old number (in_flight self.old.book.flight number)) 1) }
+    {
+        match self.way(number) {
+            None => note(events, self.clock, Kind::Note(Note::NoMessage { number })),
+            Some(_) => self.drop_message(number, events),
+        }
+    }
+
+    /// What stands between a message and its receiver. `None` exactly where it isn't in flight.
+    fn way(&self, number: u64) -> Option<Way>
+        ensures { result ≡ option_map (λ m. way_of self.now.book.cuts self.now.book.agents m.message) (in_flight self.now.book.flight number) }
+    {
+        let carried = self.flight.get(number)?;
+        Some(way_of(&self.cuts, &self.agents, &carried.message))
+    }
+
+    /// A message in flight is lost.
+    fn drop_message(&mut self, number: u64, events: &mut Vec<Event>) -> Result<(), AllocError>
+        requires { HasRoom self.old 1 }
+        ensures { OnOk result (Took self.old self.new events.old.items events.new.items (happens self.old (Kind.Message (MessageEvent.Lost number))) 1) }
+    {
+        let _ = self.flight.land(number);
+        note(
+            events,
+            self.clock,
+            Kind::Message(MessageEvent::Lost { number }),
+        )
+    }
+
+    /// A message in flight comes to its receiver, which acts on it.
+    fn arrive(&mut self, number: u64, events: &mut Vec<Event>) -> Result<(), AllocError>
+        requires { HasRoom self.old 4 }
+        ensures { OnOk result (Took self.old self.new events.old.items events.new.items (comes_found self.old number (in_flight self.old.book.flight number)) 4) }
+    {
+        let Some(carried) = self.flight.land(number) else {
+            return Ok(());
+        };
+        match carried.message.to {
+            LinkEnd::Store => {
+                note(
+                    events,
+                    self.clock,
+                    Kind::Message(MessageEvent::Delivered { number }),
+                )?;
+                self.answer(number, &carried.message, events)
+            }
+            LinkEnd::Member(member) => {
+                let reaction = self.listen(&carried, member);
+                note(
+                    events,
+                    self.clock,
+                    Kind::Message(MessageEvent::Delivered { number }),
+                )?;
+                self.react_if(reaction, events)
+            }
+        }
+    }
+
+    /// The agent of a member acts on a message.
+    fn listen(&mut self, carried: &InFlight, member: Member) -> Option<(Seat, Reaction)>
+        requires { HasRoom self.old 4 }
+        ensures state { self.new ≡ record self.old { phases = phases_told self.old.book.clock self.old.phases carried.now (LinkEnd.Member member) } }
+        ensures reaction { result ≡ listened self.old carried.now member }
+        ensures short { IfSome result (λ heard. AsksShortly heard.1.asks) }
+    {
+        let seat = seat_for(&self.agents, &self.phases, member)?;
+        let reaction = heard(self.clock, member.id, carried, seat.phase);
+        set_phase(&mut self.phases, member, reaction.phase);
+        Some((seat, reaction))
+    }
+
+    fn react_if(
+        &mut self,
+        reaction: Option<(Seat, Reaction)>,
+        events: &mut Vec<Event>,
+    ) -> Result<(), AllocError>
+        requires room { HasRoom self.old 2 }
+        requires short { IfSome reaction (λ heard. AsksShortly heard.1.asks) }
+        ensures { OnOk result (Took self.old self.new events.old.items events.new.items (reacts_if self.old reaction) 2) }
+    {
+        match reaction {
+            None => Ok(()),
+            Some((seat, reaction)) => self.react(&seat, reaction, events),
+        }
+    }
+
+    /// An agent sends what its reaction asks.
+    fn react(
+        &mut self,
+        seat: &Seat,
+        reaction: Reaction,
+        events: &mut Vec<Event>,
+    ) -> Result<(), AllocError>
+        requires room { HasRoom self.old 2 }
+        requires short { AsksShortly reaction.asks }
+        ensures { OnOk result (Took self.old self.new events.old.items events.new.items (reacts self.old seat.now reaction) 2) }
+    {
+        let Reaction { phase, asks } = reaction;
+        let Some(body) = asks else {
+            return Ok(());
+        };
+        let question = Message {
+            from: LinkEnd::Member(seat.member),
+            to: LinkEnd::Store,
+            run: seat.state.run,
+            sequence: phase.sequence,
+            body,
+        };
+        self.send(question, None, events)
+    }
+
+    /// The store answers a read with a snapshot, and a request with its decision.
+    fn answer(
+        &mut self,
+        number: u64,
+        message: &Message,
+        events: &mut Vec<Event>,
+    ) -> Result<(), AllocError>
+        requires room { HasRoom self.old 3 }
+        requires short { IsShort message.now.body }
+        ensures { OnOk result (Took self.old self.new events.old.items events.new.items (answers self.old number message.now) 3) }
+    {
+        match &message.body {
+            Body::Read => self.send(answer_to(message, Body::Snapshot), None, events),
+            Body::Request(txn) => self.decide(number, message, txn, events),
+            _ => Ok(()),
+        }
+    }
+
+    /// The store decides on the request that a message carries.
+    fn decide(
+        &mut self,
+        number: u64,
+        message: &Message,
+        txn: &Txn,
+        events: &mut Vec<Event>,
+    ) -> Result<(), AllocError>
+        requires room { HasRoom self.old 3 }
+        requires span { ttl_of txn.now ≤ 2 ^ 40 }
+        ensures { OnOk result (Took self.old self.new events.old.items events.new.items (decides self.old number message.now txn.now (decision_on self.old.book.keys self.old.book.clock txn.now) message.now.from) 3) }
+    {
+        let LinkEnd::Member(by) = message.from else {
+            return Ok(());
+        };
+        match self.store.apply(self.clock, by.id, txn.copy()?) {
+            Ok(grant) => {
+                let granted = StoreEvent::Granted {
+                    number,
+                    by,
+                    txn: txn.copy()?,
+                    standbys: Names::none(self.alloc),
+                };
+                note(events, self.clock, Kind::Store(granted))?;
+                let body = Body::Granted {
+                    request: number,
+                    leased: grant.leased(),
+                };
+                self.send(answer_to(message, body), Some(grant), events)
+            }
+            Err(StoreRefusal::Mismatch { key, found }) => {
+                let refused = StoreEvent::Refused {
+                    number,
+                    by,
+                    request: txn.kind(),
+                    key,
+                    found,
+                };
+                note(events, self.clock, Kind::Store(refused))?;
+                let body = Body::Refused {
+                    request: number,
+                    key,
+                    found,
+                };
+                self.send(answer_to(message, body), None, events)
+            }
+            Err(StoreRefusal::Memory) => Err(AllocError),
+        }
+    }
+
+    /// A message is sent under the next number, with the snapshot and the grant that an answer of the store carries. One
+    /// that is sent beyond the most in flight is lost at once.
+    fn send(
+        &mut self,
+        message: Message,
+        grant: Option<Granted>,
+        events: &mut Vec<Event>,
+    ) -> Result<(), AllocError>
+        requires room { HasRoom self.old 2 }
+        requires short { IsShort message.body }
+        requires grant { grant ≡ grant_for message.body message.to self.old.book.keys.revision }
+        ensures { OnOk result (Took self.old self.new events.old.items events.new.items (sends self.old message) 2) }
+    {
+        let number = self.sent + 1;
+        let carried = InFlight {
+            message: message.copy()?,
+            snapshot: self.snapshot_for(&message.body)?,
+            grant,
+        };
+        let lost = self.flight.launch(number, carried)?;
+        self.sent = number;
+        note(
+            events,
+            self.clock,
+            Kind::Message(MessageEvent::Sent { number, message }),
+        )?;
+        if lost {
             note(
                 events,
                 self.clock,
-                Kind::Store(StoreEvent::Expired { holder }),
-            );
-        }
-    }
-
-    /// The turns of the members, in script order.
-    fn turns(&mut self, count: usize, events: &mut Vec<Event>) -> Result<(), AllocError>
-        requires clock { self.old.clock < 2 ^ 61 }
-        requires revision { self.old.keys.revision + count < 2 ^ 60 }
-        requires room { vec_len events.old + 2 * count ≤ vec_capacity events.old }
-        ensures state { OnOk result (self.new ≡ after_all self.old (turns self.old 0 count)) }
-        ensures event { OnOk result (events.new.items ≡ events.old.items ++ turns self.old 0 count) }
-        ensures clock { OnOk result (self.new.clock ≡ self.old.clock) }
-        ensures revision { OnOk result (self.new.keys.revision ≤ self.old.keys.revision + count) }
-    {
-        for place in 0..count {
-            self.turn(place, events)?;
+                Kind::Message(MessageEvent::Lost { number }),
+            )?;
         }
         Ok(())
     }
 
-    /// The turn of the member at a place, if it is due.
-    fn turn(&mut self, place: usize, events: &mut Vec<Event>) -> Result<(), AllocError>
-        requires clock { self.old.clock < 2 ^ 61 }
-        requires revision { self.old.keys.revision < 2 ^ 60 }
-        requires room { vec_len events.old + 2 ≤ vec_capacity events.old }
-        ensures state { OnOk result (self.new ≡ after_all self.old (turn_at self.old place)) }
-        ensures event { OnOk result (events.new.items ≡ events.old.items ++ turn_at self.old place) }
-        ensures clock { OnOk result (self.new.clock ≡ self.old.clock) }
-        ensures revision { OnOk result (self.new.keys.revision ≤ self.old.keys.revision + 1) }
-        ensures len { OnOk result (vec_len events.new ≤ vec_len events.old + 2) }
-        ensures room { OnOk result (vec_capacity events.old ≤ vec_capacity events.new) }
+    /// What the store holds, for an answer that tells it.
+    fn snapshot_for(&self, body: &Body) -> Result<Vec<(Key, Held)>, AllocError>
+        ensures { IfOk result (λ snapshot. snapshot.items ≡ snapshot_for body.now (present_pairs self.now.book.clock self.now.book.keys.pairs)) }
     {
-        let Some(member) = due_member(self.clock, &self.members, &self.agents, place) else {
-            return Ok(());
-        };
-        self.act(AgentEvent::Woken { agent: member }, events);
-        self.read_key(member, events)
-    }
-
-    /// A member reads the leader key, unless its link is cut, and the store decides on what it asks for.
-    fn read_key(&mut self, member: Member, events: &mut Vec<Event>) -> Result<(), AllocError>
-        requires clock { self.old.clock < 2 ^ 61 }
-        requires revision { self.old.keys.revision < 2 ^ 60 }
-        requires room { vec_len events.old + 1 ≤ vec_capacity events.old }
-        ensures state { OnOk result (self.new ≡ after_all self.old (stamped self.old (answered self.old member (asked_by self.old member)))) }
-        ensures event { OnOk result (events.new.items ≡ events.old.items ++ stamped self.old (answered self.old member (asked_by self.old member))) }
-        ensures clock { OnOk result (self.new.clock ≡ self.old.clock) }
-        ensures revision { OnOk result (self.new.keys.revision ≤ self.old.keys.revision + 1) }
-        ensures len { OnOk result (vec_len events.new ≤ vec_len events.old + 1) }
-        ensures room { OnOk result (vec_capacity events.old ≤ vec_capacity events.new) }
-    {
-        if is_off_store(&self.cuts, member) {
-            return Ok(());
+        match body {
+            Body::Snapshot | Body::Granted { .. } => self.store.entries(self.clock),
+            _ => Ok(Vec::new(self.alloc)),
         }
-        let Some(request) = request_on(member, self.store.get(self.clock, Key::Leader)) else {
-            return Ok(());
-        };
-        self.request(member, request, events)
     }
 
-    /// The store decides on a request of a member.
-    fn request(
-        &mut self,
-        by: Member,
-        request: LeaseRequest,
-        events: &mut Vec<Event>,
-    ) -> Result<(), AllocError>
-        requires clock { self.old.clock < 2 ^ 61 }
-        requires span { ttl_of (txn_of request) ≤ 2 ^ 40 }
-        requires revision { self.old.keys.revision < 2 ^ 60 }
-        requires room { vec_len events.old + 1 ≤ vec_capacity events.old }
-        ensures state { OnOk result (self.new ≡ after self.old (decided by request (decision_on self.old.keys self.old.clock (txn_of request)))) }
-        ensures event { OnOk result (events.new.items ≡ events.old.items ++ stamped self.old (decided by request (decision_on self.old.keys self.old.clock (txn_of request)) ∷ [])) }
-        ensures clock { OnOk result (self.new.clock ≡ self.old.clock) }
-        ensures revision { OnOk result (self.new.keys.revision ≤ self.old.keys.revision + 1) }
-        ensures len { OnOk result (vec_len events.new ≡ vec_len events.old + 1) }
-        ensures room { OnOk result (vec_capacity events.old ≤ vec_capacity events.new) }
+    /// The declared member at a place, with its agent.
+    fn seat_at(&self, place: usize) -> Option<Seat>
+        ensures { result ≡ seat_at self.now place }
     {
-        let answer = self.store.apply(self.clock, by.id, request.txn());
-        let happening = told_by(by, request, answer)?;
-        note(events, self.clock, happening);
-        Ok(())
+        let member = *self.members.get(place)?;
+        seat_for(&self.agents, &self.phases, member)
     }
 
-    /// The declared member of this number, and its agent.
-    fn agent(&self, id: MemberId) -> Option<(Member, AgentState)>
-        ensures { result ≡ agent_of self.now id }
+    /// The declared member of this number, with its agent.
+    fn seat(&self, id: MemberId) -> Option<Seat>
+        ensures { result ≡ seat_at self.now id.number }
     {
-        agent_at(&self.members, &self.agents, id)
+        self.seat_at(id.number as usize)
     }
 
     /// The link between two ends that a script names.
     fn link(&self, first: End, second: End) -> Option<Link>
-        ensures { result ≡ link_of self.now.members first second }
+        ensures { result ≡ link_of self.now.book.members first second }
     {
         link_of(&self.members, first, second)
     }
 
-    /// A message of this number isn't in flight.
-    fn no_message(&mut self, number: u64, events: &mut Vec<Event>) -> Result<(), AllocError>
-        requires clock { self.old.clock < 2 ^ 61 }
-        requires room { vec_len events.old + 1 ≤ vec_capacity events.old }
-        ensures state { OnOk result (self.new ≡ after self.old (Kind.Note (Note.NoMessage number))) }
-        ensures event { OnOk result (events.new.items ≡ events.old.items ++ stamped self.old (Kind.Note (Note.NoMessage number) ∷ [])) }
-        ensures clock { OnOk result (self.new.clock ≡ self.old.clock) }
-        ensures keys { OnOk result (self.new.keys ≡ self.old.keys) }
-    {
-        note(events, self.clock, Kind::Note(Note::NoMessage { number }));
-        Ok(())
-    }
-
     /// An agent is asked to start. It does where it doesn't run.
     fn restart(&mut self, member: MemberId, events: &mut Vec<Event>) -> Result<(), AllocError>
-        requires clock { self.old.clock < 2 ^ 61 }
-        requires room { vec_len events.old + 1 ≤ vec_capacity events.old }
-        ensures state { OnOk result (self.new ≡ after_all self.old (stamped self.old (restart_kinds (agent_of self.old member)))) }
-        ensures event { OnOk result (events.new.items ≡ events.old.items ++ stamped self.old (restart_kinds (agent_of self.old member))) }
-        ensures clock { OnOk result (self.new.clock ≡ self.old.clock) }
-        ensures keys { OnOk result (self.new.keys ≡ self.old.keys) }
+        requires { HasRoom self.old 1 }
+        ensures { OnOk result (Took self.old self.new events.old.items events.new.items (all_happen self.old (restart_kinds (seat_at self.old member.number))) 1) }
     {
-        let Some((agent, state)) = self.agent(member) else {
+        let Some(seat) = self.seat(member) else {
             return Ok(());
         };
-        if state.running {
-            note(
+        let agent = seat.member;
+        if seat.state.running {
+            return note(
                 events,
                 self.clock,
                 Kind::Note(Note::AlreadyRunning { agent }),
             );
-        } else {
-            self.act(AgentEvent::Started { agent }, events);
         }
-        Ok(())
+        let first_turn = Ticks(self.clock.0 + 1);
+        let started = AgentEvent::Started {
+            agent,
+            run: seat.state.run + 1,
+        };
+        change_agents(&mut self.agents, &started);
+        set_phase(&mut self.phases, agent, fresh_phase(first_turn));
+        note(events, self.clock, Kind::Agent(started))
     }
 
     /// What happens to an agent, if anything does.
@@ -283,18 +522,15 @@ impl World {
         happening: Option<AgentEvent>,
         events: &mut Vec<Event>,
     ) -> Result<(), AllocError>
-        requires clock { self.old.clock < 2 ^ 61 }
-        requires room { vec_len events.old + 1 ≤ vec_capacity events.old }
-        ensures state { OnOk result (self.new ≡ after_all self.old (stamped self.old (agent_kinds happening))) }
-        ensures event { OnOk result (events.new.items ≡ events.old.items ++ stamped self.old (agent_kinds happening)) }
-        ensures clock { OnOk result (self.new.clock ≡ self.old.clock) }
-        ensures keys { OnOk result (self.new.keys ≡ self.old.keys) }
+        requires room { HasRoom self.old 1 }
+        requires calm { IfSome happening IsCalm }
+        ensures { OnOk result (Took self.old self.new events.old.items events.new.items (all_happen self.old (agent_kinds happening)) 1) }
     {
         let Some(happening) = happening else {
             return Ok(());
         };
-        self.act(happening, events);
-        Ok(())
+        change_agents(&mut self.agents, &happening);
+        note(events, self.clock, Kind::Agent(happening))
     }
 
     /// What happens to a link, if anything does.
@@ -303,36 +539,69 @@ impl World {
         change: Option<LinkEvent>,
         events: &mut Vec<Event>,
     ) -> Result<(), AllocError>
-        requires clock { self.old.clock < 2 ^ 61 }
-        requires room { vec_len events.old + 1 ≤ vec_capacity events.old }
-        ensures state { OnOk result (self.new ≡ after_all self.old (stamped self.old (link_kinds change))) }
-        ensures event { OnOk result (events.new.items ≡ events.old.items ++ stamped self.old (link_kinds change)) }
-        ensures clock { OnOk result (self.new.clock ≡ self.old.clock) }
-        ensures keys { OnOk result (self.new.keys ≡ self.old.keys) }
+        requires { HasRoom self.old 1 }
+        ensures { OnOk result (Took self.old self.new events.old.items events.new.items (all_happen self.old (link_kinds change)) 1) }
     {
         let Some(change) = change else {
             return Ok(());
         };
-        change_links(&mut self.cuts, change)?;
-        note(events, self.clock, Kind::Link(change));
-        Ok(())
+        change_links(&mut self.cuts, &change)?;
+        note(events, self.clock, Kind::Link(change))
     }
+}
 
-    /// Something happens to an agent.
-    fn act(&mut self, happening: AgentEvent, events: &mut Vec<Event>)
-        requires clock { self.old.clock < 2 ^ 61 }
-        requires room { vec_len events.old + 1 ≤ vec_capacity events.old }
-        ensures state { self.new ≡ after self.old (Kind.Agent happening) }
-        ensures event { events.new.items ≡ events.old.items ++ stamped self.old (Kind.Agent happening ∷ []) }
-        ensures clock { self.new.clock ≡ self.old.clock }
-        ensures keys { self.new.keys ≡ self.old.keys }
-        ensures members { self.new.members ≡ self.old.members }
-        ensures cuts { self.new.cuts ≡ self.old.cuts }
-        ensures len { vec_len events.new ≡ vec_len events.old + 1 }
-        ensures room { vec_capacity events.old ≤ vec_capacity events.new }
-    {
-        change_agents(&mut self.agents, self.clock, happening);
-        note(events, self.clock, Kind::Agent(happening));
+/// An answer of the store.
+fn answer_to(message: &Message, body: Body) -> Message
+    ensures { result ≡ answer_to message.now body }
+{
+    Message {
+        from: LinkEnd::Store,
+        to: message.from,
+        run: message.run,
+        sequence: message.sequence,
+        body,
+    }
+}
+
+/// Writes an event down.
+fn note(events: &mut Vec<Event>, tick: Ticks, kind: Kind) -> Result<(), AllocError>
+    ensures { OnOk result (events.new.items ≡ events.old.items ++ record { tick = tick; kind = kind } ∷ []) }
+{
+    events.push(Event { tick, kind })?;
+    Ok(())
+}
+
+/// Writes down which keys expired, and who held the leader key if that is one of them.
+fn note_expiries(
+    events: &mut Vec<Event>,
+    tick: Ticks,
+    holder: Option<Member>,
+    keys: &[Key],
+) -> Result<(), AllocError>
+    ensures { OnOk result (events.new.items ≡ events.old.items ++ stamped tick (expiries_of holder keys.now)) }
+{
+    for key in keys {
+        note_expiry(events, tick, holder, *key)?;
+    }
+    Ok(())
+}
+
+fn note_expiry(
+    events: &mut Vec<Event>,
+    tick: Ticks,
+    holder: Option<Member>,
+    key: Key,
+) -> Result<(), AllocError>
+    ensures { OnOk result (events.new.items ≡ events.old.items ++ stamped tick (expiry_of holder key)) }
+{
+    match (key, holder) {
+        (Key::Leader, None) => Ok(()),
+        (Key::Leader, Some(holder)) => note(
+            events,
+            tick,
+            Kind::Store(StoreEvent::LeaderExpired { holder }),
+        ),
+        (key, _) => note(events, tick, Kind::Store(StoreEvent::Expired { key })),
     }
 }
 
@@ -360,29 +629,30 @@ fn declared_at(head: &Head, place: usize) -> Member
     }
 }
 
-/// So many agents, each before its first turn.
+/// So many agents, each in its first run.
 fn agents_of(alloc: Global, count: usize) -> Result<Vec<AgentState>, AllocError>
-    ensures { IfOk result (λ agents. agents.items ≡ agents_from 0 count) }
+    ensures { IfOk result (λ agents. agents.items ≡ first_agents count) }
 {
     let mut agents = Vec::new(alloc);
-    for place in 0..count {
+    for _ in 0..count {
         agents.push(AgentState {
-            next_turn: Ticks(place as u64 + 1),
             running: true,
             held: false,
+            run: 1,
         })?;
     }
     Ok(agents)
 }
 
-/// Writes an event down. There is room for it.
-fn note(events: &mut Vec<Event>, tick: Ticks, kind: Kind)
-    requires { vec_len events.old + 1 ≤ vec_capacity events.old }
-    ensures event { events.new.items ≡ events.old.items ++ record { tick = tick; kind = kind } ∷ [] }
-    ensures len { vec_len events.new ≡ vec_len events.old + 1 }
-    ensures room { vec_capacity events.old ≤ vec_capacity events.new }
+/// So many agents, each before its first turn.
+fn phases_of(alloc: Global, count: usize) -> Result<Vec<Phase>, AllocError>
+    ensures { IfOk result (λ phases. phases.items ≡ first_phases 0 count) }
 {
-    events.push(Event { tick, kind }).unwrap();
+    let mut phases = Vec::new(alloc);
+    for place in 0..count {
+        phases.push(fresh_phase(Ticks(place as u64 + 1)))?;
+    }
+    Ok(phases)
 }
 
 /// The declared member of this number, if there is a number.
@@ -392,53 +662,4 @@ fn declared_member(members: &[Member], id: Option<MemberId>) -> Option<Member>
     let id = id?;
     let member = members.get(id.number as usize)?;
     Some(*member)
-}
-
-/// What the store's answer to a request tells, unless memory is wanting.
-fn told_by(
-    by: Member,
-    request: LeaseRequest,
-    answer: Result<Granted, StoreRefusal>,
-) -> Result<Kind, AllocError>
-    ensures { IfOk result (λ happening. told_by by request answer ≡ Some happening) }
-{
-    match answer {
-        Ok(_) => Ok(Kind::Store(StoreEvent::Granted { by, request })),
-        Err(StoreRefusal::Mismatch { key, found }) => Ok(Kind::Store(StoreEvent::Refused {
-            by,
-            request,
-            key,
-            found,
-        })),
-        Err(StoreRefusal::Memory) => Err(AllocError),
-    }
-}
-
-/// What a member asks for on reading the leader key.
-fn request_on(member: Member, found: Option<&Held>) -> Option<LeaseRequest>
-    ensures request { result ≡ request_on member (option_copied found.entry) }
-    ensures span { IfSome result (λ request. ttl_of (txn_of request) ≤ 2 ^ 40) }
-{
-    let ttl = Config::defaults().ttl_ticks();
-    let Some(held) = found else {
-        return Some(LeaseRequest::Create { ttl });
-    };
-    if holder_of(&held.value)?.number == member.id.number {
-        Some(LeaseRequest::Renew {
-            revision: held.revision,
-            ttl,
-        })
-    } else {
-        None
-    }
-}
-
-/// The member that a value of the leader key names.
-fn holder_of(value: &Value) -> Option<MemberId>
-    ensures { result ≡ holder_of value.now }
-{
-    match value {
-        Value::Leader(member) => Some(*member),
-        _ => None,
-    }
 }

@@ -1,0 +1,113 @@
+//! Messages in flight.
+ghost use Rattle.std.specs.Prelude.{ℕ, ◌≡◌, ◌≤◌, nat_le, length, OnOk, IfOk, IfSome, IsTrue, option_copied};
+ghost use Rattle.std.specs.BTreeMap.{insert_entry};
+ghost use Rattle.std.specs.Map.{keys_of};
+ghost use Rattle.std.specs.Ordering.{nat_cmp};
+ghost use Rattle.event_book.specs.Flight.{in_flight, landed};
+ghost use Rattle.patroni_top.specs.Next.{most_in_flight};
+ghost use Rattle.patroni_top.specs.Launches.{launched_into};
+ghost use Rattle.patroni_top.specs.Short.{IsShort};
+
+use event_book::Message;
+use lease_store::{Granted, Held, Key};
+use std::alloc::{AllocError, Global};
+use std::collections::BTreeMap;
+use std::marker::Model;
+
+/// The most messages that may be in flight.
+const MOST: usize = 65_536;
+
+/// A message on its way, with what an answer of the store carries beside its words: what the store held when it was sent,
+/// and the grant.
+#[derive(Drop)]
+pub struct InFlight {
+    pub message: Message,
+    pub snapshot: Vec<(Key, Held)>,
+    pub grant: Option<Granted>,
+}
+
+impl Model for InFlight {
+    ghost use Rattle.event_book.specs.Flight.{InFlightFacts};
+
+    ghost Value = { InFlightFacts };
+
+    ghost view = { λ m. record { message = m.message; snapshot = m.snapshot.items; grant = m.grant } };
+}
+
+/// The messages in flight, by their numbers.
+#[derive(Drop)]
+pub struct Flight {
+    messages: BTreeMap<u64, InFlight>,
+}
+
+impl Model for Flight {
+    ghost use Rattle.std.specs.Prelude.{◌≤◌, length};
+    ghost use Rattle.event_book.specs.Flight.{Flight};
+    ghost use Rattle.patroni_top.specs.Short.{AllShort};
+
+    ghost Value = { Flight };
+
+    ghost view = { λ f. f.messages.entries };
+
+    ghost invariant = { λ f. (length f.messages.entries ≤ 65536) × AllShort f.messages.entries };
+}
+
+impl Flight {
+    /// No message. This takes no memory.
+    pub fn new(alloc: Global) -> Flight
+        ensures { result ≡ [] }
+    {
+        Flight {
+            messages: BTreeMap::new(alloc),
+        }
+    }
+
+    /// How many messages are in flight.
+    pub fn len(&self) -> usize
+        ensures { result ≡ length self.now }
+    {
+        self.messages.len()
+    }
+
+    /// The message of this number. `None` exactly where it isn't in flight.
+    pub fn get(&self, number: u64) -> Option<&InFlight>
+        ensures { option_copied result ≡ in_flight self.now number }
+    {
+        self.messages.get(&number)
+    }
+
+    /// Sends a message under a number. It answers whether the message was lost at once, which it is where as many are in
+    /// flight as may be. It fails only for want of memory.
+    pub fn launch(&mut self, number: u64, message: InFlight) -> Result<bool, AllocError>
+        requires { IsShort message.message.body }
+        ensures flight { OnOk result (self.new ≡ launched_into self.old number message) }
+        ensures lost { IfOk result (λ lost. lost ≡ nat_le most_in_flight (length self.old)) }
+    {
+        let full = self.messages.len() >= MOST;
+        self.messages.insert(number, message)?;
+        if full {
+            self.messages.remove(&number);
+        }
+        Ok(full)
+    }
+
+    /// Takes the message of this number out. `None` exactly where it isn't in flight.
+    pub fn land(&mut self, number: u64) -> Option<InFlight>
+        ensures flight { self.new ≡ landed self.old number }
+        ensures message { result ≡ in_flight self.old number }
+        ensures short { IfSome result (λ m. IsShort m.message.body) }
+    {
+        self.messages.remove(&number)
+    }
+
+    /// The numbers of the messages in flight, in order. It fails only for want of memory.
+    pub fn numbers(&self, alloc: Global) -> Result<Vec<u64>, AllocError>
+        ensures numbers { IfOk result (λ numbers. numbers.items ≡ keys_of self.now) }
+    {
+        let mut numbers = Vec::new(alloc);
+        for number in self.messages.keys() {
+            numbers.push(*number)?;
+        }
+        Ok(numbers)
+    }
+}
