@@ -1,9 +1,11 @@
 pub mod Endings
+pub mod Flights
 pub mod Input
 pub mod Played
 pub mod Progress
-pub mod Requesting
+pub mod Rooms
 pub mod Starting
+pub mod Taking
 pub mod Telling
-pub mod Turning
+pub mod TurnRooms
 pub mod Whole

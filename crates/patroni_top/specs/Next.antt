@@ -1,7 +1,8 @@
 -- What happens in a step.
-use Rattle.std.specs.Prelude.{ℕ, ◌+◌, ◌&&◌, not, nat_le, Bool, true, false, if◌then◌else◌, List, [], ◌∷◌, ◌++◌, Option, Some, None, option_map, slice_get, length, zero, suc}
+use Rattle.std.specs.Prelude.{ℕ, ◌+◌, ◌&&◌, not, nat_le, Bool, true, false, if◌then◌else◌, List, [], ◌∷◌, ◌++◌, map, Option, Some, None, option_map, slice_get, length, zero, suc}
 use Rattle.std.specs.Map.{keys_of}
 use Rattle.pat_base.specs.declared.member_id.MemberId.{MemberId}
+use Rattle.pat_base.specs.declared.ticks.Ticks.{Ticks}
 use Rattle.lease_store.specs.declared.key.Key.{Key}
 use Rattle.lease_store.specs.declared.key.Key.TheVariants as keys
 use Rattle.lease_store.specs.declared.txn.Txn.{Txn}
@@ -52,8 +53,8 @@ abbrev pub stamped : Ticks → List Kind → List Event
 stamped tick kinds = map (λ kind. record { tick = tick; kind = kind }) kinds
 
 -- these events, and then what comes after them
-abbrev pub then : Cluster → List Event → (Cluster → List Event) → List Event
-then cluster events more = events ++ more (moved_all cluster events)
+abbrev pub followed : Cluster → List Event → (Cluster → List Event) → List Event
+followed cluster events more = events ++ more (moved_all cluster events)
 
 -- so many messages may be in flight
 abbrev pub most_in_flight : ℕ
@@ -101,7 +102,7 @@ abbrev pub is_ready : ℕ → Seat → Bool
 is_ready now seat = seat.state.running && (not seat.state.held && is_due now seat.phase)
 
 abbrev pub woken_at : Cluster → Seat → List Event
-woken_at cluster seat = then cluster (happens cluster (kinds.Agent (Woken seat.member))) (λ later. reacts later seat (woken cluster.book.clock seat.phase))
+woken_at cluster seat = followed cluster (happens cluster (kinds.Agent (Woken seat.member))) (λ later. reacts later seat (woken cluster.book.clock seat.phase))
 
 abbrev pub wake : Cluster → Option Seat → List Event
 wake cluster None = []
@@ -114,7 +115,7 @@ wake_at cluster place = wake cluster (seat_at cluster place)
 -- the agents of so many members from a place on are woken, in script order
 abbrev pub wakes : Cluster → ℕ → ℕ → List Event
 wakes cluster place zero = []
-wakes cluster place (suc count) = then cluster (wake_at cluster place) (λ later. wakes later (place + 1) count)
+wakes cluster place (suc count) = followed cluster (wake_at cluster place) (λ later. wakes later (place + 1) count)
 
 -- an answer of the store
 abbrev pub answer_to : Message → Body → Message
@@ -133,7 +134,7 @@ decision_told number txn (Refusal key found) = bodies.Refused number key found
 abbrev pub decides : Cluster → ℕ → Message → Txn → Decision → LinkEnd → List Event
 decides cluster number message txn decision link_ends.Store = []
 decides cluster number message txn decision (link_ends.Member by) =
-    then cluster (happens cluster (decided number by txn decision)) (λ later. sends later (answer_to message (decision_told number txn decision)))
+    followed cluster (happens cluster (decided number by txn decision)) (λ later. sends later (answer_to message (decision_told number txn decision)))
 
 abbrev pub answers_body : Cluster → ℕ → Message → Body → List Event
 answers_body cluster number message bodies.Read = sends cluster (answer_to message bodies.Snapshot)
@@ -154,10 +155,10 @@ reacts_if cluster (Some heard) = reacts cluster heard.0 heard.1
 
 -- the agent of a member acts on a message that comes
 abbrev pub hears : Cluster → ℕ → InFlightFacts → Member → List Event
-hears cluster number message member = then cluster (happens cluster (kinds.Message (Delivered number))) (λ later. reacts_if later (listened cluster message member))
+hears cluster number message member = followed cluster (happens cluster (kinds.Message (Delivered number))) (λ later. reacts_if later (listened cluster message member))
 
 abbrev pub comes_to : Cluster → ℕ → InFlightFacts → LinkEnd → List Event
-comes_to cluster number message link_ends.Store = then cluster (happens cluster (kinds.Message (Delivered number))) (λ later. answers later number message.message)
+comes_to cluster number message link_ends.Store = followed cluster (happens cluster (kinds.Message (Delivered number))) (λ later. answers later number message.message)
 comes_to cluster number message (link_ends.Member member) = hears cluster number message member
 
 -- a message comes to its receiver, which acts on it
@@ -185,11 +186,11 @@ moves cluster number = moves_found cluster number (in_flight cluster.book.flight
 -- these messages, one after another
 abbrev pub all_move : Cluster → List ℕ → List Event
 all_move cluster [] = []
-all_move cluster (number ∷ more) = then cluster (moves cluster number) (λ later. all_move later more)
+all_move cluster (number ∷ more) = followed cluster (moves cluster number) (λ later. all_move later more)
 
 -- each due agent is woken, and then each message that is in flight at that point moves, in the order of numbers
 abbrev pub round : Cluster → List Event
-round cluster = then cluster (wakes cluster 0 (length cluster.book.members)) (λ later. all_move later (keys_of later.book.flight))
+round cluster = followed cluster (wakes cluster 0 (length cluster.book.members)) (λ later. all_move later (keys_of later.book.flight))
 
 abbrev pub is_empty : List Event → Bool
 is_empty [] = true
@@ -198,7 +199,7 @@ is_empty (event ∷ events) = false
 -- at most so many rounds; a round in which nothing happens is the last
 abbrev pub rounds : Cluster → ℕ → List Event
 rounds cluster zero = []
-rounds cluster (suc count) = if is_empty (round cluster) then [] else then cluster (round cluster) (λ later. rounds later count)
+rounds cluster (suc count) = if is_empty (round cluster) then [] else followed cluster (round cluster) (λ later. rounds later count)
 
 abbrev pub most_rounds : ℕ
 most_rounds = 40
@@ -256,11 +257,11 @@ command_events cluster (commands.Trace on) = []
 
 -- the events of a step
 abbrev pub next_events : Cluster → Step → List Event
-next_events cluster steps.Scheduled = then cluster (ticks cluster) (λ later. rounds later most_rounds)
+next_events cluster steps.Scheduled = followed cluster (ticks cluster) (λ later. rounds later most_rounds)
 next_events cluster steps.Tick = ticks cluster
 next_events cluster (steps.Command command) = command_events cluster command
 
 -- the events of these steps, one after another
 abbrev pub run_from : Cluster → List Step → List Event
 run_from cluster [] = []
-run_from cluster (step ∷ more) = then cluster (next_events cluster step) (λ later. run_from later more)
+run_from cluster (step ∷ more) = followed cluster (next_events cluster step) (λ later. run_from later more)

@@ -1,5 +1,5 @@
 -- How far a cluster may go.
-use Rattle.std.specs.Prelude.{ℕ, ◌+◌, ◌*◌, ◌^◌, ◌<◌, ◌≤◌, IfSome, slice_get}
+use Rattle.std.specs.Prelude.{ℕ, ◌+◌, ◌*◌, ◌^◌, ◌<◌, ◌≤◌, All}
 use Rattle.patroni_top.specs.Cluster.{Cluster}
 use Rattle.patroni_top.specs.declared.phase.Phase.{Phase}
 
@@ -13,8 +13,8 @@ pub record HasRoom (cluster : Cluster) (events : ℕ) : Type 0 where
   pub clock : cluster.book.clock + events < 2 ^ 60
   pub revision : cluster.book.keys.revision + events < 2 ^ 60
   pub sent : cluster.book.sent + events < 2 ^ 60
-  pub runs : (place : ℕ) → IfSome (slice_get cluster.book.agents place) (λ state. state.run + events < 2 ^ 60)
-  pub phases : (place : ℕ) → IfSome (slice_get cluster.phases place) (PhaseHasRoom cluster.book.clock events)
+  pub runs : All (λ state. state.run + events < 2 ^ 60) cluster.book.agents
+  pub phases : All (PhaseHasRoom cluster.book.clock events) cluster.phases
 
 -- more than the events of any step
 abbrev pub step_cost : ℕ

@@ -1,7 +1,6 @@
 //! The agent: what it does on what it hears.
-ghost use Rattle.std.specs.Prelude.{◌≡◌, ◌≤◌, ◌<◌, ◌+◌, ◌*◌, ◌^◌, Some, None, option_copied, list_items};
+ghost use Rattle.std.specs.Prelude.{◌≡◌, ◌≤◌, ◌<◌, ◌+◌, ◌*◌, ◌^◌, Some, option_copied};
 ghost use Rattle.lease_store.specs.Answers.{holder_of};
-ghost use Rattle.lease_store.specs.Writes.{ttl_of};
 ghost use Rattle.patroni_top.specs.Turns.{seconds_after, fresh_phase, is_overdue, has_turn, is_due, idle, asking, begun, rested, turned, woken, is_same_question, awaits, awaits_lease, settings_by, settings_or, informed, lease, creating, renewing, following, led_by, led, told, is_lease_of, granted, refused, heard_body, heard};
 ghost use Rattle.patroni_top.specs.Short.{AsksShortly};
 
@@ -172,7 +171,7 @@ fn led(now: Ticks, me: MemberId, leader: Option<&Held>, phase: Phase) -> Reactio
     requires clock { now.0 < 2 ^ 61 }
     requires turn { phase.turn.0 < 2 ^ 61 }
     requires sequence { phase.sequence < 2 ^ 60 }
-    ensures reaction { result ≡ led now.0 me (option_copied leader) phase }
+    ensures reaction { result ≡ led now.0 me (option_copied leader.entry) phase }
     ensures short { AsksShortly result.asks }
 {
     match leader {
@@ -272,7 +271,7 @@ fn informed(snapshot: &[(Key, Held)], phase: Phase) -> Phase
 }
 
 fn settings_or(settings: Config, held: Option<&Held>) -> Config
-    ensures { result ≡ settings_or settings (option_copied held) }
+    ensures { result ≡ settings_or settings (option_copied held.entry) }
 {
     match held {
         None => settings,
@@ -307,7 +306,7 @@ fn granted(
     grant: Option<&Granted>,
     phase: Phase,
 ) -> Phase
-    ensures { result ≡ granted me sequence snapshot.now (option_copied grant) phase }
+    ensures { result ≡ granted me sequence snapshot.now (option_copied grant.entry) phase }
 {
     let Some(grant) = grant else {
         return phase;

@@ -106,8 +106,11 @@ fn end(agents: &mut [AgentState], agent: Member)
 {
     let place = agent.id.number as usize;
     if place < agents.len() {
-        agents[place].running = false;
-        agents[place].held = false;
+        agents[place] = AgentState {
+            running: false,
+            held: false,
+            ..agents[place]
+        };
     }
 }
 

@@ -1,5 +1,5 @@
 //! Messages in flight.
-ghost use Rattle.std.specs.Prelude.{ℕ, ◌≡◌, ◌≤◌, nat_le, length, OnOk, IfOk, IfSome, IsTrue, option_copied};
+ghost use Rattle.std.specs.Prelude.{◌≡◌, ◌≤◌, ◌+◌, nat_le, [], length, OnOk, OnErr, IfOk, IfSome, Some, is_some, if◌then◌else◌, option_copied};
 ghost use Rattle.std.specs.BTreeMap.{insert_entry};
 ghost use Rattle.std.specs.Map.{keys_of};
 ghost use Rattle.std.specs.Ordering.{nat_cmp};
@@ -84,9 +84,9 @@ impl Flight {
         ensures lost { IfOk result (λ lost. lost ≡ nat_le most_in_flight (length self.old)) }
     {
         let full = self.messages.len() >= MOST;
-        self.messages.insert(number, message)?;
+        put(&mut self.messages, number, message)?;
         if full {
-            self.messages.remove(&number);
+            discard(&mut self.messages, number);
         }
         Ok(full)
     }
@@ -103,6 +103,7 @@ impl Flight {
     /// The numbers of the messages in flight, in order. It fails only for want of memory.
     pub fn numbers(&self, alloc: Global) -> Result<Vec<u64>, AllocError>
         ensures numbers { IfOk result (λ numbers. numbers.items ≡ keys_of self.now) }
+        ensures few { IfOk result (λ numbers. length numbers.items ≤ 65536) }
     {
         let mut numbers = Vec::new(alloc);
         for number in self.messages.keys() {
@@ -110,4 +111,27 @@ impl Flight {
         }
         Ok(numbers)
     }
+}
+
+/// Puts a message in, and lets go of one that had its number.
+fn put(
+    messages: &mut BTreeMap<u64, InFlight>,
+    number: u64,
+    message: InFlight,
+) -> Result<(), AllocError>
+    ensures entries { OnOk result (messages.new.entries ≡ insert_entry nat_cmp messages.old.entries number message) }
+    ensures found { OnOk result (in_flight messages.new.entries number ≡ Some message) }
+    ensures len { OnOk result (length messages.new.entries ≤ length messages.old.entries + 1) }
+    ensures err { OnErr result (messages.new.entries ≡ messages.old.entries) }
+{
+    messages.insert(number, message)?;
+    Ok(())
+}
+
+/// Lets go of a message.
+fn discard(messages: &mut BTreeMap<u64, InFlight>, number: u64)
+    ensures entries { messages.new.entries ≡ landed messages.old.entries number }
+    ensures len { length messages.new.entries + (if is_some (in_flight messages.old.entries number) then 1 else 0) ≡ length messages.old.entries }
+{
+    messages.remove(&number);
 }

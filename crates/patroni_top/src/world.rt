@@ -1,15 +1,20 @@
 //! The world: it takes the steps of a script and hands out what happens.
-ghost use Rattle.std.specs.Prelude.{ℕ, ◌≡◌, ◌≤◌, ◌+◌, ◌*◌, ◌++◌, ◌∷◌, [], length, OnOk, OnErr, IfOk, slice_get, Some, None, option_map};
+ghost use Rattle.std.specs.Prelude.{ℕ, ◌≡◌, ◌<◌, ◌≤◌, ◌+◌, ◌*◌, ◌^◌, ◌++◌, ◌∷◌, [], length, OnOk, IfOk, IfSome, slice_get, Some, option_map};
+ghost use Rattle.pat_base.specs.MemberId.{member_of};
 ghost use Rattle.lease_store.specs.Answers.{present_pairs};
 ghost use Rattle.lease_store.specs.Decision.{decision_on};
+ghost use Rattle.lease_store.specs.Writes.{ttl_of};
+ghost use Rattle.event_book.specs.Agents.{first_agents};
 ghost use Rattle.event_book.specs.Flight.{in_flight, snapshot_for, grant_for};
-ghost use Rattle.cluster_script.specs.Script.{HeadText};
-ghost use Rattle.patroni_top.specs.Cluster.{Cluster, cluster_of, moved, first_phases};
-ghost use Rattle.patroni_top.specs.Commands.{agent_kinds, link_kinds, restart_kinds, link_of, cut_of, join_of, hold_of, resume_of, kill_of};
-ghost use Rattle.patroni_top.specs.Next.{all_happen, happens, then, sends, seat_for, seat_at, reacts, wake_at, wakes, answers, decides, decided, decision_told, comes_found, moves, all_move, round, rounds, most_rounds, expiries_of, ticks, delivers, loses, command_events, next_events};
+ghost use Rattle.event_book.specs.Members.{members_from};
+ghost use Rattle.patroni_top.specs.Calm.{IsCalm};
+ghost use Rattle.patroni_top.specs.Cluster.{cluster_of, first_phases, phases_told};
+ghost use Rattle.patroni_top.specs.Commands.{agent_kinds, link_kinds, restart_kinds, link_of};
+ghost use Rattle.patroni_top.specs.Next.{all_happen, happens, stamped, sends, seat_at, reacts, reacts_if, listened, wake_at, wakes, answer_to, answers, decides, comes_found, moves, all_move, round, rounds, most_rounds, declared_member, expiry_of, expiries_of, ticks, delivers, loses, command_events, next_events};
 ghost use Rattle.patroni_top.specs.Room.{HasRoom, HasRoomFor};
 ghost use Rattle.patroni_top.specs.Short.{IsShort, AsksShortly};
 ghost use Rattle.patroni_top.specs.Took.{Took};
+ghost use Rattle.patroni_top.specs.Ways.{way_of};
 
 use crate::agent::{fresh_phase, heard, woken};
 use crate::agents::{change_agents, hold_of, is_ready, kill_of, resume_of, seat_for, set_phase};
