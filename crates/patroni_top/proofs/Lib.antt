@@ -1,11 +1,14 @@
 pub mod Endings
+pub mod Expiring
 pub mod Flights
 pub mod Input
 pub mod Played
 pub mod Progress
 pub mod Rooms
+pub mod Sending
 pub mod Starting
 pub mod Taking
 pub mod Telling
 pub mod TurnRooms
 pub mod Whole
+pub mod Worlds

@@ -15,6 +15,7 @@ use Rattle.event_book.specs.Flight.{InFlightFacts}
 use Rattle.patroni_top.specs.declared.phase.Phase.{Phase}
 use Rattle.patroni_top.specs.declared.phase.Reaction.{Reaction}
 use Rattle.patroni_top.specs.declared.phase.Pending.TheVariants.{Reading}
+use Rattle.patroni_top.specs.declared.phase.Role.TheVariants.{Follower, Holder}
 use Rattle.patroni_top.specs.Room.{PhaseHasRoom}
 use Rattle.patroni_top.specs.Turns.{fresh_phase, is_overdue, has_turn, idle, begun, rested, turned, woken, awaits, awaits_lease, informed, renewing, creating, following, led_by, led, told, is_lease_of, granted, refused, heard_body, heard}
 
@@ -68,11 +69,11 @@ granted-if now events next phase false room other = room
 keeps-granted : (now events : ℕ) (me : MemberId) (sequence : ℕ) (snapshot : List (Key × Held)) (grant : Option Granted) (phase : Phase) → Keeps now events phase (idle (granted me sequence snapshot grant phase))
 keeps-granted now events me sequence snapshot None phase room = keeps-idle now events phase room
 keeps-granted now events me sequence snapshot (Some grant) phase room =
-    granted-if now events _ phase _ (keeps-idle now events phase room) (record { sequence = omega (arith, room.sequence); turn = room.turn })
+    granted-if now events (record (informed snapshot phase) { role = Holder grant.revision }) phase _ (keeps-idle now events phase room) (record { sequence = omega (arith, room.sequence); turn = room.turn })
 
 keeps-refused : (now events : ℕ) (sequence : ℕ) (phase : Phase) → Keeps now events phase (idle (refused sequence phase))
 keeps-refused now events sequence phase room =
-    granted-if now events _ phase _ (keeps-idle now events phase room) (record { sequence = omega (arith, room.sequence); turn = room.turn })
+    granted-if now events (record phase { role = Follower; waited = None }) phase _ (keeps-idle now events phase room) (record { sequence = omega (arith, room.sequence); turn = room.turn })
 
 keeps-heard : (now events : ℕ) (me : MemberId) (message : InFlightFacts) (body : Body) (phase : Phase) → Keeps now events phase (heard_body now me message body phase)
 keeps-heard now events me message bodies.Snapshot phase room =

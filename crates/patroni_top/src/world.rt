@@ -10,7 +10,7 @@ ghost use Rattle.event_book.specs.Members.{members_from};
 ghost use Rattle.patroni_top.specs.Calm.{IsCalm};
 ghost use Rattle.patroni_top.specs.Cluster.{cluster_of, first_phases, phases_told};
 ghost use Rattle.patroni_top.specs.Commands.{agent_kinds, link_kinds, restart_kinds, link_of};
-ghost use Rattle.patroni_top.specs.Next.{all_happen, happens, stamped, sends, seat_at, reacts, reacts_if, listened, wake_at, wakes, answer_to, answers, decides, comes_found, moves, all_move, round, rounds, most_rounds, declared_member, expiry_of, expiries_of, ticks, delivers, loses, command_events, next_events};
+ghost use Rattle.patroni_top.specs.Next.{all_happen, happens, stamped, lost_at_once, sends, seat_at, reacts, reacts_if, listened, wake_at, wakes, answer_to, answers, decides, comes_found, moves, all_move, round, rounds, most_rounds, declared_member, expiry_of, expiries_of, ticks, delivers, loses, command_events, next_events};
 ghost use Rattle.patroni_top.specs.Room.{HasRoom, HasRoomFor};
 ghost use Rattle.patroni_top.specs.Short.{IsShort, AsksShortly};
 ghost use Rattle.patroni_top.specs.Took.{Took};
@@ -453,14 +453,7 @@ impl World {
             self.clock,
             Kind::Message(MessageEvent::Sent { number, message }),
         )?;
-        if lost {
-            note(
-                events,
-                self.clock,
-                Kind::Message(MessageEvent::Lost { number }),
-            )?;
-        }
-        Ok(())
+        note_lost(events, self.clock, lost, number)
     }
 
     /// What the store holds, for an answer that tells it.
@@ -574,6 +567,22 @@ fn note(events: &mut Vec<Event>, tick: Ticks, kind: Kind) -> Result<(), AllocErr
 {
     events.push(Event { tick, kind })?;
     Ok(())
+}
+
+/// Writes down that a message was lost at once, if it was.
+fn note_lost(
+    events: &mut Vec<Event>,
+    tick: Ticks,
+    lost: bool,
+    number: u64,
+) -> Result<(), AllocError>
+    ensures { OnOk result (events.new.items ≡ events.old.items ++ stamped tick (lost_at_once lost number)) }
+{
+    if lost {
+        note(events, tick, Kind::Message(MessageEvent::Lost { number }))
+    } else {
+        Ok(())
+    }
 }
 
 /// Writes down which keys expired, and who held the leader key if that is one of them.
