@@ -1,3 +1,4 @@
+pub mod Deciding
 pub mod Endings
 pub mod Expiring
 pub mod Flights
@@ -5,6 +6,7 @@ pub mod Input
 pub mod Played
 pub mod Progress
 pub mod Rooms
+pub mod Seats
 pub mod Sending
 pub mod Starting
 pub mod Taking

@@ -1,5 +1,5 @@
 //! Messages in flight.
-ghost use Rattle.std.specs.Prelude.{◌≡◌, ◌≤◌, ◌+◌, nat_le, [], length, OnOk, OnErr, IfOk, IfSome, Some, is_some, if◌then◌else◌, option_copied};
+ghost use Rattle.std.specs.Prelude.{◌≡◌, ◌≤◌, ◌+◌, nat_le, [], length, OnOk, OnErr, IfOk, IfSome, IfNone, Some, is_some, if◌then◌else◌, option_copied};
 ghost use Rattle.std.specs.BTreeMap.{insert_entry};
 ghost use Rattle.std.specs.Map.{keys_of};
 ghost use Rattle.std.specs.Ordering.{nat_cmp};
@@ -96,6 +96,7 @@ impl Flight {
         ensures flight { self.new ≡ landed self.old number }
         ensures message { result ≡ in_flight self.old number }
         ensures short { IfSome result (λ m. IsShort m.message.body) }
+        ensures absent { IfNone result (self.new ≡ self.old) }
     {
         self.messages.remove(&number)
     }

@@ -313,9 +313,16 @@ impl World {
         ensures reaction { result ≡ listened self.old carried.now member }
         ensures short { IfSome result (λ heard. AsksShortly heard.1.asks) }
     {
-        let seat = seat_for(&self.agents, &self.phases, member)?;
-        let reaction = heard(self.clock, member.id, carried, seat.phase);
+        let place = member.id.number as usize;
+        let phase = *self.phases.get(place)?;
+        let reaction = heard(self.clock, member.id, carried, phase);
         set_phase(&mut self.phases, member, reaction.phase);
+        let state = *self.agents.get(place)?;
+        let seat = Seat {
+            member,
+            state,
+            phase,
+        };
         Some((seat, reaction))
     }
 
