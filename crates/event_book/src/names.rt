@@ -39,32 +39,32 @@ impl Names {
     }
 }
 
-/// Bytes that a line prints.
+/// Text that a line prints as it stands.
 #[derive(Debug, Drop)]
 pub struct Bytes {
-    items: Vec<u8>,
+    text: String,
 }
 
 impl Model for Bytes {
-    ghost use Rattle.std.specs.Prelude.{ℕ, List};
+    ghost use Rattle.std.specs.Prelude.{ℕ, List, string_bytes};
 
     ghost Value = { List ℕ };
 
-    ghost view = { λ bytes. bytes.items.items };
+    ghost view = { λ bytes. string_bytes bytes.text };
 }
 
 impl Bytes {
-    ghost use Rattle.std.specs.Prelude.{◌≡◌};
+    ghost use Rattle.std.specs.Prelude.{◌≡◌, string_bytes};
 
-    pub fn new(items: Vec<u8>) -> Bytes
-        ensures { result ≡ items.items }
+    pub fn new(text: String) -> Bytes
+        ensures { result ≡ string_bytes text }
     {
-        Bytes { items }
+        Bytes { text }
     }
 
-    pub fn as_slice(&self) -> &[u8]
+    pub fn as_str(&self) -> &str
         ensures { result.now ≡ self.now }
     {
-        &self.items
+        self.text.as_str()
     }
 }
