@@ -7,6 +7,7 @@ pub mod Keys
 pub mod Links
 pub mod Listing
 pub mod Members
+pub mod NameLists
 pub mod NoteText
 pub mod Reasons
 pub mod ServerText

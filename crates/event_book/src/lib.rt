@@ -7,6 +7,7 @@ mod link;
 mod listing;
 mod member;
 mod message;
+mod name_order;
 mod names;
 mod note_printing;
 mod peer_answer;

@@ -1,7 +1,12 @@
-//! Lists of names, and bytes.
+//! Lists of names, and text that is printed as it stands.
+ghost use Rattle.std.specs.Prelude.{◌≡◌, ◌==◌, OnOk};
+ghost use Rattle.std.specs.Int.{bit_at};
+ghost use Rattle.event_book.specs.NameLists.{with_name};
 
-use pat_base::Name;
-use std::alloc::Global;
+use crate::Member;
+use crate::name_order::put_name;
+use pat_base::{MemberSet, Name};
+use std::alloc::{AllocError, Global};
 use std::marker::Model;
 
 /// Names, as a line lists them.
@@ -20,7 +25,8 @@ impl Model for Names {
 }
 
 impl Names {
-    ghost use Rattle.std.specs.Prelude.{◌≡◌, []};
+    ghost use Rattle.std.specs.Prelude.{◌≡◌, [], IfOk};
+    ghost use Rattle.event_book.specs.NameLists.{names_of};
 
     /// No name. This takes no memory.
     pub fn none(alloc: Global) -> Names
@@ -31,11 +37,33 @@ impl Names {
         }
     }
 
+    /// The names of the members of a set, in byte order, out of the declared members. It fails only for want of memory.
+    pub fn of(alloc: Global, set: MemberSet, members: &[Member]) -> Result<Names, AllocError>
+        ensures { IfOk result (λ names. names ≡ names_of set members.now) }
+    {
+        let mut items = Vec::new(alloc);
+        for member in members {
+            put_member(&mut items, set, *member)?;
+        }
+        Ok(Names { items })
+    }
+
     /// The names.
     pub fn as_slice(&self) -> &[Name]
         ensures { result.now ≡ self.now }
     {
         &self.items
+    }
+}
+
+/// Puts the name of a member of a set at its place.
+fn put_member(names: &mut Vec<Name>, set: MemberSet, member: Member) -> Result<(), AllocError>
+    ensures { OnOk result (names.new.items ≡ with_name (bit_at set.bits member.id.number == 1) member.name names.old.items) }
+{
+    if set.contains(member.id) {
+        put_name(names, member.name)
+    } else {
+        Ok(())
     }
 }
 
