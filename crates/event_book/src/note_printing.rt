@@ -1,7 +1,7 @@
 //! The printed lines of notes.
 ghost use Rattle.std.specs.Prelude.{◌≡◌, IfOk, option_map, string_bytes};
 ghost use Rattle.pat_base.specs.Name.{name_bytes};
-ghost use Rattle.event_book.specs.NoteText.{note_line, reply_line, answered_line, told_line};
+ghost use Rattle.event_book.specs.NoteText.{note_line, own_note_line, reply_line, answered_line, told_line};
 
 use crate::reason::BarText;
 use crate::{Bytes, Note};
@@ -12,21 +12,9 @@ pub fn note_line(alloc: Global, tick: Ticks, note: &Note) -> Result<Option<Strin
     ensures { IfOk result (λ line. option_map string_bytes line ≡ note_line tick.0 note.now) }
 {
     match note {
-        Note::CannotArm { member } => {
-            let name = member.name;
-            Ok(Some(format!(in alloc; "{tick} {name} cannot arm its watchdog\n")?))
-        }
-        Note::DisablesWatchdog { member } => {
-            let name = member.name;
-            Ok(Some(format!(in alloc; "{tick} {name} disables its watchdog\n")?))
-        }
         Note::EndsServer { member, reason } => {
             let name = member.name;
             Ok(Some(format!(in alloc; "{tick} {name} ends its server: {reason}\n")?))
-        }
-        Note::PostponesPromotion { member } => {
-            let name = member.name;
-            Ok(Some(format!(in alloc; "{tick} {name} postpones its promotion\n")?))
         }
         Note::DoesNotRace { member, bar, by } => {
             let name = member.name;
@@ -36,6 +24,27 @@ pub fn note_line(alloc: Global, tick: Ticks, note: &Note) -> Result<Option<Strin
         Note::HandsOver { member, candidate } => {
             let (name, next) = (member.name, candidate.name);
             Ok(Some(format!(in alloc; "{tick} {name} hands over to {next}\n")?))
+        }
+        other => own_note_line(alloc, tick, other),
+    }
+}
+
+/// The line of a note about one member alone.
+fn own_note_line(alloc: Global, tick: Ticks, note: &Note) -> Result<Option<String>, AllocError>
+    ensures { IfOk result (λ line. option_map string_bytes line ≡ own_note_line tick.0 note.now) }
+{
+    match note {
+        Note::CannotArm { member } => {
+            let name = member.name;
+            Ok(Some(format!(in alloc; "{tick} {name} cannot arm its watchdog\n")?))
+        }
+        Note::DisablesWatchdog { member } => {
+            let name = member.name;
+            Ok(Some(format!(in alloc; "{tick} {name} disables its watchdog\n")?))
+        }
+        Note::PostponesPromotion { member } => {
+            let name = member.name;
+            Ok(Some(format!(in alloc; "{tick} {name} postpones its promotion\n")?))
         }
         Note::RunsWithoutKey { member } => {
             let name = member.name;

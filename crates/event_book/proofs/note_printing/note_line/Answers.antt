@@ -6,9 +6,3 @@ returns-in_ok-format-in-DoesNotRace c = rw c.in-DoesNotRace.is (ap Some c.in_ok-
 
 pub returns-in_ok-format-in-HandsOver : goal.returns-in_ok-format-in-HandsOver
 returns-in_ok-format-in-HandsOver c = rw c.in-HandsOver.is (ap Some c.in_ok-format-in-HandsOver.ensures.ok)
-
-pub returns-in_ok-format-in-RunsWithoutKey : goal.returns-in_ok-format-in-RunsWithoutKey
-returns-in_ok-format-in-RunsWithoutKey c = rw c.in-RunsWithoutKey.is (ap Some c.in_ok-format-in-RunsWithoutKey.ensures.ok)
-
-pub returns-in_ok-format-in-StaysByFailsafe : goal.returns-in_ok-format-in-StaysByFailsafe
-returns-in_ok-format-in-StaysByFailsafe c = rw c.in-StaysByFailsafe.is (ap Some c.in_ok-format-in-StaysByFailsafe.ensures.ok)
