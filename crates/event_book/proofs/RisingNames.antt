@@ -1,6 +1,5 @@
 -- Names in order stay so.
-use Rattle.std.proofs.Common.{◌≡◌, ◌==◌, ◌≤◌, ℕ, Bool, true, false, List, [], ◌∷◌, length, drop, refl, ap, sym, subst, ◌∙◌}
-use Rattle.std.proofs.Math.ListN.{drop_of_length-le}
+use Rattle.std.proofs.Common.{◌≡◌, ◌==◌, Bool, true, false, List, [], ◌∷◌, refl, ap, ◌∙◌}
 use Rattle.std.proofs.lemmas.Cmp.{nat_list_cmp_total}
 use Rattle.std.specs.BTreeSet.{insert_key}
 use Rattle.std.specs.Cmp.{IsTotalOrder}
@@ -39,7 +38,7 @@ rises-insert cmp total k (x ∷ xs) rises = go (cmp k x) refl (rises-insert cmp 
     go Equal is more = rises
     go Greater is more = (below-insert cmp x k xs (total.antisymm x k ∙ ap ordering_reverse is) rises.0, more)
 
-name_cmp-total : IsTotalOrder name_cmp
+pub name_cmp-total : IsTotalOrder name_cmp
 name_cmp-total = record {
   antisymm = λ x y. nat_list_cmp_total.antisymm (name_bytes x) (name_bytes y);
   trans = λ x y z. nat_list_cmp_total.trans (name_bytes x) (name_bytes y) (name_bytes z);
@@ -55,11 +54,6 @@ with_names-rises names set [] rises = rises
 with_names-rises names set (member ∷ members) rises =
     with_names-rises (with_name (bit_at set.bits member.id.number == 1) member.name names) set members (with_name-rises (bit_at set.bits member.id.number == 1) member.name names rises)
 
-names_of-rises : (set : MemberSet) (members : List Member) → IsStrictlySortedBy name_cmp (names_of set members)
+pub names_of-rises : (set : MemberSet) (members : List Member) → IsStrictlySortedBy name_cmp (names_of set members)
 unfolding IsStrictlySortedBy
 names_of-rises set members = with_names-rises [] set members tt
-
--- the names that are gathered when nothing is left
-pub gathered-rises : (names : List Name) (set : MemberSet) (members : List Member) (at : ℕ) → length members ≤ at → with_names names set (drop at members) ≡ with_names [] set members → IsStrictlySortedBy name_cmp names
-gathered-rises names set members at past is =
-    subst (IsStrictlySortedBy name_cmp) (sym is ∙ ap (with_names names set) (drop_of_length-le members past)) (names_of-rises set members)

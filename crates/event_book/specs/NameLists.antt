@@ -1,8 +1,10 @@
 -- The names of the members of a set, as lines list them.
-use Rattle.std.specs.Prelude.{◌==◌, Bool, true, false, List, [], ◌∷◌}
+use Rattle.std.specs.Prelude.{◌≡◌, ◌==◌, Bool, true, false, List, [], ◌∷◌}
 use Rattle.std.specs.BTreeSet.{insert_key}
 use Rattle.std.specs.Cmp.Lexicographic.{slice_cmp}
 use Rattle.std.specs.Int.{bit_at}
+use Rattle.std.specs.List.{All, Contains}
+use Rattle.std.specs.List.Sorted.{IsStrictlySortedBy}
 use Rattle.std.specs.Ordering.{nat_cmp}
 use Rattle.std.specs.declared.cmp.Ordering.{Ordering}
 use Rattle.pat_base.specs.declared.member_set.MemberSet.{MemberSet}
@@ -27,3 +29,16 @@ with_names names set (member ∷ members) = with_names (with_name (bit_at set.bi
 -- the names of the members of a set, in byte order
 abbrev pub names_of : MemberSet → List Member → List Name
 names_of set members = with_names [] set members
+
+-- a declared member of the set has this name
+pub record IsNameIn (set : MemberSet) (members : List Member) (name : Name) : Type 0 where
+  pub member : Member
+  pub declared : Contains members member
+  pub chosen : bit_at set.bits member.id.number ≡ 1
+  pub named : member.name ≡ name
+
+-- the names of the declared members of the set and no others, in byte order, each once
+pub record IsListOf (set : MemberSet) (members : List Member) (names : List Name) : Type 0 where
+  pub rises : IsStrictlySortedBy name_cmp names
+  pub named : All (IsNameIn set members) names
+  pub complete : All (λ member. bit_at set.bits member.id.number ≡ 1 → Contains names member.name) members

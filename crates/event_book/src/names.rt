@@ -26,8 +26,7 @@ impl Model for Names {
 
 impl Names {
     ghost use Rattle.std.specs.Prelude.{◌≡◌, [], IfOk};
-    ghost use Rattle.std.specs.List.Sorted.{IsStrictlySortedBy};
-    ghost use Rattle.event_book.specs.NameLists.{name_cmp, names_of};
+    ghost use Rattle.event_book.specs.NameLists.{names_of, IsListOf};
 
     /// No name. This takes no memory.
     pub fn none(alloc: Global) -> Names
@@ -41,7 +40,7 @@ impl Names {
     /// The names of the members of a set, in byte order, out of the declared members. It fails only for want of memory.
     pub fn of(alloc: Global, set: MemberSet, members: &[Member]) -> Result<Names, AllocError>
         ensures names { IfOk result (λ names. names ≡ names_of set members.now) }
-        ensures order { IfOk result (λ names. IsStrictlySortedBy name_cmp names) }
+        ensures list { IfOk result (IsListOf set members.now) }
     {
         let mut items = Vec::new(alloc);
         for member in members {
