@@ -5,6 +5,13 @@ pub mod Facts
 pub mod Flight
 pub mod Keys
 pub mod Links
+pub mod Listing
 pub mod Members
+pub mod NameLists
+pub mod NoteText
+pub mod Reasons
+pub mod ServerText
+pub mod StoreText
 pub mod Text
+pub mod Traced
 pub use Rattle.pat_base.specs.MemberId

@@ -1,47 +1,28 @@
 -- The printed text of a book.
-use Rattle.std.specs.Prelude.{ℕ, Bool, true, false, List, [], ◌∷◌, ◌++◌, Option, Some, None, codes}
+use Rattle.std.specs.Prelude.{ℕ, Bool, List, [], ◌∷◌, ◌++◌, Option, Some, None, codes}
 use Rattle.std.specs.Fmt.{decimal}
 use Rattle.pat_base.specs.Name.{name_bytes}
-use Rattle.lease_store.specs.declared.txn.Txn.{Txn}
-use Rattle.lease_store.specs.declared.txn.Txn.TheVariants as txns
-use Rattle.lease_store.specs.Words.{key_text, finding_text, kind_text}
 use Rattle.event_book.specs.declared.event.Event.{Event}
 use Rattle.event_book.specs.declared.event.Kind.{Kind}
 use Rattle.event_book.specs.declared.event.Kind.TheVariants as kinds
 use Rattle.event_book.specs.declared.event.MessageEvent.{MessageEvent}
 use Rattle.event_book.specs.declared.event.MessageEvent.TheVariants as messages
-use Rattle.event_book.specs.declared.event.StoreEvent.{StoreEvent}
-use Rattle.event_book.specs.declared.event.StoreEvent.TheVariants as stores
 use Rattle.event_book.specs.declared.event.AgentEvent.{AgentEvent}
 use Rattle.event_book.specs.declared.event.AgentEvent.TheVariants as agents
 use Rattle.event_book.specs.declared.event.LinkEvent.{LinkEvent}
 use Rattle.event_book.specs.declared.event.LinkEvent.TheVariants as links
-use Rattle.event_book.specs.declared.event.Note.{Note}
-use Rattle.event_book.specs.declared.event.Note.TheVariants as notes
 use Rattle.event_book.specs.Bodies.{body_text}
 use Rattle.event_book.specs.Links.{end_text}
-
--- a line that is printed while messages are traced
-abbrev pub traced : Bool → List ℕ → Option (List ℕ)
-traced false line = None
-traced true line = Some line
+use Rattle.event_book.specs.NoteText.{note_line}
+use Rattle.event_book.specs.ServerText.{watchdog_line, server_line, log_line, replication_line}
+use Rattle.event_book.specs.StoreText.{store_line}
+use Rattle.event_book.specs.Traced.{traced}
 
 abbrev pub message_line : Bool → ℕ → MessageEvent → Option (List ℕ)
 message_line trace tick (messages.Sent number message) =
     traced trace (decimal tick ++ (codes " message " ++ (decimal number ++ (codes " from " ++ (end_text message.from ++ (codes " to " ++ (end_text message.to ++ (codes ": " ++ (body_text message.body ++ codes "\n")))))))))
 message_line trace tick (messages.Delivered number) = traced trace (decimal tick ++ (codes " message " ++ (decimal number ++ codes " is delivered\n")))
 message_line trace tick (messages.Lost number) = traced trace (decimal tick ++ (codes " message " ++ (decimal number ++ codes " is lost\n")))
-
-abbrev pub granted_line : ℕ → List ℕ → Txn → Option (List ℕ)
-granted_line tick name (txns.Create info ttl failsafe) = Some (decimal tick ++ (codes " " ++ (name ++ codes " takes the leader key\n")))
-granted_line tick name _ = None
-
-abbrev pub store_line : ℕ → StoreEvent → Option (List ℕ)
-store_line tick (stores.Granted number by txn standbys) = granted_line tick (name_bytes by.name) txn
-store_line tick (stores.Refused number by request key found) =
-    Some (decimal tick ++ (codes " the " ++ (kind_text request ++ (codes " of " ++ (name_bytes by.name ++ (codes " is refused, " ++ (key_text key ++ (codes " " ++ (finding_text found ++ codes "\n")))))))))
-store_line tick (stores.LeaderExpired holder) = Some (decimal tick ++ (codes " the leader key of " ++ (name_bytes holder.name ++ codes " expires\n")))
-store_line tick (stores.Expired key) = None
 
 abbrev pub agent_line : ℕ → AgentEvent → Option (List ℕ)
 agent_line tick (agents.Suspended agent) = Some (decimal tick ++ (codes " " ++ (name_bytes agent.name ++ codes " is held\n")))
@@ -54,20 +35,14 @@ abbrev pub link_line : ℕ → LinkEvent → Option (List ℕ)
 link_line tick (links.Cut link) = Some (decimal tick ++ (codes " " ++ (end_text link.first ++ (codes " and " ++ (end_text link.second ++ codes " are cut\n")))))
 link_line tick (links.Joined link) = Some (decimal tick ++ (codes " " ++ (end_text link.first ++ (codes " and " ++ (end_text link.second ++ codes " are joined\n")))))
 
-abbrev pub note_line : ℕ → Note → Option (List ℕ)
-note_line tick (notes.AlreadyRunning agent) = Some (decimal tick ++ (codes " " ++ (name_bytes agent.name ++ codes " is already running\n")))
-note_line tick (notes.NoMessage number) = Some (decimal tick ++ (codes " no message " ++ (decimal number ++ codes "\n")))
-note_line tick (notes.Undeliverable number) = Some (decimal tick ++ (codes " message " ++ (decimal number ++ codes " cannot be delivered\n")))
-note_line tick _ = None
-
 abbrev pub kind_line : Bool → ℕ → Kind → Option (List ℕ)
 kind_line trace tick kinds.Tick = None
 kind_line trace tick (kinds.Message happening) = message_line trace tick happening
 kind_line trace tick (kinds.Store happening) = store_line tick happening
-kind_line trace tick (kinds.Watchdog happening) = None
-kind_line trace tick (kinds.Server happening) = None
-kind_line trace tick (kinds.Log happening) = None
-kind_line trace tick (kinds.Replication happening) = None
+kind_line trace tick (kinds.Watchdog happening) = watchdog_line trace tick happening
+kind_line trace tick (kinds.Server happening) = server_line tick happening
+kind_line trace tick (kinds.Log happening) = log_line tick happening
+kind_line trace tick (kinds.Replication happening) = replication_line tick happening
 kind_line trace tick (kinds.Agent happening) = agent_line tick happening
 kind_line trace tick (kinds.Link happening) = link_line tick happening
 kind_line trace tick (kinds.Note note) = note_line tick note

@@ -58,9 +58,13 @@ pub enum StoreEvent {
         found: Expected,
     },
     /// The leader key of this member was dropped at its expiry.
-    LeaderExpired { holder: Member },
+    LeaderExpired {
+        holder: Member,
+    },
     /// Another key was dropped at its expiry.
-    Expired { key: Key },
+    Expired {
+        key: Key,
+    },
 }
 
 /// What happens to watchdogs, and to the holds that members take for a leader that can't reach the key store.
@@ -79,9 +83,13 @@ pub enum WatchdogEvent {
         basis: Basis,
     },
     /// The watchdog has no deadline any more.
-    Disarmed { member: Member },
+    Disarmed {
+        member: Member,
+    },
     /// The watchdog reset its machine: the agent ended, and the server crashed.
-    Reset { member: Member },
+    Reset {
+        member: Member,
+    },
     /// The member acknowledged the failsafe request of this number in this run of its sender. It doesn't take the
     /// leader key before the moment `until`.
     HoldTaken {
@@ -97,17 +105,31 @@ pub enum WatchdogEvent {
 #[derive(Debug, Drop)]
 pub enum ServerEvent {
     /// The server accepts writes from now on.
-    Began { server: ServerOf, timeline: u64 },
+    Began {
+        server: ServerOf,
+        timeline: u64,
+    },
     /// It accepts writes no longer.
-    Ended { server: ServerOf },
+    Ended {
+        server: ServerOf,
+    },
     /// It ended without a shutdown.
-    Crashed { server: ServerOf },
+    Crashed {
+        server: ServerOf,
+    },
     /// Its operator promoted it.
-    Promoted { server: ServerOf },
+    Promoted {
+        server: ServerOf,
+    },
     /// It starts as a replica.
-    StartsAsReplica { server: ServerOf },
+    StartsAsReplica {
+        server: ServerOf,
+    },
     /// It follows another server.
-    Follows { server: ServerOf, upstream: ServerOf },
+    Follows {
+        server: ServerOf,
+        upstream: ServerOf,
+    },
     /// Its log was found to be no beginning of its upstream's: the two part at this position.
     Diverged {
         server: ServerOf,
@@ -115,9 +137,13 @@ pub enum ServerEvent {
         at: Lsn,
     },
     /// Nothing is streamed to it by a tick of `run`.
-    Frozen { server: ServerOf },
+    Frozen {
+        server: ServerOf,
+    },
     /// It is streamed to again.
-    Thawed { server: ServerOf },
+    Thawed {
+        server: ServerOf,
+    },
     /// Its later stops and starts take so long, each as before where nothing is said of it.
     Slowed {
         server: ServerOf,
@@ -130,7 +156,10 @@ pub enum ServerEvent {
 #[derive(Debug, Drop)]
 pub enum LogEvent {
     /// A client's commit stands at the end of the log.
-    Appended { server: ServerOf, entry: Entry },
+    Appended {
+        server: ServerOf,
+        entry: Entry,
+    },
     /// The next so many entries of another server's log stand at its end.
     Received {
         server: ServerOf,
@@ -145,9 +174,14 @@ pub enum LogEvent {
         at: Lsn,
     },
     /// It is a copy of another server's log.
-    Copied { server: ServerOf, from: ServerOf },
+    Copied {
+        server: ServerOf,
+        from: ServerOf,
+    },
     /// The server has no log any more.
-    Wiped { server: ServerOf },
+    Wiped {
+        server: ServerOf,
+    },
 }
 
 /// What happens in synchronous replication.
@@ -166,7 +200,10 @@ pub enum ReplicationEvent {
         end: Lsn,
     },
     /// The client of this commit was told that it is stored.
-    Acknowledged { server: ServerOf, commit: u64 },
+    Acknowledged {
+        server: ServerOf,
+        commit: u64,
+    },
 }
 
 /// What happens to agents.
@@ -201,31 +238,55 @@ pub enum LinkEvent {
 #[derive(Debug, Drop)]
 pub enum Note {
     /// The member has no watchdog that can be armed, and needs one.
-    CannotArm { member: Member },
+    CannotArm {
+        member: Member,
+    },
     /// The member's watchdog rests while the cluster is paused.
-    DisablesWatchdog { member: Member },
-    EndsServer { member: Member, reason: Reason },
+    DisablesWatchdog {
+        member: Member,
+    },
+    EndsServer {
+        member: Member,
+        reason: Reason,
+    },
     /// The member keeps the leader key without beginning to write.
-    PostponesPromotion { member: Member },
+    PostponesPromotion {
+        member: Member,
+    },
     /// Why the member doesn't ask for a free leader key, with the name of the member that bars it, if one does.
     DoesNotRace {
         member: Member,
         bar: Bar,
         by: Option<Name>,
     },
-    HandsOver { member: Member, candidate: Member },
+    HandsOver {
+        member: Member,
+        candidate: Member,
+    },
     /// In a pause, a primary has no lease.
-    RunsWithoutKey { member: Member },
+    RunsWithoutKey {
+        member: Member,
+    },
     /// All members that a primary asked, as it can't reach the key store, accept that it stays primary.
-    StaysByFailsafe { member: Member },
+    StaysByFailsafe {
+        member: Member,
+    },
     /// The server doesn't accept writes.
-    RefusesCommit { server: ServerOf },
+    RefusesCommit {
+        server: ServerOf,
+    },
     /// The agent that was to be started runs already.
-    AlreadyRunning { agent: Member },
+    AlreadyRunning {
+        agent: Member,
+    },
     /// No message of this number is in flight.
-    NoMessage { number: u64 },
+    NoMessage {
+        number: u64,
+    },
     /// The link of this message is cut, or its receiver is held.
-    Undeliverable { number: u64 },
+    Undeliverable {
+        number: u64,
+    },
     /// What the agent's REST interface answered.
     Answered {
         agent: Member,
@@ -233,8 +294,12 @@ pub enum Note {
         body: Bytes,
     },
     /// The agent is held or doesn't run, so its REST interface answers nothing.
-    NoAnswer { agent: Member },
+    NoAnswer {
+        agent: Member,
+    },
     ConnectionFailed,
     /// A line that patronictl prints.
-    Told { line: Bytes },
+    Told {
+        line: Bytes,
+    },
 }

@@ -4,12 +4,17 @@
 mod agent_state;
 mod event;
 mod link;
+mod listing;
 mod member;
 mod message;
+mod name_order;
 mod names;
+mod note_printing;
 mod peer_answer;
 mod printing;
 mod reason;
+mod server_printing;
+mod store_printing;
 
 pub use agent_state::AgentState;
 pub use event::{

@@ -29,7 +29,10 @@ pub enum Body {
     Snapshot,
     /// The request that message `request` carried was granted; `leased` tells whether it gave or extended the lease of
     /// the leader key. It carries a snapshot too.
-    Granted { request: u64, leased: bool },
+    Granted {
+        request: u64,
+        leased: bool,
+    },
     /// The request that message `request` carried was refused, by this key and what was found there.
     Refused {
         request: u64,
@@ -41,9 +44,13 @@ pub enum Body {
     /// An agent's answer to `Ask`.
     Answer(PeerAnswer),
     /// To another agent, by a leader that can't reach the store: may I stay primary for `ttl` from now on?
-    Beg { ttl: Ticks },
+    Beg {
+        ttl: Ticks,
+    },
     /// An agent's answer to `Beg`.
-    Held { yes: bool },
+    Held {
+        yes: bool,
+    },
 }
 
 /// The kind of message in a word or two.

@@ -1,7 +1,12 @@
-//! Lists of names, and bytes.
+//! Lists of names, and text that is printed as it stands.
+ghost use Rattle.std.specs.Prelude.{◌≡◌, ◌==◌, OnOk};
+ghost use Rattle.std.specs.Int.{bit_at};
+ghost use Rattle.event_book.specs.NameLists.{with_name};
 
-use pat_base::Name;
-use std::alloc::Global;
+use crate::Member;
+use crate::name_order::put_name;
+use pat_base::{MemberSet, Name};
+use std::alloc::{AllocError, Global};
 use std::marker::Model;
 
 /// Names, as a line lists them.
@@ -20,7 +25,8 @@ impl Model for Names {
 }
 
 impl Names {
-    ghost use Rattle.std.specs.Prelude.{◌≡◌, []};
+    ghost use Rattle.std.specs.Prelude.{◌≡◌, [], IfOk};
+    ghost use Rattle.event_book.specs.NameLists.{names_of, IsListOf};
 
     /// No name. This takes no memory.
     pub fn none(alloc: Global) -> Names
@@ -31,6 +37,18 @@ impl Names {
         }
     }
 
+    /// The names of the members of a set, in byte order, out of the declared members. It fails only for want of memory.
+    pub fn of(alloc: Global, set: MemberSet, members: &[Member]) -> Result<Names, AllocError>
+        ensures names { IfOk result (λ names. names ≡ names_of set members.now) }
+        ensures list { IfOk result (IsListOf set members.now) }
+    {
+        let mut items = Vec::new(alloc);
+        for member in members {
+            put_member(&mut items, set, *member)?;
+        }
+        Ok(Names { items })
+    }
+
     /// The names.
     pub fn as_slice(&self) -> &[Name]
         ensures { result.now ≡ self.now }
@@ -39,32 +57,43 @@ impl Names {
     }
 }
 
-/// Bytes that a line prints.
+/// Puts the name of a member of a set at its place.
+fn put_member(names: &mut Vec<Name>, set: MemberSet, member: Member) -> Result<(), AllocError>
+    ensures { OnOk result (names.new.items ≡ with_name (bit_at set.bits member.id.number == 1) member.name names.old.items) }
+{
+    if set.contains(member.id) {
+        put_name(names, member.name)
+    } else {
+        Ok(())
+    }
+}
+
+/// Text that a line prints as it stands.
 #[derive(Debug, Drop)]
 pub struct Bytes {
-    items: Vec<u8>,
+    text: String,
 }
 
 impl Model for Bytes {
-    ghost use Rattle.std.specs.Prelude.{ℕ, List};
+    ghost use Rattle.std.specs.Prelude.{ℕ, List, string_bytes};
 
     ghost Value = { List ℕ };
 
-    ghost view = { λ bytes. bytes.items.items };
+    ghost view = { λ bytes. string_bytes bytes.text };
 }
 
 impl Bytes {
-    ghost use Rattle.std.specs.Prelude.{◌≡◌};
+    ghost use Rattle.std.specs.Prelude.{◌≡◌, string_bytes};
 
-    pub fn new(items: Vec<u8>) -> Bytes
-        ensures { result ≡ items.items }
+    pub fn new(text: String) -> Bytes
+        ensures { result ≡ string_bytes text }
     {
-        Bytes { items }
+        Bytes { text }
     }
 
-    pub fn as_slice(&self) -> &[u8]
+    pub fn as_str(&self) -> &str
         ensures { result.now ≡ self.now }
     {
-        &self.items
+        self.text.as_str()
     }
 }

@@ -1,10 +1,11 @@
 //! The printed line of an event.
 ghost use Rattle.std.specs.Prelude.{◌≡◌, IfOk, option_map, string_bytes};
-ghost use Rattle.pat_base.specs.Name.{name_bytes};
-ghost use Rattle.event_book.specs.Text.{line_of, message_line, store_line, granted_line, agent_line, link_line, note_line};
+ghost use Rattle.event_book.specs.Text.{line_of, message_line, agent_line, link_line};
 
-use crate::{AgentEvent, Event, Kind, LinkEvent, Member, MessageEvent, Note, StoreEvent};
-use lease_store::Txn;
+use crate::note_printing::note_line;
+use crate::server_printing::{log_line, replication_line, server_line, watchdog_line};
+use crate::store_printing::store_line;
+use crate::{AgentEvent, Event, Kind, LinkEvent, MessageEvent};
 use pat_base::Ticks;
 use std::alloc::{AllocError, Global};
 
@@ -17,7 +18,10 @@ pub fn text(alloc: Global, event: &Event, trace: bool) -> Result<Option<String>,
         Kind::Tick => Ok(None),
         Kind::Message(happening) => message_line(alloc, trace, event.tick, happening),
         Kind::Store(happening) => store_line(alloc, event.tick, happening),
-        Kind::Watchdog(_) | Kind::Server(_) | Kind::Log(_) | Kind::Replication(_) => Ok(None),
+        Kind::Watchdog(happening) => watchdog_line(alloc, trace, event.tick, happening),
+        Kind::Server(happening) => server_line(alloc, event.tick, happening),
+        Kind::Log(happening) => log_line(alloc, event.tick, happening),
+        Kind::Replication(happening) => replication_line(alloc, event.tick, happening),
         Kind::Agent(happening) => agent_line(alloc, event.tick, happening),
         Kind::Link(happening) => link_line(alloc, event.tick, happening),
         Kind::Note(note) => note_line(alloc, event.tick, note),
@@ -38,9 +42,7 @@ fn message_line(
     match event {
         MessageEvent::Sent { number, message } => {
             let (from, to, body) = (message.from, message.to, &message.body);
-            Ok(Some(format!(in alloc;
-                "{tick} message {number} from {from} to {to}: {body}\n"
-            )?))
+            Ok(Some(format!(in alloc; "{tick} message {number} from {from} to {to}: {body}\n")?))
         }
         MessageEvent::Delivered { number } => {
             Ok(Some(format!(in alloc; "{tick} message {number} is delivered\n")?))
@@ -48,46 +50,6 @@ fn message_line(
         MessageEvent::Lost { number } => {
             Ok(Some(format!(in alloc; "{tick} message {number} is lost\n")?))
         }
-    }
-}
-
-fn store_line(alloc: Global, tick: Ticks, event: &StoreEvent) -> Result<Option<String>, AllocError>
-    ensures { IfOk result (λ line. option_map string_bytes line ≡ store_line tick.0 event.now) }
-{
-    match event {
-        StoreEvent::Granted { by, txn, .. } => granted_line(alloc, tick, *by, txn),
-        StoreEvent::Refused {
-            by,
-            request,
-            key,
-            found,
-            ..
-        } => {
-            let name = by.name;
-            Ok(Some(format!(in alloc;
-                "{tick} the {request} of {name} is refused, {key} {found}\n"
-            )?))
-        }
-        StoreEvent::LeaderExpired { holder } => {
-            let name = holder.name;
-            Ok(Some(format!(in alloc; "{tick} the leader key of {name} expires\n")?))
-        }
-        StoreEvent::Expired { .. } => Ok(None),
-    }
-}
-
-fn granted_line(
-    alloc: Global,
-    tick: Ticks,
-    by: Member,
-    txn: &Txn,
-) -> Result<Option<String>, AllocError>
-    ensures { IfOk result (λ line. option_map string_bytes line ≡ granted_line tick.0 (name_bytes by.name) txn.now) }
-{
-    let name = by.name;
-    match txn {
-        Txn::Create { .. } => Ok(Some(format!(in alloc; "{tick} {name} takes the leader key\n")?)),
-        _ => Ok(None),
     }
 }
 
@@ -127,21 +89,5 @@ fn link_line(alloc: Global, tick: Ticks, event: &LinkEvent) -> Result<Option<Str
             let (first, second) = (link.first, link.second);
             Ok(Some(format!(in alloc; "{tick} {first} and {second} are joined\n")?))
         }
-    }
-}
-
-fn note_line(alloc: Global, tick: Ticks, note: &Note) -> Result<Option<String>, AllocError>
-    ensures { IfOk result (λ line. option_map string_bytes line ≡ note_line tick.0 note.now) }
-{
-    match note {
-        Note::AlreadyRunning { agent } => {
-            let name = agent.name;
-            Ok(Some(format!(in alloc; "{tick} {name} is already running\n")?))
-        }
-        Note::NoMessage { number } => Ok(Some(format!(in alloc; "{tick} no message {number}\n")?)),
-        Note::Undeliverable { number } => Ok(Some(format!(in alloc;
-            "{tick} message {number} cannot be delivered\n"
-        )?)),
-        _ => Ok(None),
     }
 }

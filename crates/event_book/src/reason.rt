@@ -1,6 +1,8 @@
 //! Why watchdogs are fed, and why servers are ended.
 
-use pat_base::MemberSet;
+use lease_store::Bar;
+use pat_base::{MemberSet, Name};
+use std::fmt;
 
 /// What lets a leader feed its watchdog.
 #[derive(Clone, Copy, Debug, PartialEq, Eq)]
@@ -19,4 +21,67 @@ pub enum Reason {
     LeaderKeyLost,
     StartTooLong,
     WatchdogNotArmed,
+}
+
+impl fmt::Display for Reason {
+    ghost use Rattle.std.specs.Prelude.{Some};
+    ghost use Rattle.event_book.specs.Reasons.{reason_text};
+
+    ghost output = { λ reason. Some (reason_text reason) };
+
+    fn fmt<W: fmt::Write>(&self, f: &mut fmt::Formatter<W>) -> fmt::Result {
+        match self {
+            Reason::StoreOutOfReach => f.write_str("the key store is out of reach"),
+            Reason::FailsafeNotAcknowledged => f.write_str("failsafe was not acknowledged"),
+            Reason::LeaderKeyLost => f.write_str("the leader key is lost"),
+            Reason::StartTooLong => f.write_str("the start took too long"),
+            Reason::WatchdogNotArmed => f.write_str("the watchdog is not armed"),
+        }
+    }
+}
+
+/// Why a member doesn't ask for a free leader key, with the name of the member that bars it.
+#[derive(Clone, Copy)]
+pub struct BarText {
+    pub bar: Bar,
+    pub by: Option<Name>,
+}
+
+impl BarText {
+    ghost use Rattle.std.specs.Prelude.{◌≡◌};
+    ghost use Rattle.event_book.specs.Reasons.{barring_text};
+
+    /// The member that bars it, by its name where that is told.
+    fn barring(&self) -> &str
+        ensures { result.now ≡ barring_text self.now.by }
+    {
+        match &self.by {
+            None => "another member",
+            Some(name) => name.as_str(),
+        }
+    }
+}
+
+impl fmt::Display for BarText {
+    ghost use Rattle.std.specs.Prelude.{Some};
+    ghost use Rattle.event_book.specs.Reasons.{bar_text};
+
+    ghost output = { λ text. Some (bar_text text.bar text.by) };
+
+    fn fmt<W: fmt::Write>(&self, f: &mut fmt::Formatter<W>) -> fmt::Result {
+        let other = self.barring();
+        match self.bar {
+            Bar::NotRunning => f.write_str("its server is not a replica"),
+            Bar::NoFailover => f.write_str("it may not fail over"),
+            Bar::Paused => f.write_str("paused"),
+            Bar::Candidate(_) => write!(f, "{other} is the candidate"),
+            Bar::NotSync => f.write_str("it is not in the sync key"),
+            Bar::TooFarBehind => f.write_str("it is too far behind"),
+            Bar::NotListed => f.write_str("it is not in the failsafe key"),
+            Bar::Hold => f.write_str("a failsafe hold"),
+            Bar::OtherWrites(_) => write!(f, "{other} accepts writes"),
+            Bar::Ahead(_) => write!(f, "{other} is ahead"),
+            Bar::Priority(_) => write!(f, "{other} has a higher priority"),
+        }
+    }
 }

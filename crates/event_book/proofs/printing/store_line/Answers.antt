@@ -1,5 +1,0 @@
-use Rattle.std.proofs.Common.{ap, Some}
-use Rattle.event_book.proofs.printing.store_line.Goals as goal
-
-pub returns-in_ok-format-in-Refused : goal.returns-in_ok-format-in-Refused
-returns-in_ok-format-in-Refused c = rw c.in-Refused.is (ap Some c.in_ok-format-in-Refused.ensures.ok)

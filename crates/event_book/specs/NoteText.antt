@@ -1,0 +1,47 @@
+-- The lines of notes.
+use Rattle.std.specs.Prelude.{ℕ, List, [], ◌∷◌, ◌++◌, Option, Some, None, codes}
+use Rattle.std.specs.Fmt.{decimal}
+use Rattle.pat_base.specs.Name.{name_bytes}
+use Rattle.event_book.specs.declared.event.Note.{Note}
+use Rattle.event_book.specs.declared.event.Note.TheVariants as notes
+use Rattle.event_book.specs.Reasons.{reason_text, bar_text}
+
+-- what the REST interface of the agent of this name answered; behind the status stands no blank where there is no body
+abbrev pub answered_line : ℕ → List ℕ → ℕ → List ℕ → Option (List ℕ)
+answered_line tick name status [] = Some (decimal tick ++ (codes " " ++ (name ++ (codes " answers " ++ (decimal status ++ codes "\n")))))
+answered_line tick name status (byte ∷ bytes) =
+    Some (decimal tick ++ (codes " " ++ (name ++ (codes " answers " ++ (decimal status ++ (codes " " ++ ((byte ∷ bytes) ++ codes "\n")))))))
+
+-- a line that patronictl prints, which stands without its moment
+abbrev pub told_line : List ℕ → Option (List ℕ)
+told_line line = Some (line ++ codes "\n")
+
+-- what the lines of a script are answered
+abbrev pub reply_line : ℕ → Note → Option (List ℕ)
+reply_line tick (notes.RefusesCommit server) = Some (decimal tick ++ (codes " " ++ (name_bytes server.name ++ codes " refuses a commit\n")))
+reply_line tick (notes.AlreadyRunning agent) = Some (decimal tick ++ (codes " " ++ (name_bytes agent.name ++ codes " is already running\n")))
+reply_line tick (notes.NoMessage number) = Some (decimal tick ++ (codes " no message " ++ (decimal number ++ codes "\n")))
+reply_line tick (notes.Undeliverable number) = Some (decimal tick ++ (codes " message " ++ (decimal number ++ codes " cannot be delivered\n")))
+reply_line tick (notes.Answered agent status body) = answered_line tick (name_bytes agent.name) status body
+reply_line tick (notes.NoAnswer agent) = Some (decimal tick ++ (codes " " ++ (name_bytes agent.name ++ codes " gives no answer\n")))
+reply_line tick notes.ConnectionFailed = Some (decimal tick ++ codes " connection failed\n")
+reply_line tick (notes.Told line) = told_line line
+reply_line tick _ = None
+
+-- the line of a note about one member alone
+abbrev pub own_note_line : ℕ → Note → Option (List ℕ)
+own_note_line tick (notes.CannotArm member) = Some (decimal tick ++ (codes " " ++ (name_bytes member.name ++ codes " cannot arm its watchdog\n")))
+own_note_line tick (notes.DisablesWatchdog member) = Some (decimal tick ++ (codes " " ++ (name_bytes member.name ++ codes " disables its watchdog\n")))
+own_note_line tick (notes.PostponesPromotion member) = Some (decimal tick ++ (codes " " ++ (name_bytes member.name ++ codes " postpones its promotion\n")))
+own_note_line tick (notes.RunsWithoutKey member) = Some (decimal tick ++ (codes " " ++ (name_bytes member.name ++ codes " runs as primary without the leader key\n")))
+own_note_line tick (notes.StaysByFailsafe member) = Some (decimal tick ++ (codes " " ++ (name_bytes member.name ++ codes " stays primary by failsafe\n")))
+own_note_line tick note = reply_line tick note
+
+abbrev pub note_line : ℕ → Note → Option (List ℕ)
+note_line tick (notes.EndsServer member reason) =
+    Some (decimal tick ++ (codes " " ++ (name_bytes member.name ++ (codes " ends its server: " ++ (reason_text reason ++ codes "\n")))))
+note_line tick (notes.DoesNotRace member bar by) =
+    Some (decimal tick ++ (codes " " ++ (name_bytes member.name ++ (codes " does not race: " ++ (bar_text bar by ++ codes "\n")))))
+note_line tick (notes.HandsOver member candidate) =
+    Some (decimal tick ++ (codes " " ++ (name_bytes member.name ++ (codes " hands over to " ++ (name_bytes candidate.name ++ codes "\n")))))
+note_line tick note = own_note_line tick note
