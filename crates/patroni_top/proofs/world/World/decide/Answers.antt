@@ -48,7 +48,7 @@ returns-in_ok-note-in-Err-Mismatch c =
     let found = c.in-Err-Mismatch.found in
     let refusing : Cluster = record { book = record before.book { keys = c.apply.new.self }; phases = before.phases } in
     let decision : decision_on before.book.keys before.book.clock txn ≡ Refusal key found =
-        ap (decision_on before.book.keys before.book.clock) (sym c.in_ok-copy.ensures) ∙ (c.in-Err-Mismatch.ensures.refused key found).0 (ap Err c.in-Err-Mismatch.field-0-is) in
+    ap (decision_on before.book.keys before.book.clock) (sym c.in_ok-copy.ensures) ∙ (c.in-Err-Mismatch.ensures.refused key found).0 (ap Err c.in-Err-Mismatch.field-0-is) in
     let state : ◌≡◌ {A = Cluster} refusing before = ap (λ (keys : Keys). let g : Cluster = record { book = record before.book { keys = keys }; phases = before.phases } in g) c.in-Err-Mismatch.ensures.err in
     let mid = c.in_ok-note-in-Err-Mismatch.ensures ∙ ap (λ (k : TxnKind). let event : Event = record { tick = c.self.inside.clock; kind = kinds.Store (stores.Refused c.args.number by k key found) } in c.args.events.now.items ++ event ∷ []) c.kind.ensures in
     on_ok_weaker c.send-in-Err-Mismatch.result
