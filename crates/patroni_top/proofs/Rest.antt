@@ -1,6 +1,6 @@
 -- A part of a step on its way: what is left, from the cluster as it is, completes the whole.
 use Rattle.std.proofs.Common.{◌≡◌, ℕ, ◌+◌, ◌-◌, ◌*◌, ◌≤◌, ◌<◌, List, [], ◌∷◌, ◌++◌, length, drop, get_or, arith, append-nil, append_assoc, refl, ◌∙◌, ap, sym, subst, suc}
-use Rattle.std.proofs.lemmas.List.{drop_more}
+use Rattle.std.proofs.lemmas.List.{drop_more, drop_all, length-drop}
 use Rattle.event_book.specs.declared.event.Event.{Event}
 use Rattle.patroni_top.specs.Cluster.{Cluster, moved_all}
 use Rattle.patroni_top.specs.Next.{followed, wakes, wake_at, all_move, moves}
@@ -52,3 +52,9 @@ wakes-end cluster place count h = wakes-none cluster place (count - place) (omeg
 pub moves-next : (cluster : Cluster) (numbers : List ℕ) (at number : ℕ) → at < length numbers → number ≡ get_or numbers at number
     → all_move cluster (drop at numbers) ≡ followed cluster (moves cluster number) (λ later. all_move later (drop (at + 1) numbers))
 moves-next cluster numbers at number h is = ap (all_move cluster) (drop_more numbers at number h ∙ ap (λ n. n ∷ drop (at + 1) numbers) (sym is))
+
+pub moves-end : (cluster : Cluster) (numbers : List ℕ) (at : ℕ) → length numbers ≤ at → all_move cluster (drop at numbers) ≡ []
+moves-end cluster numbers at h = ap (all_move cluster) (drop_all at numbers h)
+
+pub left-one : (numbers : List ℕ) (at : ℕ) → at < length numbers → length (drop at numbers) ≡ 1 + length (drop (at + 1) numbers)
+left-one numbers at h = omega (arith, length-drop at numbers, length-drop (at + 1) numbers)
