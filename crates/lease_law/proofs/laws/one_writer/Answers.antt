@@ -1,0 +1,5 @@
+use Rattle.lease_law.proofs.Invariant.{inv-start}
+use Rattle.lease_law.proofs.laws.one_writer.Goals as goal
+
+pub returns : goal.returns
+returns c = ?

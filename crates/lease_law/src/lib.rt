@@ -1,0 +1,6 @@
+//! The timed lease as a law of the book of a run: at most one server accepts writes.
+#![tactic(auto)]
+
+mod laws;
+
+pub use laws::one_writer;
