@@ -1,2 +1,4 @@
 pub mod Tools
 pub mod Invariant
+pub mod Onward
+pub mod Deliver
