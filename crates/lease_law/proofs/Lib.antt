@@ -2,3 +2,4 @@ pub mod Tools
 pub mod Invariant
 pub mod Onward
 pub mod Deliver
+pub mod Calm
