@@ -49,14 +49,17 @@ asked-calm mode key fkey top members members' m Read c a = tt
 
 guarded-calm : (clock : ℕ) (fkey : Option FailsafeKey) (key : Option LeaderKey) (flight : ℕ → Option Flying) (members members' : ℕ → Machine) (m : ℕ) (deadline deadline' : Option ℕ) (basis basis' : Bool) → deadline ≡ deadline' → basis ≡ basis' → ((p : ℕ) → (members p).hold ≤ (members' p).hold) → Guarded clock fkey key flight members m deadline basis → Guarded clock fkey key flight members' m deadline' basis'
 guarded-calm clock fkey key flight members members' m deadline deadline' basis basis' d b grow g = record {
-  until = g.until; is = sym d ∙ g.is; later = g.later;
+  until = g.until;
+  is = sym d ∙ g.is;
+  later = g.later;
   cover = elim g.cover [ inl c ↦ inl (sym b ∙ c.0, c.1) | inr c ↦ inr (sym b ∙ c.0, holds-grow fkey key flight members members' m g.until grow c.1) ];
 }
 
 matches-calm : (x y : Machine) (run seq : ℕ) (b : Begging) → Calm x y → Matches y run seq b → Matches x run seq b
 matches-calm x y run seq b c w = elim (c.agent w.agent w.is) [
-  inl p ↦ record { agent = w.agent; is = p; run_is = w.run_is; begging = w.begging; seq_is = w.seq_is }
-  | inr p ↦ absurd (none-some b (sym p.begging ∙ w.begging)) ]
+  | inl p ↦ record { agent = w.agent; is = p; run_is = w.run_is; begging = w.begging; seq_is = w.seq_is }
+  | inr p ↦ absurd (none-some b (sym p.begging ∙ w.begging))
+]
 
 taken-calm : (x y : Machine) (hold hold' : ℕ) (t : Taking) → Calm x y → hold ≤ hold' → TakenOk x hold t → TakenOk y hold' t
 taken-calm x y hold hold' t c longer old = record {
@@ -66,8 +69,9 @@ taken-calm x y hold hold' t c longer old = record {
 
 agent-calm : (s : State) (m : ℕ) (y : Machine) (g : Agent) → Inv s → Calm (s.members m) y → y.agent ≡ Some g → AgentOk s.leader s.failsafe s.revision m y.runs g
 agent-calm s m y g inv c is = elim (c.agent g is) [
-  inl p ↦ let old = inv.kept m g p in record { run = omega (arith, old.run, c.runs); lease = old.lease; seen = old.seen; failsafe = old.failsafe; informed = old.informed }
-  | inr p ↦ record { run = p.known; lease = λ r e. absurd (none-some r (sym p.lease ∙ e)); seen = λ z e. absurd (none-some z (sym p.leader ∙ e)); failsafe = λ f e. absurd (none-some f (sym p.failsafe ∙ e)); informed = λ e. absurd (not-false g.informed p.informed e) } ]
+  | inl p ↦ let old = inv.kept m g p in record { run = omega (arith, old.run, c.runs); lease = old.lease; seen = old.seen; failsafe = old.failsafe; informed = old.informed }
+  | inr p ↦ record { run = p.known; lease = λ r e. absurd (none-some r (sym p.lease ∙ e)); seen = λ z e. absurd (none-some z (sym p.leader ∙ e)); failsafe = λ f e. absurd (none-some f (sym p.failsafe ∙ e)); informed = λ e. absurd (not-false g.informed p.informed e) }
+]
 
 inv-calm : (s : State) (members : ℕ → Machine) → ((n : ℕ) → Calm (s.members n) (members n)) → Inv s → Inv (record s { members = members })
 inv-calm s members calm inv = record {
@@ -78,23 +82,26 @@ inv-calm s members calm inv = record {
   bounded = inv.bounded;
   fbounded = inv.fbounded;
   asked = λ i q at. let old = inv.asked i q at in
-    record { numbered = numbered-calm (s.members q.member) (members q.member) q.run q.sequence (calm q.member) old.numbered; sent = old.sent; query = asked-calm s.declared.failsafe s.leader s.failsafe s.revision s.members members q.member q.query calm old.query };
+      record { numbered = numbered-calm (s.members q.member) (members q.member) q.run q.sequence (calm q.member) old.numbered; sent = old.sent; query = asked-calm s.declared.failsafe s.leader s.failsafe s.revision s.members members q.member q.query calm old.query };
   said = λ i a at. let old = inv.said i a at in
-    record { numbered = numbered-calm (s.members a.member) (members a.member) a.run a.sequence (calm a.member) old.numbered; seen = old.seen; grant = old.grant; order = old.order; listed = old.listed };
+      record { numbered = numbered-calm (s.members a.member) (members a.member) a.run a.sequence (calm a.member) old.numbered; seen = old.seen; grant = old.grant; order = old.order; listed = old.listed };
   begs = λ i q at. let old = inv.begs i q at in
-    record { numbered = numbered-calm (s.members q.member) (members q.member) q.run q.sequence (calm q.member) old.numbered; sent = old.sent; matches = λ b w. old.matches b (matches-calm (s.members q.member) (members q.member) q.run q.sequence b (calm q.member) w) };
+      record { numbered = numbered-calm (s.members q.member) (members q.member) q.run q.sequence (calm q.member) old.numbered; sent = old.sent; matches = λ b w. old.matches b (matches-calm (s.members q.member) (members q.member) q.run q.sequence b (calm q.member) w) };
   yeses = inv.yeses;
   taken = λ t at. taken-calm (s.members t.from) (members t.from) (s.members t.by).hold (members t.by).hold t (calm t.from) (calm t.by).hold (inv.taken t at);
   kept = λ m g is. agent-calm s m (members m) g inv (calm m) is;
   spans = λ m g is acts leads. elim ((calm m).agent g is) [
-    inl p ↦ inv.spans m g p ((calm m).acts acts) leads
-    | inr p ↦ absurd (not-false g.leads p.leads leads) ];
+    | inl p ↦ inv.spans m g p ((calm m).acts acts) leads
+    | inr p ↦ absurd (not-false g.leads p.leads leads)
+  ];
   begging = λ m g b is e. elim ((calm m).agent g is) [
-    inl p ↦ let old = inv.begging m g b p e in record { counted = old.counted; there = old.there; spans = λ acts. old.spans ((calm m).acts acts); yes = old.yes }
-    | inr p ↦ absurd (none-some b (sym p.begging ∙ e)) ];
+    | inl p ↦ let old = inv.begging m g b p e in record { counted = old.counted; there = old.there; spans = λ acts. old.spans ((calm m).acts acts); yes = old.yes }
+    | inr p ↦ absurd (none-some b (sym p.begging ∙ e))
+  ];
   fresh = λ i a grant at is w. elim ((calm a.member).agent w.agent w.is) [
-    inl p ↦ inv.fresh i a grant at is (record { agent = w.agent; is = p; run = w.run; sequence = w.sequence })
-    | inr p ↦ absurd (none-some a.sequence (sym p.waits ∙ w.sequence)) ];
+    | inl p ↦ inv.fresh i a grant at is (record { agent = w.agent; is = p; run = w.run; sequence = w.sequence })
+    | inr p ↦ absurd (none-some a.sequence (sym p.waits ∙ w.sequence))
+  ];
   tokens = λ i a grant at is. let t = inv.tokens i a grant at is in record {
     released = t.released;
     valued = λ m g e v. elim ((calm m).agent g e) [ inl p ↦ t.valued m g p v | inr p ↦ absurd (none-some grant.revision (sym p.lease ∙ v)) ];
@@ -112,14 +119,22 @@ kill-calm : (x : Machine) → Calm x (kill_machine x)
 kill-calm x = record {
   parted = λ p r. absurd (both r);
   acts = λ a. elim a [ inl e ↦ inl e | inr e ↦ absurd (both e) ];
-  deadline = λ a. refl; basis = refl; hold = omega arith; runs = omega arith; agent = λ g is. absurd (none-some g is);
+  deadline = λ a. refl;
+  basis = refl;
+  hold = omega arith;
+  runs = omega arith;
+  agent = λ g is. absurd (none-some g is);
 }
 
 crash-calm : (x : Machine) → Calm x (crash_machine x)
 crash-calm x = record {
   parted = λ p r. refl;
   acts = λ a. elim a [ inl e ↦ absurd (both e) | inr e ↦ inr e ];
-  deadline = λ a. refl; basis = refl; hold = omega arith; runs = omega arith; agent = λ g is. inl is;
+  deadline = λ a. refl;
+  basis = refl;
+  hold = omega arith;
+  runs = omega arith;
+  agent = λ g is. inl is;
 }
 
 started-deadline : (b : Bool) (d : Option ℕ) → b ≡ true → d ≡ deadline_if b d
@@ -131,9 +146,11 @@ start-calm x = record {
   parted = λ p r. absurd (both r);
   acts = λ a. elim a [ inl e ↦ inl e | inr e ↦ absurd (both e) ];
   deadline = λ a. elim a [ inl e ↦ started-deadline x.live x.deadline e | inr e ↦ absurd (both e) ];
-  basis = refl; hold = omega arith; runs = omega arith;
+  basis = refl;
+  hold = omega arith;
+  runs = omega arith;
   agent = λ g is. inr (subst (λ (h : Agent). NewRun x (start_machine x) h) (some-is (fresh_agent (x.runs + 1)) g is)
-    (record { later = omega arith; known = omega arith; waits = refl; lease = refl; leader = refl; failsafe = refl; leads = refl; informed = refl; begging = refl }));
+      (record { later = omega arith; known = omega arith; waits = refl; lease = refl; leader = refl; failsafe = refl; leads = refl; informed = refl; begging = refl }));
 }
 
 pub inv-kill : (s : State) (m : ℕ) → Inv s → Inv (record s { members = put_at s.members m (kill_machine (s.members m)) })
@@ -148,9 +165,15 @@ inv-started s m = inv-calm s (put_at s.members m (start_machine (s.members m))) 
 -- messages that are lost
 inv-fewer : (s : State) (flight : ℕ → Option Flying) → ((i : ℕ) (f : Flying) → flight i ≡ Some f → s.flight i ≡ Some f) → Inv s → Inv (record s { flight = flight })
 inv-fewer s flight fewer inv = let less : ((i : ℕ) (q : Request) → flight i ≡ Some (Requested q) → s.flight i ≡ Some (Requested q)) = λ i q at. fewer i (Requested q) at in record {
-  guarded = λ m acts. let g = inv.guarded m acts in record { until = g.until; is = g.is; later = g.later; cover = elim g.cover [
-    inl c ↦ inl c
-    | inr c ↦ let h = c.1 in inr (c.0, record { f = h.f; is = h.is; owner = h.owner; spans = spans-fewer s.failsafe s.leader s.flight flight m (λ p. g.until ≤ (s.members p).hold) less h.spans }) ] };
+  guarded = λ m acts. let g = inv.guarded m acts in record {
+    until = g.until;
+    is = g.is;
+    later = g.later;
+    cover = elim g.cover [
+      | inl c ↦ inl c
+      | inr c ↦ let h = c.1 in inr (c.0, record { f = h.f; is = h.is; owner = h.owner; spans = spans-fewer s.failsafe s.leader s.flight flight m (λ p. g.until ≤ (s.members p).hold) less h.spans })
+    ];
+  };
   sole = inv.sole;
   parted = inv.parted;
   off = inv.off;
@@ -199,8 +222,14 @@ key-tick at key top = record { grows = omega arith; known = λ k is. inl (key-kn
 fresh-tick : (b : Bool) (at : ℕ) (key : Option LeaderKey) (fkey : Option FailsafeKey) (flight : ℕ → Option Flying) (m : ℕ) (grant : Grant) → nat_le (grant.moment + grant.ttl) at ≡ b → Present key fkey flight m grant → Fresh at (leader_kept at key) fkey flight m grant
 fresh-tick true at key fkey flight m grant e p = inl (le-from (grant.moment + grant.ttl) at e)
 fresh-tick false at key fkey flight m grant e p = inr (record {
-  held = p.held; key_is = key-stays at key p.held p.key_is (omega (arith, gt-from (grant.moment + grant.ttl) at e, p.lasts));
-  revision = p.revision; holder = p.holder; lasts = p.lasts; alone = p.alone; listed = p.listed })
+  held = p.held;
+  key_is = key-stays at key p.held p.key_is (omega (arith, gt-from (grant.moment + grant.ttl) at e, p.lasts));
+  revision = p.revision;
+  holder = p.holder;
+  lasts = p.lasts;
+  alone = p.alone;
+  listed = p.listed;
+})
 
 spans-tick : (at : ℕ) (fkey : Option FailsafeKey) (key : Option LeaderKey) (flight : ℕ → Option Flying) (m : ℕ) (X : ℕ → Type 0) → Spans fkey key flight m X → Spans fkey (leader_kept at key) flight m X
 spans-tick at fkey key flight m X s = record { listed = s.listed; coming = λ j q compared ttl set k e e' is. s.coming j q compared ttl set k e e' (key-known at key k is) }
@@ -211,9 +240,15 @@ Ahead at x = (d : ℕ) → Acts x → x.deadline ≡ Some d → at < d
 inv-pass : (s : State) → ((m : ℕ) → Ahead (s.clock + 1) (s.members m)) → Inv s → Inv (record s { clock = s.clock + 1; leader = leader_kept (s.clock + 1) s.leader })
 inv-pass s ahead inv = let at : ℕ = s.clock + 1 in let a = key-tick at s.leader s.revision in let b = f-same s.failsafe s.revision s.revision (omega arith) in record {
   guarded = λ m acts. let g = inv.guarded m acts in let later = ahead m g.until acts g.is in
-    record { until = g.until; is = g.is; later = later; cover = elim g.cover [
-      inl c ↦ let h = c.1 in inl (c.0, record { held = h.held; key_is = key-stays at s.leader h.held h.key_is (omega (arith, later, h.lasts)); holder = h.holder; lasts = h.lasts })
-      | inr c ↦ let h = c.1 in inr (c.0, record { f = h.f; is = h.is; owner = λ k is. h.owner k (key-known at s.leader k is); spans = spans-tick at s.failsafe s.leader s.flight m (λ p. g.until ≤ (s.members p).hold) h.spans }) ] };
+      record {
+        until = g.until;
+        is = g.is;
+        later = later;
+        cover = elim g.cover [
+          | inl c ↦ let h = c.1 in inl (c.0, record { held = h.held; key_is = key-stays at s.leader h.held h.key_is (omega (arith, later, h.lasts)); holder = h.holder; lasts = h.lasts })
+          | inr c ↦ let h = c.1 in inr (c.0, record { f = h.f; is = h.is; owner = λ k is. h.owner k (key-known at s.leader k is); spans = spans-tick at s.failsafe s.leader s.flight m (λ p. g.until ≤ (s.members p).hold) h.spans })
+        ];
+      };
   sole = inv.sole;
   parted = inv.parted;
   off = inv.off;
@@ -228,8 +263,9 @@ inv-pass s ahead inv = let at : ℕ = s.clock + 1 in let a = key-tick at s.leade
   spans = λ m g is acts leads. spans-tick at s.failsafe s.leader s.flight m (λ p. g.known p ≡ true) (inv.spans m g is acts leads);
   begging = λ m g c is e. let old = inv.begging m g c is e in record { counted = old.counted; there = old.there; yes = old.yes; spans = λ acts. spans-tick at s.failsafe s.leader s.flight m (λ p. c.members p ≡ true) (old.spans acts) };
   fresh = λ i c grant e is w. elim (inv.fresh i c grant e is w) [
-    inl over ↦ inl (omega (arith, over))
-    | inr p ↦ fresh-tick (nat_le (grant.moment + grant.ttl) at) at s.leader s.failsafe s.flight c.member grant refl p ];
+    | inl over ↦ inl (omega (arith, over))
+    | inr p ↦ fresh-tick (nat_le (grant.moment + grant.ttl) at) at s.leader s.failsafe s.flight c.member grant refl p
+  ];
   tokens = inv.tokens;
 }
 
@@ -238,7 +274,10 @@ tick-calm true stops x = record {
   parted = λ p r. refl;
   acts = λ a. elim a [ inl e ↦ absurd (both e) | inr e ↦ absurd (both e) ];
   deadline = λ a. elim a [ inl e ↦ absurd (both e) | inr e ↦ absurd (both e) ];
-  basis = refl; hold = omega arith; runs = omega arith; agent = λ g is. absurd (none-some g is);
+  basis = refl;
+  hold = omega arith;
+  runs = omega arith;
+  agent = λ g is. absurd (none-some g is);
 }
 tick-calm false true x = crash-calm x
 tick-calm false false x = same-calm x
@@ -256,5 +295,5 @@ pub inv-tick : (s : State) (stops : ℕ → Bool) → Inv s → Inv (ticked s st
 inv-tick s stops inv =
     let members : (ℕ → Machine) = λ m. tick_machine (is_due (s.clock + 1) (s.members m).deadline) (stops m) (s.members m) in
     inv-pass (record s { members = members })
-      (λ m. tick-ahead (is_due (s.clock + 1) (s.members m).deadline) (stops m) (s.clock + 1) (s.members m) refl)
-      (inv-calm s members (λ m. tick-calm (is_due (s.clock + 1) (s.members m).deadline) (stops m) (s.members m)) inv)
+    (λ m. tick-ahead (is_due (s.clock + 1) (s.members m).deadline) (stops m) (s.clock + 1) (s.members m) refl)
+    (inv-calm s members (λ m. tick-calm (is_due (s.clock + 1) (s.members m).deadline) (stops m) (s.members m)) inv)

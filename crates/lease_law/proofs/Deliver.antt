@@ -89,13 +89,18 @@ create-if-ok true s q ttl expected e inv is a =
       keys = λ m until acts c. absurd (none-some c.held (sym is ∙ c.key_is));
       spans = λ m X acts p. record {
         listed = p.listed;
-        coming = λ j r compared t set k at txn k_is same. absurd (no-new-renew s j r compared t (Some set) inv at txn (omega (arith, same, ap (λ (x : LeaderKey). x.revision) (some-is new k k_is)))) };
-      owns = λ m until acts h. (h.f, h.is, λ k n.
-        let mine : h.f.members q.member ≡ true = create-lists s q.member ttl expected h.f inv a e h.is in
-        inr (ap (λ (x : LeaderKey). h.f.members x.holder) (sym (some-is new k n)) ∙ mine));
+        coming = λ j r compared t set k at txn k_is same. absurd (no-new-renew s j r compared t (Some set) inv at txn (omega (arith, same, ap (λ (x : LeaderKey). x.revision) (some-is new k k_is))));
+      };
+      owns = λ m until acts h. (
+        h.f,
+        h.is,
+        λ k n.
+            let mine : h.f.members q.member ≡ true = create-lists s q.member ttl expected h.f inv a e h.is in
+            inr (ap (λ (x : LeaderKey). h.f.members x.holder) (sym (some-is new k n)) ∙ mine),
+      );
       presents = λ m grant p none. absurd (none-some p.held (sym is ∙ p.key_is));
       granted = λ grant n. subst (λ (g : Grant). Granted s q (create_if true s.clock s.failsafe s.revision q.member q.sent ttl) g) (some-is (record { revision = s.revision + 1; sent = q.sent; moment = s.clock; ttl = ttl; failsafe = s.failsafe }) grant n)
-        (record { revision = refl; risen = omega arith; held = new; key_is = refl; held_revision = refl; holder = refl; lasts = omega arith; sent = refl; moment = refl; listed = refl });
+          (record { revision = refl; risen = omega arith; held = new; key_is = refl; held_revision = refl; holder = refl; lasts = omega arith; sent = refl; moment = refl; listed = refl });
     }
 
 create-ok : (s : State) (q : Request) (key : Option LeaderKey) (ttl : ℕ) (expected : Option Expected) → Inv s → s.leader ≡ key → Asked s.declared.failsafe s.leader s.failsafe s.revision s.members q.member (Create ttl expected) → OutcomeOk s q (create_on s.clock key s.failsafe s.revision q.member q.sent ttl expected)
@@ -135,18 +140,23 @@ renew-if-ok true s i q key compared ttl carried e inv is at txn a =
       onward = record { grows = omega arith; known = λ k n. inr (omega (arith, ap (λ (x : LeaderKey). x.revision) (some-is new k n)), omega (arith, ap (λ (x : LeaderKey). x.revision) (some-is new k n))) };
       fonward = carry-after s carried;
       keys = λ m until acts g. let k : g.held ≡ key = some-is g.held key (sym g.key_is ∙ is) in
-        record { held = new; key_is = refl; holder = ap (λ (x : LeaderKey). x.holder) (sym k) ∙ g.holder; lasts = omega (arith, g.lasts, ap (λ (x : LeaderKey). x.expiry) k) };
+          record { held = new; key_is = refl; holder = ap (λ (x : LeaderKey). x.holder) (sym k) ∙ g.holder; lasts = omega (arith, g.lasts, ap (λ (x : LeaderKey). x.expiry) k) };
       spans = λ m X acts p. record {
         listed = carry-lists s i q key compared ttl carried m X is same at txn p;
-        coming = λ j r c t set k at' txn' k_is same'. absurd (no-new-renew s j r c t (Some set) inv at' txn' (omega (arith, same', ap (λ (x : LeaderKey). x.revision) (some-is new k k_is)))) };
-      owns = λ m until acts h. let o = carry-owns s q key compared ttl carried m until is same a acts h in
-        (o.0, o.1, λ k n. elim o.2 [
-          inl mine ↦ inl (ap (λ (x : LeaderKey). x.holder) (sym (some-is new k n)) ∙ mine)
-          | inr listed ↦ inr (ap (λ (x : LeaderKey). o.0.members x.holder) (sym (some-is new k n)) ∙ listed) ]);
+        coming = λ j r c t set k at' txn' k_is same'. absurd (no-new-renew s j r c t (Some set) inv at' txn' (omega (arith, same', ap (λ (x : LeaderKey). x.revision) (some-is new k k_is))));
+      };
+      owns = λ m until acts h. let o = carry-owns s q key compared ttl carried m until is same a acts h in (
+        o.0,
+        o.1,
+        λ k n. elim o.2 [
+          | inl mine ↦ inl (ap (λ (x : LeaderKey). x.holder) (sym (some-is new k n)) ∙ mine)
+          | inr listed ↦ inr (ap (λ (x : LeaderKey). o.0.members x.holder) (sym (some-is new k n)) ∙ listed)
+        ],
+      );
       presents = λ m grant p none. let k : p.held ≡ key = some-is p.held key (sym p.key_is ∙ is) in
-        absurd (p.alone i q compared ttl carried at txn (sym same ∙ ap (λ (x : LeaderKey). x.revision) (sym k) ∙ p.revision));
+          absurd (p.alone i q compared ttl carried at txn (sym same ∙ ap (λ (x : LeaderKey). x.revision) (sym k) ∙ p.revision));
       granted = λ grant n. subst (λ (g : Grant). Granted s q (renew_if true s.clock key s.failsafe s.revision q.sent ttl carried) g) (some-is (record { revision = s.revision + 1; sent = q.sent; moment = s.clock; ttl = ttl; failsafe = fkey }) grant n)
-        (record { revision = refl; risen = omega arith; held = new; key_is = refl; held_revision = refl; holder = (renew-vouched s.declared.failsafe s.leader s.failsafe s.revision s.members q.member compared ttl carried a).owner key is same; lasts = omega arith; sent = refl; moment = refl; listed = refl });
+          (record { revision = refl; risen = omega arith; held = new; key_is = refl; held_revision = refl; holder = (renew-vouched s.declared.failsafe s.leader s.failsafe s.revision s.members q.member compared ttl carried a).owner key is same; lasts = omega arith; sent = refl; moment = refl; listed = refl });
     }
 
 renew-ok : (s : State) (i : ℕ) (q : Request) (key : Option LeaderKey) (compared ttl : ℕ) (carried : Option (ℕ → Bool)) → Inv s → s.leader ≡ key → s.flight i ≡ Some (Requested q) → q.query ≡ Renew compared ttl carried → Asked s.declared.failsafe s.leader s.failsafe s.revision s.members q.member (Renew compared ttl carried) → OutcomeOk s q (renew_on s.clock key s.failsafe s.revision compared q.sent ttl carried)
@@ -162,13 +172,13 @@ release-if-ok true s i q key compared e inv is at txn v quiet =
       onward = record { grows = omega arith; known = λ k n. absurd (none-some k n) };
       fonward = f-same s.failsafe s.revision (s.revision + 1) (omega arith);
       keys = λ m until acts g. let k : g.held ≡ key = some-is g.held key (sym g.key_is ∙ is) in
-        let owner : q.member ≡ m = sym (v.owner key is same) ∙ ap (λ (x : LeaderKey). x.holder) (sym k) ∙ g.holder in
-        absurd (quiet key is same (subst (λ (n : ℕ). Acts (s.members n)) (sym owner) acts));
+          let owner : q.member ≡ m = sym (v.owner key is same) ∙ ap (λ (x : LeaderKey). x.holder) (sym k) ∙ g.holder in
+          absurd (quiet key is same (subst (λ (n : ℕ). Acts (s.members n)) (sym owner) acts));
       spans = λ m X acts p. record { listed = p.listed; coming = λ j r c t set k at' txn' k_is. absurd (none-some k k_is) };
       owns = λ m until acts h. (h.f, h.is, λ k n. absurd (none-some k n));
       presents = λ m grant p none. let k : p.held ≡ key = some-is p.held key (sym p.key_is ∙ is) in
-        let r : compared ≡ grant.revision = sym same ∙ ap (λ (x : LeaderKey). x.revision) (sym k) ∙ p.revision in
-        absurd (none i q at (txn ∙ ap (λ (n : ℕ). Release n) r));
+          let r : compared ≡ grant.revision = sym same ∙ ap (λ (x : LeaderKey). x.revision) (sym k) ∙ p.revision in
+          absurd (none i q at (txn ∙ ap (λ (n : ℕ). Release n) r));
       granted = λ grant n. absurd (none-some grant n);
     }
 
@@ -218,25 +228,40 @@ answers-all flight i j new P here there = put-all (put_at flight i None) j (Some
     (λ a e. subst (λ (b : Answer). P j b) (answered-is new a e) here) (λ n other a e. there n a (dropped flight i n (Answered a) e))
 
 deliver-guard : (s : State) (i j : ℕ) (q : Request) (d : Outcome) (m : ℕ) → OutcomeOk s q d → Acts (s.members m) → Guarded s.clock s.failsafe s.leader s.flight s.members m (s.members m).deadline (s.members m).by_failsafe → Guarded s.clock d.failsafe d.leader (Onward s.flight i j (answer_to q d)) s.members m (s.members m).deadline (s.members m).by_failsafe
-deliver-guard s i j q d m ok acts g = record { until = g.until; is = g.is; later = g.later; cover = elim g.cover [
-  inl c ↦ inl (c.0, ok.keys m g.until acts c.1)
-  | inr c ↦ let h = c.1 in let o = ok.owns m g.until acts h in inr (c.0, record { f = o.0; is = o.1; owner = o.2;
-    spans = spans-fewer d.failsafe d.leader s.flight (Onward s.flight i j (answer_to q d)) m (λ p. g.until ≤ (s.members p).hold) (still-requested s.flight i j (answer_to q d)) (ok.spans m (λ p. g.until ≤ (s.members p).hold) acts h.spans) }) ] }
+deliver-guard s i j q d m ok acts g = record {
+  until = g.until;
+  is = g.is;
+  later = g.later;
+  cover = elim g.cover [
+    | inl c ↦ inl (c.0, ok.keys m g.until acts c.1)
+    | inr c ↦ let h = c.1 in let o = ok.owns m g.until acts h in inr (
+      c.0,
+      record {
+        f = o.0;
+        is = o.1;
+        owner = o.2;
+        spans = spans-fewer d.failsafe d.leader s.flight (Onward s.flight i j (answer_to q d)) m (λ p. g.until ≤ (s.members p).hold) (still-requested s.flight i j (answer_to q d)) (ok.spans m (λ p. g.until ≤ (s.members p).hold) acts h.spans);
+      },
+    )
+  ];
+}
 
 deliver-answer : (s : State) (q : Request) (d : Outcome) → Inv s → RequestOk s.declared.failsafe s.clock s.leader s.failsafe s.revision s.members q → OutcomeOk s q d → ((f : FailsafeKey) → d.failsafe ≡ Some f → f.revision ≤ d.revision) → AnswerOk d.leader d.failsafe d.revision (s.members q.member) (answer_to q d)
 deliver-answer s q d inv request ok fbounded = record {
   numbered = request.numbered;
   seen = λ z is. seen-vouched d.leader d.revision z
-    (λ k e. elim (ok.onward.known k e) [ inl p ↦ omega (arith, inv.bounded k p, ok.onward.grows) | inr p ↦ p.1 ])
-    (told-is d.snapshot (seen_of d.leader) z is);
+      (λ k e. elim (ok.onward.known k e) [ inl p ↦ omega (arith, inv.bounded k p, ok.onward.grows) | inr p ↦ p.1 ])
+      (told-is d.snapshot (seen_of d.leader) z is);
   grant = λ g is. let h = ok.granted g is in record {
     bound = omega (arith, h.revision);
-    owner = λ k is' same. ap (λ (x : LeaderKey). x.holder) (sym (some-is h.held k (sym h.key_is ∙ is'))) ∙ h.holder };
+    owner = λ k is' same. ap (λ (x : LeaderKey). x.holder) (sym (some-is h.held k (sym h.key_is ∙ is'))) ∙ h.holder;
+  };
   order = λ g is. let h = ok.granted g is in omega (arith, h.sent, h.moment, request.sent);
   listed = λ f told. let is : d.failsafe ≡ Some f = told-is d.snapshot d.failsafe f told in record {
     bound = fbounded f is;
     same = λ g is' same p. ap (λ (x : FailsafeKey). x.members p) (some-is g f (sym is' ∙ is));
-    there = record { f = f; is = is } };
+    there = record { f = f; is = is };
+  };
 }
 
 -- a grant in flight after it is the new one's, or was in flight
@@ -244,33 +269,39 @@ deliver-token : (s : State) (i j : ℕ) (q : Request) (d : Outcome) → Inv s �
 deliver-token s i j q d inv ok =
     let new : Answer = answer_to q d in
     answers-all s.flight i j new (λ n a. (grant : Grant) → a.grant ≡ Some grant → Token (Onward s.flight i j new) s.members n grant.revision)
-      (λ grant is. let h = ok.granted grant is in record {
-        released = λ n p is' txn. let old = inv.asked n p (still-requested s.flight i j new n p is') in
+    (λ grant is. let h = ok.granted grant is in record {
+      released = λ n p is' txn. let old = inv.asked n p (still-requested s.flight i j new n p is') in
           omega (arith, (release-bound s.declared.failsafe s.leader s.failsafe s.revision s.members p.member p.query grant.revision old.query txn).0.bound, h.revision, h.risen);
-        valued = λ m agent is' v. omega (arith, ((inv.kept m agent is').lease grant.revision v).bound, h.revision, h.risen);
-        single = λ k b g. answers-all s.flight i j new (λ k b. b.grant ≡ Some g → g.revision ≡ grant.revision → k ≡ j)
+      valued = λ m agent is' v. omega (arith, ((inv.kept m agent is').lease grant.revision v).bound, h.revision, h.risen);
+      single = λ k b g. answers-all s.flight i j new (λ k b. b.grant ≡ Some g → g.revision ≡ grant.revision → k ≡ j)
           (λ is' same. refl)
           (λ k b e is' same. absurd (omega (arith, ((inv.said k b e).grant g is').bound, same, h.revision, h.risen))) k b;
-      })
-      (λ n a e grant is. let t = inv.tokens n a grant e is in record {
-        released = λ k p is' txn. t.released k p (still-requested s.flight i j new k p is') txn;
-        valued = t.valued;
-        single = λ k b g. answers-all s.flight i j new (λ k b. b.grant ≡ Some g → g.revision ≡ grant.revision → k ≡ n)
+    })
+    (λ n a e grant is. let t = inv.tokens n a grant e is in record {
+      released = λ k p is' txn. t.released k p (still-requested s.flight i j new k p is') txn;
+      valued = t.valued;
+      single = λ k b g. answers-all s.flight i j new (λ k b. b.grant ≡ Some g → g.revision ≡ grant.revision → k ≡ n)
           (λ is' same. let h = ok.granted g is' in absurd (omega (arith, ((inv.said n a e).grant grant is).bound, same, h.revision, h.risen)))
           (λ k b e' is' same. t.single k b g e' is' same) k b;
-      })
+    })
 
 deliver-fresh : (s : State) (i j : ℕ) (q : Request) (d : Outcome) → Inv s → OutcomeOk s q d → (n : ℕ) (a : Answer) → Onward s.flight i j (answer_to q d) n ≡ Some (Answered a) → (grant : Grant) → a.grant ≡ Some grant → Waits (s.members a.member) a → Fresh s.clock d.leader d.failsafe (Onward s.flight i j (answer_to q d)) a.member grant
 deliver-fresh s i j q d inv ok =
     let new : Answer = answer_to q d in
     answers-all s.flight i j new (λ n a. (grant : Grant) → a.grant ≡ Some grant → Waits (s.members a.member) a → Fresh s.clock d.leader d.failsafe (Onward s.flight i j new) a.member grant)
-      (λ grant is waits. let h = ok.granted grant is in inr (record {
-        held = h.held; key_is = h.key_is; revision = h.held_revision; holder = h.holder; lasts = h.lasts;
-        alone = λ n p compared ttl carried is' txn same. no-new-renew s n p compared ttl carried inv (still-requested s.flight i j new n p is') txn (omega (arith, same, h.revision, h.risen));
-        listed = h.listed }))
-      (λ n a is grant g waits. elim (inv.fresh n a grant is g waits) [
-        inl over ↦ inl over
-        | inr p ↦ inr (present-fewer d.leader d.failsafe s.flight (Onward s.flight i j new) a.member grant (still-requested s.flight i j new) (ok.presents a.member grant p (inv.tokens n a grant is g).released)) ])
+    (λ grant is waits. let h = ok.granted grant is in inr (record {
+      held = h.held;
+      key_is = h.key_is;
+      revision = h.held_revision;
+      holder = h.holder;
+      lasts = h.lasts;
+      alone = λ n p compared ttl carried is' txn same. no-new-renew s n p compared ttl carried inv (still-requested s.flight i j new n p is') txn (omega (arith, same, h.revision, h.risen));
+      listed = h.listed;
+    }))
+    (λ n a is grant g waits. elim (inv.fresh n a grant is g waits) [
+      | inl over ↦ inl over
+      | inr p ↦ inr (present-fewer d.leader d.failsafe s.flight (Onward s.flight i j new) a.member grant (still-requested s.flight i j new) (ok.presents a.member grant p (inv.tokens n a grant is g).released))
+    ])
 
 deliver-inv : (s : State) (i j : ℕ) (q : Request) (d : Outcome) → Inv s → s.flight i ≡ Some (Requested q) → OutcomeOk s q d → Inv (with_outcome s i j q d)
 deliver-inv s i j q d inv at ok =
@@ -286,16 +317,19 @@ deliver-inv s i j q d inv at ok =
       fbounded = fbounded;
       asked = λ n p is. request-after s.declared.failsafe s.clock s.clock s.leader d.leader s.failsafe d.failsafe s.revision d.revision s.members p (omega arith) ok.onward ok.fonward (inv.asked n p (still-requested s.flight i j new n p is));
       said = answers-all s.flight i j new (λ n a. AnswerOk d.leader d.failsafe d.revision (s.members a.member) a)
-        (deliver-answer s q d inv request ok fbounded)
-        (λ n a is. answer-after s.leader d.leader s.failsafe d.failsafe s.revision d.revision (s.members a.member) a ok.onward ok.fonward (inv.said n a is));
+          (deliver-answer s q d inv request ok fbounded)
+          (λ n a is. answer-after s.leader d.leader s.failsafe d.failsafe s.revision d.revision (s.members a.member) a ok.onward ok.fonward (inv.said n a is));
       begs = λ n p is. inv.begs n p (still-begged s.flight i j new n p is);
       yeses = λ n p is. inv.yeses n p (still-acknowledged s.flight i j new n p is);
       taken = inv.taken;
       kept = λ m agent is. agent-after s.leader d.leader s.failsafe d.failsafe s.revision d.revision m (s.members m).runs agent ok.onward ok.fonward (inv.kept m agent is);
       spans = λ m agent is acts leads. spans-fewer d.failsafe d.leader s.flight (Onward s.flight i j new) m (λ p. agent.known p ≡ true) (still-requested s.flight i j new) (ok.spans m (λ p. agent.known p ≡ true) acts (inv.spans m agent is acts leads));
       begging = λ m agent b is e. let old = inv.begging m agent b is e in record {
-        counted = old.counted; there = ok.fonward.stays old.there; yes = old.yes;
-        spans = λ acts. spans-fewer d.failsafe d.leader s.flight (Onward s.flight i j new) m (λ p. b.members p ≡ true) (still-requested s.flight i j new) (ok.spans m (λ p. b.members p ≡ true) acts (old.spans acts)) };
+        counted = old.counted;
+        there = ok.fonward.stays old.there;
+        yes = old.yes;
+        spans = λ acts. spans-fewer d.failsafe d.leader s.flight (Onward s.flight i j new) m (λ p. b.members p ≡ true) (still-requested s.flight i j new) (ok.spans m (λ p. b.members p ≡ true) acts (old.spans acts));
+      };
       fresh = λ n a grant is. deliver-fresh s i j q d inv ok n a is grant;
       tokens = λ n a grant is. deliver-token s i j q d inv ok n a is grant;
     }

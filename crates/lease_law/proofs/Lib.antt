@@ -3,3 +3,6 @@ pub mod Invariant
 pub mod Onward
 pub mod Deliver
 pub mod Calm
+pub mod Fed
+pub mod Inputs
+pub mod Runs

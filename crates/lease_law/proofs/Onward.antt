@@ -41,10 +41,12 @@ asked-after mode key key' fkey fkey' top top' members m (Renew compared ttl None
 asked-after mode key key' fkey fkey' top top' members m (Renew compared ttl (Some set)) a b v = (
   vouched-after key key' top top' m compared a v.0,
   λ k is same n acts. elim (a.known k is) [ inl p ↦ v.1 k p same n acts | inr p ↦ absurd (omega (arith, p.0, same, v.0.bound)) ],
-  v.2)
+  v.2,
+)
 asked-after mode key key' fkey fkey' top top' members m (Release compared) a b v = (
   vouched-after key key' top top' m compared a v.0,
-  λ k is same acts. elim (a.known k is) [ inl p ↦ v.1 k p same acts | inr p ↦ absurd (omega (arith, p.0, same, v.0.bound)) ])
+  λ k is same acts. elim (a.known k is) [ inl p ↦ v.1 k p same acts | inr p ↦ absurd (omega (arith, p.0, same, v.0.bound)) ],
+)
 asked-after mode key key' fkey fkey' top top' members m (Create ttl None) a b v = v
 asked-after mode key key' fkey fkey' top top' members m (Create ttl (Some Absent)) a b v = tt
 asked-after mode key key' fkey fkey' top top' members m (Create ttl (Some (Revision r))) a b v = flisted-after fkey fkey' top top' m r b v
@@ -87,5 +89,9 @@ spans-sub fkey key flight m X Y sub s = record {
 }
 
 pub holds-grow : (fkey : Option FailsafeKey) (key : Option LeaderKey) (flight : ℕ → Option Flying) (members members' : ℕ → Machine) (m until : ℕ) → ((p : ℕ) → (members p).hold ≤ (members' p).hold) → HoldCover fkey key flight members m until → HoldCover fkey key flight members' m until
-holds-grow fkey key flight members members' m until grow h = record { f = h.f; is = h.is; owner = h.owner;
-  spans = spans-sub fkey key flight m (λ p. until ≤ (members p).hold) (λ p. until ≤ (members' p).hold) (λ p other e. omega (arith, e, grow p)) h.spans }
+holds-grow fkey key flight members members' m until grow h = record {
+  f = h.f;
+  is = h.is;
+  owner = h.owner;
+  spans = spans-sub fkey key flight m (λ p. until ≤ (members p).hold) (λ p. until ≤ (members' p).hold) (λ p other e. omega (arith, e, grow p)) h.spans;
+}

@@ -1,12 +1,18 @@
 //! Laws of every run.
 ghost use Rattle.std.specs.Prelude.{ℕ, ◌≡◌, ◌++◌, List, Option};
 ghost use Rattle.event_book.specs.declared.event.Event.{Event};
-ghost use Rattle.lease_law.specs.Actions.{Step, AreAllowed, first_state, book_of};
+ghost use Rattle.lease_law.specs.Actions.{Action, Step, AreAllowed, MayBegin, first_state, states_after, book_of};
 ghost use Rattle.lease_law.specs.States.{Declared};
-ghost use Rattle.lease_law.specs.Writers.{HasOneWriter};
+ghost use Rattle.lease_law.specs.Writers.{Begins, HasOneWriter};
 
-/// At every moment of an allowed run, also inside an action, at most one server accepts writes.
+/// At every moment of an allowed run at most one server accepts writes.
 pub fn one_writer()
-    ensures { (declared : Declared) (steps : List Step) (front rest : List Event)
+    // Of every front of the book, also one that ends inside an action.
+    ensures whole { (declared : Declared) (steps : List Step) (front rest : List Event)
         → AreAllowed (first_state declared) steps → front ++ rest ≡ book_of steps → HasOneWriter front }
+    // Of whole actions, and then a front of the next action's events, of which only the beginnings need a reason.
+    ensures at { (declared : Declared) (steps : List Step) (action : Action) (front : List Event)
+        → AreAllowed (first_state declared) steps
+        → Begins (MayBegin (states_after (first_state declared) steps) action) front
+        → HasOneWriter (book_of steps ++ front) }
 {}
