@@ -6,7 +6,7 @@ use Rattle.lease_law.specs.Leases.{LeaderKey, LeaderSeen, FailsafeKey, Query, Cr
 use Rattle.lease_law.specs.States.{Begging, Agent, Machine, State, is_ready, Acts, is_due, tick_machine, kept_if, leader_kept, ticked, deadline_if, fresh_agent, start_machine, kill_machine, crash_machine}
 use Rattle.lease_law.specs.Inputs.{Waits}
 use Rattle.lease_law.proofs.Tools.{some-is, none-some, both, not-false, le-from, gt-from, put-all, dropped}
-use Rattle.lease_law.proofs.Invariant.{Covers, Spans, HoldCover, Matches, BegOk, TakenOk, BeggingOk, Guarded, Asked, Numbered, RequestOk, AnswerOk, AgentOk, Present, Fresh, Token, Inv}
+use Rattle.lease_law.specs.Carried.{Covers, Spans, HoldsCover, AwaitsIt, IsBegKept, IsTakingKept, IsBeggingKept, IsGuarded, IsQueryKept, IsNumbered, IsRequestKept, IsAnswerKept, IsAgentKept, IsPresent, IsFresh, IsToken, IsSound}
 use Rattle.lease_law.proofs.Onward.{KeyAfter, f-same, request-after, answer-after, agent-after, present-fewer, spans-fewer, holds-grow}
 
 -- an agent that has just started
@@ -31,13 +31,13 @@ record Calm (x y : Machine) : Type 0 where
   runs : x.runs ≤ y.runs
   agent : (g : Agent) → y.agent ≡ Some g → (x.agent ≡ Some g) ⊎ NewRun x y g
 
-numbered-calm : (x y : Machine) (run seq : ℕ) → Calm x y → Numbered x run seq → Numbered y run seq
+numbered-calm : (x y : Machine) (run seq : ℕ) → Calm x y → IsNumbered x run seq → IsNumbered y run seq
 numbered-calm x y run seq c n = record {
   run_old = omega (arith, n.run_old, c.runs);
   seq_old = λ g is same. elim (c.agent g is) [ inl p ↦ n.seq_old g p same | inr p ↦ absurd (omega (arith, p.later, same, n.run_old)) ];
 }
 
-asked-calm : (mode : Bool) (key : Option LeaderKey) (fkey : Option FailsafeKey) (top : ℕ) (members members' : ℕ → Machine) (m : ℕ) (query : Query) → ((n : ℕ) → Calm (members n) (members' n)) → Asked mode key fkey top members m query → Asked mode key fkey top members' m query
+asked-calm : (mode : Bool) (key : Option LeaderKey) (fkey : Option FailsafeKey) (top : ℕ) (members members' : ℕ → Machine) (m : ℕ) (query : Query) → ((n : ℕ) → Calm (members n) (members' n)) → IsQueryKept mode key fkey top members m query → IsQueryKept mode key fkey top members' m query
 asked-calm mode key fkey top members members' m (Renew compared ttl None) c a = a
 asked-calm mode key fkey top members members' m (Renew compared ttl (Some set)) c a = (a.0, λ k is same n acts. a.1 k is same n ((c n).acts acts), a.2)
 asked-calm mode key fkey top members members' m (Release compared) c a = (a.0, λ k is same acts. a.1 k is same ((c m).acts acts))
@@ -47,7 +47,7 @@ asked-calm mode key fkey top members members' m (Create ttl (Some (Revision r)))
 asked-calm mode key fkey top members members' m Write c a = tt
 asked-calm mode key fkey top members members' m Read c a = tt
 
-guarded-calm : (clock : ℕ) (fkey : Option FailsafeKey) (key : Option LeaderKey) (flight : ℕ → Option Flying) (members members' : ℕ → Machine) (m : ℕ) (deadline deadline' : Option ℕ) (basis basis' : Bool) → deadline ≡ deadline' → basis ≡ basis' → ((p : ℕ) → (members p).hold ≤ (members' p).hold) → Guarded clock fkey key flight members m deadline basis → Guarded clock fkey key flight members' m deadline' basis'
+guarded-calm : (clock : ℕ) (fkey : Option FailsafeKey) (key : Option LeaderKey) (flight : ℕ → Option Flying) (members members' : ℕ → Machine) (m : ℕ) (deadline deadline' : Option ℕ) (basis basis' : Bool) → deadline ≡ deadline' → basis ≡ basis' → ((p : ℕ) → (members p).hold ≤ (members' p).hold) → IsGuarded clock fkey key flight members m deadline basis → IsGuarded clock fkey key flight members' m deadline' basis'
 guarded-calm clock fkey key flight members members' m deadline deadline' basis basis' d b grow g = record {
   until = g.until;
   is = sym d ∙ g.is;
@@ -55,25 +55,25 @@ guarded-calm clock fkey key flight members members' m deadline deadline' basis b
   cover = elim g.cover [ inl c ↦ inl (sym b ∙ c.0, c.1) | inr c ↦ inr (sym b ∙ c.0, holds-grow fkey key flight members members' m g.until grow c.1) ];
 }
 
-matches-calm : (x y : Machine) (run seq : ℕ) (b : Begging) → Calm x y → Matches y run seq b → Matches x run seq b
+matches-calm : (x y : Machine) (run seq : ℕ) (b : Begging) → Calm x y → AwaitsIt y run seq b → AwaitsIt x run seq b
 matches-calm x y run seq b c w = elim (c.agent w.agent w.is) [
   | inl p ↦ record { agent = w.agent; is = p; run_is = w.run_is; begging = w.begging; seq_is = w.seq_is }
   | inr p ↦ absurd (none-some b (sym p.begging ∙ w.begging))
 ]
 
-taken-calm : (x y : Machine) (hold hold' : ℕ) (t : Taking) → Calm x y → hold ≤ hold' → TakenOk x hold t → TakenOk y hold' t
+taken-calm : (x y : Machine) (hold hold' : ℕ) (t : Taking) → Calm x y → hold ≤ hold' → IsTakingKept x hold t → IsTakingKept y hold' t
 taken-calm x y hold hold' t c longer old = record {
   numbered = numbered-calm x y t.run t.sequence c old.numbered;
   matches = λ b w. let o = old.matches b (matches-calm x y t.run t.sequence b c w) in (omega (arith, o.0, longer), o.1);
 }
 
-agent-calm : (s : State) (m : ℕ) (y : Machine) (g : Agent) → Inv s → Calm (s.members m) y → y.agent ≡ Some g → AgentOk s.leader s.failsafe s.revision m y.runs g
+agent-calm : (s : State) (m : ℕ) (y : Machine) (g : Agent) → IsSound s → Calm (s.members m) y → y.agent ≡ Some g → IsAgentKept s.leader s.failsafe s.revision m y.runs g
 agent-calm s m y g inv c is = elim (c.agent g is) [
   | inl p ↦ let old = inv.kept m g p in record { run = omega (arith, old.run, c.runs); lease = old.lease; seen = old.seen; failsafe = old.failsafe; informed = old.informed }
   | inr p ↦ record { run = p.known; lease = λ r e. absurd (none-some r (sym p.lease ∙ e)); seen = λ z e. absurd (none-some z (sym p.leader ∙ e)); failsafe = λ f e. absurd (none-some f (sym p.failsafe ∙ e)); informed = λ e. absurd (not-false g.informed p.informed e) }
 ]
 
-inv-calm : (s : State) (members : ℕ → Machine) → ((n : ℕ) → Calm (s.members n) (members n)) → Inv s → Inv (record s { members = members })
+inv-calm : (s : State) (members : ℕ → Machine) → ((n : ℕ) → Calm (s.members n) (members n)) → IsSound s → IsSound (record s { members = members })
 inv-calm s members calm inv = record {
   guarded = λ m acts. guarded-calm s.clock s.failsafe s.leader s.flight s.members members m (s.members m).deadline (members m).deadline (s.members m).by_failsafe (members m).by_failsafe ((calm m).deadline acts) (calm m).basis (λ p. (calm p).hold) (inv.guarded m ((calm m).acts acts));
   sole = λ m n am an. inv.sole m n ((calm m).acts am) ((calm n).acts an);
@@ -153,17 +153,17 @@ start-calm x = record {
       (record { later = omega arith; known = omega arith; waits = refl; lease = refl; leader = refl; failsafe = refl; leads = refl; informed = refl; begging = refl }));
 }
 
-pub inv-kill : (s : State) (m : ℕ) → Inv s → Inv (record s { members = put_at s.members m (kill_machine (s.members m)) })
+pub inv-kill : (s : State) (m : ℕ) → IsSound s → IsSound (record s { members = put_at s.members m (kill_machine (s.members m)) })
 inv-kill s m = inv-calm s (put_at s.members m (kill_machine (s.members m))) (put-calm s m (kill_machine (s.members m)) (kill-calm (s.members m)))
 
-pub inv-crash : (s : State) (m : ℕ) → Inv s → Inv (record s { members = put_at s.members m (crash_machine (s.members m)) })
+pub inv-crash : (s : State) (m : ℕ) → IsSound s → IsSound (record s { members = put_at s.members m (crash_machine (s.members m)) })
 inv-crash s m = inv-calm s (put_at s.members m (crash_machine (s.members m))) (put-calm s m (crash_machine (s.members m)) (crash-calm (s.members m)))
 
-pub inv-started : (s : State) (m : ℕ) → Inv s → Inv (record s { members = put_at s.members m (start_machine (s.members m)) })
+pub inv-started : (s : State) (m : ℕ) → IsSound s → IsSound (record s { members = put_at s.members m (start_machine (s.members m)) })
 inv-started s m = inv-calm s (put_at s.members m (start_machine (s.members m))) (put-calm s m (start_machine (s.members m)) (start-calm (s.members m)))
 
 -- messages that are lost
-inv-fewer : (s : State) (flight : ℕ → Option Flying) → ((i : ℕ) (f : Flying) → flight i ≡ Some f → s.flight i ≡ Some f) → Inv s → Inv (record s { flight = flight })
+inv-fewer : (s : State) (flight : ℕ → Option Flying) → ((i : ℕ) (f : Flying) → flight i ≡ Some f → s.flight i ≡ Some f) → IsSound s → IsSound (record s { flight = flight })
 inv-fewer s flight fewer inv = let less : ((i : ℕ) (q : Request) → flight i ≡ Some (Requested q) → s.flight i ≡ Some (Requested q)) = λ i q at. fewer i (Requested q) at in record {
   guarded = λ m acts. let g = inv.guarded m acts in record {
     until = g.until;
@@ -195,7 +195,7 @@ inv-fewer s flight fewer inv = let less : ((i : ℕ) (q : Request) → flight i 
   };
 }
 
-pub inv-lose : (s : State) (k : ℕ) → Inv s → Inv (record s { flight = put_at s.flight k None })
+pub inv-lose : (s : State) (k : ℕ) → IsSound s → IsSound (record s { flight = put_at s.flight k None })
 inv-lose s k = inv-fewer s (put_at s.flight k None) (λ i f at. dropped s.flight k i f at)
 
 -- a tick
@@ -219,7 +219,7 @@ key-stays at (Some key) k is later = let same = some-is key k is in
 key-tick : (at : ℕ) (key : Option LeaderKey) (top : ℕ) → KeyAfter key top (leader_kept at key) top
 key-tick at key top = record { grows = omega arith; known = λ k is. inl (key-known at key k is) }
 
-fresh-tick : (b : Bool) (at : ℕ) (key : Option LeaderKey) (fkey : Option FailsafeKey) (flight : ℕ → Option Flying) (m : ℕ) (grant : Grant) → nat_le (grant.moment + grant.ttl) at ≡ b → Present key fkey flight m grant → Fresh at (leader_kept at key) fkey flight m grant
+fresh-tick : (b : Bool) (at : ℕ) (key : Option LeaderKey) (fkey : Option FailsafeKey) (flight : ℕ → Option Flying) (m : ℕ) (grant : Grant) → nat_le (grant.moment + grant.ttl) at ≡ b → IsPresent key fkey flight m grant → IsFresh at (leader_kept at key) fkey flight m grant
 fresh-tick true at key fkey flight m grant e p = inl (le-from (grant.moment + grant.ttl) at e)
 fresh-tick false at key fkey flight m grant e p = inr (record {
   held = p.held;
@@ -237,7 +237,7 @@ spans-tick at fkey key flight m X s = record { listed = s.listed; coming = λ j 
 abbrev Ahead : ℕ → Machine → Type 0
 Ahead at x = (d : ℕ) → Acts x → x.deadline ≡ Some d → at < d
 
-inv-pass : (s : State) → ((m : ℕ) → Ahead (s.clock + 1) (s.members m)) → Inv s → Inv (record s { clock = s.clock + 1; leader = leader_kept (s.clock + 1) s.leader })
+inv-pass : (s : State) → ((m : ℕ) → Ahead (s.clock + 1) (s.members m)) → IsSound s → IsSound (record s { clock = s.clock + 1; leader = leader_kept (s.clock + 1) s.leader })
 inv-pass s ahead inv = let at : ℕ = s.clock + 1 in let a = key-tick at s.leader s.revision in let b = f-same s.failsafe s.revision s.revision (omega arith) in record {
   guarded = λ m acts. let g = inv.guarded m acts in let later = ahead m g.until acts g.is in
       record {
@@ -291,7 +291,7 @@ tick-ahead true stops at x e d a is = absurd (none-some d is)
 tick-ahead false true at x e d a is = due-some at x.deadline d e is
 tick-ahead false false at x e d a is = due-some at x.deadline d e is
 
-pub inv-tick : (s : State) (stops : ℕ → Bool) → Inv s → Inv (ticked s stops)
+pub inv-tick : (s : State) (stops : ℕ → Bool) → IsSound s → IsSound (ticked s stops)
 inv-tick s stops inv =
     let members : (ℕ → Machine) = λ m. tick_machine (is_due (s.clock + 1) (s.members m).deadline) (stops m) (s.members m) in
     inv-pass (record s { members = members })

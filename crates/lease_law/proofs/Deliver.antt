@@ -8,7 +8,7 @@ use Rattle.lease_law.specs.States.{Agent, Machine, State, Acts}
 use Rattle.lease_law.specs.Outcomes.{seen_of, Outcome, refused, is_as_read, create_if, create_on, failsafe_carried, renewed, renew_if, renew_on, release_if, release_on, write_if, outcome_of, told_if, answer_to, with_outcome, with_question, delivered}
 use Rattle.lease_law.specs.Inputs.{Waits}
 use Rattle.lease_law.proofs.Tools.{some-is, none-some, both, not-false, eq-from, put-all, dropped, answered-requested, answered-begged, answered-acknowledged, answered-is}
-use Rattle.lease_law.proofs.Invariant.{Covers, Spans, HoldCover, Guarded, There, FVouched, FListed, Carrier, Vouched, Quiet, Asked, Numbered, RequestOk, BeggingOk, AnswerOk, AgentOk, Present, Fresh, Token, Inv}
+use Rattle.lease_law.specs.Carried.{Covers, Spans, HoldsCover, IsGuarded, IsThere, IsFailsafeVouched, IsListed, ActsAlone, IsVouched, IsQuiet, IsQueryKept, IsNumbered, IsRequestKept, IsBeggingKept, IsAnswerKept, IsAgentKept, IsPresent, IsFresh, IsToken, IsSound}
 use Rattle.lease_law.proofs.Onward.{KeyAfter, FAfter, f-same, request-after, answer-after, agent-after, present-fewer, spans-fewer}
 
 -- what a grant hands out
@@ -33,26 +33,26 @@ record OutcomeOk (s : State) (q : Request) (d : Outcome) : Type 1 where
   fonward : FAfter s.failsafe s.revision d.failsafe d.revision
   keys : (m until : ℕ) → Acts (s.members m) → Covers s.leader m until → Covers d.leader m until
   spans : (m : ℕ) (X : ℕ → Type 0) → Acts (s.members m) → Spans s.failsafe s.leader s.flight m X → Spans d.failsafe d.leader s.flight m X
-  owns : (m until : ℕ) → Acts (s.members m) → HoldCover s.failsafe s.leader s.flight s.members m until → (f : FailsafeKey) × (d.failsafe ≡ Some f) × ((k : LeaderKey) → d.leader ≡ Some k → (k.holder ≡ m) ⊎ (f.members k.holder ≡ true))
-  presents : (m : ℕ) (grant : Grant) → Present s.leader s.failsafe s.flight m grant → NoRelease s.flight grant.revision → Present d.leader d.failsafe s.flight m grant
+  owns : (m until : ℕ) → Acts (s.members m) → HoldsCover s.failsafe s.leader s.flight s.members m until → (f : FailsafeKey) × (d.failsafe ≡ Some f) × ((k : LeaderKey) → d.leader ≡ Some k → (k.holder ≡ m) ⊎ (f.members k.holder ≡ true))
+  presents : (m : ℕ) (grant : Grant) → IsPresent s.leader s.failsafe s.flight m grant → NoRelease s.flight grant.revision → IsPresent d.leader d.failsafe s.flight m grant
   granted : (grant : Grant) → d.grant ≡ Some grant → Granted s q d grant
 
 -- no request in flight names a revision above the greatest
-renew-vouched : (mode : Bool) (key : Option LeaderKey) (fkey : Option FailsafeKey) (top : ℕ) (members : ℕ → Machine) (m compared ttl : ℕ) (carried : Option (ℕ → Bool)) → Asked mode key fkey top members m (Renew compared ttl carried) → Vouched key top m compared
+renew-vouched : (mode : Bool) (key : Option LeaderKey) (fkey : Option FailsafeKey) (top : ℕ) (members : ℕ → Machine) (m compared ttl : ℕ) (carried : Option (ℕ → Bool)) → IsQueryKept mode key fkey top members m (Renew compared ttl carried) → IsVouched key top m compared
 renew-vouched mode key fkey top members m compared ttl None a = a
 renew-vouched mode key fkey top members m compared ttl (Some set) a = a.0
 
-pub renew-bound : (mode : Bool) (key : Option LeaderKey) (fkey : Option FailsafeKey) (top : ℕ) (members : ℕ → Machine) (m : ℕ) (query : Query) (compared ttl : ℕ) (carried : Option (ℕ → Bool)) → Asked mode key fkey top members m query → query ≡ Renew compared ttl carried → Vouched key top m compared
-renew-bound mode key fkey top members m query compared ttl carried ok is = renew-vouched mode key fkey top members m compared ttl carried (subst (λ (t : Query). Asked mode key fkey top members m t) is ok)
+pub renew-bound : (mode : Bool) (key : Option LeaderKey) (fkey : Option FailsafeKey) (top : ℕ) (members : ℕ → Machine) (m : ℕ) (query : Query) (compared ttl : ℕ) (carried : Option (ℕ → Bool)) → IsQueryKept mode key fkey top members m query → query ≡ Renew compared ttl carried → IsVouched key top m compared
+renew-bound mode key fkey top members m query compared ttl carried ok is = renew-vouched mode key fkey top members m compared ttl carried (subst (λ (t : Query). IsQueryKept mode key fkey top members m t) is ok)
 
-pub release-bound : (mode : Bool) (key : Option LeaderKey) (fkey : Option FailsafeKey) (top : ℕ) (members : ℕ → Machine) (m : ℕ) (query : Query) (compared : ℕ) → Asked mode key fkey top members m query → query ≡ Release compared → Vouched key top m compared × Quiet key (members m) compared
-release-bound mode key fkey top members m query compared ok is = subst (λ (t : Query). Asked mode key fkey top members m t) is ok
+pub release-bound : (mode : Bool) (key : Option LeaderKey) (fkey : Option FailsafeKey) (top : ℕ) (members : ℕ → Machine) (m : ℕ) (query : Query) (compared : ℕ) → IsQueryKept mode key fkey top members m query → query ≡ Release compared → IsVouched key top m compared × IsQuiet key (members m) compared
+release-bound mode key fkey top members m query compared ok is = subst (λ (t : Query). IsQueryKept mode key fkey top members m t) is ok
 
-no-new-renew : (s : State) (j : ℕ) (q : Request) (compared ttl : ℕ) (carried : Option (ℕ → Bool)) → Inv s → s.flight j ≡ Some (Requested q) → q.query ≡ Renew compared ttl carried → s.revision < compared → ⊥
+no-new-renew : (s : State) (j : ℕ) (q : Request) (compared ttl : ℕ) (carried : Option (ℕ → Bool)) → IsSound s → s.flight j ≡ Some (Requested q) → q.query ≡ Renew compared ttl carried → s.revision < compared → ⊥
 no-new-renew s j q compared ttl carried inv at txn new = omega (arith, (renew-bound s.declared.failsafe s.leader s.failsafe s.revision s.members q.member q.query compared ttl carried (inv.asked j q at).query txn).bound, new)
 
 -- the keys stay
-same-ok : (s : State) (q : Request) (key : Option LeaderKey) (top : ℕ) (snapshot : Bool) → Inv s → s.leader ≡ key → s.revision ≤ top → OutcomeOk s q (record { leader = key; failsafe = s.failsafe; revision = top; snapshot = snapshot; grant = None })
+same-ok : (s : State) (q : Request) (key : Option LeaderKey) (top : ℕ) (snapshot : Bool) → IsSound s → s.leader ≡ key → s.revision ≤ top → OutcomeOk s q (record { leader = key; failsafe = s.failsafe; revision = top; snapshot = snapshot; grant = None })
 same-ok s q key top snapshot inv is grows = record {
   off = inv.off;
   onward = record { grows = grows; known = λ k e. inl (is ∙ e) };
@@ -60,7 +60,7 @@ same-ok s q key top snapshot inv is grows = record {
   keys = λ m until acts c. subst (λ (k : Option LeaderKey). Covers k m until) is c;
   spans = λ m X acts p. subst (λ (k : Option LeaderKey). Spans s.failsafe k s.flight m X) is p;
   owns = λ m until acts h. (h.f, h.is, λ k e. h.owner k (is ∙ e));
-  presents = λ m grant p none. subst (λ (k : Option LeaderKey). Present k s.failsafe s.flight m grant) is p;
+  presents = λ m grant p none. subst (λ (k : Option LeaderKey). IsPresent k s.failsafe s.flight m grant) is p;
   granted = λ grant e. absurd (none-some grant e);
 }
 
@@ -73,12 +73,12 @@ as-revision None f r e is = absurd (none-some f is)
 as-revision (Some g) f r e is = sym (ap (λ (z : FailsafeKey). z.revision) (some-is g f is)) ∙ eq-from g.revision r e
 
 -- a create that is granted is by a member that the failsafe key lists, where that is there
-create-lists : (s : State) (m ttl : ℕ) (expected : Option Expected) (f : FailsafeKey) → Inv s → Asked s.declared.failsafe s.leader s.failsafe s.revision s.members m (Create ttl expected) → is_as_read expected s.failsafe ≡ true → s.failsafe ≡ Some f → f.members m ≡ true
+create-lists : (s : State) (m ttl : ℕ) (expected : Option Expected) (f : FailsafeKey) → IsSound s → IsQueryKept s.declared.failsafe s.leader s.failsafe s.revision s.members m (Create ttl expected) → is_as_read expected s.failsafe ≡ true → s.failsafe ≡ Some f → f.members m ≡ true
 create-lists s m ttl None f inv a e is = absurd (none-some f (sym (inv.off a) ∙ is))
 create-lists s m ttl (Some Absent) f inv a e is = absurd (as-absent s.failsafe f e is)
 create-lists s m ttl (Some (Revision r)) f inv a e is = a.lists f is (as-revision s.failsafe f r e is)
 
-create-if-ok : (b : Bool) (s : State) (q : Request) (ttl : ℕ) (expected : Option Expected) → is_as_read expected s.failsafe ≡ b → Inv s → s.leader ≡ None → Asked s.declared.failsafe s.leader s.failsafe s.revision s.members q.member (Create ttl expected) → OutcomeOk s q (create_if b s.clock s.failsafe s.revision q.member q.sent ttl)
+create-if-ok : (b : Bool) (s : State) (q : Request) (ttl : ℕ) (expected : Option Expected) → is_as_read expected s.failsafe ≡ b → IsSound s → s.leader ≡ None → IsQueryKept s.declared.failsafe s.leader s.failsafe s.revision s.members q.member (Create ttl expected) → OutcomeOk s q (create_if b s.clock s.failsafe s.revision q.member q.sent ttl)
 create-if-ok false s q ttl expected e inv is a = same-ok s q None s.revision false inv is (omega arith)
 create-if-ok true s q ttl expected e inv is a =
     let new : LeaderKey = record { holder = q.member; revision = s.revision + 1; expiry = s.clock + ttl } in
@@ -103,7 +103,7 @@ create-if-ok true s q ttl expected e inv is a =
           (record { revision = refl; risen = omega arith; held = new; key_is = refl; held_revision = refl; holder = refl; lasts = omega arith; sent = refl; moment = refl; listed = refl });
     }
 
-create-ok : (s : State) (q : Request) (key : Option LeaderKey) (ttl : ℕ) (expected : Option Expected) → Inv s → s.leader ≡ key → Asked s.declared.failsafe s.leader s.failsafe s.revision s.members q.member (Create ttl expected) → OutcomeOk s q (create_on s.clock key s.failsafe s.revision q.member q.sent ttl expected)
+create-ok : (s : State) (q : Request) (key : Option LeaderKey) (ttl : ℕ) (expected : Option Expected) → IsSound s → s.leader ≡ key → IsQueryKept s.declared.failsafe s.leader s.failsafe s.revision s.members q.member (Create ttl expected) → OutcomeOk s q (create_on s.clock key s.failsafe s.revision q.member q.sent ttl expected)
 create-ok s q (Some key) ttl expected inv is a = same-ok s q (Some key) s.revision false inv is (omega arith)
 create-ok s q None ttl expected inv is a = create-if-ok (is_as_read expected s.failsafe) s q ttl expected refl inv is a
 
@@ -121,15 +121,15 @@ carry-lists s i q key compared ttl None m X is same at txn spans f n p e other =
 carry-lists s i q key compared ttl (Some set) m X is same at txn spans f n p e other =
     spans.coming i q compared ttl set key at txn is same p (ap (λ (x : FailsafeKey). x.members p) (some-is (record { revision = s.revision + 1; members = set }) f n) ∙ e) other
 
-carry-owns : (s : State) (q : Request) (key : LeaderKey) (compared ttl : ℕ) (carried : Option (ℕ → Bool)) (m until : ℕ) → s.leader ≡ Some key → key.revision ≡ compared → Asked s.declared.failsafe s.leader s.failsafe s.revision s.members q.member (Renew compared ttl carried) → Acts (s.members m) → HoldCover s.failsafe s.leader s.flight s.members m until → (f : FailsafeKey) × (failsafe_carried (s.revision + 1) carried s.failsafe ≡ Some f) × ((key.holder ≡ m) ⊎ (f.members key.holder ≡ true))
+carry-owns : (s : State) (q : Request) (key : LeaderKey) (compared ttl : ℕ) (carried : Option (ℕ → Bool)) (m until : ℕ) → s.leader ≡ Some key → key.revision ≡ compared → IsQueryKept s.declared.failsafe s.leader s.failsafe s.revision s.members q.member (Renew compared ttl carried) → Acts (s.members m) → HoldsCover s.failsafe s.leader s.flight s.members m until → (f : FailsafeKey) × (failsafe_carried (s.revision + 1) carried s.failsafe ≡ Some f) × ((key.holder ≡ m) ⊎ (f.members key.holder ≡ true))
 carry-owns s q key compared ttl None m until is same a acts h = (h.f, h.is, h.owner key is)
 carry-owns s q key compared ttl (Some set) m until is same a acts h = (record { revision = s.revision + 1; members = set }, refl, inl (a.0.owner key is same ∙ sym (a.1 key is same m acts)))
 
-carry-off : (s : State) (key : LeaderKey) (compared ttl : ℕ) (carried : Option (ℕ → Bool)) (m : ℕ) → Inv s → Asked s.declared.failsafe s.leader s.failsafe s.revision s.members m (Renew compared ttl carried) → s.declared.failsafe ≡ false → failsafe_carried (s.revision + 1) carried s.failsafe ≡ None
+carry-off : (s : State) (key : LeaderKey) (compared ttl : ℕ) (carried : Option (ℕ → Bool)) (m : ℕ) → IsSound s → IsQueryKept s.declared.failsafe s.leader s.failsafe s.revision s.members m (Renew compared ttl carried) → s.declared.failsafe ≡ false → failsafe_carried (s.revision + 1) carried s.failsafe ≡ None
 carry-off s key compared ttl None m inv a off = inv.off off
 carry-off s key compared ttl (Some set) m inv a off = absurd (not-false s.declared.failsafe off a.2)
 
-renew-if-ok : (b : Bool) (s : State) (i : ℕ) (q : Request) (key : LeaderKey) (compared ttl : ℕ) (carried : Option (ℕ → Bool)) → (key.revision == compared) ≡ b → Inv s → s.leader ≡ Some key → s.flight i ≡ Some (Requested q) → q.query ≡ Renew compared ttl carried → Asked s.declared.failsafe s.leader s.failsafe s.revision s.members q.member (Renew compared ttl carried) → OutcomeOk s q (renew_if b s.clock key s.failsafe s.revision q.sent ttl carried)
+renew-if-ok : (b : Bool) (s : State) (i : ℕ) (q : Request) (key : LeaderKey) (compared ttl : ℕ) (carried : Option (ℕ → Bool)) → (key.revision == compared) ≡ b → IsSound s → s.leader ≡ Some key → s.flight i ≡ Some (Requested q) → q.query ≡ Renew compared ttl carried → IsQueryKept s.declared.failsafe s.leader s.failsafe s.revision s.members q.member (Renew compared ttl carried) → OutcomeOk s q (renew_if b s.clock key s.failsafe s.revision q.sent ttl carried)
 renew-if-ok false s i q key compared ttl carried e inv is at txn a = same-ok s q (Some key) s.revision false inv is (omega arith)
 renew-if-ok true s i q key compared ttl carried e inv is at txn a =
     let same : key.revision ≡ compared = eq-from key.revision compared e in
@@ -159,11 +159,11 @@ renew-if-ok true s i q key compared ttl carried e inv is at txn a =
           (record { revision = refl; risen = omega arith; held = new; key_is = refl; held_revision = refl; holder = (renew-vouched s.declared.failsafe s.leader s.failsafe s.revision s.members q.member compared ttl carried a).owner key is same; lasts = omega arith; sent = refl; moment = refl; listed = refl });
     }
 
-renew-ok : (s : State) (i : ℕ) (q : Request) (key : Option LeaderKey) (compared ttl : ℕ) (carried : Option (ℕ → Bool)) → Inv s → s.leader ≡ key → s.flight i ≡ Some (Requested q) → q.query ≡ Renew compared ttl carried → Asked s.declared.failsafe s.leader s.failsafe s.revision s.members q.member (Renew compared ttl carried) → OutcomeOk s q (renew_on s.clock key s.failsafe s.revision compared q.sent ttl carried)
+renew-ok : (s : State) (i : ℕ) (q : Request) (key : Option LeaderKey) (compared ttl : ℕ) (carried : Option (ℕ → Bool)) → IsSound s → s.leader ≡ key → s.flight i ≡ Some (Requested q) → q.query ≡ Renew compared ttl carried → IsQueryKept s.declared.failsafe s.leader s.failsafe s.revision s.members q.member (Renew compared ttl carried) → OutcomeOk s q (renew_on s.clock key s.failsafe s.revision compared q.sent ttl carried)
 renew-ok s i q None compared ttl carried inv is at txn a = same-ok s q None s.revision false inv is (omega arith)
 renew-ok s i q (Some key) compared ttl carried inv is at txn a = renew-if-ok (key.revision == compared) s i q key compared ttl carried refl inv is at txn a
 
-release-if-ok : (b : Bool) (s : State) (i : ℕ) (q : Request) (key : LeaderKey) (compared : ℕ) → (key.revision == compared) ≡ b → Inv s → s.leader ≡ Some key → s.flight i ≡ Some (Requested q) → q.query ≡ Release compared → Vouched s.leader s.revision q.member compared → Quiet s.leader (s.members q.member) compared → OutcomeOk s q (release_if b key s.failsafe s.revision)
+release-if-ok : (b : Bool) (s : State) (i : ℕ) (q : Request) (key : LeaderKey) (compared : ℕ) → (key.revision == compared) ≡ b → IsSound s → s.leader ≡ Some key → s.flight i ≡ Some (Requested q) → q.query ≡ Release compared → IsVouched s.leader s.revision q.member compared → IsQuiet s.leader (s.members q.member) compared → OutcomeOk s q (release_if b key s.failsafe s.revision)
 release-if-ok false s i q key compared e inv is at txn v quiet = same-ok s q (Some key) s.revision false inv is (omega arith)
 release-if-ok true s i q key compared e inv is at txn v quiet =
     let same : key.revision ≡ compared = eq-from key.revision compared e in
@@ -182,24 +182,24 @@ release-if-ok true s i q key compared e inv is at txn v quiet =
       granted = λ grant n. absurd (none-some grant n);
     }
 
-release-ok : (s : State) (i : ℕ) (q : Request) (key : Option LeaderKey) (compared : ℕ) → Inv s → s.leader ≡ key → s.flight i ≡ Some (Requested q) → q.query ≡ Release compared → Vouched s.leader s.revision q.member compared → Quiet s.leader (s.members q.member) compared → OutcomeOk s q (release_on key s.failsafe s.revision compared)
+release-ok : (s : State) (i : ℕ) (q : Request) (key : Option LeaderKey) (compared : ℕ) → IsSound s → s.leader ≡ key → s.flight i ≡ Some (Requested q) → q.query ≡ Release compared → IsVouched s.leader s.revision q.member compared → IsQuiet s.leader (s.members q.member) compared → OutcomeOk s q (release_on key s.failsafe s.revision compared)
 release-ok s i q None compared inv is at txn v quiet = same-ok s q None s.revision false inv is (omega arith)
 release-ok s i q (Some key) compared inv is at txn v quiet = release-if-ok (key.revision == compared) s i q key compared refl inv is at txn v quiet
 
-write-ok : (granted : Bool) (s : State) (q : Request) → Inv s → OutcomeOk s q (write_if granted s.leader s.failsafe s.revision)
+write-ok : (granted : Bool) (s : State) (q : Request) → IsSound s → OutcomeOk s q (write_if granted s.leader s.failsafe s.revision)
 write-ok true s q inv = same-ok s q s.leader (s.revision + 1) true inv refl (omega arith)
 write-ok false s q inv = same-ok s q s.leader s.revision false inv refl (omega arith)
 
-outcome-ok : (s : State) (i : ℕ) (granted : Bool) (q : Request) (query : Query) → Inv s → s.flight i ≡ Some (Requested q) → q.query ≡ query → Asked s.declared.failsafe s.leader s.failsafe s.revision s.members q.member query → OutcomeOk s q (outcome_of s.clock s.leader s.failsafe s.revision q.member q.sent granted query)
+outcome-ok : (s : State) (i : ℕ) (granted : Bool) (q : Request) (query : Query) → IsSound s → s.flight i ≡ Some (Requested q) → q.query ≡ query → IsQueryKept s.declared.failsafe s.leader s.failsafe s.revision s.members q.member query → OutcomeOk s q (outcome_of s.clock s.leader s.failsafe s.revision q.member q.sent granted query)
 outcome-ok s i granted q (Create ttl expected) inv at is ok = create-ok s q s.leader ttl expected inv refl ok
 outcome-ok s i granted q (Renew compared ttl carried) inv at is ok = renew-ok s i q s.leader compared ttl carried inv refl at is ok
 outcome-ok s i granted q (Release compared) inv at is ok = release-ok s i q s.leader compared inv refl at is ok.0 ok.1
 outcome-ok s i granted q Write inv at is ok = write-ok granted s q inv
 outcome-ok s i granted q Read inv at is ok = same-ok s q s.leader s.revision true inv refl (omega arith)
 
-seen-vouched : (key : Option LeaderKey) (top : ℕ) (z : LeaderSeen) → ((k : LeaderKey) → key ≡ Some k → k.revision ≤ top) → seen_of key ≡ Some z → Vouched key top z.holder z.revision
+seen-vouched : (key : Option LeaderKey) (top : ℕ) (z : LeaderSeen) → ((k : LeaderKey) → key ≡ Some k → k.revision ≤ top) → seen_of key ≡ Some z → IsVouched key top z.holder z.revision
 seen-vouched None top z bounded e = absurd (none-some z e)
-seen-vouched (Some key) top z bounded e = subst (λ (y : LeaderSeen). Vouched (Some key) top y.holder y.revision) (some-is (record { holder = key.holder; revision = key.revision }) z e)
+seen-vouched (Some key) top z bounded e = subst (λ (y : LeaderSeen). IsVouched (Some key) top y.holder y.revision) (some-is (record { holder = key.holder; revision = key.revision }) z e)
     (record { bound = bounded key refl; owner = λ k is same. ap (λ (x : LeaderKey). x.holder) (sym (some-is key k is)) })
 
 told-is : {A : Type 0} (b : Bool) (o : Option A) (x : A) → told_if b o ≡ Some x → o ≡ Some x
@@ -227,7 +227,7 @@ answers-all : (flight : ℕ → Option Flying) (i j : ℕ) (new : Answer) (P : �
 answers-all flight i j new P here there = put-all (put_at flight i None) j (Some (Answered new)) (λ n o. (a : Answer) → o ≡ Some (Answered a) → P n a)
     (λ a e. subst (λ (b : Answer). P j b) (answered-is new a e) here) (λ n other a e. there n a (dropped flight i n (Answered a) e))
 
-deliver-guard : (s : State) (i j : ℕ) (q : Request) (d : Outcome) (m : ℕ) → OutcomeOk s q d → Acts (s.members m) → Guarded s.clock s.failsafe s.leader s.flight s.members m (s.members m).deadline (s.members m).by_failsafe → Guarded s.clock d.failsafe d.leader (Onward s.flight i j (answer_to q d)) s.members m (s.members m).deadline (s.members m).by_failsafe
+deliver-guard : (s : State) (i j : ℕ) (q : Request) (d : Outcome) (m : ℕ) → OutcomeOk s q d → Acts (s.members m) → IsGuarded s.clock s.failsafe s.leader s.flight s.members m (s.members m).deadline (s.members m).by_failsafe → IsGuarded s.clock d.failsafe d.leader (Onward s.flight i j (answer_to q d)) s.members m (s.members m).deadline (s.members m).by_failsafe
 deliver-guard s i j q d m ok acts g = record {
   until = g.until;
   is = g.is;
@@ -246,7 +246,7 @@ deliver-guard s i j q d m ok acts g = record {
   ];
 }
 
-deliver-answer : (s : State) (q : Request) (d : Outcome) → Inv s → RequestOk s.declared.failsafe s.clock s.leader s.failsafe s.revision s.members q → OutcomeOk s q d → ((f : FailsafeKey) → d.failsafe ≡ Some f → f.revision ≤ d.revision) → AnswerOk d.leader d.failsafe d.revision (s.members q.member) (answer_to q d)
+deliver-answer : (s : State) (q : Request) (d : Outcome) → IsSound s → IsRequestKept s.declared.failsafe s.clock s.leader s.failsafe s.revision s.members q → OutcomeOk s q d → ((f : FailsafeKey) → d.failsafe ≡ Some f → f.revision ≤ d.revision) → IsAnswerKept d.leader d.failsafe d.revision (s.members q.member) (answer_to q d)
 deliver-answer s q d inv request ok fbounded = record {
   numbered = request.numbered;
   seen = λ z is. seen-vouched d.leader d.revision z
@@ -265,10 +265,10 @@ deliver-answer s q d inv request ok fbounded = record {
 }
 
 -- a grant in flight after it is the new one's, or was in flight
-deliver-token : (s : State) (i j : ℕ) (q : Request) (d : Outcome) → Inv s → OutcomeOk s q d → (n : ℕ) (a : Answer) → Onward s.flight i j (answer_to q d) n ≡ Some (Answered a) → (grant : Grant) → a.grant ≡ Some grant → Token (Onward s.flight i j (answer_to q d)) s.members n grant.revision
+deliver-token : (s : State) (i j : ℕ) (q : Request) (d : Outcome) → IsSound s → OutcomeOk s q d → (n : ℕ) (a : Answer) → Onward s.flight i j (answer_to q d) n ≡ Some (Answered a) → (grant : Grant) → a.grant ≡ Some grant → IsToken (Onward s.flight i j (answer_to q d)) s.members n grant.revision
 deliver-token s i j q d inv ok =
     let new : Answer = answer_to q d in
-    answers-all s.flight i j new (λ n a. (grant : Grant) → a.grant ≡ Some grant → Token (Onward s.flight i j new) s.members n grant.revision)
+    answers-all s.flight i j new (λ n a. (grant : Grant) → a.grant ≡ Some grant → IsToken (Onward s.flight i j new) s.members n grant.revision)
     (λ grant is. let h = ok.granted grant is in record {
       released = λ n p is' txn. let old = inv.asked n p (still-requested s.flight i j new n p is') in
           omega (arith, (release-bound s.declared.failsafe s.leader s.failsafe s.revision s.members p.member p.query grant.revision old.query txn).0.bound, h.revision, h.risen);
@@ -285,10 +285,10 @@ deliver-token s i j q d inv ok =
           (λ k b e' is' same. t.single k b g e' is' same) k b;
     })
 
-deliver-fresh : (s : State) (i j : ℕ) (q : Request) (d : Outcome) → Inv s → OutcomeOk s q d → (n : ℕ) (a : Answer) → Onward s.flight i j (answer_to q d) n ≡ Some (Answered a) → (grant : Grant) → a.grant ≡ Some grant → Waits (s.members a.member) a → Fresh s.clock d.leader d.failsafe (Onward s.flight i j (answer_to q d)) a.member grant
+deliver-fresh : (s : State) (i j : ℕ) (q : Request) (d : Outcome) → IsSound s → OutcomeOk s q d → (n : ℕ) (a : Answer) → Onward s.flight i j (answer_to q d) n ≡ Some (Answered a) → (grant : Grant) → a.grant ≡ Some grant → Waits (s.members a.member) a → IsFresh s.clock d.leader d.failsafe (Onward s.flight i j (answer_to q d)) a.member grant
 deliver-fresh s i j q d inv ok =
     let new : Answer = answer_to q d in
-    answers-all s.flight i j new (λ n a. (grant : Grant) → a.grant ≡ Some grant → Waits (s.members a.member) a → Fresh s.clock d.leader d.failsafe (Onward s.flight i j new) a.member grant)
+    answers-all s.flight i j new (λ n a. (grant : Grant) → a.grant ≡ Some grant → Waits (s.members a.member) a → IsFresh s.clock d.leader d.failsafe (Onward s.flight i j new) a.member grant)
     (λ grant is waits. let h = ok.granted grant is in inr (record {
       held = h.held;
       key_is = h.key_is;
@@ -303,7 +303,7 @@ deliver-fresh s i j q d inv ok =
       | inr p ↦ inr (present-fewer d.leader d.failsafe s.flight (Onward s.flight i j new) a.member grant (still-requested s.flight i j new) (ok.presents a.member grant p (inv.tokens n a grant is g).released))
     ])
 
-deliver-inv : (s : State) (i j : ℕ) (q : Request) (d : Outcome) → Inv s → s.flight i ≡ Some (Requested q) → OutcomeOk s q d → Inv (with_outcome s i j q d)
+deliver-inv : (s : State) (i j : ℕ) (q : Request) (d : Outcome) → IsSound s → s.flight i ≡ Some (Requested q) → OutcomeOk s q d → IsSound (with_outcome s i j q d)
 deliver-inv s i j q d inv at ok =
     let new : Answer = answer_to q d in
     let request = inv.asked i q at in
@@ -316,7 +316,7 @@ deliver-inv s i j q d inv at ok =
       bounded = λ k is. elim (ok.onward.known k is) [ inl p ↦ omega (arith, inv.bounded k p, ok.onward.grows) | inr p ↦ p.1 ];
       fbounded = fbounded;
       asked = λ n p is. request-after s.declared.failsafe s.clock s.clock s.leader d.leader s.failsafe d.failsafe s.revision d.revision s.members p (omega arith) ok.onward ok.fonward (inv.asked n p (still-requested s.flight i j new n p is));
-      said = answers-all s.flight i j new (λ n a. AnswerOk d.leader d.failsafe d.revision (s.members a.member) a)
+      said = answers-all s.flight i j new (λ n a. IsAnswerKept d.leader d.failsafe d.revision (s.members a.member) a)
           (deliver-answer s q d inv request ok fbounded)
           (λ n a is. answer-after s.leader d.leader s.failsafe d.failsafe s.revision d.revision (s.members a.member) a ok.onward ok.fonward (inv.said n a is));
       begs = λ n p is. inv.begs n p (still-begged s.flight i j new n p is);
@@ -334,12 +334,12 @@ deliver-inv s i j q d inv at ok =
       tokens = λ n a grant is. deliver-token s i j q d inv ok n a is grant;
     }
 
-inv-question : (s : State) (i j : ℕ) (granted : Bool) (o : Option Flying) → Inv s → s.flight i ≡ o → Inv (with_question s i j granted o)
+inv-question : (s : State) (i j : ℕ) (granted : Bool) (o : Option Flying) → IsSound s → s.flight i ≡ o → IsSound (with_question s i j granted o)
 inv-question s i j granted (Some (Requested q)) inv at = deliver-inv s i j q (outcome_of s.clock s.leader s.failsafe s.revision q.member q.sent granted q.query) inv at (outcome-ok s i granted q q.query inv at refl (inv.asked i q at).query)
 inv-question s i j granted (Some (Answered a)) inv at = inv
 inv-question s i j granted (Some (Begged a)) inv at = inv
 inv-question s i j granted (Some (Acknowledged a)) inv at = inv
 inv-question s i j granted None inv at = inv
 
-pub inv-deliver : (s : State) (i j : ℕ) (granted : Bool) → Inv s → Inv (delivered s i j granted)
+pub inv-deliver : (s : State) (i j : ℕ) (granted : Bool) → IsSound s → IsSound (delivered s i j granted)
 inv-deliver s i j granted inv = inv-question s i j granted (s.flight i) inv refl

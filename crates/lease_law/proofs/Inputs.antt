@@ -8,11 +8,11 @@ use Rattle.lease_law.specs.States.{Begging, Agent, Machine, State, is_ready, Act
 use Rattle.lease_law.specs.Inputs.{Move, Waits, HeardGrant, HeardLeader, HeardFailsafe, HeardYes, FedKnown, WatchdogMay, Owns, MayCarry, MayQuery, MayRequest, Going, Begun, MayBeg, MayAcknowledge, MayTake, MaySend, IsLawful, IsInTime}
 use Rattle.lease_law.specs.Actions.{taken_by, with_input}
 use Rattle.lease_law.proofs.Tools.{some-is, none-some, not-false, put-all}
-use Rattle.lease_law.proofs.Invariant.{Spans, HoldCover, Guarded, There, FVouched, FListed, Carrier, Vouched, Quiet, Asked, Numbered, RequestOk, Matches, BegOk, Took, TakenOk, BeggingOk, AnswerOk, AgentOk, Present, Fresh, Token, Inv}
+use Rattle.lease_law.specs.Carried.{Spans, HoldsCover, IsGuarded, IsThere, IsFailsafeVouched, IsListed, ActsAlone, IsVouched, IsQuiet, IsQueryKept, IsNumbered, IsRequestKept, AwaitsIt, IsBegKept, HasTaken, IsTakingKept, IsBeggingKept, IsAnswerKept, IsAgentKept, IsPresent, IsFresh, IsToken, IsSound}
 use Rattle.lease_law.proofs.Onward.{spans-sub, holds-grow}
 use Rattle.lease_law.proofs.Fed.{sole-new, was-acting, may-renew, may-release, Sends, sends-of, spans-input, spans-listed, took-same, said-yes, informed-there, watchdog-guards, watchdog-quiet, watchdog-carrier}
 
-old-asked : (s : State) (m : ℕ) (move : Move) (was agent : Agent) (j : ℕ) (q : Request) (query : Query) → Inv s → IsInTime s m move → WatchdogMay s m move was agent → s.flight j ≡ Some (Requested q) → q.query ≡ query → Asked s.declared.failsafe s.leader s.failsafe s.revision s.members q.member query → Asked s.declared.failsafe s.leader s.failsafe s.revision (put_at s.members m move.machine) q.member query
+old-asked : (s : State) (m : ℕ) (move : Move) (was agent : Agent) (j : ℕ) (q : Request) (query : Query) → IsSound s → IsInTime s m move → WatchdogMay s m move was agent → s.flight j ≡ Some (Requested q) → q.query ≡ query → IsQueryKept s.declared.failsafe s.leader s.failsafe s.revision s.members q.member query → IsQueryKept s.declared.failsafe s.leader s.failsafe s.revision (put_at s.members m move.machine) q.member query
 old-asked s m move was agent j q (Renew compared ttl None) inv timely dog at txn a = a
 old-asked s m move was agent j q (Renew compared ttl (Some set)) inv timely dog at txn a = (
   a.0,
@@ -22,7 +22,7 @@ old-asked s m move was agent j q (Renew compared ttl (Some set)) inv timely dog 
 )
 old-asked s m move was agent j q (Release compared) inv timely dog at txn a = (
   a.0,
-  put-all s.members m move.machine (λ n z. Quiet s.leader (s.members n) compared → Quiet s.leader z compared) (watchdog-quiet s m move was agent j q compared inv timely dog at txn) (λ n other quiet. quiet) q.member a.1,
+  put-all s.members m move.machine (λ n z. IsQuiet s.leader (s.members n) compared → IsQuiet s.leader z compared) (watchdog-quiet s m move was agent j q compared inv timely dog at txn) (λ n other quiet. quiet) q.member a.1,
 )
 old-asked s m move was agent j q (Create ttl None) inv timely dog at txn a = a
 old-asked s m move was agent j q (Create ttl (Some Absent)) inv timely dog at txn a = tt
@@ -30,34 +30,34 @@ old-asked s m move was agent j q (Create ttl (Some (Revision r))) inv timely dog
 old-asked s m move was agent j q Write inv timely dog at txn a = tt
 old-asked s m move was agent j q Read inv timely dog at txn a = tt
 
-owns-vouched : (s : State) (m : ℕ) (heard : Option ℕ) (was : Agent) (r : ℕ) → Inv s → (s.members m).agent ≡ Some was → Owns s m heard was r → Vouched s.leader s.revision m r
+owns-vouched : (s : State) (m : ℕ) (heard : Option ℕ) (was : Agent) (r : ℕ) → IsSound s → (s.members m).agent ≡ Some was → Owns s m heard was r → IsVouched s.leader s.revision m r
 owns-vouched s m heard was r inv was_is (inl e) = (inv.kept m was was_is).lease r e
 owns-vouched s m heard was r inv was_is (inr o) =
     let h = o.1 in
-    subst (λ (n : ℕ). Vouched s.leader s.revision n r) h.member
-    (subst (λ (n : ℕ). Vouched s.leader s.revision h.answer.member n) o.2 ((inv.said h.number h.answer h.is).grant o.0 h.grant_is))
+    subst (λ (n : ℕ). IsVouched s.leader s.revision n r) h.member
+    (subst (λ (n : ℕ). IsVouched s.leader s.revision h.answer.member n) o.2 ((inv.said h.number h.answer h.is).grant o.0 h.grant_is))
 
 -- an answer in flight after an input was in flight before, and wasn't heard in it
 answered-before : (s : State) (m : ℕ) (move : Move) (law : IsLawful s m move) (i : ℕ) (a : Answer) → move.flight i ≡ Some (Answered a) → s.flight i ≡ Some (Answered a)
 answered-before s m move law i a at = elim (law.flight i (Answered a) at) [ inl old ↦ old | inr never ↦ absurd never ]
 
 -- a revision that the agent owns is handed out by no other answer
-spent : (s : State) (m : ℕ) (move : Move) (law : IsLawful s m move) (r : ℕ) (i : ℕ) (a : Answer) (grant : Grant) → Inv s → Owns s m move.heard law.was r → move.flight i ≡ Some (Answered a) → a.grant ≡ Some grant → grant.revision ≡ r → ⊥
+spent : (s : State) (m : ℕ) (move : Move) (law : IsLawful s m move) (r : ℕ) (i : ℕ) (a : Answer) (grant : Grant) → IsSound s → Owns s m move.heard law.was r → move.flight i ≡ Some (Answered a) → a.grant ≡ Some grant → grant.revision ≡ r → ⊥
 spent s m move law r i a grant inv (inl e) at is same = (inv.tokens i a grant (answered-before s m move law i a at) is).valued m law.was law.was_is (e ∙ ap (λ (n : ℕ). Some n) (sym same))
 spent s m move law r i a grant inv (inr o) at is same =
     let h = o.1 in
     let one : i ≡ h.number = (inv.tokens h.number h.answer o.0 h.is h.grant_is).single i a grant (answered-before s m move law i a at) is (same ∙ sym o.2) in
     none-some (Answered a) (sym (law.gone h.number h.heard_is) ∙ ap move.flight (sym one) ∙ at)
 
-seen-vouched : (s : State) (m : ℕ) (heard : Option ℕ) (was : Agent) (z : LeaderSeen) → Inv s → (s.members m).agent ≡ Some was → (was.leader ≡ Some z) ⊎ HeardLeader s heard z → Vouched s.leader s.revision z.holder z.revision
+seen-vouched : (s : State) (m : ℕ) (heard : Option ℕ) (was : Agent) (z : LeaderSeen) → IsSound s → (s.members m).agent ≡ Some was → (was.leader ≡ Some z) ⊎ HeardLeader s heard z → IsVouched s.leader s.revision z.holder z.revision
 seen-vouched s m heard was z inv was_is (inl e) = (inv.kept m was was_is).seen z e
 seen-vouched s m heard was z inv was_is (inr h) = (inv.said h.number h.answer h.is).seen z h.seen_is
 
-failsafe-vouched : (s : State) (m : ℕ) (heard : Option ℕ) (was : Agent) (f : FailsafeKey) → Inv s → (s.members m).agent ≡ Some was → (was.failsafe ≡ Some f) ⊎ HeardFailsafe s heard f → FVouched s.failsafe s.revision f
+failsafe-vouched : (s : State) (m : ℕ) (heard : Option ℕ) (was : Agent) (f : FailsafeKey) → IsSound s → (s.members m).agent ≡ Some was → (was.failsafe ≡ Some f) ⊎ HeardFailsafe s heard f → IsFailsafeVouched s.failsafe s.revision f
 failsafe-vouched s m heard was f inv was_is (inl e) = (inv.kept m was was_is).failsafe f e
 failsafe-vouched s m heard was f inv was_is (inr h) = (inv.said h.number h.answer h.is).listed f h.key_is
 
-new-asked : (s : State) (m : ℕ) (move : Move) (seq : ℕ) (query : Query) → Inv s → IsInTime s m move → (law : IsLawful s m move) → MayQuery s m move law.was law.agent seq query → Asked s.declared.failsafe s.leader s.failsafe s.revision (put_at s.members m move.machine) m query
+new-asked : (s : State) (m : ℕ) (move : Move) (seq : ℕ) (query : Query) → IsSound s → IsInTime s m move → (law : IsLawful s m move) → MayQuery s m move law.was law.agent seq query → IsQueryKept s.declared.failsafe s.leader s.failsafe s.revision (put_at s.members m move.machine) m query
 new-asked s m move seq (Renew compared ttl None) inv timely law may = seen-vouched s m move.heard law.was (record { holder = m; revision = compared }) inv law.was_is (law.leader (record { holder = m; revision = compared }) may.0)
 new-asked s m move seq (Renew compared ttl (Some set)) inv timely law may = (
   seen-vouched s m move.heard law.was (record { holder = m; revision = compared }) inv law.was_is (law.leader (record { holder = m; revision = compared }) may.0),
@@ -66,7 +66,7 @@ new-asked s m move seq (Renew compared ttl (Some set)) inv timely law may = (
 )
 new-asked s m move seq (Release compared) inv timely law may = (
   owns-vouched s m move.heard law.was compared inv law.was_is may.1,
-  put-all s.members m move.machine (λ n z. n ≡ m → Quiet s.leader z compared) (λ mine k is e a. may.0 a) (λ n other mine. absurd (other mine)) m refl,
+  put-all s.members m move.machine (λ n z. n ≡ m → IsQuiet s.leader z compared) (λ mine k is e a. may.0 a) (λ n other mine. absurd (other mine)) m refl,
 )
 new-asked s m move seq (Create ttl None) inv timely law may = may
 new-asked s m move seq (Create ttl (Some Absent)) inv timely law may = tt
@@ -77,7 +77,7 @@ new-asked s m move seq Write inv timely law may = tt
 new-asked s m move seq Read inv timely law may = tt
 
 -- the numbers of old messages stay old
-numbered-input : (x y : Machine) (was agent : Agent) (run seq : ℕ) → x.agent ≡ Some was → y.agent ≡ Some agent → y.runs ≡ x.runs → agent.run ≡ was.run → was.last ≤ agent.last → Numbered x run seq → Numbered y run seq
+numbered-input : (x y : Machine) (was agent : Agent) (run seq : ℕ) → x.agent ≡ Some was → y.agent ≡ Some agent → y.runs ≡ x.runs → agent.run ≡ was.run → was.last ≤ agent.last → IsNumbered x run seq → IsNumbered y run seq
 numbered-input x y was agent run seq was_is agent_is runs same last n = record {
   run_old = omega (arith, n.run_old, runs);
   seq_old = λ g is e. let one : agent ≡ g = some-is agent g (sym agent_is ∙ is) in
@@ -85,7 +85,7 @@ numbered-input x y was agent run seq was_is agent_is runs same last n = record {
 }
 
 -- new numbers are counted
-numbered-new : (s : State) (m : ℕ) (move : Move) (run seq : ℕ) → Inv s → (law : IsLawful s m move) → run ≡ law.was.run → seq ≤ law.agent.last → Numbered move.machine run seq
+numbered-new : (s : State) (m : ℕ) (move : Move) (run seq : ℕ) → IsSound s → (law : IsLawful s m move) → run ≡ law.was.run → seq ≤ law.agent.last → IsNumbered move.machine run seq
 numbered-new s m move run seq inv law same counted = record {
   run_old = omega (arith, same, (inv.kept m law.was law.was_is).run, law.runs);
   seq_old = λ g is e. omega (arith, counted, ap (λ (z : Agent). z.last) (some-is law.agent g (sym law.agent_is ∙ is)));
@@ -94,11 +94,11 @@ numbered-new s m move run seq inv law same counted = record {
 -- what is waited for after an input with an old number was waited for before it
 record WasMatched (s : State) (m : ℕ) (run seq : ℕ) (b : Begging) : Type 0 where
   before : Begging
-  matches : Matches (s.members m) run seq before
+  matches : AwaitsIt (s.members m) run seq before
   ttl : b.ttl ≡ before.ttl
   sent : b.sent ≡ before.sent
 
-was-matched : (s : State) (m : ℕ) (move : Move) (run seq : ℕ) (b : Begging) → (law : IsLawful s m move) → Numbered (s.members m) run seq → Matches move.machine run seq b → WasMatched s m run seq b
+was-matched : (s : State) (m : ℕ) (move : Move) (run seq : ℕ) (b : Begging) → (law : IsLawful s m move) → IsNumbered (s.members m) run seq → AwaitsIt move.machine run seq b → WasMatched s m run seq b
 was-matched s m move run seq b law numbered w =
     let one : law.agent ≡ w.agent = some-is law.agent w.agent (sym law.agent_is ∙ w.is) in
     let same : law.was.run ≡ run = sym law.run ∙ ap (λ (z : Agent). z.run) one ∙ w.run_is in
@@ -107,14 +107,14 @@ was-matched s m move run seq b law numbered w =
       | inr n ↦ absurd (omega (arith, numbered.seq_old law.was law.was_is same, n.later, w.seq_is))
     ]
 
-beg-input : (s : State) (m : ℕ) (move : Move) (q : Beg) → (law : IsLawful s m move) → BegOk s.clock (s.members m) q → BegOk s.clock move.machine q
+beg-input : (s : State) (m : ℕ) (move : Move) (q : Beg) → (law : IsLawful s m move) → IsBegKept s.clock (s.members m) q → IsBegKept s.clock move.machine q
 beg-input s m move q law ok = record {
   numbered = numbered-input (s.members m) move.machine law.was law.agent q.run q.sequence law.was_is law.agent_is law.runs law.run law.last ok.numbered;
   sent = ok.sent;
   matches = λ b w. let p = was-matched s m move q.run q.sequence b law ok.numbered w in let old = ok.matches p.before p.matches in (old.0 ∙ sym p.ttl, old.1 ∙ sym p.sent);
 }
 
-taken-input : (s : State) (m : ℕ) (move : Move) (hold : ℕ) (t : Taking) → (law : IsLawful s m move) → TakenOk (s.members m) hold t → TakenOk move.machine hold t
+taken-input : (s : State) (m : ℕ) (move : Move) (hold : ℕ) (t : Taking) → (law : IsLawful s m move) → IsTakingKept (s.members m) hold t → IsTakingKept move.machine hold t
 taken-input s m move hold t law ok = record {
   numbered = numbered-input (s.members m) move.machine law.was law.agent t.run t.sequence law.was_is law.agent_is law.runs law.run law.last ok.numbered;
   matches = λ b w. let p = was-matched s m move t.run t.sequence b law ok.numbered w in let old = ok.matches p.before p.matches in (omega (arith, old.0, p.ttl), omega (arith, old.1, p.sent));
@@ -125,10 +125,10 @@ taken-more : (m clock : ℕ) (takes : Option Beg) (taken : List Taking) (t : Tak
 taken-more m clock None taken t old = old
 taken-more m clock (Some beg) taken t old = inr old
 
-took-more : (m clock : ℕ) (takes : Option Beg) (taken : List Taking) (p n run seq : ℕ) → Took taken p n run seq → Took (taken_by m clock takes taken) p n run seq
+took-more : (m clock : ℕ) (takes : Option Beg) (taken : List Taking) (p n run seq : ℕ) → HasTaken taken p n run seq → HasTaken (taken_by m clock takes taken) p n run seq
 took-more m clock takes taken p n run seq t = record { moment = t.moment; is = taken-more m clock takes taken (record { by = p; from = n; run = run; sequence = seq; moment = t.moment }) t.is }
 
-took-new : (m clock : ℕ) (takes : Option Beg) (taken : List Taking) (beg : Beg) → takes ≡ Some beg → Took (taken_by m clock takes taken) m beg.member beg.run beg.sequence
+took-new : (m clock : ℕ) (takes : Option Beg) (taken : List Taking) (beg : Beg) → takes ≡ Some beg → HasTaken (taken_by m clock takes taken) m beg.member beg.run beg.sequence
 took-new m clock None taken beg is = absurd (none-some beg is)
 took-new m clock (Some b) taken beg is = record { moment = clock; is = inl (ap (λ (z : Beg). record { by = m; from = z.member; run = z.run; sequence = z.sequence; moment = clock }) (some-is b beg is)) }
 
@@ -138,13 +138,13 @@ taken-cases m clock (Some beg) taken P old new t (inl e) = subst P e (new beg re
 taken-cases m clock (Some beg) taken P old new t (inr before) = old t before
 
 -- what is begged for has a counted number
-counted-beg : (s : State) (m : ℕ) (move : Move) (b : Begging) → Inv s → (law : IsLawful s m move) → law.agent.begging ≡ Some b → b.sequence ≤ law.agent.last
+counted-beg : (s : State) (m : ℕ) (move : Move) (b : Begging) → IsSound s → (law : IsLawful s m move) → law.agent.begging ≡ Some b → b.sequence ≤ law.agent.last
 counted-beg s m move b inv law is = elim (law.begging b is) [
   | inl g ↦ omega (arith, g.sequence, (inv.begging m law.was g.before law.was_is g.is).counted, law.last)
   | inr n ↦ n.counted
 ]
 
-begging-input : (s : State) (m : ℕ) (move : Move) (b : Begging) → Inv s → IsInTime s m move → (law : IsLawful s m move) → law.agent.begging ≡ Some b → Going s m law.was b ⊎ Begun s m law.was law.agent b → BeggingOk s.failsafe s.leader move.flight (taken_by m s.clock move.takes s.taken) m move.machine law.agent b
+begging-input : (s : State) (m : ℕ) (move : Move) (b : Begging) → IsSound s → IsInTime s m move → (law : IsLawful s m move) → law.agent.begging ≡ Some b → Going s m law.was b ⊎ Begun s m law.was law.agent b → IsBeggingKept s.failsafe s.leader move.flight (taken_by m s.clock move.takes s.taken) m move.machine law.agent b
 begging-input s m move b inv timely law is (inl g) = let old = inv.begging m law.was g.before law.was_is g.is in record {
   counted = omega (arith, g.sequence, old.counted, law.last);
   there = old.there;
@@ -170,18 +170,18 @@ After s m move = put_at s.members m move.machine
 input-holds : (s : State) (m : ℕ) (move : Move) → IsLawful s m move → (p : ℕ) → (s.members p).hold ≤ (After s m move p).hold
 input-holds s m move law = put-all s.members m move.machine (λ n z. (s.members n).hold ≤ z.hold) law.hold (λ n other. omega arith)
 
-input-numbered : (s : State) (m : ℕ) (move : Move) (run seq : ℕ) → (law : IsLawful s m move) → (n : ℕ) → Numbered (s.members n) run seq → Numbered (After s m move n) run seq
-input-numbered s m move run seq law = put-all s.members m move.machine (λ k z. Numbered (s.members k) run seq → Numbered z run seq)
+input-numbered : (s : State) (m : ℕ) (move : Move) (run seq : ℕ) → (law : IsLawful s m move) → (n : ℕ) → IsNumbered (s.members n) run seq → IsNumbered (After s m move n) run seq
+input-numbered s m move run seq law = put-all s.members m move.machine (λ k z. IsNumbered (s.members k) run seq → IsNumbered z run seq)
     (numbered-input (s.members m) move.machine law.was law.agent run seq law.was_is law.agent_is law.runs law.run law.last) (λ k other old. old)
 
-input-begs : (s : State) (m : ℕ) (move : Move) (q : Beg) → (law : IsLawful s m move) → (n : ℕ) → BegOk s.clock (s.members n) q → BegOk s.clock (After s m move n) q
-input-begs s m move q law = put-all s.members m move.machine (λ k z. BegOk s.clock (s.members k) q → BegOk s.clock z q) (beg-input s m move q law) (λ k other old. old)
+input-begs : (s : State) (m : ℕ) (move : Move) (q : Beg) → (law : IsLawful s m move) → (n : ℕ) → IsBegKept s.clock (s.members n) q → IsBegKept s.clock (After s m move n) q
+input-begs s m move q law = put-all s.members m move.machine (λ k z. IsBegKept s.clock (s.members k) q → IsBegKept s.clock z q) (beg-input s m move q law) (λ k other old. old)
 
-input-alone : (s : State) (m : ℕ) (move : Move) → Inv s → IsInTime s m move → IsLawful s m move → Acts move.machine → (n : ℕ) → Acts (s.members n) → (n ≡ m → ⊥) → ⊥
+input-alone : (s : State) (m : ℕ) (move : Move) → IsSound s → IsInTime s m move → IsLawful s m move → Acts move.machine → (n : ℕ) → Acts (s.members n) → (n ≡ m → ⊥) → ⊥
 input-alone s m move inv timely law = sole-new s m move law.was law.agent inv timely law.watchdog
 
-input-guarded : (s : State) (m : ℕ) (move : Move) → Inv s → IsInTime s m move → IsLawful s m move → (n : ℕ) → Acts (After s m move n) → Guarded s.clock s.failsafe s.leader move.flight (After s m move) n (After s m move n).deadline (After s m move n).by_failsafe
-input-guarded s m move inv timely law = put-all s.members m move.machine (λ n z. Acts z → Guarded s.clock s.failsafe s.leader move.flight (After s m move) n z.deadline z.by_failsafe)
+input-guarded : (s : State) (m : ℕ) (move : Move) → IsSound s → IsInTime s m move → IsLawful s m move → (n : ℕ) → Acts (After s m move n) → IsGuarded s.clock s.failsafe s.leader move.flight (After s m move) n (After s m move n).deadline (After s m move n).by_failsafe
+input-guarded s m move inv timely law = put-all s.members m move.machine (λ n z. Acts z → IsGuarded s.clock s.failsafe s.leader move.flight (After s m move) n z.deadline z.by_failsafe)
     (watchdog-guards s m move (After s m move) inv timely law law.watchdog (input-holds s m move law))
     (λ n other an. let g = inv.guarded n an in record {
       until = g.until;
@@ -201,26 +201,26 @@ input-guarded s m move inv timely law = put-all s.members m move.machine (λ n z
       ];
     })
 
-input-sole : (s : State) (m : ℕ) (move : Move) → Inv s → IsInTime s m move → IsLawful s m move → (a b : ℕ) → Acts (After s m move a) → Acts (After s m move b) → a ≡ b
+input-sole : (s : State) (m : ℕ) (move : Move) → IsSound s → IsInTime s m move → IsLawful s m move → (a b : ℕ) → Acts (After s m move a) → Acts (After s m move b) → a ≡ b
 input-sole s m move inv timely law = let alone = input-alone s m move inv timely law in
     put-all s.members m move.machine (λ a z. (b : ℕ) → Acts z → Acts (After s m move b) → a ≡ b)
     (λ b ya ab. put-all s.members m move.machine (λ c z. Acts z → m ≡ c) (λ q. refl) (λ c other ac. absurd (alone ya c ac other)) b ab)
     (λ a other b aa ab. put-all s.members m move.machine (λ c z. Acts z → a ≡ c) (λ ya. absurd (alone ya a aa other)) (λ c more ac. inv.sole a c aa ac) b ab)
 
-input-asked : (s : State) (m : ℕ) (move : Move) → Inv s → IsInTime s m move → IsLawful s m move → (i : ℕ) (q : Request) → move.flight i ≡ Some (Requested q) → RequestOk s.declared.failsafe s.clock s.leader s.failsafe s.revision (After s m move) q
+input-asked : (s : State) (m : ℕ) (move : Move) → IsSound s → IsInTime s m move → IsLawful s m move → (i : ℕ) (q : Request) → move.flight i ≡ Some (Requested q) → IsRequestKept s.declared.failsafe s.clock s.leader s.failsafe s.revision (After s m move) q
 input-asked s m move inv timely law i q at = elim (law.flight i (Requested q) at) [
   | inl old ↦ let ok = inv.asked i q old in record { numbered = input-numbered s m move q.run q.sequence law q.member ok.numbered; sent = ok.sent; query = old-asked s m move law.was law.agent i q q.query inv timely law.watchdog old refl ok.query }
   | inr new ↦ record {
-    numbered = put-all s.members m move.machine (λ n z. n ≡ m → Numbered z q.run q.sequence) (λ mine. numbered-new s m move q.run q.sequence inv law new.run new.counted) (λ n other mine. absurd (other mine)) q.member new.member;
+    numbered = put-all s.members m move.machine (λ n z. n ≡ m → IsNumbered z q.run q.sequence) (λ mine. numbered-new s m move q.run q.sequence inv law new.run new.counted) (λ n other mine. absurd (other mine)) q.member new.member;
     sent = omega (arith, new.sent);
-    query = subst (λ (n : ℕ). Asked s.declared.failsafe s.leader s.failsafe s.revision (After s m move) n q.query) (sym new.member) (new-asked s m move q.sequence q.query inv timely law new.query);
+    query = subst (λ (n : ℕ). IsQueryKept s.declared.failsafe s.leader s.failsafe s.revision (After s m move) n q.query) (sym new.member) (new-asked s m move q.sequence q.query inv timely law new.query);
   }
 ]
 
-input-beg : (s : State) (m : ℕ) (move : Move) → Inv s → IsLawful s m move → (i : ℕ) (q : Beg) → move.flight i ≡ Some (Begged q) → BegOk s.clock (After s m move q.member) q
+input-beg : (s : State) (m : ℕ) (move : Move) → IsSound s → IsLawful s m move → (i : ℕ) (q : Beg) → move.flight i ≡ Some (Begged q) → IsBegKept s.clock (After s m move q.member) q
 input-beg s m move inv law i q at = elim (law.flight i (Begged q) at) [
   | inl old ↦ input-begs s m move q law q.member (inv.begs i q old)
-  | inr new ↦ put-all s.members m move.machine (λ n z. n ≡ m → BegOk s.clock z q)
+  | inr new ↦ put-all s.members m move.machine (λ n z. n ≡ m → IsBegKept s.clock z q)
       (λ mine. record {
         numbered = numbered-new s m move q.run q.sequence inv law new.run (omega (arith, new.sequence, counted-beg s m move new.begging inv law new.is));
         sent = omega (arith, new.sent);
@@ -232,26 +232,26 @@ input-beg s m move inv law i q at = elim (law.flight i (Begged q) at) [
       (λ n other mine. absurd (other mine)) q.member new.member
 ]
 
-input-yes : (s : State) (m : ℕ) (move : Move) → Inv s → IsLawful s m move → (i : ℕ) (h : Acknowledgement) → move.flight i ≡ Some (Acknowledged h) → Took (taken_by m s.clock move.takes s.taken) h.by h.member h.run h.sequence
+input-yes : (s : State) (m : ℕ) (move : Move) → IsSound s → IsLawful s m move → (i : ℕ) (h : Acknowledgement) → move.flight i ≡ Some (Acknowledged h) → HasTaken (taken_by m s.clock move.takes s.taken) h.by h.member h.run h.sequence
 input-yes s m move inv law i h at = elim (law.flight i (Acknowledged h) at) [
   | inl old ↦ took-more m s.clock move.takes s.taken h.by h.member h.run h.sequence (inv.yeses i h old)
   | inr new ↦ took-same (taken_by m s.clock move.takes s.taken) m h.by new.beg.member h.member new.beg.run h.run new.beg.sequence h.sequence (sym new.by) new.member new.run new.sequence
       (took-new m s.clock move.takes s.taken new.beg new.takes)
 ]
 
-input-taken : (s : State) (m : ℕ) (move : Move) → Inv s → IsLawful s m move → (t : Taking) → IsTaken (taken_by m s.clock move.takes s.taken) t → TakenOk (After s m move t.from) (After s m move t.by).hold t
-input-taken s m move inv law = taken-cases m s.clock move.takes s.taken (λ t. TakenOk (After s m move t.from) (After s m move t.by).hold t)
+input-taken : (s : State) (m : ℕ) (move : Move) → IsSound s → IsLawful s m move → (t : Taking) → IsTaken (taken_by m s.clock move.takes s.taken) t → IsTakingKept (After s m move t.from) (After s m move t.by).hold t
+input-taken s m move inv law = taken-cases m s.clock move.takes s.taken (λ t. IsTakingKept (After s m move t.from) (After s m move t.by).hold t)
     (λ t old. let ok = inv.taken t old in
-    let far : TakenOk (s.members t.from) (After s m move t.by).hold t = record { numbered = ok.numbered; matches = λ b w. let o = ok.matches b w in (omega (arith, o.0, input-holds s m move law t.by), o.1) } in
-    put-all s.members m move.machine (λ n z. TakenOk (s.members n) (After s m move t.by).hold t → TakenOk z (After s m move t.by).hold t) (taken-input s m move (After s m move t.by).hold t law) (λ n other o. o) t.from far)
+    let far : IsTakingKept (s.members t.from) (After s m move t.by).hold t = record { numbered = ok.numbered; matches = λ b w. let o = ok.matches b w in (omega (arith, o.0, input-holds s m move law t.by), o.1) } in
+    put-all s.members m move.machine (λ n z. IsTakingKept (s.members n) (After s m move t.by).hold t → IsTakingKept z (After s m move t.by).hold t) (taken-input s m move (After s m move t.by).hold t law) (λ n other o. o) t.from far)
     (λ beg takes. let new = law.takes beg takes in
     let ok = input-begs s m move beg law beg.member (inv.begs new.number beg new.is) in
     let lasts : s.clock + beg.ttl ≤ (After s m move m).hold = put-all s.members m move.machine (λ n z. n ≡ m → s.clock + beg.ttl ≤ z.hold) (λ mine. new.lasts) (λ n other mine. absurd (other mine)) m refl in
     record { numbered = ok.numbered; matches = λ b w. let o = ok.matches b (record { agent = w.agent; is = w.is; run_is = w.run_is; begging = w.begging; seq_is = w.seq_is }) in (omega (arith, lasts, o.0), omega (arith, ok.sent, o.1)) })
 
-input-kept : (s : State) (m : ℕ) (move : Move) → Inv s → IsLawful s m move → (n : ℕ) (g : Agent) → (After s m move n).agent ≡ Some g → AgentOk s.leader s.failsafe s.revision n (After s m move n).runs g
-input-kept s m move inv law = put-all s.members m move.machine (λ n z. (g : Agent) → z.agent ≡ Some g → AgentOk s.leader s.failsafe s.revision n z.runs g)
-    (λ g is. subst (λ (h : Agent). AgentOk s.leader s.failsafe s.revision m move.machine.runs h) (some-is law.agent g (sym law.agent_is ∙ is)) (record {
+input-kept : (s : State) (m : ℕ) (move : Move) → IsSound s → IsLawful s m move → (n : ℕ) (g : Agent) → (After s m move n).agent ≡ Some g → IsAgentKept s.leader s.failsafe s.revision n (After s m move n).runs g
+input-kept s m move inv law = put-all s.members m move.machine (λ n z. (g : Agent) → z.agent ≡ Some g → IsAgentKept s.leader s.failsafe s.revision n z.runs g)
+    (λ g is. subst (λ (h : Agent). IsAgentKept s.leader s.failsafe s.revision m move.machine.runs h) (some-is law.agent g (sym law.agent_is ∙ is)) (record {
       run = omega (arith, (inv.kept m law.was law.was_is).run, law.run, law.runs);
       lease = λ r e. owns-vouched s m move.heard law.was r inv law.was_is (law.lease r e);
       seen = λ z e. seen-vouched s m move.heard law.was z inv law.was_is (law.leader z e);
@@ -260,16 +260,16 @@ input-kept s m move inv law = put-all s.members m move.machine (λ n z. (g : Age
     }))
     (λ n other g is. inv.kept n g is)
 
-input-spans : (s : State) (m : ℕ) (move : Move) → Inv s → IsInTime s m move → IsLawful s m move → (n : ℕ) (g : Agent) → (After s m move n).agent ≡ Some g → Acts (After s m move n) → g.leads ≡ true → Spans s.failsafe s.leader move.flight n (λ p. g.known p ≡ true)
+input-spans : (s : State) (m : ℕ) (move : Move) → IsSound s → IsInTime s m move → IsLawful s m move → (n : ℕ) (g : Agent) → (After s m move n).agent ≡ Some g → Acts (After s m move n) → g.leads ≡ true → Spans s.failsafe s.leader move.flight n (λ p. g.known p ≡ true)
 input-spans s m move inv timely law = put-all s.members m move.machine (λ n z. (g : Agent) → z.agent ≡ Some g → Acts z → g.leads ≡ true → Spans s.failsafe s.leader move.flight n (λ p. g.known p ≡ true))
     (λ g is ya leads. let one = some-is law.agent g (sym law.agent_is ∙ is) in
     subst (λ (h : Agent). Spans s.failsafe s.leader move.flight m (λ p. h.known p ≡ true)) one (spans-listed s m move inv timely law ya (ap (λ (h : Agent). h.leads) one ∙ leads)))
     (λ n other g is an leads. spans-input s m move law.was law.agent n (λ p. g.known p ≡ true) (sends-of s m move law) (λ set r p e. absurd (input-alone s m move inv timely law (inl r.live) n an other)) (inv.spans n g is an leads))
 
-input-begging : (s : State) (m : ℕ) (move : Move) → Inv s → IsInTime s m move → IsLawful s m move → (n : ℕ) (g : Agent) (b : Begging) → (After s m move n).agent ≡ Some g → g.begging ≡ Some b → BeggingOk s.failsafe s.leader move.flight (taken_by m s.clock move.takes s.taken) n (After s m move n) g b
-input-begging s m move inv timely law n g b = put-all s.members m move.machine (λ n z. z.agent ≡ Some g → g.begging ≡ Some b → BeggingOk s.failsafe s.leader move.flight (taken_by m s.clock move.takes s.taken) n z g b)
+input-begging : (s : State) (m : ℕ) (move : Move) → IsSound s → IsInTime s m move → IsLawful s m move → (n : ℕ) (g : Agent) (b : Begging) → (After s m move n).agent ≡ Some g → g.begging ≡ Some b → IsBeggingKept s.failsafe s.leader move.flight (taken_by m s.clock move.takes s.taken) n (After s m move n) g b
+input-begging s m move inv timely law n g b = put-all s.members m move.machine (λ n z. z.agent ≡ Some g → g.begging ≡ Some b → IsBeggingKept s.failsafe s.leader move.flight (taken_by m s.clock move.takes s.taken) n z g b)
     (λ is e. let one = some-is law.agent g (sym law.agent_is ∙ is) in let beg : law.agent.begging ≡ Some b = ap (λ (h : Agent). h.begging) one ∙ e in
-    subst (λ (h : Agent). BeggingOk s.failsafe s.leader move.flight (taken_by m s.clock move.takes s.taken) m move.machine h b) one (begging-input s m move b inv timely law beg (law.begging b beg)))
+    subst (λ (h : Agent). IsBeggingKept s.failsafe s.leader move.flight (taken_by m s.clock move.takes s.taken) m move.machine h b) one (begging-input s m move b inv timely law beg (law.begging b beg)))
     (λ k other is e. let old = inv.begging k g b is e in record {
       counted = old.counted;
       there = old.there;
@@ -278,14 +278,14 @@ input-begging s m move inv timely law n g b = put-all s.members m move.machine (
     })
     n
 
-input-fresh : (s : State) (m : ℕ) (move : Move) → Inv s → IsLawful s m move → (i : ℕ) (a : Answer) (grant : Grant) → move.flight i ≡ Some (Answered a) → a.grant ≡ Some grant → Waits (After s m move a.member) a → Fresh s.clock s.leader s.failsafe move.flight a.member grant
+input-fresh : (s : State) (m : ℕ) (move : Move) → IsSound s → IsLawful s m move → (i : ℕ) (a : Answer) (grant : Grant) → move.flight i ≡ Some (Answered a) → a.grant ≡ Some grant → Waits (After s m move a.member) a → IsFresh s.clock s.leader s.failsafe move.flight a.member grant
 input-fresh s m move inv law i a grant at is = let at' = answered-before s m move law i a at in
-    put-all s.members m move.machine (λ n z. a.member ≡ n → Waits z a → Fresh s.clock s.leader s.failsafe move.flight a.member grant)
+    put-all s.members m move.machine (λ n z. a.member ≡ n → Waits z a → IsFresh s.clock s.leader s.failsafe move.flight a.member grant)
     (λ mine w.
     let one : law.agent ≡ w.agent = some-is law.agent w.agent (sym law.agent_is ∙ w.is) in
     let waits : law.agent.waits ≡ Some a.sequence = ap (λ (z : Agent). z.waits) one ∙ w.sequence in
     let run : law.was.run ≡ a.run = sym law.run ∙ ap (λ (z : Agent). z.run) one ∙ w.run in
-    let old-seq : a.sequence ≤ law.was.last = (subst (λ (n : ℕ). Numbered (s.members n) a.run a.sequence) mine (inv.said i a at').numbered).seq_old law.was law.was_is run in
+    let old-seq : a.sequence ≤ law.was.last = (subst (λ (n : ℕ). IsNumbered (s.members n) a.run a.sequence) mine (inv.said i a at').numbered).seq_old law.was law.was_is run in
     elim (law.waits a.sequence waits) [
       | inl before ↦ elim (inv.fresh i a grant at' is (record { agent = law.was; is = ap (λ (n : ℕ). (s.members n).agent) mine ∙ law.was_is; run = run; sequence = before })) [
         | inl over ↦ inl over
@@ -324,7 +324,7 @@ input-fresh s m move inv law i a grant at is = let at' = answered-before s m mov
     ])
     a.member refl
 
-input-tokens : (s : State) (m : ℕ) (move : Move) → Inv s → IsLawful s m move → (i : ℕ) (a : Answer) (grant : Grant) → move.flight i ≡ Some (Answered a) → a.grant ≡ Some grant → Token move.flight (After s m move) i grant.revision
+input-tokens : (s : State) (m : ℕ) (move : Move) → IsSound s → IsLawful s m move → (i : ℕ) (a : Answer) (grant : Grant) → move.flight i ≡ Some (Answered a) → a.grant ≡ Some grant → IsToken move.flight (After s m move) i grant.revision
 input-tokens s m move inv law i a grant at is = let t = inv.tokens i a grant (answered-before s m move law i a at) is in record {
   released = λ j q at-q txn. elim (law.flight j (Requested q) at-q) [
     | inl old ↦ t.released j q old txn
@@ -336,7 +336,7 @@ input-tokens s m move inv law i a grant at is = let t = inv.tokens i a grant (an
   single = λ j b h at-b e same. t.single j b h (answered-before s m move law j b at-b) e same;
 }
 
-pub inv-input : (s : State) (m : ℕ) (move : Move) → Inv s → IsInTime s m move → IsLawful s m move → Inv (with_input s m move)
+pub inv-input : (s : State) (m : ℕ) (move : Move) → IsSound s → IsInTime s m move → IsLawful s m move → IsSound (with_input s m move)
 inv-input s m move inv timely law = record {
   guarded = input-guarded s m move inv timely law;
   sole = input-sole s m move inv timely law;

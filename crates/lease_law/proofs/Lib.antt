@@ -1,5 +1,5 @@
 pub mod Tools
-pub mod Invariant
+pub mod Starting
 pub mod Onward
 pub mod Deliver
 pub mod Calm

@@ -13,13 +13,14 @@ use Rattle.lease_law.specs.States.{Declared, Machine, State, Acts}
 use Rattle.lease_law.specs.Inputs.{Move, IsLawful, IsInTime}
 use Rattle.lease_law.specs.Actions.{Action, Tick, Deliver, Lose, Input, Start, Kill, Crash, Note, act, IsLawfulAction, IsInTimeAction, MayArm, MayBegin, Step, state_after, IsAllowed, AreAllowed, book_of, first_state, states_after}
 use Rattle.lease_law.proofs.Tools.{both, put-all}
-use Rattle.lease_law.proofs.Invariant.{Inv, inv-start}
+use Rattle.lease_law.specs.Carried.{IsSound, IsCarried}
+use Rattle.lease_law.proofs.Starting.{good-start}
 use Rattle.lease_law.proofs.Deliver.{inv-deliver}
 use Rattle.lease_law.proofs.Calm.{inv-kill, inv-crash, inv-started, inv-lose, inv-tick}
 use Rattle.lease_law.proofs.Fed.{newcomer}
 use Rattle.lease_law.proofs.Inputs.{inv-input}
 
-inv-act : (s : State) (a : Action) → Inv s → IsLawfulAction s a → IsInTimeAction s a → Inv (act s a)
+inv-act : (s : State) (a : Action) → IsSound s → IsLawfulAction s a → IsInTimeAction s a → IsSound (act s a)
 inv-act s (Tick stops) inv law timely = inv-tick s stops inv
 inv-act s (Deliver i j granted) inv law timely = inv-deliver s i j granted inv
 inv-act s (Lose i) inv law timely = inv-lose s i inv
@@ -29,23 +30,15 @@ inv-act s (Kill m) inv law timely = inv-kill s m inv
 inv-act s (Crash m) inv law timely = inv-crash s m inv
 inv-act s Note inv law timely = inv
 
-inv-writes : (s : State) (w : ℕ → Bool) → Inv s → Inv (record s { writes = w })
+inv-writes : (s : State) (w : ℕ → Bool) → IsSound s → IsSound (record s { writes = w })
 inv-writes s w inv = record { guarded = inv.guarded; sole = inv.sole; parted = inv.parted; off = inv.off; bounded = inv.bounded; fbounded = inv.fbounded; asked = inv.asked; said = inv.said; begs = inv.begs; yeses = inv.yeses; taken = inv.taken; kept = inv.kept; spans = inv.spans; begging = inv.begging; fresh = inv.fresh; tokens = inv.tokens }
 
 -- who may write inside an action
 abbrev Inside : State → Action → ℕ → Type 0
 Inside s a n = Acts (s.members n) ⊎ MayBegin s a n
 
--- what is carried from action to action
-pub record Good (s : State) : Type 0 where
-  pub inv : Inv s
-  pub lives : (n : ℕ) → s.writes n ≡ true → (s.members n).live ≡ true
-
-pub good-start : (declared : Declared) → Good (first_state declared)
-good-start declared = record { inv = inv-start declared; lives = λ k w. absurd (both w) }
-
 -- at most one member may
-begin-acts : (s : State) (a : Action) (m n : ℕ) → Inv s → Acts (s.members m) → MayBegin s a n → m ≡ n
+begin-acts : (s : State) (a : Action) (m n : ℕ) → IsSound s → Acts (s.members m) → MayBegin s a n → m ≡ n
 begin-acts s (Tick stops) m n inv am may = inv.sole m n am (inl may)
 begin-acts s (Input k move) m n inv am may = elim may.1 [
   | inl ak ↦ inv.sole m k am ak ∙ sym may.0
@@ -58,7 +51,7 @@ begin-acts s (Kill k) m n inv am may = absurd may
 begin-acts s (Crash k) m n inv am may = absurd may
 begin-acts s Note m n inv am may = absurd may
 
-begin-begin : (s : State) (a : Action) (m n : ℕ) → Inv s → MayBegin s a m → MayBegin s a n → m ≡ n
+begin-begin : (s : State) (a : Action) (m n : ℕ) → IsSound s → MayBegin s a m → MayBegin s a n → m ≡ n
 begin-begin s (Tick stops) m n inv a b = inv.sole m n (inl a) (inl b)
 begin-begin s (Input k move) m n inv a b = a.0 ∙ sym b.0
 begin-begin s (Deliver i j granted) m n inv a b = absurd a
@@ -68,7 +61,7 @@ begin-begin s (Kill k) m n inv a b = absurd a
 begin-begin s (Crash k) m n inv a b = absurd a
 begin-begin s Note m n inv a b = absurd a
 
-one-inside : (s : State) (a : Action) (m n : ℕ) → Inv s → Inside s a m → Inside s a n → m ≡ n
+one-inside : (s : State) (a : Action) (m n : ℕ) → IsSound s → Inside s a m → Inside s a n → m ≡ n
 one-inside s a m n inv (inl x) (inl y) = inv.sole m n x y
 one-inside s a m n inv (inl x) (inr y) = begin-acts s a m n inv x y
 one-inside s a m n inv (inr x) (inl y) = sym (begin-acts s a n m inv y x)
@@ -129,13 +122,13 @@ begins-front P (x ∷ front) back (y ∷ es) e may = (
 )
 
 -- inside an action each writer is one that may
-inside : (s : State) (a : Action) (front : List Event) → Good s → Begins (MayBegin s a) front → (n : ℕ) → writes_after s.writes front n ≡ true → Inside s a n
+inside : (s : State) (a : Action) (front : List Event) → IsCarried s → Begins (MayBegin s a) front → (n : ℕ) → writes_after s.writes front n ≡ true → Inside s a n
 inside s a front good begins = begun (MayBegin s a) (Inside s a) s.writes front (λ n m. inr m) (λ n w. inl (inl (good.lives n w))) begins
 
-pub one-front : (s : State) (a : Action) (front : List Event) → Good s → Begins (MayBegin s a) front → (m n : ℕ) → writes_after s.writes front m ≡ true → writes_after s.writes front n ≡ true → m ≡ n
+pub one-front : (s : State) (a : Action) (front : List Event) → IsCarried s → Begins (MayBegin s a) front → (m n : ℕ) → writes_after s.writes front m ≡ true → writes_after s.writes front n ≡ true → m ≡ n
 one-front s a front good begins m n wm wn = one-inside s a m n good.inv (inside s a front good begins m wm) (inside s a front good begins n wn)
 
-pub step-good : (s : State) (step : Step) → Good s → IsAllowed s step → Good (state_after s step)
+pub step-good : (s : State) (step : Step) → IsCarried s → IsAllowed s step → IsCarried (state_after s step)
 step-good s step good may = record {
   inv = inv-writes (act s step.action) (writes_after s.writes step.events) (inv-act s step.action good.inv may.lawful may.in_time);
   lives = may.lives;
@@ -159,7 +152,7 @@ pub writes-append : (w : ℕ → Bool) (es more : List Event) → writes_after w
 writes-append w [] more = refl
 writes-append w (e ∷ es) more = writes-append (writes_by w e.kind) es more
 
-one-from : (s : State) (steps : List Step) (front rest : List Event) → Good s → AreAllowed s steps → front ++ rest ≡ book_of steps → (m n : ℕ) → writes_after s.writes front m ≡ true → writes_after s.writes front n ≡ true → m ≡ n
+one-from : (s : State) (steps : List Step) (front rest : List Event) → IsCarried s → AreAllowed s steps → front ++ rest ≡ book_of steps → (m n : ℕ) → writes_after s.writes front m ≡ true → writes_after s.writes front n ≡ true → m ≡ n
 one-from s [] [] rest good allowed e m n wm wn = good.inv.sole m n (inl (good.lives m wm)) (inl (good.lives n wn))
 one-from s [] (x ∷ front) rest good allowed e m n wm wn = absurd (no-cons x (front ++ rest) e)
 one-from s (step ∷ steps) front rest good allowed e m n wm wn =
@@ -178,7 +171,7 @@ assoc : (xs ys zs : List Event) → (xs ++ ys) ++ zs ≡ xs ++ (ys ++ zs)
 assoc [] ys zs = refl
 assoc (x ∷ xs) ys zs = ap (λ (l : List Event). x ∷ l) (assoc xs ys zs)
 
-pub good-run : (s : State) (steps : List Step) → Good s → AreAllowed s steps → Good (states_after s steps)
+pub good-run : (s : State) (steps : List Step) → IsCarried s → AreAllowed s steps → IsCarried (states_after s steps)
 good-run s [] good allowed = good
 good-run s (step ∷ steps) good allowed = good-run (state_after s step) steps (step-good s step good allowed.0) allowed.1
 
@@ -190,6 +183,6 @@ writes-run s (step ∷ steps) front = ap (λ (es : List Event). writes_after s.w
 pub one-at : (declared : Declared) (steps : List Step) (action : Action) (front : List Event) → AreAllowed (first_state declared) steps → Begins (MayBegin (states_after (first_state declared) steps) action) front → HasOneWriter (book_of steps ++ front)
 one-at declared steps action front allowed begins m n wm wn =
     let s : State = states_after (first_state declared) steps in
-    let good : Good s = good-run (first_state declared) steps (good-start declared) allowed in
+    let good : IsCarried s = good-run (first_state declared) steps (good-start declared) allowed in
     let same = writes-run (first_state declared) steps front in
     one-front s action front good begins m n (sym (ap (λ (w : ℕ → Bool). w m) same) ∙ wm) (sym (ap (λ (w : ℕ → Bool). w n) same) ∙ wn)

@@ -5,3 +5,4 @@ pub mod States
 pub mod Outcomes
 pub mod Inputs
 pub mod Actions
+pub mod Carried
