@@ -6,3 +6,4 @@ pub mod Calm
 pub mod Fed
 pub mod Inputs
 pub mod Runs
+pub mod Falling

@@ -6,3 +6,5 @@ pub mod Outcomes
 pub mod Inputs
 pub mod Actions
 pub mod Carried
+pub mod Past
+pub mod Premises

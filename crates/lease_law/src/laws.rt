@@ -3,6 +3,7 @@ ghost use Rattle.std.specs.Prelude.{ℕ, ◌≡◌, ◌++◌, List, Option, true
 ghost use Rattle.event_book.specs.declared.event.Event.{Event};
 ghost use Rattle.lease_law.specs.Actions.{Action, Step, IsAllowed, AreAllowed, MayBegin, first_state, state_after, states_after, book_of};
 ghost use Rattle.lease_law.specs.Carried.{IsCarried};
+ghost use Rattle.lease_law.specs.Premises.{IsTimely, IsHandsOff};
 ghost use Rattle.lease_law.specs.States.{Declared, State};
 ghost use Rattle.lease_law.specs.Writers.{Begins, HasOneWriter, writes_after};
 
@@ -24,4 +25,10 @@ pub fn carried()
     ensures kept { (s : State) (step : Step) → IsCarried s → IsAllowed s step → IsCarried (state_after s step) }
     ensures sole { (s : State) (action : Action) (front : List Event) → IsCarried s → Begins (MayBegin s action) front
         → (m n : ℕ) → writes_after s.writes front m ≡ true → writes_after s.writes front n ≡ true → m ≡ n }
+{}
+
+/// The premises only fall: a front of a book meets what the book meets.
+pub fn premises_fall()
+    ensures timely { (margin : ℕ → Option ℕ) (front rest : List Event) → IsTimely margin (front ++ rest) → IsTimely margin front }
+    ensures hands_off { (front rest : List Event) → IsHandsOff (front ++ rest) → IsHandsOff front }
 {}

@@ -3,4 +3,4 @@
 
 mod laws;
 
-pub use laws::{carried, one_writer};
+pub use laws::{carried, one_writer, premises_fall};
