@@ -7,3 +7,4 @@ pub mod Fed
 pub mod Inputs
 pub mod Runs
 pub mod Falling
+pub mod Feeding

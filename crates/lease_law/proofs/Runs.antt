@@ -11,7 +11,9 @@ use Rattle.lease_law.specs.Functions.{put_at}
 use Rattle.lease_law.specs.Writers.{writes_by_server, writes_by_watchdog, writes_by, writes_after, AcceptsWrites, HasOneWriter, BeginsServer, BeginsKind, Begins}
 use Rattle.lease_law.specs.States.{Declared, Machine, State, Acts}
 use Rattle.lease_law.specs.Inputs.{Move, IsLawful, IsInTime}
-use Rattle.lease_law.specs.Actions.{Action, Tick, Deliver, Lose, Input, Start, Kill, Crash, Note, act, IsLawfulAction, IsInTimeAction, MayArm, MayBegin, Step, state_after, IsAllowed, AreAllowed, book_of, first_state, states_after}
+use Rattle.lease_law.specs.Actions.{Action, Tick, Deliver, Lose, Input, Start, Kill, Crash, Note, act, IsLawfulAction, IsInTimeAction, MayArm, MayBegin, state_after, IsAllowed}
+use Rattle.lease_law.specs.Past.{Past, past_by, past_after, first_past, past_of, Mind, state_of}
+use Rattle.lease_law.specs.Books.{Page, IsTold, AreAllowed, first_minds, book_of, minds_after}
 use Rattle.lease_law.proofs.Tools.{both, put-all}
 use Rattle.lease_law.specs.Carried.{IsSound, IsCarried}
 use Rattle.lease_law.proofs.Starting.{good-start}
@@ -128,11 +130,14 @@ inside s a front good begins = begun (MayBegin s a) (Inside s a) s.writes front 
 pub one-front : (s : State) (a : Action) (front : List Event) → IsCarried s → Begins (MayBegin s a) front → (m n : ℕ) → writes_after s.writes front m ≡ true → writes_after s.writes front n ≡ true → m ≡ n
 one-front s a front good begins m n wm wn = one-inside s a m n good.inv (inside s a front good begins m wm) (inside s a front good begins n wn)
 
-pub step-good : (s : State) (step : Step) → IsCarried s → IsAllowed s step → IsCarried (state_after s step)
-step-good s step good may = record {
-  inv = inv-writes (act s step.action) (writes_after s.writes step.events) (inv-act s step.action good.inv may.lawful may.in_time);
+action-kept : (s : State) (action : Action) (events : List Event) → IsCarried s → IsAllowed s action events → IsCarried (state_after s action events)
+action-kept s action events good may = record {
+  inv = inv-writes (act s action) (writes_after s.writes events) (inv-act s action good.inv may.lawful may.in_time);
   lives = may.lives;
 }
+
+pub page-kept : (declared : Declared) (book : List Event) (minds : ℕ → Mind) (page : Page) → IsCarried (state_of declared (past_of book) minds) → IsAllowed (state_of declared (past_of book) minds) page.action page.events → IsTold declared book minds page → IsCarried (state_of declared (past_of (book ++ page.events)) page.minds)
+page-kept declared book minds page good may told = subst (λ (s : State). IsCarried s) (sym told) (action-kept (state_of declared (past_of book) minds) page.action page.events good may)
 
 -- a front of a whole ends in its first part, or goes on in the rest
 abbrev Cuts : List Event → List Event → List Event → List Event → Type 0
@@ -152,37 +157,45 @@ pub writes-append : (w : ℕ → Bool) (es more : List Event) → writes_after w
 writes-append w [] more = refl
 writes-append w (e ∷ es) more = writes-append (writes_by w e.kind) es more
 
-one-from : (s : State) (steps : List Step) (front rest : List Event) → IsCarried s → AreAllowed s steps → front ++ rest ≡ book_of steps → (m n : ℕ) → writes_after s.writes front m ≡ true → writes_after s.writes front n ≡ true → m ≡ n
-one-from s [] [] rest good allowed e m n wm wn = good.inv.sole m n (inl (good.lives m wm)) (inl (good.lives n wn))
-one-from s [] (x ∷ front) rest good allowed e m n wm wn = absurd (no-cons x (front ++ rest) e)
-one-from s (step ∷ steps) front rest good allowed e m n wm wn =
-    elim (cuts front rest step.events (book_of steps) e) [
-      | inl c ↦ one-front s step.action front good (begins-front (MayBegin s step.action) front c.0 step.events c.1 allowed.0.begins) m n wm wn
-      | inr c ↦
-          let same : writes_after s.writes front ≡ writes_after (writes_after s.writes step.events) c.0 = ap (λ (es : List Event). writes_after s.writes es) c.1 ∙ writes-append s.writes step.events c.0 in
-          one-from (state_after s step) steps c.0 rest (step-good s step good allowed.0) allowed.1 c.2 m n
-          (sym (ap (λ (w : ℕ → Bool). w m) same) ∙ wm) (sym (ap (λ (w : ℕ → Bool). w n) same) ∙ wn)
-    ]
+writes-past : (past : Past) (book : List Event) → (past_after past book).writes ≡ writes_after past.writes book
+writes-past past [] = refl
+writes-past past (event ∷ events) = writes-past (past_by past event.kind) events
 
-pub one : (declared : Declared) (steps : List Step) (front rest : List Event) → AreAllowed (first_state declared) steps → front ++ rest ≡ book_of steps → HasOneWriter front
-one declared steps front rest allowed e m n wm wn = one-from (first_state declared) steps front rest (good-start declared) allowed e m n wm wn
+-- a book, and then a front of the next action's events, of which only the beginnings need a reason
+pub one-front-of : (declared : Declared) (book : List Event) (minds : ℕ → Mind) (action : Action) (front : List Event) → IsCarried (state_of declared (past_of book) minds) → Begins (MayBegin (state_of declared (past_of book) minds) action) front → HasOneWriter (book ++ front)
+one-front-of declared book minds action front good begins m n wm wn =
+    let same : writes_after (λ k. false) (book ++ front) ≡ writes_after (past_of book).writes front =
+    writes-append (λ k. false) book front ∙ ap (λ (w : ℕ → Bool). writes_after w front) (sym (writes-past first_past book)) in
+    one-front (state_of declared (past_of book) minds) action front good begins m n
+    (sym (ap (λ (w : ℕ → Bool). w m) same) ∙ wm) (sym (ap (λ (w : ℕ → Bool). w n) same) ∙ wn)
 
 assoc : (xs ys zs : List Event) → (xs ++ ys) ++ zs ≡ xs ++ (ys ++ zs)
 assoc [] ys zs = refl
 assoc (x ∷ xs) ys zs = ap (λ (l : List Event). x ∷ l) (assoc xs ys zs)
 
-pub good-run : (s : State) (steps : List Step) → IsCarried s → AreAllowed s steps → IsCarried (states_after s steps)
-good-run s [] good allowed = good
-good-run s (step ∷ steps) good allowed = good-run (state_after s step) steps (step-good s step good allowed.0) allowed.1
+one-from : (declared : Declared) (book : List Event) (minds : ℕ → Mind) (pages : List Page) (front rest : List Event) → IsCarried (state_of declared (past_of book) minds) → AreAllowed declared book minds pages → front ++ rest ≡ book_of pages → HasOneWriter (book ++ front)
+one-from declared book minds [] [] rest good allowed e = one-front-of declared book minds Note [] good tt
+one-from declared book minds [] (x ∷ front) rest good allowed e = absurd (no-cons x (front ++ rest) e)
+one-from declared book minds (page ∷ pages) front rest good allowed e =
+    elim (cuts front rest page.events (book_of pages) e) [
+      | inl c ↦ one-front-of declared book minds page.action front good (begins-front (MayBegin (state_of declared (past_of book) minds) page.action) front c.0 page.events c.1 allowed.0.begins)
+      | inr c ↦ subst (λ (l : List Event). HasOneWriter l) (assoc book page.events c.0 ∙ ap (λ (l : List Event). book ++ l) (sym c.1))
+          (one-from declared (book ++ page.events) page.minds pages c.0 rest (page-kept declared book minds page good allowed.0 allowed.1.0) allowed.1.1 c.2)
+    ]
 
-writes-run : (s : State) (steps : List Step) (front : List Event) → writes_after s.writes (book_of steps ++ front) ≡ writes_after (states_after s steps).writes front
-writes-run s [] front = refl
-writes-run s (step ∷ steps) front = ap (λ (es : List Event). writes_after s.writes es) (assoc step.events (book_of steps) front) ∙ writes-append s.writes step.events (book_of steps ++ front) ∙ writes-run (state_after s step) steps front
+pub one : (declared : Declared) (pages : List Page) (front rest : List Event) → AreAllowed declared [] first_minds pages → front ++ rest ≡ book_of pages → HasOneWriter front
+one declared pages front rest allowed e = one-from declared [] first_minds pages front rest (good-start declared) allowed e
 
--- whole actions, and then a front of the next one's events, of which only the beginnings need a reason
-pub one-at : (declared : Declared) (steps : List Step) (action : Action) (front : List Event) → AreAllowed (first_state declared) steps → Begins (MayBegin (states_after (first_state declared) steps) action) front → HasOneWriter (book_of steps ++ front)
-one-at declared steps action front allowed begins m n wm wn =
-    let s : State = states_after (first_state declared) steps in
-    let good : IsCarried s = good-run (first_state declared) steps (good-start declared) allowed in
-    let same = writes-run (first_state declared) steps front in
-    one-front s action front good begins m n (sym (ap (λ (w : ℕ → Bool). w m) same) ∙ wm) (sym (ap (λ (w : ℕ → Bool). w n) same) ∙ wn)
+none-more : (xs : List Event) → xs ++ [] ≡ xs
+none-more [] = refl
+none-more (x ∷ xs) = ap (λ (l : List Event). x ∷ l) (none-more xs)
+
+good-run : (declared : Declared) (book : List Event) (minds : ℕ → Mind) (pages : List Page) → IsCarried (state_of declared (past_of book) minds) → AreAllowed declared book minds pages → IsCarried (state_of declared (past_of (book ++ book_of pages)) (minds_after minds pages))
+good-run declared book minds [] good allowed = subst (λ (l : List Event). IsCarried (state_of declared (past_of l) minds)) (sym (none-more book)) good
+good-run declared book minds (page ∷ pages) good allowed =
+    subst (λ (l : List Event). IsCarried (state_of declared (past_of l) (minds_after page.minds pages))) (assoc book page.events (book_of pages))
+    (good-run declared (book ++ page.events) page.minds pages (page-kept declared book minds page good allowed.0 allowed.1.0) allowed.1.1)
+
+pub one-at : (declared : Declared) (pages : List Page) (action : Action) (front : List Event) → AreAllowed declared [] first_minds pages → Begins (MayBegin (state_of declared (past_of (book_of pages)) (minds_after first_minds pages)) action) front → HasOneWriter (book_of pages ++ front)
+one-at declared pages action front allowed begins =
+    one-front-of declared (book_of pages) (minds_after first_minds pages) action front (good-run declared [] first_minds pages (good-start declared) allowed) begins

@@ -1,10 +1,10 @@
 -- Which atomic actions there are, what each may be, and the state after it.
-use Rattle.std.specs.Prelude.{ℕ, ◌≡◌, ◌⊎◌, ◌≤◌, Bool, true, false, List, [], ◌∷◌, ◌++◌, Option, Some, None}
+use Rattle.std.specs.Prelude.{ℕ, ◌≡◌, ◌⊎◌, ◌≤◌, Bool, true, List, ◌∷◌, Option, Some, None}
 use Rattle.event_book.specs.declared.event.Event.{Event}
 use Rattle.lease_law.specs.Functions.{put_at}
 use Rattle.lease_law.specs.Writers.{writes_after, Begins}
 use Rattle.lease_law.specs.Leases.{Beg, Taking}
-use Rattle.lease_law.specs.States.{Declared, Machine, State, Acts, fresh_agent, ticked, start_machine, kill_machine, crash_machine}
+use Rattle.lease_law.specs.States.{Machine, State, Acts, ticked, start_machine, kill_machine, crash_machine}
 use Rattle.lease_law.specs.Outcomes.{delivered}
 use Rattle.lease_law.specs.Inputs.{Move, Fed, IsOnTime, IsLawful, IsInTime}
 
@@ -64,47 +64,13 @@ MayBegin s (Tick stops) n = (s.members n).live ≡ true
 MayBegin s (Input m move) n = (n ≡ m) × (Acts (s.members m) ⊎ MayArm s m move)
 MayBegin s _ n = ⊥
 
--- an action with its events
-pub record Step : Type 0 where
-  pub action : Action
-  pub events : List Event
+-- the state after an action with these events
+abbrev pub state_after : State → Action → List Event → State
+state_after s action events = record (act s action) { writes = writes_after s.writes events }
 
-abbrev pub state_after : State → Step → State
-state_after s step = record (act s step.action) { writes = writes_after s.writes step.events }
-
--- a step is lawful and in time, only who may begin begins in it, and who accepts writes at its end is live then
-pub record IsAllowed (s : State) (step : Step) : Type 0 where
-  pub lawful : IsLawfulAction s step.action
-  pub in_time : IsInTimeAction s step.action
-  pub begins : Begins (MayBegin s step.action) step.events
-  pub lives : (n : ℕ) → writes_after s.writes step.events n ≡ true → ((act s step.action).members n).live ≡ true
-
-abbrev pub AreAllowed : State → List Step → Type 0
-AreAllowed s [] = Unit {0}
-AreAllowed s (step ∷ steps) = IsAllowed s step × AreAllowed (state_after s step) steps
-
-abbrev pub book_of : List Step → List Event
-book_of [] = []
-book_of (step ∷ steps) = step.events ++ book_of steps
-
-abbrev pub first_machine : Machine
-first_machine = record { live = false; deadline = None; by_failsafe = false; hold = 0; agent = Some (fresh_agent 1); runs = 1 }
-
--- before the first event nothing is live, each agent is in its first run, and the key store holds the configuration alone
-abbrev pub first_state : Declared → State
-first_state declared = record {
-  declared = declared;
-  clock = 0;
-  leader = None;
-  failsafe = None;
-  revision = 1;
-  flight = λ i. None;
-  taken = [];
-  members = λ m. first_machine;
-  writes = λ n. false;
-}
-
--- the state after these steps
-abbrev pub states_after : State → List Step → State
-states_after s [] = s
-states_after s (step ∷ steps) = states_after (state_after s step) steps
+-- an action with its events is lawful and in time, only who may begin begins in it, and who accepts writes at its end is live then
+pub record IsAllowed (s : State) (action : Action) (events : List Event) : Type 0 where
+  pub lawful : IsLawfulAction s action
+  pub in_time : IsInTimeAction s action
+  pub begins : Begins (MayBegin s action) events
+  pub lives : (n : ℕ) → writes_after s.writes events n ≡ true → ((act s action).members n).live ≡ true

@@ -164,4 +164,3 @@ pub record IsSound (s : State) : Type 0 where
 pub record IsCarried (s : State) : Type 0 where
   pub inv : IsSound s
   pub lives : (n : ℕ) → s.writes n ≡ true → (s.members n).live ≡ true
-

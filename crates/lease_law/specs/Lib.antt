@@ -8,3 +8,4 @@ pub mod Actions
 pub mod Carried
 pub mod Past
 pub mod Premises
+pub mod Books

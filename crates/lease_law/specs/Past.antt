@@ -1,7 +1,6 @@
 -- What the events of a book determine of the lease, each part by a small definition of its own.
-use Rattle.std.specs.Prelude.{ℕ, ◌+◌, max, Bool, true, false, List, [], ◌∷◌, Option, Some, None}
+use Rattle.std.specs.Prelude.{ℕ, ◌+◌, ◌==◌, max, Bool, true, false, List, [], ◌∷◌, Option, Some, None}
 use Rattle.std.specs.Int.{bit_at}
-use Rattle.std.specs.Prelude.{◌==◌}
 use Rattle.pat_base.specs.declared.member_set.MemberSet.{MemberSet}
 use Rattle.lease_store.specs.declared.txn.Txn.{Txn}
 use Rattle.lease_store.specs.declared.txn.Txn.TheVariants as txns
@@ -128,17 +127,12 @@ flying_of past ends.Store (ends.Member member) run sequence body = told_of past 
 flying_of past (ends.Member by) (ends.Member member) run sequence body = said_of past by.id.number member.id.number run sequence body
 flying_of past ends.Store ends.Store run sequence body = None
 
--- with a message that the lease reads, if it reads it
-abbrev pub flight_with : (ℕ → Option Flying) → ℕ → Option Flying → ℕ → Option Flying
-flight_with flight number None = flight
-flight_with flight number (Some flying) = put_at flight number (Some flying)
-
 abbrev pub asked_with : (ℕ → Option Request) → ℕ → Option Flying → ℕ → Option Request
 asked_with asked number (Some (Requested request)) = put_at asked number (Some request)
 asked_with asked number _ = asked
 
 abbrev pub flight_by : Past → MessageEvent → ℕ → Option Flying
-flight_by past (Sent number message) = flight_with past.flight number (flying_of past message.from message.to message.run message.sequence message.body)
+flight_by past (Sent number message) = put_at past.flight number (flying_of past message.from message.to message.run message.sequence message.body)
 flight_by past (Delivered number) = put_at past.flight number None
 flight_by past (Lost number) = put_at past.flight number None
 

@@ -1,5 +1,6 @@
 -- What the claim of one writer asks of a book: feeds keep the margin, and nobody pauses or promotes by hand.
 use Rattle.std.specs.Prelude.{ℕ, ◌≡◌, Bool, true, false, List, [], ◌∷◌, Option, Some, None}
+use Rattle.lease_store.specs.Settings.{Settings}
 use Rattle.lease_store.specs.declared.txn.Txn.{Txn}
 use Rattle.lease_store.specs.declared.txn.Txn.TheVariants as txns
 use Rattle.event_book.specs.declared.event.Event.{Event}
@@ -15,7 +16,8 @@ use Rattle.event_book.specs.declared.reason.Basis.{Basis}
 use Rattle.event_book.specs.declared.reason.Basis.TheVariants as bases
 use Rattle.event_book.specs.Clock.{now_after}
 use Rattle.lease_law.specs.Leases.{Taking, IsTaken}
-use Rattle.lease_law.specs.Inputs.{IsOnTime}
+use Rattle.lease_law.specs.States.{Begging, Agent, State}
+use Rattle.lease_law.specs.Inputs.{Move, IsOnTime}
 use Rattle.lease_law.specs.Past.{members_in, sent_after, taken_after, runs_after}
 
 -- the moments that feeds are measured from: the clock, when each message was sent, each hold that was taken, and the run of each agent
@@ -74,20 +76,46 @@ IsHandsOffKind (kinds.Store (stores.Granted number by txn standbys)) = IsUnpause
 IsHandsOffKind (kinds.Server (servers.Promoted server)) = ⊥
 IsHandsOffKind _ = Unit {0}
 
--- no configuration of this book pauses, and no operator promotes a server
-abbrev pub IsHandsOff : List Event → Type 0
-IsHandsOff [] = Unit {0}
-IsHandsOff (event ∷ events) = IsHandsOffKind event.kind × IsHandsOff events
+abbrev pub AreHandsOff : List Event → Type 0
+AreHandsOff [] = Unit {0}
+AreHandsOff (event ∷ events) = IsHandsOffKind event.kind × AreHandsOff events
 
--- an event that is no feed by this answer, and changes no moment that one is measured from
+-- nobody pauses or promotes by hand: neither the first configuration nor one in the book pauses, no operator promotes a server, and each
+-- member has a watchdog that is on and works
+pub record IsHandsOff (first : Settings) (works : ℕ → Bool) (book : List Event) : Type 0 where
+  pub unpaused : first.config.pause ≡ false
+  pub watched : (m : ℕ) → works m ≡ true
+  pub events : AreHandsOff book
+
+-- an event at which the clock and the runs stay as they are
+abbrev pub IsStill : Kind → Type 0
+IsStill kinds.Tick = ⊥
+IsStill (kinds.Agent (agents.Started agent run)) = ⊥
+IsStill _ = Unit {0}
+
+-- such an event that doesn't send the message of this number
 abbrev pub IsAside : ℕ → Kind → Type 0
-IsAside answer kinds.Tick = ⊥
-IsAside answer (kinds.Message (messages.Sent number message)) = number ≡ answer → ⊥
-IsAside answer (kinds.Agent (agents.Started agent run)) = ⊥
-IsAside answer _ = Unit {0}
+IsAside number (kinds.Message (messages.Sent other message)) = other ≡ number → ⊥
+IsAside number kind = IsStill kind
+
+abbrev pub AllAre : (Kind → Type 0) → List Event → Type 0
+AllAre P [] = Unit {0}
+AllAre P (event ∷ events) = P event.kind × AllAre P events
 
 -- the watchdog of this member is armed or fed in this event by the grant that the answer of this number tells
 abbrev pub IsFedBy : ℕ → ℕ → Kind → Type 0
 IsFedBy m answer (kinds.Watchdog (watchdogs.Armed member until number)) = (member.id.number ≡ m) × (number ≡ answer)
 IsFedBy m answer (kinds.Watchdog (watchdogs.Fed member until (bases.Grant number))) = (member.id.number ≡ m) × (number ≡ answer)
 IsFedBy m answer _ = ⊥
+
+-- it is fed in this event by the acknowledgements of these members of the failsafe request of this number
+abbrev pub IsFedOn : ℕ → (ℕ → Bool) → ℕ → Kind → Type 0
+IsFedOn m members sequence (kinds.Watchdog (watchdogs.Fed member until (bases.Acknowledgements acknowledging number))) =
+    (member.id.number ≡ m) × (number ≡ sequence) × ((p : ℕ) → members p ≡ true → members_in acknowledging p ≡ true)
+IsFedOn m members sequence _ = ⊥
+
+-- where an input arms or feeds the watchdog, this event behind those tells it
+pub record ShowsFeed (s : State) (m : ℕ) (move : Move) (front : List Event) (event : Event) : Type 0 where
+  pub by_grant : move.feeds ≡ true → move.machine.by_failsafe ≡ false → (number : ℕ) → move.heard ≡ Some number → AllAre (IsAside number) front × IsFedBy m number event.kind
+  pub by_failsafe : move.feeds ≡ true → move.machine.by_failsafe ≡ true → (was : Agent) (begging : Begging) → (s.members m).agent ≡ Some was → was.begging ≡ Some begging
+      → (was.run ≡ (s.members m).runs) × AllAre IsStill front × IsFedOn m begging.members begging.sequence event.kind

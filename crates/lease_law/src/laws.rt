@@ -1,34 +1,62 @@
 //! Laws of every run.
-ghost use Rattle.std.specs.Prelude.{ℕ, ◌≡◌, ◌++◌, List, Option, true};
+ghost use Rattle.std.specs.Prelude.{ℕ, ◌≡◌, ◌++◌, Bool, List, [], ◌∷◌, Option, Some};
 ghost use Rattle.event_book.specs.declared.event.Event.{Event};
-ghost use Rattle.lease_law.specs.Actions.{Action, Step, IsAllowed, AreAllowed, MayBegin, first_state, state_after, states_after, book_of};
+ghost use Rattle.lease_law.specs.Actions.{Action, IsAllowed, MayBegin};
+ghost use Rattle.lease_law.specs.Books.{Page, IsTold, AreAllowed, first_minds, book_of, minds_after};
 ghost use Rattle.lease_law.specs.Carried.{IsCarried};
-ghost use Rattle.lease_law.specs.Premises.{IsTimely, IsHandsOff};
+ghost use Rattle.lease_law.specs.Past.{Mind, past_of, state_of};
+ghost use Rattle.lease_law.specs.Inputs.{Move, IsInTime, IsOnTime};
+ghost use Rattle.lease_law.specs.Leases.{Answer, Answered, Grant};
+ghost use Rattle.lease_law.specs.Premises.{IsTimely, IsHandsOff, IsAside, IsFedBy, AllAre, ShowsFeed};
 ghost use Rattle.lease_law.specs.States.{Declared, State};
-ghost use Rattle.lease_law.specs.Writers.{Begins, HasOneWriter, writes_after};
+ghost use Rattle.lease_law.specs.Writers.{Begins, HasOneWriter};
+ghost use Rattle.lease_store.specs.Settings.{Settings};
 
 /// At every moment of an allowed run at most one server accepts writes.
 pub fn one_writer()
     // Of every front of the book, also one that ends inside an action.
-    ensures whole { (declared : Declared) (steps : List Step) (front rest : List Event)
-        → AreAllowed (first_state declared) steps → front ++ rest ≡ book_of steps → HasOneWriter front }
+    ensures whole { (declared : Declared) (pages : List Page) (front rest : List Event)
+        → AreAllowed declared [] first_minds pages → front ++ rest ≡ book_of pages → HasOneWriter front }
     // Of whole actions, and then a front of the next action's events, of which only the beginnings need a reason.
-    ensures at { (declared : Declared) (steps : List Step) (action : Action) (front : List Event)
-        → AreAllowed (first_state declared) steps
-        → Begins (MayBegin (states_after (first_state declared) steps) action) front
-        → HasOneWriter (book_of steps ++ front) }
+    ensures at { (declared : Declared) (pages : List Page) (action : Action) (front : List Event)
+        → AreAllowed declared [] first_minds pages
+        → Begins (MayBegin (state_of declared (past_of (book_of pages)) (minds_after first_minds pages)) action) front
+        → HasOneWriter (book_of pages ++ front) }
 {}
 
-/// What holds between two actions: before the first, after each that is allowed, and while it holds nobody begins beside another.
+/// The same action by action, for who keeps no list of them: what is carried holds of the empty book, and an allowed action keeps it;
+/// where it holds, at most one server accepts writes at each moment of the next action.
 pub fn carried()
-    ensures first { (declared : Declared) → IsCarried (first_state declared) }
-    ensures kept { (s : State) (step : Step) → IsCarried s → IsAllowed s step → IsCarried (state_after s step) }
-    ensures sole { (s : State) (action : Action) (front : List Event) → IsCarried s → Begins (MayBegin s action) front
-        → (m n : ℕ) → writes_after s.writes front m ≡ true → writes_after s.writes front n ≡ true → m ≡ n }
+    ensures first { (declared : Declared) → IsCarried (state_of declared (past_of []) first_minds) }
+    ensures kept { (declared : Declared) (book : List Event) (minds : ℕ → Mind) (page : Page)
+        → IsCarried (state_of declared (past_of book) minds)
+        → IsAllowed (state_of declared (past_of book) minds) page.action page.events
+        → IsTold declared book minds page
+        → IsCarried (state_of declared (past_of (book ++ page.events)) page.minds) }
+    ensures sole { (declared : Declared) (book : List Event) (minds : ℕ → Mind) (action : Action) (front : List Event)
+        → IsCarried (state_of declared (past_of book) minds)
+        → Begins (MayBegin (state_of declared (past_of book) minds) action) front
+        → HasOneWriter (book ++ front) }
 {}
 
 /// The premises only fall: a front of a book meets what the book meets.
 pub fn premises_fall()
     ensures timely { (margin : ℕ → Option ℕ) (front rest : List Event) → IsTimely margin (front ++ rest) → IsTimely margin front }
-    ensures hands_off { (front rest : List Event) → IsHandsOff (front ++ rest) → IsHandsOff front }
+    ensures hands_off { (first : Settings) (watched : ℕ → Bool) (front rest : List Event)
+        → IsHandsOff first watched (front ++ rest) → IsHandsOff first watched front }
+{}
+
+/// In a timely book the feeds are in time: where an event behind whole actions, and behind a front of the next action's events, arms or feeds
+/// the watchdog, that input acts in time.
+pub fn feeds_in_time()
+    ensures input { (declared : Declared) (book : List Event) (minds : ℕ → Mind) (m : ℕ) (move : Move) (front : List Event) (event : Event) (rest : List Event)
+        → IsTimely declared.margin (book ++ (front ++ event ∷ rest))
+        → ShowsFeed (state_of declared (past_of book) minds) m move front event
+        → IsInTime (state_of declared (past_of book) minds) m move }
+    // Of the grant alone, for a book that ends inside the input.
+    ensures grant { (margin : ℕ → Option ℕ) (book front : List Event) (event : Event) (rest : List Event) (m number : ℕ) (answer : Answer) (grant : Grant)
+        → IsTimely margin (book ++ (front ++ event ∷ rest))
+        → AllAre (IsAside number) front → IsFedBy m number event.kind
+        → (past_of book).flight number ≡ Some (Answered answer) → answer.grant ≡ Some grant
+        → IsOnTime (margin m) (past_of book).clock grant.moment }
 {}
