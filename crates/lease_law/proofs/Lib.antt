@@ -8,3 +8,4 @@ pub mod Inputs
 pub mod Runs
 pub mod Falling
 pub mod Feeding
+pub mod Telling

@@ -157,7 +157,7 @@ pub writes-append : (w : ℕ → Bool) (es more : List Event) → writes_after w
 writes-append w [] more = refl
 writes-append w (e ∷ es) more = writes-append (writes_by w e.kind) es more
 
-writes-past : (past : Past) (book : List Event) → (past_after past book).writes ≡ writes_after past.writes book
+pub writes-past : (past : Past) (book : List Event) → (past_after past book).writes ≡ writes_after past.writes book
 writes-past past [] = refl
 writes-past past (event ∷ events) = writes-past (past_by past event.kind) events
 

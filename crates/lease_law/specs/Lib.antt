@@ -9,3 +9,4 @@ pub mod Carried
 pub mod Past
 pub mod Premises
 pub mod Books
+pub mod Telling

@@ -1,12 +1,14 @@
 //! Laws of every run.
 ghost use Rattle.std.specs.Prelude.{ℕ, ◌≡◌, ◌++◌, Bool, List, [], ◌∷◌, Option, Some};
 ghost use Rattle.event_book.specs.declared.event.Event.{Event};
-ghost use Rattle.lease_law.specs.Actions.{Action, IsAllowed, MayBegin};
+ghost use Rattle.lease_law.specs.Actions.{Action, Input, IsAllowed, MayBegin, taken_by};
 ghost use Rattle.lease_law.specs.Books.{Page, IsTold, AreAllowed, first_minds, book_of, minds_after};
 ghost use Rattle.lease_law.specs.Carried.{IsCarried};
-ghost use Rattle.lease_law.specs.Past.{Mind, past_of, state_of};
+ghost use Rattle.lease_law.specs.Past.{Mind, past_of, past_after, state_of};
 ghost use Rattle.lease_law.specs.Inputs.{Move, IsInTime, IsOnTime};
-ghost use Rattle.lease_law.specs.Leases.{Answer, Answered, Grant};
+ghost use Rattle.lease_law.specs.Functions.{put_at};
+ghost use Rattle.lease_law.specs.Telling.{IsOwn, move_of};
+ghost use Rattle.lease_law.specs.Leases.{Beg, Answer, Answered, Grant};
 ghost use Rattle.lease_law.specs.Premises.{IsTimely, IsHandsOff, IsAside, IsFedBy, AllAre, ShowsFeed};
 ghost use Rattle.lease_law.specs.States.{Declared, State};
 ghost use Rattle.lease_law.specs.Writers.{Begins, HasOneWriter};
@@ -59,4 +61,13 @@ pub fn feeds_in_time()
         → AllAre (IsAside number) front → IsFedBy m number event.kind
         → (past_of book).flight number ≡ Some (Answered answer) → answer.grant ≡ Some grant
         → IsOnTime (margin m) (past_of book).clock grant.moment }
+{}
+
+/// The events of an input, folded one by one, are the action of the law: where they concern the member's own machine, and say which hold
+/// it took, they tell that input.
+pub fn input_told()
+    ensures { (declared : Declared) (book : List Event) (minds : ℕ → Mind) (m : ℕ) (mind : Mind) (heard : Option ℕ) (feeds : Bool) (takes : Option Beg) (events : List Event)
+        → AllAre (IsOwn m) events
+        → (past_after (past_of book) events).taken ≡ taken_by m (past_of book).clock takes (past_of book).taken
+        → IsTold declared book minds (record { action = Input m (move_of (past_of book) m mind heard feeds takes events); events = events; minds = put_at minds m mind }) }
 {}

@@ -1,0 +1,37 @@
+-- How the events of an action tell it.
+use Rattle.std.specs.Prelude.{ℕ, ◌≡◌, Bool, List, Option}
+use Rattle.event_book.specs.declared.event.Event.{Event}
+use Rattle.event_book.specs.declared.event.Kind.{Kind}
+use Rattle.event_book.specs.declared.event.Kind.TheVariants as kinds
+use Rattle.event_book.specs.declared.event.StoreEvent.TheVariants as stores
+use Rattle.event_book.specs.declared.event.WatchdogEvent.{WatchdogEvent}
+use Rattle.event_book.specs.declared.event.WatchdogEvent.TheVariants as watchdogs
+use Rattle.event_book.specs.declared.event.AgentEvent.TheVariants as agents
+use Rattle.lease_law.specs.Leases.{Beg}
+use Rattle.lease_law.specs.Inputs.{Move}
+use Rattle.lease_law.specs.Past.{Past, past_after, Mind, machine_of}
+
+abbrev pub IsOwnWatchdog : ℕ → WatchdogEvent → Type 0
+IsOwnWatchdog m (watchdogs.Armed member until answer) = member.id.number ≡ m
+IsOwnWatchdog m (watchdogs.Fed member until basis) = member.id.number ≡ m
+IsOwnWatchdog m (watchdogs.Disarmed member) = member.id.number ≡ m
+IsOwnWatchdog m (watchdogs.Reset member) = member.id.number ≡ m
+IsOwnWatchdog m (watchdogs.HoldTaken member until from run sequence) = member.id.number ≡ m
+
+-- an event that one input of this member's agent may bring: of watchdogs and holds it changes that member's alone
+abbrev pub IsOwn : ℕ → Kind → Type 0
+IsOwn m kinds.Tick = ⊥
+IsOwn m (kinds.Store (stores.Granted number by txn standbys)) = ⊥
+IsOwn m (kinds.Watchdog happening) = IsOwnWatchdog m happening
+IsOwn m (kinds.Agent (agents.Started agent run)) = ⊥
+IsOwn m _ = Unit {0}
+
+-- the input that these events behind the past tell, where this is the mind after it
+abbrev pub move_of : Past → ℕ → Mind → Option ℕ → Bool → Option Beg → List Event → Move
+move_of past m mind heard feeds takes events = record {
+  heard = heard;
+  feeds = feeds;
+  takes = takes;
+  machine = machine_of (past_after past events) mind m;
+  flight = (past_after past events).flight;
+}
