@@ -4,11 +4,11 @@ use Rattle.lease_store.specs.declared.txn.Expected.{Expected}
 use Rattle.lease_store.specs.declared.txn.Expected.TheVariants.{Absent, Revision}
 use Rattle.lease_law.specs.Functions.{put_at}
 use Rattle.lease_law.specs.Leases.{LeaderKey, LeaderSeen, FailsafeKey, Query, Create, Renew, Release, Write, Read, Request, Grant, Answer, Beg, Acknowledgement, Flying, Requested, Answered, Begged, Acknowledged}
-use Rattle.lease_law.specs.States.{Agent, Machine, State, Acts}
-use Rattle.lease_law.specs.Outcomes.{seen_of, Outcome, refused, is_as_read, create_if, create_on, failsafe_carried, renewed, renew_if, renew_on, release_if, release_on, write_if, outcome_of, told_if, answer_to, with_outcome, with_question, delivered}
+use Rattle.lease_law.specs.States.{Machine, State, Acts}
+use Rattle.lease_law.specs.Outcomes.{seen_of, Outcome, is_as_read, create_if, create_on, failsafe_carried, renew_if, renew_on, release_if, release_on, write_if, outcome_of, told_if, answer_to, with_outcome, with_question, delivered}
 use Rattle.lease_law.specs.Inputs.{Waits}
 use Rattle.lease_law.proofs.Tools.{some-is, none-some, both, not-false, eq-from, put-all, dropped, answered-requested, answered-begged, answered-acknowledged, answered-is}
-use Rattle.lease_law.specs.Carried.{Covers, Spans, HoldsCover, IsGuarded, IsThere, IsFailsafeVouched, IsListed, ActsAlone, IsVouched, IsQuiet, IsQueryKept, IsNumbered, IsRequestKept, IsBeggingKept, IsAnswerKept, IsAgentKept, IsPresent, IsFresh, IsToken, IsSound}
+use Rattle.lease_law.specs.Carried.{Covers, Spans, HoldsCover, IsGuarded, IsVouched, IsQuiet, IsQueryKept, IsRequestKept, IsAnswerKept, IsPresent, IsFresh, IsToken, IsSound}
 use Rattle.lease_law.proofs.Onward.{KeyAfter, FAfter, f-same, request-after, answer-after, agent-after, present-fewer, spans-fewer}
 
 -- what a grant hands out

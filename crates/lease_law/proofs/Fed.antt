@@ -1,13 +1,10 @@
 -- What an input does with the watchdog: who acts after it, and what guards it.
-use Rattle.std.proofs.Common.{◌≡◌, ◌⊎◌, ℕ, ◌+◌, ◌-◌, ◌/◌, ◌≤◌, ◌<◌, Bool, true, false, List, Option, Some, None, refl, ◌∙◌, ap, sym, subst, arith, inl, inr}
-use Rattle.lease_store.specs.declared.txn.Expected.{Expected}
-use Rattle.lease_store.specs.declared.txn.Expected.TheVariants.{Absent, Revision}
-use Rattle.lease_law.specs.Functions.{put_at}
-use Rattle.lease_law.specs.Leases.{LeaderKey, LeaderSeen, FailsafeKey, Query, Create, Renew, Release, Write, Read, Request, Grant, Answer, Beg, Acknowledgement, Flying, Requested, Answered, Begged, Acknowledged, Taking, IsTaken}
-use Rattle.lease_law.specs.States.{Begging, Agent, Machine, State, is_ready, Acts}
-use Rattle.lease_law.specs.Inputs.{Move, Waits, HeardGrant, HeardLeader, HeardFailsafe, HeardYes, IsDeadline, IsOnTime, Fed, FedKnown, AllYes, NobodyAsked, WatchdogMay, Kept, Removed, SetByGrant, SetByFailsafe, SetAlone, Undone, Owns, MayCarry, MayCarryIf, MayQuery, MayRequest, IsLawful, IsInTime}
-use Rattle.lease_law.proofs.Tools.{some-is, none-some, not-false, decide-eq, put-all}
-use Rattle.lease_law.specs.Carried.{Covers, Spans, HoldsCover, IsGuarded, IsThere, IsFailsafeVouched, IsListed, ActsAlone, IsVouched, IsQuiet, IsQueryKept, HasTaken, IsBeggingKept, IsTakingKept, IsAnswerKept, IsAgentKept, IsPresent, IsFresh, IsToken, IsSound}
+use Rattle.std.proofs.Common.{◌≡◌, ◌⊎◌, ℕ, ◌+◌, ◌≤◌, ◌<◌, Bool, true, List, Option, Some, None, refl, ◌∙◌, ap, sym, subst, arith, inl, inr}
+use Rattle.lease_law.specs.Leases.{LeaderKey, FailsafeKey, Query, Renew, Release, Request, Grant, Requested, Taking}
+use Rattle.lease_law.specs.States.{Begging, Agent, Machine, State, Acts}
+use Rattle.lease_law.specs.Inputs.{Move, HeardGrant, HeardYes, IsDeadline, IsOnTime, Fed, FedKnown, AllYes, WatchdogMay, Kept, Removed, SetByGrant, SetByFailsafe, SetAlone, Undone, Owns, MayCarry, MayCarryIf, MayQuery, MayRequest, IsLawful, IsInTime}
+use Rattle.lease_law.proofs.Tools.{some-is, not-false, decide-eq}
+use Rattle.lease_law.specs.Carried.{Spans, IsGuarded, IsThere, ActsAlone, IsQuiet, HasTaken, IsPresent, IsSound}
 use Rattle.lease_law.proofs.Onward.{spans-sub, holds-grow}
 
 -- a deadline that is set in time is ahead, and not after the end of the lease

@@ -1,5 +1,5 @@
 -- A timely book's feeds are in time.
-use Rattle.std.proofs.Common.{◌≡◌, ◌⊎◌, ℕ, ◌+◌, Bool, true, false, cond, List, [], ◌∷◌, ◌++◌, Option, Some, None, refl, ◌∙◌, ap, sym, subst, inl, inr}
+use Rattle.std.proofs.Common.{◌≡◌, ℕ, Bool, true, false, List, [], ◌∷◌, ◌++◌, Option, Some, None, refl, ◌∙◌, ap, sym, subst, inr}
 use Rattle.event_book.specs.declared.event.Event.{Event}
 use Rattle.event_book.specs.declared.event.Kind.{Kind}
 use Rattle.event_book.specs.declared.event.Kind.TheVariants as kinds
@@ -14,12 +14,12 @@ use Rattle.event_book.specs.declared.message.Body.{Body}
 use Rattle.event_book.specs.declared.message.Body.TheVariants as bodies
 use Rattle.event_book.specs.Clock.{now_after}
 use Rattle.lease_law.specs.Functions.{put_at}
-use Rattle.lease_law.specs.Leases.{Request, Grant, Answer, Flying, Requested, Answered, Begged, Acknowledged, Taking, IsTaken}
-use Rattle.lease_law.specs.States.{Begging, Agent, Declared, State}
-use Rattle.lease_law.specs.Inputs.{Move, HeardGrant, IsOnTime, IsInTime}
-use Rattle.lease_law.specs.Past.{Past, grant_of, answer_of, asked_of, told_of, said_of, flying_of, flight_by, flight_after, sent_after, taken_after, runs_after, past_by, past_after, first_past, past_of, Mind, state_of, members_in}
-use Rattle.lease_law.specs.Premises.{Moments, moments_by, first_moments, IsSentInTime, IsFeedInTime, IsKindInTime, AreInTime, IsTimely, IsStill, IsAside, AllAre, IsFedBy, IsFedOn, ShowsFeed}
-use Rattle.lease_law.proofs.Tools.{some-is, none-some, both, put-all, dropped}
+use Rattle.lease_law.specs.Leases.{Request, Grant, Answer, Flying, Requested, Answered, Taking, IsTaken}
+use Rattle.lease_law.specs.States.{Declared}
+use Rattle.lease_law.specs.Inputs.{Move, IsOnTime, IsInTime}
+use Rattle.lease_law.specs.Past.{Past, grant_of, answer_of, asked_of, told_of, said_of, flying_of, flight_by, sent_after, taken_after, runs_after, past_by, past_after, first_past, past_of, Mind, state_of}
+use Rattle.lease_law.specs.Premises.{Moments, IsSentInTime, IsFeedInTime, IsKindInTime, AreInTime, IsTimely, IsStill, IsAside, AllAre, IsFedBy, IsFedOn, ShowsFeed}
+use Rattle.lease_law.proofs.Tools.{some-is, none-some, put-all, dropped}
 
 abbrev moments_of : Past → Moments
 moments_of past = record { clock = past.clock; sent = past.sent; taken = past.taken; runs = past.runs }

@@ -1,16 +1,15 @@
 -- One lawful input of an agent, in time.
-use Rattle.std.proofs.Common.{◌≡◌, ◌⊎◌, ℕ, ◌+◌, ◌≤◌, ◌<◌, Bool, true, false, List, Option, Some, None, refl, ◌∙◌, ap, sym, subst, arith, inl, inr}
-use Rattle.lease_store.specs.declared.txn.Expected.{Expected}
+use Rattle.std.proofs.Common.{◌≡◌, ◌⊎◌, ℕ, ◌+◌, ◌≤◌, Bool, true, false, List, Option, Some, None, refl, ◌∙◌, ap, sym, subst, arith, inl, inr}
 use Rattle.lease_store.specs.declared.txn.Expected.TheVariants.{Absent, Revision}
 use Rattle.lease_law.specs.Functions.{put_at}
-use Rattle.lease_law.specs.Leases.{LeaderKey, LeaderSeen, FailsafeKey, Query, Create, Renew, Release, Write, Read, Request, Grant, Answer, Beg, Acknowledgement, Flying, Requested, Answered, Begged, Acknowledged, Taking, IsTaken}
+use Rattle.lease_law.specs.Leases.{LeaderSeen, FailsafeKey, Query, Create, Renew, Release, Write, Read, Request, Grant, Answer, Beg, Acknowledgement, Requested, Answered, Begged, Acknowledged, Taking, IsTaken}
 use Rattle.lease_law.specs.States.{Begging, Agent, Machine, State, is_ready, Acts}
-use Rattle.lease_law.specs.Inputs.{Move, Waits, HeardGrant, HeardLeader, HeardFailsafe, HeardYes, FedKnown, WatchdogMay, Owns, MayCarry, MayQuery, MayRequest, Going, Begun, MayBeg, MayAcknowledge, MayTake, MaySend, IsLawful, IsInTime}
+use Rattle.lease_law.specs.Inputs.{Move, Waits, HeardLeader, HeardFailsafe, WatchdogMay, Owns, MayQuery, Going, Begun, IsLawful, IsInTime}
 use Rattle.lease_law.specs.Actions.{taken_by, with_input}
 use Rattle.lease_law.proofs.Tools.{some-is, none-some, not-false, put-all}
-use Rattle.lease_law.specs.Carried.{Spans, HoldsCover, IsGuarded, IsThere, IsFailsafeVouched, IsListed, ActsAlone, IsVouched, IsQuiet, IsQueryKept, IsNumbered, IsRequestKept, AwaitsIt, IsBegKept, HasTaken, IsTakingKept, IsBeggingKept, IsAnswerKept, IsAgentKept, IsPresent, IsFresh, IsToken, IsSound}
+use Rattle.lease_law.specs.Carried.{Spans, IsGuarded, IsFailsafeVouched, IsVouched, IsQuiet, IsQueryKept, IsNumbered, IsRequestKept, AwaitsIt, IsBegKept, HasTaken, IsTakingKept, IsBeggingKept, IsAgentKept, IsFresh, IsToken, IsSound}
 use Rattle.lease_law.proofs.Onward.{spans-sub, holds-grow}
-use Rattle.lease_law.proofs.Fed.{sole-new, was-acting, may-renew, may-release, Sends, sends-of, spans-input, spans-listed, took-same, said-yes, informed-there, watchdog-guards, watchdog-quiet, watchdog-carrier}
+use Rattle.lease_law.proofs.Fed.{sole-new, was-acting, may-renew, may-release, sends-of, spans-input, spans-listed, took-same, said-yes, informed-there, watchdog-guards, watchdog-quiet, watchdog-carrier}
 
 old-asked : (s : State) (m : ℕ) (move : Move) (was agent : Agent) (j : ℕ) (q : Request) (query : Query) → IsSound s → IsInTime s m move → WatchdogMay s m move was agent → s.flight j ≡ Some (Requested q) → q.query ≡ query → IsQueryKept s.declared.failsafe s.leader s.failsafe s.revision s.members q.member query → IsQueryKept s.declared.failsafe s.leader s.failsafe s.revision (put_at s.members m move.machine) q.member query
 old-asked s m move was agent j q (Renew compared ttl None) inv timely dog at txn a = a

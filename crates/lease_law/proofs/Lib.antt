@@ -9,3 +9,4 @@ pub mod Runs
 pub mod Falling
 pub mod Feeding
 pub mod Telling
+pub mod ExampleRun

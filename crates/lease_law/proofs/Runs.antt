@@ -1,5 +1,5 @@
 -- Every run: at each moment at most one server accepts writes.
-use Rattle.std.proofs.Common.{◌≡◌, ◌⊎◌, ℕ, ◌+◌, ◌≤◌, Bool, true, false, List, [], ◌∷◌, ◌++◌, refl, ◌∙◌, ap, sym, subst, inl, inr}
+use Rattle.std.proofs.Common.{◌≡◌, ◌⊎◌, ℕ, Bool, true, false, List, [], ◌∷◌, ◌++◌, refl, ◌∙◌, ap, sym, subst, inl, inr}
 use Rattle.event_book.specs.declared.event.Event.{Event}
 use Rattle.event_book.specs.declared.event.Kind.{Kind}
 use Rattle.event_book.specs.declared.event.Kind.TheVariants as kinds
@@ -8,10 +8,9 @@ use Rattle.event_book.specs.declared.event.ServerEvent.TheVariants as servers
 use Rattle.event_book.specs.declared.event.WatchdogEvent.{WatchdogEvent}
 use Rattle.event_book.specs.declared.event.WatchdogEvent.TheVariants as watchdogs
 use Rattle.lease_law.specs.Functions.{put_at}
-use Rattle.lease_law.specs.Writers.{writes_by_server, writes_by_watchdog, writes_by, writes_after, AcceptsWrites, HasOneWriter, BeginsServer, BeginsKind, Begins}
-use Rattle.lease_law.specs.States.{Declared, Machine, State, Acts}
-use Rattle.lease_law.specs.Inputs.{Move, IsLawful, IsInTime}
-use Rattle.lease_law.specs.Actions.{Action, Tick, Deliver, Lose, Input, Start, Kill, Crash, Note, act, IsLawfulAction, IsInTimeAction, MayArm, MayBegin, state_after, IsAllowed}
+use Rattle.lease_law.specs.Writers.{writes_by_server, writes_by_watchdog, writes_by, writes_after, HasOneWriter, BeginsServer, BeginsKind, Begins}
+use Rattle.lease_law.specs.States.{Declared, State, Acts}
+use Rattle.lease_law.specs.Actions.{Action, Tick, Deliver, Lose, Input, Start, Kill, Crash, Note, act, IsLawfulAction, IsInTimeAction, MayBegin, state_after, IsAllowed}
 use Rattle.lease_law.specs.Past.{Past, past_by, past_after, first_past, past_of, Mind, state_of}
 use Rattle.lease_law.specs.Books.{Page, IsTold, AreAllowed, first_minds, book_of, minds_after}
 use Rattle.lease_law.proofs.Tools.{both, put-all}

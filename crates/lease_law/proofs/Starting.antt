@@ -1,5 +1,5 @@
 -- The empty book meets what is carried.
-use Rattle.std.proofs.Common.{◌≡◌, ◌⊎◌, ℕ, List, [], Option, Some, None, refl, ◌∙◌, ap, subst, arith, inl, inr}
+use Rattle.std.proofs.Common.{◌≡◌, ℕ, [], Option, Some, None, refl, ◌∙◌, ap, subst, arith, inl, inr}
 use Rattle.lease_law.specs.Leases.{Requested, Answered, Begged, Acknowledged}
 use Rattle.lease_law.specs.States.{Agent, Declared, Acts, fresh_agent}
 use Rattle.lease_law.specs.Past.{past_of, machine_of, first_past, first_mind, state_of}

@@ -1,7 +1,7 @@
 -- Runs as books: actions one after another, each with its events and with what the members are after it.
 use Rattle.std.specs.Prelude.{ℕ, ◌≡◌, List, [], ◌∷◌, ◌++◌}
 use Rattle.event_book.specs.declared.event.Event.{Event}
-use Rattle.lease_law.specs.States.{Declared, State}
+use Rattle.lease_law.specs.States.{Declared}
 use Rattle.lease_law.specs.Past.{Mind, first_mind, past_of, state_of}
 use Rattle.lease_law.specs.Actions.{Action, state_after, IsAllowed}
 

@@ -1,5 +1,5 @@
 -- The keys of the lease, and the messages about it.
-use Rattle.std.specs.Prelude.{ℕ, ◌≡◌, ◌⊎◌, Bool, List, [], ◌∷◌, Option, Some, None}
+use Rattle.std.specs.Prelude.{ℕ, ◌≡◌, ◌⊎◌, Bool, List, [], ◌∷◌, Option}
 use Rattle.lease_store.specs.declared.txn.Expected.{Expected}
 
 -- the leader key that is there

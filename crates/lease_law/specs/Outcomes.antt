@@ -3,7 +3,7 @@ use Rattle.std.specs.Prelude.{ℕ, ◌+◌, ◌==◌, Bool, true, false, Option,
 use Rattle.lease_store.specs.declared.txn.Expected.{Expected}
 use Rattle.lease_store.specs.declared.txn.Expected.TheVariants.{Absent, Revision}
 use Rattle.lease_law.specs.Functions.{put_at}
-use Rattle.lease_law.specs.Leases.{LeaderKey, LeaderSeen, FailsafeKey, Query, Create, Renew, Release, Write, Read, Request, Grant, Answer, Flying, Requested, Answered, Begged, Acknowledged}
+use Rattle.lease_law.specs.Leases.{LeaderKey, LeaderSeen, FailsafeKey, Query, Create, Renew, Release, Write, Read, Request, Grant, Answer, Flying, Requested, Answered}
 use Rattle.lease_law.specs.States.{State}
 
 abbrev pub seen_of : Option LeaderKey → Option LeaderSeen

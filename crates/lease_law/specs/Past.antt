@@ -17,10 +17,8 @@ use Rattle.event_book.specs.declared.reason.Basis.{Basis}
 use Rattle.event_book.specs.declared.reason.Basis.TheVariants as bases
 use Rattle.event_book.specs.declared.link.LinkEnd.{LinkEnd}
 use Rattle.event_book.specs.declared.link.LinkEnd.TheVariants as ends
-use Rattle.event_book.specs.declared.member.Member.{Member}
 use Rattle.event_book.specs.declared.message.Body.{Body}
 use Rattle.event_book.specs.declared.message.Body.TheVariants as bodies
-use Rattle.event_book.specs.declared.message.Message.{Message}
 use Rattle.event_book.specs.Clock.{now_after}
 use Rattle.lease_law.specs.Functions.{put_at}
 use Rattle.lease_law.specs.Writers.{writes_by}

@@ -1,5 +1,5 @@
 //! Laws of every run.
-ghost use Rattle.std.specs.Prelude.{ℕ, ◌≡◌, ◌++◌, Bool, List, [], ◌∷◌, Option, Some};
+ghost use Rattle.std.specs.Prelude.{ℕ, ◌≡◌, ◌++◌, Bool, false, List, [], ◌∷◌, Option, Some};
 ghost use Rattle.event_book.specs.declared.event.Event.{Event};
 ghost use Rattle.lease_law.specs.Actions.{Action, Input, IsAllowed, MayBegin, taken_by};
 ghost use Rattle.lease_law.specs.Books.{Page, IsTold, AreAllowed, first_minds, book_of, minds_after};
@@ -11,7 +11,9 @@ ghost use Rattle.lease_law.specs.Telling.{IsOwn, move_of};
 ghost use Rattle.lease_law.specs.Leases.{Beg, Answer, Answered, Grant};
 ghost use Rattle.lease_law.specs.Premises.{IsTimely, IsHandsOff, IsAside, IsFedBy, AllAre, ShowsFeed};
 ghost use Rattle.lease_law.specs.States.{Declared, State};
-ghost use Rattle.lease_law.specs.Writers.{Begins, HasOneWriter};
+ghost use Rattle.lease_law.specs.Writers.{AcceptsWrites, Begins, HasOneWriter};
+ghost use Rattle.pat_base.specs.declared.name.Name.{Name};
+ghost use Rattle.lease_store.specs.declared.value.MemberInfo.{MemberInfo};
 ghost use Rattle.lease_store.specs.Settings.{Settings};
 
 /// At every moment of an allowed run at most one server accepts writes.
@@ -70,4 +72,10 @@ pub fn input_told()
         → AllAre (IsOwn m) events
         → (past_after (past_of book) events).taken ≡ taken_by m (past_of book).clock takes (past_of book).taken
         → IsTold declared book minds (record { action = Input m (move_of (past_of book) m mind heard feeds takes events); events = events; minds = put_at minds m mind }) }
+{}
+
+/// There are allowed runs in which a server accepts writes.
+pub fn example()
+    ensures { (name : Name) (info : MemberInfo) (standbys : List Name) → let declared : Declared = record { margin = λ m. Some 50; failsafe = false } in
+        (pages : List Page) × AreAllowed declared [] first_minds pages × AcceptsWrites (book_of pages) 0 }
 {}

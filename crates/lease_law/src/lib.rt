@@ -3,4 +3,4 @@
 
 mod laws;
 
-pub use laws::{carried, feeds_in_time, input_told, one_writer, premises_fall};
+pub use laws::{carried, example, feeds_in_time, input_told, one_writer, premises_fall};
