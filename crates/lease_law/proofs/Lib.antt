@@ -10,3 +10,5 @@ pub mod Falling
 pub mod Feeding
 pub mod Telling
 pub mod ExampleRun
+pub mod SameStore
+pub mod Deciding

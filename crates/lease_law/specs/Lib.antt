@@ -10,3 +10,4 @@ pub mod Past
 pub mod Premises
 pub mod Books
 pub mod Telling
+pub mod Stores

@@ -4,7 +4,17 @@ ghost use Rattle.event_book.specs.declared.event.Event.{Event};
 ghost use Rattle.lease_law.specs.Actions.{Action, Input, IsAllowed, MayBegin, taken_by};
 ghost use Rattle.lease_law.specs.Books.{Page, IsTold, AreAllowed, first_minds, book_of, minds_after};
 ghost use Rattle.lease_law.specs.Carried.{IsCarried};
-ghost use Rattle.lease_law.specs.Past.{Mind, past_of, past_after, state_of};
+ghost use Rattle.event_book.specs.declared.event.Kind.{Kind};
+ghost use Rattle.event_book.specs.Facts.{Facts, after, start_of};
+ghost use Rattle.lease_law.specs.Stores.{IsSameStore, is_granted, outcome_by};
+ghost use Rattle.lease_law.specs.Outcomes.{outcome_of};
+ghost use Rattle.lease_store.specs.declared.key.Key.TheVariants.{Leader};
+ghost use Rattle.lease_store.specs.declared.txn.Txn.{Txn};
+ghost use Rattle.lease_store.specs.Decision.{decision_on};
+ghost use Rattle.lease_store.specs.KeyOrder.{key_cmp};
+ghost use Rattle.lease_store.specs.Keys.{key_in};
+ghost use Rattle.std.specs.FinMap.{find};
+ghost use Rattle.lease_law.specs.Past.{Past, Mind, first_past, past_by, past_of, past_after, query_of, state_of};
 ghost use Rattle.lease_law.specs.Inputs.{Move, IsInTime, IsOnTime};
 ghost use Rattle.lease_law.specs.Functions.{put_at};
 ghost use Rattle.lease_law.specs.Telling.{IsOwn, move_of};
@@ -78,4 +88,16 @@ pub fn input_told()
 pub fn example()
     ensures { (name : Name) (info : MemberInfo) (standbys : List Name) → let declared : Declared = record { margin = λ m. Some 50; failsafe = false } in
         (pages : List Page) × AreAllowed declared [] first_minds pages × AcceptsWrites (book_of pages) 0 }
+{}
+
+/// A book leaves the same leader key, failsafe key and last revision by the law's definitions as by the key store's.
+pub fn same_store()
+    ensures first { (names : List Name) → IsSameStore first_past (start_of names) }
+    ensures each { (past : Past) (facts : Facts) (kind : Kind) → IsSameStore past facts → IsSameStore (past_by past kind) (after facts kind) }
+    // So where the leader key that is held is present, the store's decision leaves what the law says.
+    ensures decided { (past : Past) (facts : Facts) (by sent : ℕ) (txn : Txn) → IsSameStore past facts
+        → key_in facts.keys.pairs facts.clock Leader ≡ find key_cmp Leader facts.keys.pairs
+        → let decision = decision_on facts.keys facts.clock txn in
+        outcome_of past.clock past.leader past.failsafe past.revision by sent (is_granted decision) (query_of txn)
+        ≡ outcome_by decision past.clock past.leader past.failsafe past.revision by sent (query_of txn) }
 {}

@@ -3,4 +3,6 @@
 
 mod laws;
 
-pub use laws::{carried, example, feeds_in_time, input_told, one_writer, premises_fall};
+pub use laws::{
+    carried, example, feeds_in_time, input_told, one_writer, premises_fall, same_store,
+};
