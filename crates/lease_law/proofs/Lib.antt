@@ -12,3 +12,4 @@ pub mod Telling
 pub mod ExampleRun
 pub mod SameStore
 pub mod Deciding
+pub mod Delivering

@@ -1,5 +1,16 @@
 -- How the events of an action tell it.
-use Rattle.std.specs.Prelude.{ℕ, ◌≡◌, Bool, List, Option}
+use Rattle.std.specs.Prelude.{ℕ, ◌≡◌, Bool, List, [], ◌∷◌, Option}
+use Rattle.pat_base.specs.declared.name.Name.{Name}
+use Rattle.pat_base.specs.declared.ticks.Ticks.{Ticks}
+use Rattle.lease_store.specs.declared.key.Key.{Key}
+use Rattle.lease_store.specs.declared.txn.Expected.{Expected}
+use Rattle.lease_store.specs.declared.txn.Txn.{Txn}
+use Rattle.lease_store.specs.declared.txn_kind.TxnKind.{TxnKind}
+use Rattle.lease_store.specs.Writes.{is_lease}
+use Rattle.event_book.specs.declared.event.MessageEvent.TheVariants as messages
+use Rattle.event_book.specs.declared.link.LinkEnd.TheVariants as ends
+use Rattle.event_book.specs.declared.member.Member.{Member}
+use Rattle.event_book.specs.declared.message.Body.TheVariants as bodies
 use Rattle.event_book.specs.declared.event.Event.{Event}
 use Rattle.event_book.specs.declared.event.Kind.{Kind}
 use Rattle.event_book.specs.declared.event.Kind.TheVariants as kinds
@@ -35,3 +46,24 @@ move_of past m mind heard feeds takes events = record {
   machine = machine_of (past_after past events) mind m;
   flight = (past_after past events).flight;
 }
+
+-- the events of one delivery to the key store at this moment: of a request that is granted, of one that is refused, and of a read
+abbrev pub granted_events : Ticks → ℕ → ℕ → Member → ℕ → ℕ → Txn → List Name → List Event
+granted_events tick number answer by run sequence txn standbys =
+    record { tick = tick; kind = kinds.Message (messages.Delivered number) }
+    ∷ record { tick = tick; kind = kinds.Store (stores.Granted number by txn standbys) }
+    ∷ record { tick = tick; kind = kinds.Message (messages.Sent answer (record { from = ends.Store; to = ends.Member by; run = run; sequence = sequence; body = bodies.Granted number (is_lease txn) })) }
+    ∷ []
+
+abbrev pub refused_events : Ticks → ℕ → ℕ → Member → ℕ → ℕ → TxnKind → Key → Expected → List Event
+refused_events tick number answer by run sequence request key found =
+    record { tick = tick; kind = kinds.Message (messages.Delivered number) }
+    ∷ record { tick = tick; kind = kinds.Store (stores.Refused number by request key found) }
+    ∷ record { tick = tick; kind = kinds.Message (messages.Sent answer (record { from = ends.Store; to = ends.Member by; run = run; sequence = sequence; body = bodies.Refused number key found })) }
+    ∷ []
+
+abbrev pub read_events : Ticks → ℕ → ℕ → Member → ℕ → ℕ → List Event
+read_events tick number answer by run sequence =
+    record { tick = tick; kind = kinds.Message (messages.Delivered number) }
+    ∷ record { tick = tick; kind = kinds.Message (messages.Sent answer (record { from = ends.Store; to = ends.Member by; run = run; sequence = sequence; body = bodies.Snapshot })) }
+    ∷ []

@@ -1,7 +1,7 @@
 //! Laws of every run.
-ghost use Rattle.std.specs.Prelude.{ℕ, ◌≡◌, ◌++◌, Bool, false, List, [], ◌∷◌, Option, Some};
+ghost use Rattle.std.specs.Prelude.{ℕ, ◌≡◌, ◌++◌, Bool, true, false, List, [], ◌∷◌, Option, Some};
 ghost use Rattle.event_book.specs.declared.event.Event.{Event};
-ghost use Rattle.lease_law.specs.Actions.{Action, Input, IsAllowed, MayBegin, taken_by};
+ghost use Rattle.lease_law.specs.Actions.{Action, Deliver, Input, act, IsAllowed, MayBegin, taken_by};
 ghost use Rattle.lease_law.specs.Books.{Page, IsTold, AreAllowed, first_minds, book_of, minds_after};
 ghost use Rattle.lease_law.specs.Carried.{IsCarried};
 ghost use Rattle.event_book.specs.declared.event.Kind.{Kind};
@@ -10,19 +10,24 @@ ghost use Rattle.lease_law.specs.Stores.{IsSameStore, is_granted, outcome_by};
 ghost use Rattle.lease_law.specs.Outcomes.{outcome_of};
 ghost use Rattle.lease_store.specs.declared.key.Key.TheVariants.{Leader};
 ghost use Rattle.lease_store.specs.declared.txn.Txn.{Txn};
-ghost use Rattle.lease_store.specs.Decision.{decision_on};
+ghost use Rattle.lease_store.specs.Decision.{decision_on, Refusal, Grant as Grants};
 ghost use Rattle.lease_store.specs.KeyOrder.{key_cmp};
 ghost use Rattle.lease_store.specs.Keys.{key_in};
 ghost use Rattle.std.specs.FinMap.{find};
-ghost use Rattle.lease_law.specs.Past.{Past, Mind, first_past, past_by, past_of, past_after, query_of, state_of};
+ghost use Rattle.lease_law.specs.Past.{Past, Mind, first_past, past_by, past_of, past_after, machine_of, query_of, state_of};
 ghost use Rattle.lease_law.specs.Inputs.{Move, IsInTime, IsOnTime};
 ghost use Rattle.lease_law.specs.Functions.{put_at};
-ghost use Rattle.lease_law.specs.Telling.{IsOwn, move_of};
-ghost use Rattle.lease_law.specs.Leases.{Beg, Answer, Answered, Grant};
+ghost use Rattle.lease_law.specs.Telling.{IsOwn, move_of, granted_events, refused_events, read_events};
+ghost use Rattle.lease_law.specs.Leases.{Beg, Answer, Answered, Grant, Requested, Read};
 ghost use Rattle.lease_law.specs.Premises.{IsTimely, IsHandsOff, IsAside, IsFedBy, AllAre, ShowsFeed};
 ghost use Rattle.lease_law.specs.States.{Declared, State};
 ghost use Rattle.lease_law.specs.Writers.{AcceptsWrites, Begins, HasOneWriter};
 ghost use Rattle.pat_base.specs.declared.name.Name.{Name};
+ghost use Rattle.pat_base.specs.declared.ticks.Ticks.{Ticks};
+ghost use Rattle.lease_store.specs.declared.key.Key.{Key};
+ghost use Rattle.lease_store.specs.declared.txn.Expected.{Expected};
+ghost use Rattle.lease_store.specs.declared.txn_kind.TxnKind.{TxnKind};
+ghost use Rattle.event_book.specs.declared.member.Member.{Member};
 ghost use Rattle.lease_store.specs.declared.value.MemberInfo.{MemberInfo};
 ghost use Rattle.lease_store.specs.Settings.{Settings};
 
@@ -100,4 +105,27 @@ pub fn same_store()
         → let decision = decision_on facts.keys facts.clock txn in
         outcome_of past.clock past.leader past.failsafe past.revision by sent (is_granted decision) (query_of txn)
         ≡ outcome_by decision past.clock past.leader past.failsafe past.revision by sent (query_of txn) }
+{}
+
+/// The events of a delivery to the key store, folded, are the action; and any action is told where what the book leaves is, part by part,
+/// the state after it.
+pub fn delivery_told()
+    ensures granted { (declared : Declared) (book : List Event) (facts : Facts) (minds : ℕ → Mind) (tick : Ticks) (i j : ℕ) (by : Member) (run sequence sent : ℕ) (txn : Txn) (standbys : List Name)
+        → IsSameStore (past_of book) facts → key_in facts.keys.pairs facts.clock Leader ≡ find key_cmp Leader facts.keys.pairs
+        → decision_on facts.keys facts.clock txn ≡ Grants
+        → (past_of book).flight i ≡ Some (Requested (record { member = by.id.number; run = run; sequence = sequence; sent = sent; query = query_of txn }))
+        → IsTold declared book minds (record { action = Deliver i j true; events = granted_events tick i j by run sequence txn standbys; minds = minds }) }
+    ensures refused { (declared : Declared) (book : List Event) (facts : Facts) (minds : ℕ → Mind) (tick : Ticks) (i j : ℕ) (by : Member) (run sequence sent : ℕ) (txn : Txn) (request : TxnKind) (key : Key) (found : Expected)
+        → IsSameStore (past_of book) facts → key_in facts.keys.pairs facts.clock Leader ≡ find key_cmp Leader facts.keys.pairs
+        → decision_on facts.keys facts.clock txn ≡ Refusal key found
+        → (past_of book).flight i ≡ Some (Requested (record { member = by.id.number; run = run; sequence = sequence; sent = sent; query = query_of txn }))
+        → IsTold declared book minds (record { action = Deliver i j false; events = refused_events tick i j by run sequence request key found; minds = minds }) }
+    ensures read { (declared : Declared) (book : List Event) (minds : ℕ → Mind) (tick : Ticks) (i j : ℕ) (by : Member) (run sequence sent : ℕ)
+        → (past_of book).flight i ≡ Some (Requested (record { member = by.id.number; run = run; sequence = sequence; sent = sent; query = Read }))
+        → IsTold declared book minds (record { action = Deliver i j true; events = read_events tick i j by run sequence; minds = minds }) }
+    ensures parts { (declared : Declared) (book : List Event) (minds : ℕ → Mind) (page : Page)
+        → let past = past_of (book ++ page.events) in let s = act (state_of declared (past_of book) minds) page.action in
+        past.clock ≡ s.clock → past.leader ≡ s.leader → past.failsafe ≡ s.failsafe → past.revision ≡ s.revision
+        → ((i : ℕ) → past.flight i ≡ s.flight i) → past.taken ≡ s.taken → ((m : ℕ) → machine_of past (page.minds m) m ≡ s.members m)
+        → IsTold declared book minds page }
 {}
