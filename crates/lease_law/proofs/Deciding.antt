@@ -1,5 +1,5 @@
 -- The key store's decision and the law's outcome are one.
-use Rattle.std.proofs.Common.{◌≡◌, ◌⊎◌, ℕ, ◌+◌, ◌==◌, Bool, true, false, cond, List, [], ◌∷◌, Option, Some, None, IsSome, refl, ◌∙◌, ap, sym, subst, arith, inl, inr}
+use Rattle.std.proofs.Common.{◌≡◌, ◌⊎◌, ℕ, ◌+◌, ◌<◌, ◌==◌, nat_lt, Bool, true, false, cond, List, [], ◌∷◌, Option, Some, None, IsSome, refl, ◌∙◌, ap, sym, subst, arith, inl, inr}
 use Rattle.std.proofs.lemmas.Bool.Decides.{nat_tests}
 use Rattle.std.specs.FinMap.{find}
 use Rattle.pat_base.specs.declared.ticks.Ticks.{Ticks}
@@ -25,7 +25,7 @@ use Rattle.lease_law.specs.Outcomes.{Outcome, refused, is_as_read, create_if, cr
 use Rattle.lease_law.specs.Past.{Past, members_in, members_if, query_of}
 use Rattle.lease_law.specs.Stores.{leader_held, failsafe_held, IsLeased, IsEndless, IsSameStore, granted_outcome, is_granted, outcome_by}
 use Rattle.lease_law.proofs.Tools.{both, eq-from}
-use Rattle.lease_law.proofs.SameStore.{present-endless}
+use Rattle.lease_law.proofs.SameStore.{ge-from, present-endless}
 
 turned-by : (b c : Bool) (m n : ℕ) → (m == n) ≡ b → (n == m) ≡ c → b ≡ c
 turned-by true true m n e f = refl
@@ -167,15 +167,28 @@ found-decided pairs now revision by sent found listed (txns.SetFailover failover
 found-decided pairs now revision by sent found listed (txns.DropFailover compared) finds leads sets = write-decided (decision_by pairs now (compares_of (txns.DropFailover compared))) now revision by sent (leader_held found) (failsafe_held listed)
 found-decided pairs now revision by sent found listed (txns.SetConfig compared config) finds leads sets = write-decided (decision_by pairs now (compares_of (txns.SetConfig compared config))) now revision by sent (leader_held found) (failsafe_held listed)
 
--- with a leader key that is present at this moment, the law's outcome is that of the store's decision
-pub outcome-decided : (past : Past) (facts : Facts) (by sent : ℕ) (txn : Txn) → IsSameStore past facts → key_in facts.keys.pairs facts.clock keys.Leader ≡ find key_cmp keys.Leader facts.keys.pairs →
+present-by : (b : Bool) (now expiry : ℕ) (held : Held) → nat_lt now expiry ≡ b → now < expiry → cond b (Some held) None ≡ Some held
+present-by true now expiry held e later = refl
+present-by false now expiry held e later = absurd (omega (arith, ge-from now expiry e, later))
+
+present-lease : (now : ℕ) (found : Option Held) → (None ≡ found) ⊎ IsLease found → ((k : LeaderKey) → leader_held found ≡ Some k → now < k.expiry) → present now found ≡ found
+present-lease now found (inl e) there = subst (λ (o : Option Held). present now o ≡ o) e refl
+present-lease now found (inr l) there =
+    let key : LeaderKey = record { holder = l.member.number; revision = l.revision; expiry = l.expiry.0 } in
+    subst (λ (o : Option Held). present now o ≡ o) l.is
+    (present-by (nat_lt now l.expiry.0) now l.expiry.0 (record { value = values.Leader l.member; revision = l.revision; expiry = Some l.expiry }) refl (there key (ap leader_held (sym l.is))))
+
+-- the law's outcome is that of the store's decision
+pub outcome-decided : (past : Past) (facts : Facts) (by sent : ℕ) (txn : Txn) → IsSameStore past facts →
     outcome_of past.clock past.leader past.failsafe past.revision by sent (is_granted (decision_on facts.keys facts.clock txn)) (query_of txn) ≡ outcome_by (decision_on facts.keys facts.clock txn) past.clock past.leader past.failsafe past.revision by sent (query_of txn)
-outcome-decided past facts by sent txn same there =
+outcome-decided past facts by sent txn same =
     let found : Option Held = find key_cmp keys.Leader facts.keys.pairs in
     let listed : Option Held = find key_cmp keys.Failsafe facts.keys.pairs in
     let d : Decision = decision_on facts.keys facts.clock txn in
+    let leads = leader-cases found (λ held is. kind_found keys.Leader facts.keys.pairs held same.kept.kinds is) same.leased in
+    let there = present-lease facts.clock found leads (λ k e. subst (λ (c : ℕ). c < k.expiry) same.clock (same.present k (same.leader ∙ e))) in
     let core = found-decided facts.keys.pairs facts.clock past.revision by sent found listed txn (there, present-endless facts.clock listed same.endless)
-    (leader-cases found (λ held is. kind_found keys.Leader facts.keys.pairs held same.kept.kinds is) same.leased)
+    leads
     (failsafe-cases listed (λ held is. kind_found keys.Failsafe facts.keys.pairs held same.kept.kinds is)) in
     subst (λ (c : ℕ). outcome_of c past.leader past.failsafe past.revision by sent (is_granted d) (query_of txn) ≡ outcome_by d c past.leader past.failsafe past.revision by sent (query_of txn)) (sym same.clock)
     (subst (λ (l : Option LeaderKey). outcome_of facts.clock l past.failsafe past.revision by sent (is_granted d) (query_of txn) ≡ outcome_by d facts.clock l past.failsafe past.revision by sent (query_of txn)) (sym same.leader)

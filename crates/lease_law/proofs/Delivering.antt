@@ -77,8 +77,8 @@ remembers-message : (past : Past) (e : MessageEvent) → Remembers past.asked pa
 remembers-message past (messages.Sent number message) old i q at =
     let flying : Option Flying = flying_of past message.from message.to message.run message.sequence message.body in
     put-all past.flight number flying (λ n o. o ≡ Some (Requested q) → asked_with past.asked number flying n ≡ Some q)
-      (λ e. asked-here past.asked number flying q e)
-      (λ n other e. asked-there past.asked number flying n other ∙ old n q e) i at
+    (λ e. asked-here past.asked number flying q e)
+    (λ n other e. asked-there past.asked number flying n other ∙ old n q e) i at
 remembers-message past (messages.Delivered number) old i q at = old i q (dropped past.flight number i (Requested q) at)
 remembers-message past (messages.Lost number) old i q at = old i q (dropped past.flight number i (Requested q) at)
 
@@ -120,7 +120,7 @@ parts-told declared book minds page = λ clock leader failsafe revision flight t
     let w : (ℕ → Bool) = writes_after (past_of book).writes page.events in
     let writes : past.writes ≡ w = ap (λ (p : Past). p.writes) (past-append first_past book page.events) ∙ writes-past (past_of book) page.events in
     state-eq declared past.clock s.clock past.leader s.leader past.failsafe s.failsafe past.revision s.revision past.flight s.flight past.taken s.taken (λ m. machine_of past (page.minds m) m) s.members past.writes w
-      clock leader failsafe revision (fun_ext flight) taken (fun_ext members) writes
+    clock leader failsafe revision (fun_ext flight) taken (fun_ext members) writes
     ∙ declared-eq declared s.declared s.clock s.leader s.failsafe s.revision s.flight s.taken s.members w (sym (declared-kept (state_of declared (past_of book) minds) page.action))
 
 -- ---- a delivery
@@ -145,31 +145,31 @@ told-from declared book minds i j granted events q d at is same =
     ∙ sym (ap (λ (s : State). record s { writes = writes_after (past_of book).writes events }) (delivered-is (state_of declared (past_of book) minds) i j granted q d at is))
 
 pub granted-told : (declared : Declared) (book : List Event) (facts : Facts) (minds : ℕ → Mind) (tick : Ticks) (i j : ℕ) (by : Member) (run sequence sent : ℕ) (txn : Txn) (standbys : List Name) →
-    IsSameStore (past_of book) facts → key_in facts.keys.pairs facts.clock keys.Leader ≡ find key_cmp keys.Leader facts.keys.pairs → decision_on facts.keys facts.clock txn ≡ Granting →
+    IsSameStore (past_of book) facts → decision_on facts.keys facts.clock txn ≡ Granting →
     (past_of book).flight i ≡ Some (Requested (record { member = by.id.number; run = run; sequence = sequence; sent = sent; query = query_of txn })) →
     IsTold declared book minds (record { action = Deliver i j true; events = granted_events tick i j by run sequence txn standbys; minds = minds })
-granted-told declared book facts minds tick i j by run sequence sent txn standbys same there decision at =
+granted-told declared book facts minds tick i j by run sequence sent txn standbys same decision at =
     let past : Past = past_of book in
     let q : Request = record { member = by.id.number; run = run; sequence = sequence; sent = sent; query = query_of txn } in
     let d : Outcome = granted_outcome past.clock past.leader past.failsafe past.revision by.id.number sent (query_of txn) in
     let mid : Past = Granted past i by txn standbys in
     let is : outcome_of past.clock past.leader past.failsafe past.revision by.id.number sent true (query_of txn) ≡ d =
-      subst (λ (x : Decision). outcome_of past.clock past.leader past.failsafe past.revision by.id.number sent (is_granted x) (query_of txn) ≡ outcome_by x past.clock past.leader past.failsafe past.revision by.id.number sent (query_of txn)) decision
-        (outcome-decided past facts by.id.number sent txn same there) in
+    subst (λ (x : Decision). outcome_of past.clock past.leader past.failsafe past.revision by.id.number sent (is_granted x) (query_of txn) ≡ outcome_by x past.clock past.leader past.failsafe past.revision by.id.number sent (query_of txn)) decision
+    (outcome-decided past facts by.id.number sent txn same) in
     let grant : grant_of (is_lease txn) mid (past.asked i) ≡ d.grant = ap (λ (o : Option Request). grant_of (is_lease txn) mid o) (remembers book i q at) ∙ granted-grant mid by.id.number run sequence sent txn in
     told-from declared book minds i j true (granted_events tick i j by run sequence txn standbys) q d at is
-      (ap (λ (g : Option Grant). record (with_outcome (state_of declared past minds) i j q (record d { grant = g })) { writes = past.writes }) grant)
+    (ap (λ (g : Option Grant). record (with_outcome (state_of declared past minds) i j q (record d { grant = g })) { writes = past.writes }) grant)
 
 pub refused-told : (declared : Declared) (book : List Event) (facts : Facts) (minds : ℕ → Mind) (tick : Ticks) (i j : ℕ) (by : Member) (run sequence sent : ℕ) (txn : Txn) (request : TxnKind) (key : Key) (found : Expected) →
-    IsSameStore (past_of book) facts → key_in facts.keys.pairs facts.clock keys.Leader ≡ find key_cmp keys.Leader facts.keys.pairs → decision_on facts.keys facts.clock txn ≡ Refusing key found →
+    IsSameStore (past_of book) facts → decision_on facts.keys facts.clock txn ≡ Refusing key found →
     (past_of book).flight i ≡ Some (Requested (record { member = by.id.number; run = run; sequence = sequence; sent = sent; query = query_of txn })) →
     IsTold declared book minds (record { action = Deliver i j false; events = refused_events tick i j by run sequence request key found; minds = minds })
-refused-told declared book facts minds tick i j by run sequence sent txn request key found same there decision at =
+refused-told declared book facts minds tick i j by run sequence sent txn request key found same decision at =
     let past : Past = past_of book in
     told-from declared book minds i j false (refused_events tick i j by run sequence request key found) (record { member = by.id.number; run = run; sequence = sequence; sent = sent; query = query_of txn }) (refused past.leader past.failsafe past.revision) at
-      (subst (λ (x : Decision). outcome_of past.clock past.leader past.failsafe past.revision by.id.number sent (is_granted x) (query_of txn) ≡ outcome_by x past.clock past.leader past.failsafe past.revision by.id.number sent (query_of txn)) decision
-        (outcome-decided past facts by.id.number sent txn same there))
-      refl
+    (subst (λ (x : Decision). outcome_of past.clock past.leader past.failsafe past.revision by.id.number sent (is_granted x) (query_of txn) ≡ outcome_by x past.clock past.leader past.failsafe past.revision by.id.number sent (query_of txn)) decision
+    (outcome-decided past facts by.id.number sent txn same))
+    refl
 
 pub read-told : (declared : Declared) (book : List Event) (minds : ℕ → Mind) (tick : Ticks) (i j : ℕ) (by : Member) (run sequence sent : ℕ) →
     (past_of book).flight i ≡ Some (Requested (record { member = by.id.number; run = run; sequence = sequence; sent = sent; query = Read })) →
@@ -177,4 +177,4 @@ pub read-told : (declared : Declared) (book : List Event) (minds : ℕ → Mind)
 read-told declared book minds tick i j by run sequence sent at =
     let past : Past = past_of book in
     told-from declared book minds i j true (read_events tick i j by run sequence) (record { member = by.id.number; run = run; sequence = sequence; sent = sent; query = Read })
-      (record { leader = past.leader; failsafe = past.failsafe; revision = past.revision; snapshot = true; grant = None }) at refl refl
+    (record { leader = past.leader; failsafe = past.failsafe; revision = past.revision; snapshot = true; grant = None }) at refl refl

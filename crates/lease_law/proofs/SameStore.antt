@@ -31,16 +31,16 @@ use Rattle.lease_law.specs.Leases.{LeaderKey, FailsafeKey, Query, Create, Renew,
 use Rattle.lease_law.specs.States.{kept_if, leader_kept}
 use Rattle.lease_law.specs.Outcomes.{failsafe_carried, renewed}
 use Rattle.lease_law.specs.Past.{Past, members_in, members_if, query_of, extended_by, leader_granted, failsafe_granted, past_by, first_past}
-use Rattle.lease_law.proofs.Tools.{le-from, gt-from}
-use Rattle.lease_law.specs.Stores.{leader_value, leader_held, failsafe_value, failsafe_held, IsLeased, IsEndless, IsSameStore}
+use Rattle.lease_law.proofs.Tools.{some-is, none-some, le-from, gt-from}
+use Rattle.lease_law.specs.Stores.{leader_value, leader_held, failsafe_value, failsafe_held, IsLeased, IsEndless, IsSpannedTxn, IsSpanned, IsSameStore}
 
 pub same-first : (names : List Name) → IsSameStore first_past (start_of names)
-same-first names = record { clock = refl; revision = refl; leader = refl; failsafe = refl; kept = kept_first default_settings; leased = tt; endless = tt }
+same-first names = record { clock = refl; revision = refl; leader = refl; failsafe = refl; kept = kept_first default_settings; leased = tt; endless = tt; present = λ key e. absurd (none-some key e) }
 
 lt-from : (m n : ℕ) → nat_lt m n ≡ true → m < n
 lt-from m n e = grind (arith, nat_tests)
 
-ge-from : (m n : ℕ) → nat_lt m n ≡ false → n ≤ m
+pub ge-from : (m n : ℕ) → nat_lt m n ≡ false → n ≤ m
 ge-from m n e = grind (arith, nat_tests)
 
 -- a tick drops the leader key at its expiry
@@ -133,8 +133,27 @@ granted-endless : (revision : ℕ) (txn : Txn) (found : Option Held) → IsEndle
 granted-endless revision (txns.Renew compared info ttl status row failsafe) found e = endless-written revision failsafe found e
 granted-endless revision _ found e = e
 
-same-granted : (past : Past) (facts : Facts) (number : ℕ) (by : Member) (txn : Txn) (standbys : List Name) → IsSameStore past facts → IsSameStore (past_by past (kinds.Store (stores.Granted number by txn standbys))) (after facts (kinds.Store (stores.Granted number by txn standbys)))
-same-granted past facts number by txn standbys same =
+-- a leader key that is held is present
+extended-present : (clock revision ttl : ℕ) (leader : Option LeaderKey) → ((k : LeaderKey) → leader ≡ Some k → clock < k.expiry) → (k : LeaderKey) → extended_by clock revision ttl leader ≡ Some k → clock < k.expiry
+extended-present clock revision ttl None old k e = absurd (none-some k e)
+extended-present clock revision ttl (Some key) old k e = omega (arith, old key refl, ap (λ (x : LeaderKey). x.expiry) (some-is (renewed clock revision ttl key) k e))
+
+granted-present : (clock revision by : ℕ) (leader : Option LeaderKey) (txn : Txn) → IsSpannedTxn txn → ((k : LeaderKey) → leader ≡ Some k → clock < k.expiry) → (k : LeaderKey) → leader_granted clock revision leader by (query_of txn) ≡ Some k → clock < k.expiry
+granted-present clock revision by leader (txns.Create info ttl failsafe) span old k e = omega (arith, span, ap (λ (x : LeaderKey). x.expiry) (some-is (record { holder = by; revision = revision + 1; expiry = clock + ttl.0 }) k e))
+granted-present clock revision by leader (txns.Renew compared info ttl status row failsafe) span old k e = extended-present clock (revision + 1) ttl.0 leader old k e
+granted-present clock revision by leader (txns.Release compared) span old k e = absurd (none-some k e)
+granted-present clock revision by leader _ span old k e = old k e
+
+kept-present : (b : Bool) (now : ℕ) (key k : LeaderKey) → nat_le key.expiry now ≡ b → kept_if b key ≡ Some k → now < k.expiry
+kept-present true now key k e is = absurd (none-some k is)
+kept-present false now key k e is = omega (arith, gt-from key.expiry now e, ap (λ (x : LeaderKey). x.expiry) (some-is key k is))
+
+tick-present : (now : ℕ) (leader : Option LeaderKey) (k : LeaderKey) → leader_kept now leader ≡ Some k → now < k.expiry
+tick-present now None k is = absurd (none-some k is)
+tick-present now (Some key) k is = kept-present (nat_le key.expiry now) now key k refl is
+
+same-granted : (past : Past) (facts : Facts) (number : ℕ) (by : Member) (txn : Txn) (standbys : List Name) → IsSpannedTxn txn → IsSameStore past facts → IsSameStore (past_by past (kinds.Store (stores.Granted number by txn standbys))) (after facts (kinds.Store (stores.Granted number by txn standbys)))
+same-granted past facts number by txn standbys span same =
     let leader = find_leader_after facts.keys facts.clock by.id txn in
     let failsafe = find_failsafe_after facts.keys facts.clock by.id txn in
     record {
@@ -152,6 +171,7 @@ same-granted past facts number by txn standbys same =
       kept = kept_after (facts.keys.revision + 1) facts.clock by.id txn facts.keys.pairs same.kept;
       leased = subst (λ (o : Option Held). IsLeased o) (sym leader) (granted-leased facts.clock (facts.keys.revision + 1) by.id txn (find key_cmp keys.Leader facts.keys.pairs) same.leased);
       endless = subst (λ (o : Option Held). IsEndless o) (sym failsafe) (granted-endless (facts.keys.revision + 1) txn (find key_cmp keys.Failsafe facts.keys.pairs) same.endless);
+      present = granted-present past.clock past.revision by.id.number past.leader txn span same.present;
     }
 
 same-tick : (past : Past) (facts : Facts) → IsSameStore past facts → IsSameStore (past_by past kinds.Tick) (after facts kinds.Tick)
@@ -170,9 +190,10 @@ same-tick past facts same =
       kept = kept_present now facts.keys.pairs same.kept;
       leased = subst (λ (o : Option Held). IsLeased o) (sym leader) (leased-present now (find key_cmp keys.Leader facts.keys.pairs) same.leased);
       endless = subst (λ (o : Option Held). IsEndless o) (sym failsafe) same.endless;
+      present = tick-present (past.clock + 1) past.leader;
     }
 
-pub same-by : (past : Past) (facts : Facts) (kind : Kind) → IsSameStore past facts → IsSameStore (past_by past kind) (after facts kind)
-same-by past facts kinds.Tick same = same-tick past facts same
-same-by past facts (kinds.Store (stores.Granted number by txn standbys)) same = same-granted past facts number by txn standbys same
-same-by past facts _ same = record { clock = same.clock; revision = same.revision; leader = same.leader; failsafe = same.failsafe; kept = same.kept; leased = same.leased; endless = same.endless }
+pub same-by : (past : Past) (facts : Facts) (kind : Kind) → IsSpanned kind → IsSameStore past facts → IsSameStore (past_by past kind) (after facts kind)
+same-by past facts kinds.Tick span same = same-tick past facts same
+same-by past facts (kinds.Store (stores.Granted number by txn standbys)) span same = same-granted past facts number by txn standbys span same
+same-by past facts _ span same = record { clock = same.clock; revision = same.revision; leader = same.leader; failsafe = same.failsafe; kept = same.kept; leased = same.leased; endless = same.endless; present = same.present }

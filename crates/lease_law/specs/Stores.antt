@@ -1,5 +1,5 @@
 -- The keys of the lease among the keys that the book leaves.
-use Rattle.std.specs.Prelude.{ℕ, ◌≡◌, ◌+◌, Bool, true, false, Option, Some, None, IsSome}
+use Rattle.std.specs.Prelude.{ℕ, ◌≡◌, ◌+◌, ◌<◌, Bool, true, false, Option, Some, None, IsSome}
 use Rattle.std.specs.FinMap.{find}
 use Rattle.pat_base.specs.declared.ticks.Ticks.{Ticks}
 use Rattle.lease_store.specs.declared.key.Key.{Key}
@@ -7,7 +7,12 @@ use Rattle.lease_store.specs.declared.key.Key.TheVariants as keys
 use Rattle.lease_store.specs.declared.value.Held.{Held}
 use Rattle.lease_store.specs.declared.value.Value.{Value}
 use Rattle.lease_store.specs.declared.value.Value.TheVariants as values
+use Rattle.lease_store.specs.declared.txn.Txn.{Txn}
+use Rattle.lease_store.specs.declared.txn.Txn.TheVariants as txns
 use Rattle.lease_store.specs.KeyOrder.{key_cmp}
+use Rattle.event_book.specs.declared.event.Kind.{Kind}
+use Rattle.event_book.specs.declared.event.Kind.TheVariants as kinds
+use Rattle.event_book.specs.declared.event.StoreEvent.TheVariants as stores
 use Rattle.lease_store.specs.Kept.{IsKept}
 use Rattle.event_book.specs.Facts.{Facts}
 use Rattle.lease_store.specs.Decision.{Decision, Grant as Granting, Refusal as Refusing}
@@ -40,7 +45,16 @@ abbrev pub IsEndless : Option Held → Type 0
 IsEndless None = Unit {0}
 IsEndless (Some held) = held.expiry ≡ None
 
--- the past has the keys of the lease as the key store holds them
+abbrev pub IsSpannedTxn : Txn → Type 0
+IsSpannedTxn (txns.Create info ttl failsafe) = 0 < ttl.0
+IsSpannedTxn _ = Unit {0}
+
+-- a leader key that this event creates isn't absent at once
+abbrev pub IsSpanned : Kind → Type 0
+IsSpanned (kinds.Store (stores.Granted number by txn standbys)) = IsSpannedTxn txn
+IsSpanned _ = Unit {0}
+
+-- the past has the keys of the lease as the key store holds them, and the leader key that is held is present
 pub record IsSameStore (past : Past) (facts : Facts) : Type 0 where
   pub clock : past.clock ≡ facts.clock
   pub revision : past.revision ≡ facts.keys.revision
@@ -49,6 +63,7 @@ pub record IsSameStore (past : Past) (facts : Facts) : Type 0 where
   pub kept : IsKept facts.keys.pairs
   pub leased : IsLeased (find key_cmp keys.Leader facts.keys.pairs)
   pub endless : IsEndless (find key_cmp keys.Failsafe facts.keys.pairs)
+  pub present : (key : LeaderKey) → past.leader ≡ Some key → past.clock < key.expiry
 
 -- the grant that the store gives a question of the lease, under this revision and with this failsafe key
 abbrev pub lease_given : ℕ → ℕ → Option FailsafeKey → ℕ → Query → Option Grant

@@ -6,14 +6,10 @@ ghost use Rattle.lease_law.specs.Books.{Page, IsTold, AreAllowed, first_minds, b
 ghost use Rattle.lease_law.specs.Carried.{IsCarried};
 ghost use Rattle.event_book.specs.declared.event.Kind.{Kind};
 ghost use Rattle.event_book.specs.Facts.{Facts, after, start_of};
-ghost use Rattle.lease_law.specs.Stores.{IsSameStore, is_granted, outcome_by};
+ghost use Rattle.lease_law.specs.Stores.{IsSameStore, IsSpanned, is_granted, outcome_by};
 ghost use Rattle.lease_law.specs.Outcomes.{outcome_of};
-ghost use Rattle.lease_store.specs.declared.key.Key.TheVariants.{Leader};
 ghost use Rattle.lease_store.specs.declared.txn.Txn.{Txn};
 ghost use Rattle.lease_store.specs.Decision.{decision_on, Refusal, Grant as Grants};
-ghost use Rattle.lease_store.specs.KeyOrder.{key_cmp};
-ghost use Rattle.lease_store.specs.Keys.{key_in};
-ghost use Rattle.std.specs.FinMap.{find};
 ghost use Rattle.lease_law.specs.Past.{Past, Mind, first_past, past_by, past_of, past_after, machine_of, query_of, state_of};
 ghost use Rattle.lease_law.specs.Inputs.{Move, IsInTime, IsOnTime};
 ghost use Rattle.lease_law.specs.Functions.{put_at};
@@ -98,10 +94,9 @@ pub fn example()
 /// A book leaves the same leader key, failsafe key and last revision by the law's definitions as by the key store's.
 pub fn same_store()
     ensures first { (names : List Name) → IsSameStore first_past (start_of names) }
-    ensures each { (past : Past) (facts : Facts) (kind : Kind) → IsSameStore past facts → IsSameStore (past_by past kind) (after facts kind) }
-    // So where the leader key that is held is present, the store's decision leaves what the law says.
+    ensures each { (past : Past) (facts : Facts) (kind : Kind) → IsSpanned kind → IsSameStore past facts → IsSameStore (past_by past kind) (after facts kind) }
+    // So the store's decision leaves what the law says.
     ensures decided { (past : Past) (facts : Facts) (by sent : ℕ) (txn : Txn) → IsSameStore past facts
-        → key_in facts.keys.pairs facts.clock Leader ≡ find key_cmp Leader facts.keys.pairs
         → let decision = decision_on facts.keys facts.clock txn in
         outcome_of past.clock past.leader past.failsafe past.revision by sent (is_granted decision) (query_of txn)
         ≡ outcome_by decision past.clock past.leader past.failsafe past.revision by sent (query_of txn) }
@@ -111,12 +106,12 @@ pub fn same_store()
 /// the state after it.
 pub fn delivery_told()
     ensures granted { (declared : Declared) (book : List Event) (facts : Facts) (minds : ℕ → Mind) (tick : Ticks) (i j : ℕ) (by : Member) (run sequence sent : ℕ) (txn : Txn) (standbys : List Name)
-        → IsSameStore (past_of book) facts → key_in facts.keys.pairs facts.clock Leader ≡ find key_cmp Leader facts.keys.pairs
+        → IsSameStore (past_of book) facts
         → decision_on facts.keys facts.clock txn ≡ Grants
         → (past_of book).flight i ≡ Some (Requested (record { member = by.id.number; run = run; sequence = sequence; sent = sent; query = query_of txn }))
         → IsTold declared book minds (record { action = Deliver i j true; events = granted_events tick i j by run sequence txn standbys; minds = minds }) }
     ensures refused { (declared : Declared) (book : List Event) (facts : Facts) (minds : ℕ → Mind) (tick : Ticks) (i j : ℕ) (by : Member) (run sequence sent : ℕ) (txn : Txn) (request : TxnKind) (key : Key) (found : Expected)
-        → IsSameStore (past_of book) facts → key_in facts.keys.pairs facts.clock Leader ≡ find key_cmp Leader facts.keys.pairs
+        → IsSameStore (past_of book) facts
         → decision_on facts.keys facts.clock txn ≡ Refusal key found
         → (past_of book).flight i ≡ Some (Requested (record { member = by.id.number; run = run; sequence = sequence; sent = sent; query = query_of txn }))
         → IsTold declared book minds (record { action = Deliver i j false; events = refused_events tick i j by run sequence request key found; minds = minds }) }
