@@ -13,3 +13,4 @@ pub mod ExampleRun
 pub mod SameStore
 pub mod Deciding
 pub mod Delivering
+pub mod Unpaused

@@ -11,3 +11,4 @@ pub mod Premises
 pub mod Books
 pub mod Telling
 pub mod Stores
+pub mod Pauses

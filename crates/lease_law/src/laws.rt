@@ -6,6 +6,7 @@ ghost use Rattle.lease_law.specs.Books.{Page, IsTold, AreAllowed, first_minds, b
 ghost use Rattle.lease_law.specs.Carried.{IsCarried};
 ghost use Rattle.event_book.specs.declared.event.Kind.{Kind};
 ghost use Rattle.event_book.specs.Facts.{Facts, after, start_of};
+ghost use Rattle.lease_law.specs.Pauses.{NobodyPauses};
 ghost use Rattle.lease_law.specs.Stores.{IsSameStore, IsSpanned, is_granted, outcome_by};
 ghost use Rattle.lease_law.specs.Outcomes.{outcome_of};
 ghost use Rattle.lease_store.specs.declared.txn.Txn.{Txn};
@@ -15,7 +16,7 @@ ghost use Rattle.lease_law.specs.Inputs.{Move, IsInTime, IsOnTime};
 ghost use Rattle.lease_law.specs.Functions.{put_at};
 ghost use Rattle.lease_law.specs.Telling.{IsOwn, move_of, granted_events, refused_events, read_events};
 ghost use Rattle.lease_law.specs.Leases.{Beg, Answer, Answered, Grant, Requested, Read};
-ghost use Rattle.lease_law.specs.Premises.{IsTimely, IsHandsOff, IsAside, IsFedBy, AllAre, ShowsFeed};
+ghost use Rattle.lease_law.specs.Premises.{IsTimely, IsHandsOff, IsHandsOffKind, IsAside, IsFedBy, AllAre, ShowsFeed};
 ghost use Rattle.lease_law.specs.States.{Declared, State};
 ghost use Rattle.lease_law.specs.Writers.{AcceptsWrites, Begins, HasOneWriter};
 ghost use Rattle.pat_base.specs.declared.name.Name.{Name};
@@ -123,4 +124,10 @@ pub fn delivery_told()
         past.clock ≡ s.clock → past.leader ≡ s.leader → past.failsafe ≡ s.failsafe → past.revision ≡ s.revision
         → ((i : ℕ) → past.flight i ≡ s.flight i) → past.taken ≡ s.taken → ((m : ℕ) → machine_of past (page.minds m) m ≡ s.members m)
         → IsTold declared book minds page }
+{}
+
+/// While hands are off no snapshot pauses: neither the configuration that the key store holds nor one in a snapshot in flight does.
+pub fn nobody_pauses()
+    ensures first { (names : List Name) → NobodyPauses (start_of names) }
+    ensures each { (facts : Facts) (kind : Kind) → IsHandsOffKind kind → NobodyPauses facts → NobodyPauses (after facts kind) }
 {}

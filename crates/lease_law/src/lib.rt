@@ -4,5 +4,6 @@
 mod laws;
 
 pub use laws::{
-    carried, example, feeds_in_time, input_told, one_writer, premises_fall, same_store,
+    carried, example, feeds_in_time, input_told, nobody_pauses, one_writer, premises_fall,
+    same_store,
 };
