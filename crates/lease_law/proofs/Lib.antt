@@ -14,3 +14,4 @@ pub mod SameStore
 pub mod Deciding
 pub mod Delivering
 pub mod Unpaused
+pub mod Quiet

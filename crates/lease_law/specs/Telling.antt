@@ -20,6 +20,7 @@ use Rattle.event_book.specs.declared.event.WatchdogEvent.TheVariants as watchdog
 use Rattle.event_book.specs.declared.event.AgentEvent.TheVariants as agents
 use Rattle.lease_law.specs.Leases.{Beg}
 use Rattle.lease_law.specs.Inputs.{Move}
+use Rattle.lease_law.specs.Actions.{Action, Start, Kill, Crash, Note}
 use Rattle.lease_law.specs.Past.{Past, past_after, Mind, machine_of}
 
 abbrev pub IsOwnWatchdog : ℕ → WatchdogEvent → Type 0
@@ -67,3 +68,19 @@ read_events tick number answer by run sequence =
     record { tick = tick; kind = kinds.Message (messages.Delivered number) }
     ∷ record { tick = tick; kind = kinds.Message (messages.Sent answer (record { from = ends.Store; to = ends.Member by; run = run; sequence = sequence; body = bodies.Snapshot })) }
     ∷ []
+
+-- an event that changes neither clock nor keys nor messages nor holds
+abbrev pub IsQuiet : Kind → Type 0
+IsQuiet kinds.Tick = ⊥
+IsQuiet (kinds.Message happening) = ⊥
+IsQuiet (kinds.Store (stores.Granted number by txn standbys)) = ⊥
+IsQuiet (kinds.Watchdog (watchdogs.HoldTaken member until from run sequence)) = ⊥
+IsQuiet _ = Unit {0}
+
+-- an action that changes machines alone
+abbrev pub IsQuietAction : Action → Type 0
+IsQuietAction (Start member) = Unit {0}
+IsQuietAction (Kill member) = Unit {0}
+IsQuietAction (Crash member) = Unit {0}
+IsQuietAction Note = Unit {0}
+IsQuietAction _ = ⊥

@@ -1,10 +1,12 @@
 //! Laws of every run.
-ghost use Rattle.std.specs.Prelude.{ℕ, ◌≡◌, ◌++◌, Bool, true, false, List, [], ◌∷◌, Option, Some};
+ghost use Rattle.std.specs.Prelude.{ℕ, ◌≡◌, ◌+◌, ◌++◌, Bool, true, false, List, [], ◌∷◌, Option, Some};
 ghost use Rattle.event_book.specs.declared.event.Event.{Event};
-ghost use Rattle.lease_law.specs.Actions.{Action, Deliver, Input, act, IsAllowed, MayBegin, taken_by};
+ghost use Rattle.lease_law.specs.Actions.{Action, Tick, Deliver, Lose, Input, act, IsAllowed, MayBegin, taken_by};
 ghost use Rattle.lease_law.specs.Books.{Page, IsTold, AreAllowed, first_minds, book_of, minds_after};
 ghost use Rattle.lease_law.specs.Carried.{IsCarried};
 ghost use Rattle.event_book.specs.declared.event.Kind.{Kind};
+ghost use Rattle.event_book.specs.declared.event.Kind.TheVariants.{Tick as Ticked, Message};
+ghost use Rattle.event_book.specs.declared.event.MessageEvent.TheVariants.{Lost};
 ghost use Rattle.event_book.specs.Facts.{Facts, after, start_of};
 ghost use Rattle.lease_law.specs.Pauses.{NobodyPauses};
 ghost use Rattle.lease_law.specs.Stores.{IsSameStore, IsSpanned, is_granted, outcome_by};
@@ -14,10 +16,10 @@ ghost use Rattle.lease_store.specs.Decision.{decision_on, Refusal, Grant as Gran
 ghost use Rattle.lease_law.specs.Past.{Past, Mind, first_past, past_by, past_of, past_after, machine_of, query_of, state_of};
 ghost use Rattle.lease_law.specs.Inputs.{Move, IsInTime, IsOnTime};
 ghost use Rattle.lease_law.specs.Functions.{put_at};
-ghost use Rattle.lease_law.specs.Telling.{IsOwn, move_of, granted_events, refused_events, read_events};
+ghost use Rattle.lease_law.specs.Telling.{IsOwn, IsQuiet, IsQuietAction, move_of, granted_events, refused_events, read_events};
 ghost use Rattle.lease_law.specs.Leases.{Beg, Answer, Answered, Grant, Requested, Read};
 ghost use Rattle.lease_law.specs.Premises.{IsTimely, IsHandsOff, IsHandsOffKind, IsAside, IsFedBy, AllAre, ShowsFeed};
-ghost use Rattle.lease_law.specs.States.{Declared, State};
+ghost use Rattle.lease_law.specs.States.{Declared, State, is_due, tick_machine};
 ghost use Rattle.lease_law.specs.Writers.{AcceptsWrites, Begins, HasOneWriter};
 ghost use Rattle.pat_base.specs.declared.name.Name.{Name};
 ghost use Rattle.pat_base.specs.declared.ticks.Ticks.{Ticks};
@@ -130,4 +132,18 @@ pub fn delivery_told()
 pub fn nobody_pauses()
     ensures first { (names : List Name) → NobodyPauses (start_of names) }
     ensures each { (facts : Facts) (kind : Kind) → IsHandsOffKind kind → NobodyPauses facts → NobodyPauses (after facts kind) }
+{}
+
+/// Starts, kills, crashes, what changes nothing, ticks and losses are told by their events where the machines are as the action leaves them.
+pub fn quiet_told()
+    ensures quiet { (declared : Declared) (book : List Event) (minds : ℕ → Mind) (page : Page)
+        → IsQuietAction page.action → AllAre IsQuiet page.events
+        → ((m : ℕ) → machine_of (past_of (book ++ page.events)) (page.minds m) m ≡ (act (state_of declared (past_of book) minds) page.action).members m)
+        → IsTold declared book minds page }
+    ensures tick { (declared : Declared) (book : List Event) (minds after : ℕ → Mind) (tick : Ticks) (rest : List Event) (stops : ℕ → Bool)
+        → AllAre IsQuiet rest → let events : List Event = record { tick = tick; kind = Ticked } ∷ rest in let past = past_of book in
+        ((m : ℕ) → machine_of (past_of (book ++ events)) (after m) m ≡ tick_machine (is_due (past.clock + 1) (past.deadline m)) (stops m) (machine_of past (minds m) m))
+        → IsTold declared book minds (record { action = Tick stops; events = events; minds = after }) }
+    ensures loss { (declared : Declared) (book : List Event) (minds : ℕ → Mind) (tick : Ticks) (number : ℕ)
+        → IsTold declared book minds (record { action = Lose number; events = record { tick = tick; kind = Message (Lost number) } ∷ []; minds = minds }) }
 {}
