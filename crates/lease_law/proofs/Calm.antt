@@ -33,7 +33,7 @@ record Calm (x y : Machine) : Type 0 where
 numbered-calm : (x y : Machine) (run seq : ℕ) → Calm x y → IsNumbered x run seq → IsNumbered y run seq
 numbered-calm x y run seq c n = record {
   run_old = omega (arith, n.run_old, c.runs);
-  seq_old = λ g is same. elim (c.agent g is) [ inl p ↦ n.seq_old g p same | inr p ↦ absurd (omega (arith, p.later, same, n.run_old)) ];
+  sequence_old = λ g is same. elim (c.agent g is) [ inl p ↦ n.sequence_old g p same | inr p ↦ absurd (omega (arith, p.later, same, n.run_old)) ];
 }
 
 asked-calm : (mode : Bool) (key : Option LeaderKey) (fkey : Option FailsafeKey) (top : ℕ) (members members' : ℕ → Machine) (m : ℕ) (query : Query) → ((n : ℕ) → Calm (members n) (members' n)) → IsQueryKept mode key fkey top members m query → IsQueryKept mode key fkey top members' m query
@@ -56,7 +56,7 @@ guarded-calm clock fkey key flight members members' m deadline deadline' basis b
 
 matches-calm : (x y : Machine) (run seq : ℕ) (b : Begging) → Calm x y → AwaitsIt y run seq b → AwaitsIt x run seq b
 matches-calm x y run seq b c w = elim (c.agent w.agent w.is) [
-  | inl p ↦ record { agent = w.agent; is = p; run_is = w.run_is; begging = w.begging; seq_is = w.seq_is }
+  | inl p ↦ record { agent = w.agent; is = p; run_is = w.run_is; begging = w.begging; sequence_is = w.sequence_is }
   | inr p ↦ absurd (none-some b (sym p.begging ∙ w.begging))
 ]
 
@@ -79,7 +79,7 @@ inv-calm s members calm inv = record {
   parted = λ m ready. (calm m).parted (inv.parted m) ready;
   off = inv.off;
   bounded = inv.bounded;
-  fbounded = inv.fbounded;
+  failsafe_bounded = inv.failsafe_bounded;
   asked = λ i q at. let old = inv.asked i q at in
       record { numbered = numbered-calm (s.members q.member) (members q.member) q.run q.sequence (calm q.member) old.numbered; sent = old.sent; query = asked-calm s.declared.failsafe s.leader s.failsafe s.revision s.members members q.member q.query calm old.query };
   said = λ i a at. let old = inv.said i a at in
@@ -177,7 +177,7 @@ inv-fewer s flight fewer inv = let less : ((i : ℕ) (q : Request) → flight i 
   parted = inv.parted;
   off = inv.off;
   bounded = inv.bounded;
-  fbounded = inv.fbounded;
+  failsafe_bounded = inv.failsafe_bounded;
   asked = λ i q at. inv.asked i q (fewer i (Requested q) at);
   said = λ i a at. inv.said i a (fewer i (Answered a) at);
   begs = λ i q at. inv.begs i q (fewer i (Begged q) at);
@@ -252,7 +252,7 @@ inv-pass s ahead inv = let at : ℕ = s.clock + 1 in let a = key-tick at s.leade
   parted = inv.parted;
   off = inv.off;
   bounded = λ k is. inv.bounded k (key-known at s.leader k is);
-  fbounded = inv.fbounded;
+  failsafe_bounded = inv.failsafe_bounded;
   asked = λ i q e. request-after s.declared.failsafe s.clock at s.leader (leader_kept at s.leader) s.failsafe s.failsafe s.revision s.revision s.members q (omega arith) a b (inv.asked i q e);
   said = λ i c e. answer-after s.leader (leader_kept at s.leader) s.failsafe s.failsafe s.revision s.revision (s.members c.member) c a b (inv.said i c e);
   begs = λ i q e. let old = inv.begs i q e in record { numbered = old.numbered; sent = omega (arith, old.sent); matches = old.matches };

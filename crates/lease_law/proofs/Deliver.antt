@@ -8,7 +8,7 @@ use Rattle.lease_law.specs.States.{Machine, State, Acts}
 use Rattle.lease_law.specs.Outcomes.{seen_of, Outcome, is_as_read, create_if, create_on, failsafe_carried, renew_if, renew_on, release_if, release_on, write_if, outcome_of, told_if, answer_to, with_outcome, with_question, delivered}
 use Rattle.lease_law.specs.Inputs.{Waits}
 use Rattle.lease_law.proofs.Tools.{some-is, none-some, both, not-false, eq-from, put-all, dropped, answered-requested, answered-begged, answered-acknowledged, answered-is}
-use Rattle.lease_law.specs.Carried.{Covers, Spans, HoldsCover, IsGuarded, IsVouched, IsQuiet, IsQueryKept, IsRequestKept, IsAnswerKept, IsPresent, IsFresh, IsToken, IsSound}
+use Rattle.lease_law.specs.Carried.{Covers, Spans, HoldsCover, IsGuarded, IsVouched, IsAtRest, IsQueryKept, IsRequestKept, IsAnswerKept, IsPresent, IsFresh, IsToken, IsSound}
 use Rattle.lease_law.proofs.Onward.{KeyAfter, FAfter, f-same, request-after, answer-after, agent-after, present-fewer, spans-fewer}
 
 -- what a grant hands out
@@ -45,7 +45,7 @@ renew-vouched mode key fkey top members m compared ttl (Some set) a = a.0
 pub renew-bound : (mode : Bool) (key : Option LeaderKey) (fkey : Option FailsafeKey) (top : ℕ) (members : ℕ → Machine) (m : ℕ) (query : Query) (compared ttl : ℕ) (carried : Option (ℕ → Bool)) → IsQueryKept mode key fkey top members m query → query ≡ Renew compared ttl carried → IsVouched key top m compared
 renew-bound mode key fkey top members m query compared ttl carried ok is = renew-vouched mode key fkey top members m compared ttl carried (subst (λ (t : Query). IsQueryKept mode key fkey top members m t) is ok)
 
-pub release-bound : (mode : Bool) (key : Option LeaderKey) (fkey : Option FailsafeKey) (top : ℕ) (members : ℕ → Machine) (m : ℕ) (query : Query) (compared : ℕ) → IsQueryKept mode key fkey top members m query → query ≡ Release compared → IsVouched key top m compared × IsQuiet key (members m) compared
+pub release-bound : (mode : Bool) (key : Option LeaderKey) (fkey : Option FailsafeKey) (top : ℕ) (members : ℕ → Machine) (m : ℕ) (query : Query) (compared : ℕ) → IsQueryKept mode key fkey top members m query → query ≡ Release compared → IsVouched key top m compared × IsAtRest key (members m) compared
 release-bound mode key fkey top members m query compared ok is = subst (λ (t : Query). IsQueryKept mode key fkey top members m t) is ok
 
 no-new-renew : (s : State) (j : ℕ) (q : Request) (compared ttl : ℕ) (carried : Option (ℕ → Bool)) → IsSound s → s.flight j ≡ Some (Requested q) → q.query ≡ Renew compared ttl carried → s.revision < compared → ⊥
@@ -163,7 +163,7 @@ renew-ok : (s : State) (i : ℕ) (q : Request) (key : Option LeaderKey) (compare
 renew-ok s i q None compared ttl carried inv is at txn a = same-ok s q None s.revision false inv is (omega arith)
 renew-ok s i q (Some key) compared ttl carried inv is at txn a = renew-if-ok (key.revision == compared) s i q key compared ttl carried refl inv is at txn a
 
-release-if-ok : (b : Bool) (s : State) (i : ℕ) (q : Request) (key : LeaderKey) (compared : ℕ) → (key.revision == compared) ≡ b → IsSound s → s.leader ≡ Some key → s.flight i ≡ Some (Requested q) → q.query ≡ Release compared → IsVouched s.leader s.revision q.member compared → IsQuiet s.leader (s.members q.member) compared → OutcomeOk s q (release_if b key s.failsafe s.revision)
+release-if-ok : (b : Bool) (s : State) (i : ℕ) (q : Request) (key : LeaderKey) (compared : ℕ) → (key.revision == compared) ≡ b → IsSound s → s.leader ≡ Some key → s.flight i ≡ Some (Requested q) → q.query ≡ Release compared → IsVouched s.leader s.revision q.member compared → IsAtRest s.leader (s.members q.member) compared → OutcomeOk s q (release_if b key s.failsafe s.revision)
 release-if-ok false s i q key compared e inv is at txn v quiet = same-ok s q (Some key) s.revision false inv is (omega arith)
 release-if-ok true s i q key compared e inv is at txn v quiet =
     let same : key.revision ≡ compared = eq-from key.revision compared e in
@@ -182,7 +182,7 @@ release-if-ok true s i q key compared e inv is at txn v quiet =
       granted = λ grant n. absurd (none-some grant n);
     }
 
-release-ok : (s : State) (i : ℕ) (q : Request) (key : Option LeaderKey) (compared : ℕ) → IsSound s → s.leader ≡ key → s.flight i ≡ Some (Requested q) → q.query ≡ Release compared → IsVouched s.leader s.revision q.member compared → IsQuiet s.leader (s.members q.member) compared → OutcomeOk s q (release_on key s.failsafe s.revision compared)
+release-ok : (s : State) (i : ℕ) (q : Request) (key : Option LeaderKey) (compared : ℕ) → IsSound s → s.leader ≡ key → s.flight i ≡ Some (Requested q) → q.query ≡ Release compared → IsVouched s.leader s.revision q.member compared → IsAtRest s.leader (s.members q.member) compared → OutcomeOk s q (release_on key s.failsafe s.revision compared)
 release-ok s i q None compared inv is at txn v quiet = same-ok s q None s.revision false inv is (omega arith)
 release-ok s i q (Some key) compared inv is at txn v quiet = release-if-ok (key.revision == compared) s i q key compared refl inv is at txn v quiet
 
@@ -247,7 +247,7 @@ deliver-guard s i j q d m ok acts g = record {
 }
 
 deliver-answer : (s : State) (q : Request) (d : Outcome) → IsSound s → IsRequestKept s.declared.failsafe s.clock s.leader s.failsafe s.revision s.members q → OutcomeOk s q d → ((f : FailsafeKey) → d.failsafe ≡ Some f → f.revision ≤ d.revision) → IsAnswerKept d.leader d.failsafe d.revision (s.members q.member) (answer_to q d)
-deliver-answer s q d inv request ok fbounded = record {
+deliver-answer s q d inv request ok failsafe_bounded = record {
   numbered = request.numbered;
   seen = λ z is. seen-vouched d.leader d.revision z
       (λ k e. elim (ok.onward.known k e) [ inl p ↦ omega (arith, inv.bounded k p, ok.onward.grows) | inr p ↦ p.1 ])
@@ -258,7 +258,7 @@ deliver-answer s q d inv request ok fbounded = record {
   };
   order = λ g is. let h = ok.granted g is in omega (arith, h.sent, h.moment, request.sent);
   listed = λ f told. let is : d.failsafe ≡ Some f = told-is d.snapshot d.failsafe f told in record {
-    bound = fbounded f is;
+    bound = failsafe_bounded f is;
     same = λ g is' same p. ap (λ (x : FailsafeKey). x.members p) (some-is g f (sym is' ∙ is));
     there = record { f = f; is = is };
   };
@@ -307,17 +307,17 @@ deliver-inv : (s : State) (i j : ℕ) (q : Request) (d : Outcome) → IsSound s 
 deliver-inv s i j q d inv at ok =
     let new : Answer = answer_to q d in
     let request = inv.asked i q at in
-    let fbounded : ((f : FailsafeKey) → d.failsafe ≡ Some f → f.revision ≤ d.revision) = λ f is. elim (ok.fonward.known f is) [ inl p ↦ omega (arith, inv.fbounded f p, ok.onward.grows) | inr p ↦ p.1 ] in
+    let failsafe_bounded : ((f : FailsafeKey) → d.failsafe ≡ Some f → f.revision ≤ d.revision) = λ f is. elim (ok.fonward.known f is) [ inl p ↦ omega (arith, inv.failsafe_bounded f p, ok.onward.grows) | inr p ↦ p.1 ] in
     record {
       guarded = λ m acts. deliver-guard s i j q d m ok acts (inv.guarded m acts);
       sole = inv.sole;
       parted = inv.parted;
       off = ok.off;
       bounded = λ k is. elim (ok.onward.known k is) [ inl p ↦ omega (arith, inv.bounded k p, ok.onward.grows) | inr p ↦ p.1 ];
-      fbounded = fbounded;
+      failsafe_bounded = failsafe_bounded;
       asked = λ n p is. request-after s.declared.failsafe s.clock s.clock s.leader d.leader s.failsafe d.failsafe s.revision d.revision s.members p (omega arith) ok.onward ok.fonward (inv.asked n p (still-requested s.flight i j new n p is));
       said = answers-all s.flight i j new (λ n a. IsAnswerKept d.leader d.failsafe d.revision (s.members a.member) a)
-          (deliver-answer s q d inv request ok fbounded)
+          (deliver-answer s q d inv request ok failsafe_bounded)
           (λ n a is. answer-after s.leader d.leader s.failsafe d.failsafe s.revision d.revision (s.members a.member) a ok.onward ok.fonward (inv.said n a is));
       begs = λ n p is. inv.begs n p (still-begged s.flight i j new n p is);
       yeses = λ n p is. inv.yeses n p (still-acknowledged s.flight i j new n p is);

@@ -4,7 +4,7 @@ use Rattle.lease_law.specs.Leases.{LeaderKey, FailsafeKey, Query, Renew, Release
 use Rattle.lease_law.specs.States.{Begging, Agent, Machine, State, Acts}
 use Rattle.lease_law.specs.Inputs.{Move, HeardGrant, HeardYes, IsDeadline, IsOnTime, Fed, FedKnown, AllYes, WatchdogMay, Kept, Removed, SetByGrant, SetByFailsafe, SetAlone, Undone, Owns, MayCarry, MayCarryIf, MayQuery, MayRequest, IsLawful, IsInTime}
 use Rattle.lease_law.proofs.Tools.{some-is, not-false, decide-eq}
-use Rattle.lease_law.specs.Carried.{Spans, IsGuarded, IsThere, ActsAlone, IsQuiet, HasTaken, IsPresent, IsSound}
+use Rattle.lease_law.specs.Carried.{Spans, IsGuarded, IsThere, ActsAlone, IsAtRest, HasTaken, IsPresent, IsSound}
 use Rattle.lease_law.proofs.Onward.{spans-sub, holds-grow}
 
 -- a deadline that is set in time is ahead, and not after the end of the lease
@@ -144,7 +144,7 @@ informed-there s m move inv law informed = elim (law.informed informed) [
 yes-holds : (s : State) (m : ℕ) (move : Move) (was : Agent) (until : ℕ) → IsSound s → IsInTime s m move → (s.members m).agent ≡ Some was → move.feeds ≡ true → move.machine.by_failsafe ≡ true → (all : AllYes s m was until) → (p : ℕ) → all.begging.members p ≡ true → until ≤ (s.members p).hold
 yes-holds s m move was until inv timely was_is feeds basis all p e =
     let t = said-yes s m was all.begging p inv was_is all.is (all.yes p e) in
-    let y = (inv.taken (record { by = p; from = m; run = was.run; sequence = all.begging.sequence; moment = t.moment }) t.is).matches all.begging (record { agent = was; is = was_is; run_is = refl; begging = all.is; seq_is = refl }) in
+    let y = (inv.taken (record { by = p; from = m; run = was.run; sequence = all.begging.sequence; moment = t.moment }) t.is).matches all.begging (record { agent = was; is = was_is; run_is = refl; begging = all.is; sequence_is = refl }) in
     let time = timely.by_failsafe feeds basis was all.begging was_is all.is p t.moment e t.is in
     omega (arith, (set-in-time (s.declared.margin m) s.clock all.begging.ttl all.begging.sent t.moment until all.deadline_is time y.1).1, y.0)
 
@@ -214,7 +214,7 @@ watchdog-guards s m move members inv timely law (SetAlone until is basis acts al
 watchdog-guards s m move members inv timely law (Undone ready live) grow ya = absurd (not-false (s.members m).live (inv.parted m ready) live)
 
 -- a release in flight still finds its member at rest, and a carried set its sender alone
-pub watchdog-quiet : (s : State) (m : ℕ) (move : Move) (was agent : Agent) (j : ℕ) (q : Request) (r : ℕ) → IsSound s → IsInTime s m move → WatchdogMay s m move was agent → s.flight j ≡ Some (Requested q) → q.query ≡ Release r → IsQuiet s.leader (s.members m) r → IsQuiet s.leader move.machine r
+pub watchdog-quiet : (s : State) (m : ℕ) (move : Move) (was agent : Agent) (j : ℕ) (q : Request) (r : ℕ) → IsSound s → IsInTime s m move → WatchdogMay s m move was agent → s.flight j ≡ Some (Requested q) → q.query ≡ Release r → IsAtRest s.leader (s.members m) r → IsAtRest s.leader move.machine r
 watchdog-quiet s m move was agent j q r inv timely dog at txn quiet k k_is e a = elim (was-acting s m move was agent inv dog a) [
   | inl ax ↦ quiet k k_is e ax
   | inr f ↦

@@ -7,7 +7,7 @@ use Rattle.lease_law.specs.States.{Begging, Agent, Machine, State, is_ready, Act
 use Rattle.lease_law.specs.Inputs.{Move, Waits, HeardLeader, HeardFailsafe, WatchdogMay, Owns, MayQuery, Going, Begun, IsLawful, IsInTime}
 use Rattle.lease_law.specs.Actions.{taken_by, with_input}
 use Rattle.lease_law.proofs.Tools.{some-is, none-some, not-false, put-all}
-use Rattle.lease_law.specs.Carried.{Spans, IsGuarded, IsFailsafeVouched, IsVouched, IsQuiet, IsQueryKept, IsNumbered, IsRequestKept, AwaitsIt, IsBegKept, HasTaken, IsTakingKept, IsBeggingKept, IsAgentKept, IsFresh, IsToken, IsSound}
+use Rattle.lease_law.specs.Carried.{Spans, IsGuarded, IsFailsafeVouched, IsVouched, IsAtRest, IsQueryKept, IsNumbered, IsRequestKept, AwaitsIt, IsBegKept, HasTaken, IsTakingKept, IsBeggingKept, IsAgentKept, IsFresh, IsToken, IsSound}
 use Rattle.lease_law.proofs.Onward.{spans-sub, holds-grow}
 use Rattle.lease_law.proofs.Fed.{sole-new, was-acting, may-renew, may-release, sends-of, spans-input, spans-listed, took-same, said-yes, informed-there, watchdog-guards, watchdog-quiet, watchdog-carrier}
 
@@ -21,7 +21,7 @@ old-asked s m move was agent j q (Renew compared ttl (Some set)) inv timely dog 
 )
 old-asked s m move was agent j q (Release compared) inv timely dog at txn a = (
   a.0,
-  put-all s.members m move.machine (λ n z. IsQuiet s.leader (s.members n) compared → IsQuiet s.leader z compared) (watchdog-quiet s m move was agent j q compared inv timely dog at txn) (λ n other quiet. quiet) q.member a.1,
+  put-all s.members m move.machine (λ n z. IsAtRest s.leader (s.members n) compared → IsAtRest s.leader z compared) (watchdog-quiet s m move was agent j q compared inv timely dog at txn) (λ n other quiet. quiet) q.member a.1,
 )
 old-asked s m move was agent j q (Create ttl None) inv timely dog at txn a = a
 old-asked s m move was agent j q (Create ttl (Some Absent)) inv timely dog at txn a = tt
@@ -65,7 +65,7 @@ new-asked s m move seq (Renew compared ttl (Some set)) inv timely law may = (
 )
 new-asked s m move seq (Release compared) inv timely law may = (
   owns-vouched s m move.heard law.was compared inv law.was_is may.1,
-  put-all s.members m move.machine (λ n z. n ≡ m → IsQuiet s.leader z compared) (λ mine k is e a. may.0 a) (λ n other mine. absurd (other mine)) m refl,
+  put-all s.members m move.machine (λ n z. n ≡ m → IsAtRest s.leader z compared) (λ mine k is e a. may.0 a) (λ n other mine. absurd (other mine)) m refl,
 )
 new-asked s m move seq (Create ttl None) inv timely law may = may
 new-asked s m move seq (Create ttl (Some Absent)) inv timely law may = tt
@@ -79,15 +79,15 @@ new-asked s m move seq Read inv timely law may = tt
 numbered-input : (x y : Machine) (was agent : Agent) (run seq : ℕ) → x.agent ≡ Some was → y.agent ≡ Some agent → y.runs ≡ x.runs → agent.run ≡ was.run → was.last ≤ agent.last → IsNumbered x run seq → IsNumbered y run seq
 numbered-input x y was agent run seq was_is agent_is runs same last n = record {
   run_old = omega (arith, n.run_old, runs);
-  seq_old = λ g is e. let one : agent ≡ g = some-is agent g (sym agent_is ∙ is) in
-      omega (arith, n.seq_old was was_is (sym same ∙ ap (λ (z : Agent). z.run) one ∙ e), last, ap (λ (z : Agent). z.last) one);
+  sequence_old = λ g is e. let one : agent ≡ g = some-is agent g (sym agent_is ∙ is) in
+      omega (arith, n.sequence_old was was_is (sym same ∙ ap (λ (z : Agent). z.run) one ∙ e), last, ap (λ (z : Agent). z.last) one);
 }
 
 -- new numbers are counted
 numbered-new : (s : State) (m : ℕ) (move : Move) (run seq : ℕ) → IsSound s → (law : IsLawful s m move) → run ≡ law.was.run → seq ≤ law.agent.last → IsNumbered move.machine run seq
 numbered-new s m move run seq inv law same counted = record {
   run_old = omega (arith, same, (inv.kept m law.was law.was_is).run, law.runs);
-  seq_old = λ g is e. omega (arith, counted, ap (λ (z : Agent). z.last) (some-is law.agent g (sym law.agent_is ∙ is)));
+  sequence_old = λ g is e. omega (arith, counted, ap (λ (z : Agent). z.last) (some-is law.agent g (sym law.agent_is ∙ is)));
 }
 
 -- what is waited for after an input with an old number was waited for before it
@@ -102,8 +102,8 @@ was-matched s m move run seq b law numbered w =
     let one : law.agent ≡ w.agent = some-is law.agent w.agent (sym law.agent_is ∙ w.is) in
     let same : law.was.run ≡ run = sym law.run ∙ ap (λ (z : Agent). z.run) one ∙ w.run_is in
     elim (law.begging b (ap (λ (z : Agent). z.begging) one ∙ w.begging)) [
-      | inl g ↦ record { before = g.before; matches = record { agent = law.was; is = law.was_is; run_is = same; begging = g.is; seq_is = sym g.sequence ∙ w.seq_is }; ttl = g.ttl; sent = g.sent }
-      | inr n ↦ absurd (omega (arith, numbered.seq_old law.was law.was_is same, n.later, w.seq_is))
+      | inl g ↦ record { before = g.before; matches = record { agent = law.was; is = law.was_is; run_is = same; begging = g.is; sequence_is = sym g.sequence ∙ w.sequence_is }; ttl = g.ttl; sent = g.sent }
+      | inr n ↦ absurd (omega (arith, numbered.sequence_old law.was law.was_is same, n.later, w.sequence_is))
     ]
 
 beg-input : (s : State) (m : ℕ) (move : Move) (q : Beg) → (law : IsLawful s m move) → IsBegKept s.clock (s.members m) q → IsBegKept s.clock move.machine q
@@ -246,7 +246,7 @@ input-taken s m move inv law = taken-cases m s.clock move.takes s.taken (λ t. I
     (λ beg takes. let new = law.takes beg takes in
     let ok = input-begs s m move beg law beg.member (inv.begs new.number beg new.is) in
     let lasts : s.clock + beg.ttl ≤ (After s m move m).hold = put-all s.members m move.machine (λ n z. n ≡ m → s.clock + beg.ttl ≤ z.hold) (λ mine. new.lasts) (λ n other mine. absurd (other mine)) m refl in
-    record { numbered = ok.numbered; matches = λ b w. let o = ok.matches b (record { agent = w.agent; is = w.is; run_is = w.run_is; begging = w.begging; seq_is = w.seq_is }) in (omega (arith, lasts, o.0), omega (arith, ok.sent, o.1)) })
+    record { numbered = ok.numbered; matches = λ b w. let o = ok.matches b (record { agent = w.agent; is = w.is; run_is = w.run_is; begging = w.begging; sequence_is = w.sequence_is }) in (omega (arith, lasts, o.0), omega (arith, ok.sent, o.1)) })
 
 input-kept : (s : State) (m : ℕ) (move : Move) → IsSound s → IsLawful s m move → (n : ℕ) (g : Agent) → (After s m move n).agent ≡ Some g → IsAgentKept s.leader s.failsafe s.revision n (After s m move n).runs g
 input-kept s m move inv law = put-all s.members m move.machine (λ n z. (g : Agent) → z.agent ≡ Some g → IsAgentKept s.leader s.failsafe s.revision n z.runs g)
@@ -284,7 +284,7 @@ input-fresh s m move inv law i a grant at is = let at' = answered-before s m mov
     let one : law.agent ≡ w.agent = some-is law.agent w.agent (sym law.agent_is ∙ w.is) in
     let waits : law.agent.waits ≡ Some a.sequence = ap (λ (z : Agent). z.waits) one ∙ w.sequence in
     let run : law.was.run ≡ a.run = sym law.run ∙ ap (λ (z : Agent). z.run) one ∙ w.run in
-    let old-seq : a.sequence ≤ law.was.last = (subst (λ (n : ℕ). IsNumbered (s.members n) a.run a.sequence) mine (inv.said i a at').numbered).seq_old law.was law.was_is run in
+    let old-seq : a.sequence ≤ law.was.last = (subst (λ (n : ℕ). IsNumbered (s.members n) a.run a.sequence) mine (inv.said i a at').numbered).sequence_old law.was law.was_is run in
     elim (law.waits a.sequence waits) [
       | inl before ↦ elim (inv.fresh i a grant at' is (record { agent = law.was; is = ap (λ (n : ℕ). (s.members n).agent) mine ∙ law.was_is; run = run; sequence = before })) [
         | inl over ↦ inl over
@@ -342,7 +342,7 @@ inv-input s m move inv timely law = record {
   parted = put-all s.members m move.machine (λ n z. is_ready z.agent ≡ true → z.live ≡ false) law.parted (λ n other r. inv.parted n r);
   off = inv.off;
   bounded = inv.bounded;
-  fbounded = inv.fbounded;
+  failsafe_bounded = inv.failsafe_bounded;
   asked = input-asked s m move inv timely law;
   said = λ i a at. let old = inv.said i a (answered-before s m move law i a at) in
       record { numbered = input-numbered s m move a.run a.sequence law a.member old.numbered; seen = old.seen; grant = old.grant; order = old.order; listed = old.listed };

@@ -32,7 +32,7 @@ inv-act s (Crash m) inv law timely = inv-crash s m inv
 inv-act s Note inv law timely = inv
 
 inv-writes : (s : State) (w : ℕ → Bool) → IsSound s → IsSound (record s { writes = w })
-inv-writes s w inv = record { guarded = inv.guarded; sole = inv.sole; parted = inv.parted; off = inv.off; bounded = inv.bounded; fbounded = inv.fbounded; asked = inv.asked; said = inv.said; begs = inv.begs; yeses = inv.yeses; taken = inv.taken; kept = inv.kept; spans = inv.spans; begging = inv.begging; fresh = inv.fresh; tokens = inv.tokens }
+inv-writes s w inv = record { guarded = inv.guarded; sole = inv.sole; parted = inv.parted; off = inv.off; bounded = inv.bounded; failsafe_bounded = inv.failsafe_bounded; asked = inv.asked; said = inv.said; begs = inv.begs; yeses = inv.yeses; taken = inv.taken; kept = inv.kept; spans = inv.spans; begging = inv.begging; fresh = inv.fresh; tokens = inv.tokens }
 
 -- who may write inside an action
 abbrev Inside : State → Action → ℕ → Type 0
@@ -127,11 +127,11 @@ inside : (s : State) (a : Action) (front : List Event) → IsCarried s → Begin
 inside s a front good begins = begun (MayBegin s a) (Inside s a) s.writes front (λ n m. inr m) (λ n w. inl (inl (good.lives n w))) begins
 
 pub one-front : (s : State) (a : Action) (front : List Event) → IsCarried s → Begins (MayBegin s a) front → (m n : ℕ) → writes_after s.writes front m ≡ true → writes_after s.writes front n ≡ true → m ≡ n
-one-front s a front good begins m n wm wn = one-inside s a m n good.inv (inside s a front good begins m wm) (inside s a front good begins n wn)
+one-front s a front good begins m n wm wn = one-inside s a m n good.sound (inside s a front good begins m wm) (inside s a front good begins n wn)
 
 action-kept : (s : State) (action : Action) (events : List Event) → IsCarried s → IsAllowed s action events → IsCarried (state_after s action events)
 action-kept s action events good may = record {
-  inv = inv-writes (act s action) (writes_after s.writes events) (inv-act s action good.inv may.lawful may.in_time);
+  sound = inv-writes (act s action) (writes_after s.writes events) (inv-act s action good.sound may.lawful may.in_time);
   lives = may.lives;
 }
 

@@ -22,7 +22,7 @@ inv-start declared = record {
   parted = λ m ready. refl;
   off = λ e. refl;
   bounded = λ k e. absurd (none-some k e);
-  fbounded = λ f e. absurd (none-some f e);
+  failsafe_bounded = λ f e. absurd (none-some f e);
   asked = λ i q e. absurd (none-some (Requested q) e);
   said = λ i a e. absurd (none-some (Answered a) e);
   begs = λ i q e. absurd (none-some (Begged q) e);
@@ -36,4 +36,4 @@ inv-start declared = record {
 }
 
 pub good-start : (declared : Declared) → IsCarried (state_of declared (past_of []) first_minds)
-good-start declared = record { inv = inv-start declared; lives = λ k w. absurd (both w) }
+good-start declared = record { sound = inv-start declared; lives = λ k w. absurd (both w) }
