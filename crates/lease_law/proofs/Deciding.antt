@@ -1,5 +1,5 @@
 -- The key store's decision and the law's outcome are one.
-use Rattle.std.proofs.Common.{◌≡◌, ◌⊎◌, ℕ, ◌+◌, ◌<◌, ◌==◌, nat_lt, Bool, true, false, cond, List, [], ◌∷◌, Option, Some, None, IsSome, refl, ◌∙◌, ap, sym, subst, arith, inl, inr}
+use Rattle.std.proofs.Common.{◌≡◌, ◌⊎◌, ℕ, ◌<◌, ◌==◌, nat_lt, Bool, true, false, cond, List, Option, Some, None, IsSome, refl, ◌∙◌, ap, sym, subst, arith, inl, inr}
 use Rattle.std.proofs.lemmas.Bool.Decides.{nat_tests}
 use Rattle.std.specs.FinMap.{find}
 use Rattle.pat_base.specs.declared.ticks.Ticks.{Ticks}
@@ -16,15 +16,15 @@ use Rattle.lease_store.specs.declared.value.Value.{Value}
 use Rattle.lease_store.specs.declared.value.Value.TheVariants as values
 use Rattle.lease_store.specs.Kinds.{IsOfKind}
 use Rattle.lease_store.specs.KeyOrder.{key_cmp}
-use Rattle.lease_store.specs.Keys.{Keys, key_in, present}
+use Rattle.lease_store.specs.Keys.{key_in, present}
 use Rattle.lease_store.specs.Decision.{Decision, Grant as Granting, Refusal as Refusing, compares_of, failsafe_compare, found_in, is_as_expected, decided, decision_by, decision_on}
 use Rattle.lease_store.proofs.Keeping.{kind_found}
 use Rattle.event_book.specs.Facts.{Facts}
-use Rattle.lease_law.specs.Leases.{LeaderKey, FailsafeKey, Query, Create, Renew, Release, Write, Read}
-use Rattle.lease_law.specs.Outcomes.{Outcome, refused, is_as_read, create_if, create_on, renew_if, renew_on, release_if, release_on, outcome_of}
-use Rattle.lease_law.specs.Past.{Past, members_in, members_if, query_of}
-use Rattle.lease_law.specs.Stores.{leader_held, failsafe_held, IsLeased, IsEndless, IsSameStore, granted_outcome, is_granted, outcome_by}
-use Rattle.lease_law.proofs.Tools.{both, eq-from}
+use Rattle.lease_law.specs.Leases.{LeaderKey, FailsafeKey, Create, Renew, Release, Write}
+use Rattle.lease_law.specs.Outcomes.{is_as_read, create_if, create_on, renew_if, renew_on, release_if, release_on, outcome_of}
+use Rattle.lease_law.specs.Past.{Past, members_if, query_of}
+use Rattle.lease_law.specs.Stores.{leader_held, failsafe_held, IsLeased, IsSameStore, is_granted, outcome_by}
+use Rattle.lease_law.proofs.Tools.{both}
 use Rattle.lease_law.proofs.SameStore.{ge-from, present-endless}
 
 turned-by : (b c : Bool) (m n : ℕ) → (m == n) ≡ b → (n == m) ≡ c → b ≡ c

@@ -1,17 +1,13 @@
 -- The events of a delivery to the key store, folded, are the action; and what suffices for any other.
-use Rattle.std.proofs.Common.{◌≡◌, ◌⊎◌, ℕ, ◌+◌, Bool, true, false, List, [], ◌∷◌, ◌++◌, Option, Some, None, refl, ◌∙◌, ap, sym, subst, inl, inr}
+use Rattle.std.proofs.Common.{◌≡◌, ℕ, Bool, true, false, List, [], ◌∷◌, ◌++◌, Option, Some, None, refl, ◌∙◌, ap, sym, subst}
 use Rattle.std.proofs.Math.Path.{fun_ext}
-use Rattle.std.specs.FinMap.{find}
 use Rattle.pat_base.specs.declared.name.Name.{Name}
 use Rattle.pat_base.specs.declared.ticks.Ticks.{Ticks}
 use Rattle.lease_store.specs.declared.key.Key.{Key}
-use Rattle.lease_store.specs.declared.key.Key.TheVariants as keys
 use Rattle.lease_store.specs.declared.txn.Expected.{Expected}
 use Rattle.lease_store.specs.declared.txn.Txn.{Txn}
 use Rattle.lease_store.specs.declared.txn.Txn.TheVariants as txns
 use Rattle.lease_store.specs.declared.txn_kind.TxnKind.{TxnKind}
-use Rattle.lease_store.specs.KeyOrder.{key_cmp}
-use Rattle.lease_store.specs.Keys.{key_in}
 use Rattle.lease_store.specs.Writes.{is_lease}
 use Rattle.lease_store.specs.Decision.{Decision, Grant as Granting, Refusal as Refusing, decision_on}
 use Rattle.event_book.specs.declared.event.Event.{Event}
@@ -24,15 +20,15 @@ use Rattle.event_book.specs.declared.member.Member.{Member}
 use Rattle.event_book.specs.Facts.{Facts}
 use Rattle.lease_law.specs.Functions.{put_at}
 use Rattle.lease_law.specs.Writers.{writes_after}
-use Rattle.lease_law.specs.Leases.{LeaderKey, FailsafeKey, Query, Create, Renew, Release, Write, Read, Request, Grant, Answer, Beg, Acknowledgement, Flying, Requested, Answered, Begged, Acknowledged, Taking}
+use Rattle.lease_law.specs.Leases.{LeaderKey, FailsafeKey, Read, Request, Grant, Answer, Beg, Acknowledgement, Flying, Requested, Answered, Begged, Acknowledged, Taking}
 use Rattle.lease_law.specs.States.{Machine, Declared, State}
-use Rattle.lease_law.specs.Outcomes.{Outcome, refused, outcome_of, answer_to, with_outcome, with_question, delivered}
-use Rattle.lease_law.specs.Actions.{Action, Tick, Deliver, Lose, Input, Start, Kill, Crash, Note, act, state_after}
-use Rattle.lease_law.specs.Past.{Past, query_of, leader_granted, failsafe_granted, grant_of, answer_of, flying_of, asked_with, asked_by, flight_by, past_by, past_after, first_past, past_of, Mind, machine_of, state_of}
+use Rattle.lease_law.specs.Outcomes.{Outcome, refused, outcome_of, with_outcome, with_question, delivered}
+use Rattle.lease_law.specs.Actions.{Action, Tick, Deliver, Lose, Input, Start, Kill, Crash, Note, act}
+use Rattle.lease_law.specs.Past.{Past, query_of, grant_of, flying_of, asked_with, asked_by, flight_by, past_by, past_after, first_past, past_of, Mind, machine_of, state_of}
 use Rattle.lease_law.specs.Books.{Page, IsTold}
 use Rattle.lease_law.specs.Stores.{IsSameStore, lease_given, granted_outcome, is_granted, outcome_by}
 use Rattle.lease_law.specs.Telling.{granted_events, refused_events, read_events}
-use Rattle.lease_law.proofs.Tools.{some-is, put-all, dropped}
+use Rattle.lease_law.proofs.Tools.{put-all, dropped}
 use Rattle.lease_law.proofs.Runs.{writes-past}
 use Rattle.lease_law.proofs.Telling.{state-eq, past-append}
 use Rattle.lease_law.proofs.Deciding.{outcome-decided}

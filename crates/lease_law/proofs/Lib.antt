@@ -15,3 +15,4 @@ pub mod Deciding
 pub mod Delivering
 pub mod Unpaused
 pub mod Quiet
+pub mod Timely

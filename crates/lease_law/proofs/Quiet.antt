@@ -1,5 +1,5 @@
 -- Actions that change machines alone, ticks and losses, told by their events.
-use Rattle.std.proofs.Common.{◌≡◌, ℕ, ◌+◌, Bool, List, [], ◌∷◌, ◌++◌, Option, Some, refl, ◌∙◌, ap, sym}
+use Rattle.std.proofs.Common.{◌≡◌, ℕ, ◌+◌, Bool, List, [], ◌∷◌, ◌++◌, Option, refl, ◌∙◌, ap}
 use Rattle.pat_base.specs.declared.ticks.Ticks.{Ticks}
 use Rattle.event_book.specs.declared.event.Event.{Event}
 use Rattle.event_book.specs.declared.event.Kind.{Kind}
@@ -7,8 +7,8 @@ use Rattle.event_book.specs.declared.event.Kind.TheVariants as kinds
 use Rattle.event_book.specs.declared.event.MessageEvent.TheVariants as messages
 use Rattle.event_book.specs.declared.event.StoreEvent.TheVariants as stores
 use Rattle.event_book.specs.declared.event.WatchdogEvent.TheVariants as watchdogs
-use Rattle.lease_law.specs.Leases.{LeaderKey, FailsafeKey, Flying, Taking}
-use Rattle.lease_law.specs.States.{Machine, Declared, State, is_due, tick_machine, leader_kept}
+use Rattle.lease_law.specs.Leases.{Flying}
+use Rattle.lease_law.specs.States.{Declared, State, is_due, tick_machine}
 use Rattle.lease_law.specs.Actions.{Action, Tick, Deliver, Lose, Input, Start, Kill, Crash, Note, act}
 use Rattle.lease_law.specs.Past.{Past, past_by, past_after, first_past, past_of, Mind, machine_of, state_of}
 use Rattle.lease_law.specs.Premises.{AllAre}

@@ -89,13 +89,13 @@ kind-writes P w (kinds.Server e) all may = server-writes P w e all may
 kind-writes P w (kinds.Watchdog e) all may = watchdog-writes P w e all
 kind-writes P w _ all may = all
 
-no-cons : (x : Event) (xs : List Event) → ◌≡◌ {A = List Event} (x ∷ xs) [] → ⊥
+pub no-cons : (x : Event) (xs : List Event) → ◌≡◌ {A = List Event} (x ∷ xs) [] → ⊥
 no-cons x xs e = cc
 
-head-is : (x y : Event) (xs ys : List Event) → ◌≡◌ {A = List Event} (x ∷ xs) (y ∷ ys) → x ≡ y
+pub head-is : (x y : Event) (xs ys : List Event) → ◌≡◌ {A = List Event} (x ∷ xs) (y ∷ ys) → x ≡ y
 head-is x y xs ys e = cc
 
-tail-is : (x y : Event) (xs ys : List Event) → ◌≡◌ {A = List Event} (x ∷ xs) (y ∷ ys) → xs ≡ ys
+pub tail-is : (x y : Event) (xs ys : List Event) → ◌≡◌ {A = List Event} (x ∷ xs) (y ∷ ys) → xs ≡ ys
 tail-is x y xs ys e = cc
 
 cons-eq : (x y : Event) (xs ys : List Event) → x ≡ y → xs ≡ ys → ◌≡◌ {A = List Event} (x ∷ xs) (y ∷ ys)
@@ -105,7 +105,7 @@ begins-server : (P Q : ℕ → Type 0) (e : ServerEvent) → ((n : ℕ) → P n 
 begins-server P Q (servers.Began server timeline) sub may = sub server.id.number may
 begins-server P Q _ sub may = tt
 
-begins-one : (P Q : ℕ → Type 0) (e : Kind) → ((n : ℕ) → P n → Q n) → BeginsKind P e → BeginsKind Q e
+pub begins-one : (P Q : ℕ → Type 0) (e : Kind) → ((n : ℕ) → P n → Q n) → BeginsKind P e → BeginsKind Q e
 begins-one P Q (kinds.Server e) sub may = begins-server P Q e sub may
 begins-one P Q _ sub may = tt
 
@@ -168,7 +168,7 @@ one-front-of declared book minds action front good begins m n wm wn =
     one-front (state_of declared (past_of book) minds) action front good begins m n
     (sym (ap (λ (w : ℕ → Bool). w m) same) ∙ wm) (sym (ap (λ (w : ℕ → Bool). w n) same) ∙ wn)
 
-assoc : (xs ys zs : List Event) → (xs ++ ys) ++ zs ≡ xs ++ (ys ++ zs)
+pub assoc : (xs ys zs : List Event) → (xs ++ ys) ++ zs ≡ xs ++ (ys ++ zs)
 assoc [] ys zs = refl
 assoc (x ∷ xs) ys zs = ap (λ (l : List Event). x ∷ l) (assoc xs ys zs)
 
@@ -185,7 +185,7 @@ one-from declared book minds (page ∷ pages) front rest good allowed e =
 pub one : (declared : Declared) (pages : List Page) (front rest : List Event) → AreAllowed declared [] first_minds pages → front ++ rest ≡ book_of pages → HasOneWriter front
 one declared pages front rest allowed e = one-from declared [] first_minds pages front rest (good-start declared) allowed e
 
-none-more : (xs : List Event) → xs ++ [] ≡ xs
+pub none-more : (xs : List Event) → xs ++ [] ≡ xs
 none-more [] = refl
 none-more (x ∷ xs) = ap (λ (l : List Event). x ∷ l) (none-more xs)
 

@@ -1,12 +1,11 @@
 -- The past has the keys of the lease as the key store holds them.
-use Rattle.std.proofs.Common.{◌≡◌, ◌⊎◌, ℕ, ◌+◌, ◌≤◌, ◌<◌, nat_le, nat_lt, Bool, true, false, cond, max, List, [], ◌∷◌, Option, Some, None, IsSome, refl, ◌∙◌, ap, sym, subst, arith, inl, inr}
+use Rattle.std.proofs.Common.{◌≡◌, ℕ, ◌+◌, ◌≤◌, ◌<◌, nat_le, nat_lt, Bool, true, false, cond, List, Option, Some, None, IsSome, refl, ◌∙◌, ap, sym, subst, arith}
 use Rattle.std.proofs.lemmas.Bool.Decides.{nat_tests}
 use Rattle.std.specs.FinMap.{find}
 use Rattle.pat_base.specs.declared.name.Name.{Name}
 use Rattle.pat_base.specs.declared.ticks.Ticks.{Ticks}
 use Rattle.pat_base.specs.declared.member_id.MemberId.{MemberId}
 use Rattle.pat_base.specs.declared.member_set.MemberSet.{MemberSet}
-use Rattle.lease_store.specs.declared.key.Key.{Key}
 use Rattle.lease_store.specs.declared.key.Key.TheVariants as keys
 use Rattle.lease_store.specs.declared.txn.Txn.{Txn}
 use Rattle.lease_store.specs.declared.txn.Txn.TheVariants as txns
@@ -14,10 +13,8 @@ use Rattle.lease_store.specs.declared.value.Held.{Held}
 use Rattle.lease_store.specs.declared.value.Value.{Value}
 use Rattle.lease_store.specs.declared.value.Value.TheVariants as values
 use Rattle.lease_store.specs.KeyOrder.{key_cmp}
-use Rattle.lease_store.specs.Keys.{Keys, is_present, present, key_in}
-use Rattle.lease_store.specs.Kept.{IsKept}
-use Rattle.lease_store.specs.Answers.{keys_kept, present_pairs}
-use Rattle.lease_store.specs.Writes.{keys_after, later}
+use Rattle.lease_store.specs.Keys.{is_present, present}
+use Rattle.lease_store.specs.Writes.{later}
 use Rattle.lease_store.specs.Defaults.{default_settings}
 use Rattle.lease_store.proofs.Keeping.{kept_after, kept_present, find_present}
 use Rattle.lease_store.proofs.Fences.{kept_first}
@@ -27,12 +24,12 @@ use Rattle.event_book.specs.declared.event.Kind.TheVariants as kinds
 use Rattle.event_book.specs.declared.event.StoreEvent.TheVariants as stores
 use Rattle.event_book.specs.declared.member.Member.{Member}
 use Rattle.event_book.specs.Facts.{Facts, after, start_of}
-use Rattle.lease_law.specs.Leases.{LeaderKey, FailsafeKey, Query, Create, Renew, Release, Write, Read}
+use Rattle.lease_law.specs.Leases.{LeaderKey, FailsafeKey}
 use Rattle.lease_law.specs.States.{kept_if, leader_kept}
 use Rattle.lease_law.specs.Outcomes.{failsafe_carried, renewed}
-use Rattle.lease_law.specs.Past.{Past, members_in, members_if, query_of, extended_by, leader_granted, failsafe_granted, past_by, first_past}
+use Rattle.lease_law.specs.Past.{Past, members_if, query_of, extended_by, leader_granted, failsafe_granted, past_by, first_past}
 use Rattle.lease_law.proofs.Tools.{some-is, none-some, le-from, gt-from}
-use Rattle.lease_law.specs.Stores.{leader_value, leader_held, failsafe_value, failsafe_held, IsLeased, IsEndless, IsSpannedTxn, IsSpanned, IsSameStore}
+use Rattle.lease_law.specs.Stores.{leader_value, leader_held, failsafe_held, IsLeased, IsEndless, IsSpannedTxn, IsSpanned, IsSameStore}
 
 pub same-first : (names : List Name) → IsSameStore first_past (start_of names)
 same-first names = record { clock = refl; revision = refl; leader = refl; failsafe = refl; kept = kept_first default_settings; leased = tt; endless = tt; present = λ key e. absurd (none-some key e) }

@@ -12,3 +12,4 @@ pub mod Books
 pub mod Telling
 pub mod Stores
 pub mod Pauses
+pub mod Claims

@@ -2,7 +2,6 @@
 use Rattle.std.specs.Prelude.{ℕ, ◌≡◌, ◌+◌, ◌<◌, Bool, true, false, Option, Some, None, IsSome}
 use Rattle.std.specs.FinMap.{find}
 use Rattle.pat_base.specs.declared.ticks.Ticks.{Ticks}
-use Rattle.lease_store.specs.declared.key.Key.{Key}
 use Rattle.lease_store.specs.declared.key.Key.TheVariants as keys
 use Rattle.lease_store.specs.declared.value.Held.{Held}
 use Rattle.lease_store.specs.declared.value.Value.{Value}
@@ -16,7 +15,7 @@ use Rattle.event_book.specs.declared.event.StoreEvent.TheVariants as stores
 use Rattle.lease_store.specs.Kept.{IsKept}
 use Rattle.event_book.specs.Facts.{Facts}
 use Rattle.lease_store.specs.Decision.{Decision, Grant as Granting, Refusal as Refusing}
-use Rattle.lease_law.specs.Leases.{LeaderKey, FailsafeKey, Query, Create, Renew, Release, Write, Read, Grant}
+use Rattle.lease_law.specs.Leases.{LeaderKey, FailsafeKey, Query, Create, Renew, Grant}
 use Rattle.lease_law.specs.Outcomes.{Outcome, refused}
 use Rattle.lease_law.specs.Past.{Past, members_in, leader_granted, failsafe_granted}
 

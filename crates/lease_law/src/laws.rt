@@ -4,6 +4,7 @@ ghost use Rattle.event_book.specs.declared.event.Event.{Event};
 ghost use Rattle.lease_law.specs.Actions.{Action, Tick, Deliver, Lose, Input, act, IsAllowed, MayBegin, taken_by};
 ghost use Rattle.lease_law.specs.Books.{Page, IsTold, AreAllowed, first_minds, book_of, minds_after};
 ghost use Rattle.lease_law.specs.Carried.{IsCarried};
+ghost use Rattle.lease_law.specs.Claims.{AreLawful, BeginsBehind, IsLawfulPage, MayBeginBehind};
 ghost use Rattle.event_book.specs.declared.event.Kind.{Kind};
 ghost use Rattle.event_book.specs.declared.event.Kind.TheVariants.{Tick as Ticked, Message};
 ghost use Rattle.event_book.specs.declared.event.MessageEvent.TheVariants.{Lost};
@@ -30,9 +31,12 @@ ghost use Rattle.event_book.specs.declared.member.Member.{Member};
 ghost use Rattle.lease_store.specs.declared.value.MemberInfo.{MemberInfo};
 ghost use Rattle.lease_store.specs.Settings.{Settings};
 
-/// At every moment of an allowed run at most one server accepts writes.
+/// At most one server accepts writes.
 pub fn one_writer()
-    // Of every front of the book, also one that ends inside an action.
+    // At every moment of a lawful run up to which feeds keep the margin, also inside an action.
+    ensures timely { (declared : Declared) (pages : List Page) (front rest : List Event)
+        → AreLawful declared [] first_minds pages → front ++ rest ≡ book_of pages → IsTimely declared.margin front → HasOneWriter front }
+    // At every moment of a run whose actions are in time.
     ensures whole { (declared : Declared) (pages : List Page) (front rest : List Event)
         → AreAllowed declared [] first_minds pages → front ++ rest ≡ book_of pages → HasOneWriter front }
     // Of whole actions, and then a front of the next action's events, of which only the beginnings need a reason.
@@ -64,19 +68,16 @@ pub fn premises_fall()
         → IsHandsOff first watched (front ++ rest) → IsHandsOff first watched front }
 {}
 
-/// In a timely book the feeds are in time: where an event behind whole actions, and behind a front of the next action's events, arms or feeds
-/// the watchdog, that input acts in time.
+/// In a timely book the feeds are in time: a lawful action is allowed, and in a front of its events only who may begin begins.
 pub fn feeds_in_time()
-    ensures input { (declared : Declared) (book : List Event) (minds : ℕ → Mind) (m : ℕ) (move : Move) (front : List Event) (event : Event) (rest : List Event)
-        → IsTimely declared.margin (book ++ (front ++ event ∷ rest))
-        → ShowsFeed (state_of declared (past_of book) minds) m move front event
-        → IsInTime (state_of declared (past_of book) minds) m move }
-    // Of the grant alone, for a book that ends inside the input.
-    ensures grant { (margin : ℕ → Option ℕ) (book front : List Event) (event : Event) (rest : List Event) (m number : ℕ) (answer : Answer) (grant : Grant)
-        → IsTimely margin (book ++ (front ++ event ∷ rest))
-        → AllAre (IsAside number) front → IsFedBy m number event.kind
-        → (past_of book).flight number ≡ Some (Answered answer) → answer.grant ≡ Some grant
-        → IsOnTime (margin m) (past_of book).clock grant.moment }
+    ensures page { (declared : Declared) (book : List Event) (minds : ℕ → Mind) (action : Action) (events : List Event)
+        → IsTimely declared.margin (book ++ events)
+        → IsLawfulPage (state_of declared (past_of book) minds) action events
+        → IsAllowed (state_of declared (past_of book) minds) action events }
+    ensures front { (declared : Declared) (book : List Event) (minds : ℕ → Mind) (action : Action) (front : List Event)
+        → IsTimely declared.margin (book ++ front)
+        → BeginsBehind (MayBeginBehind (state_of declared (past_of book) minds) action) [] front
+        → Begins (MayBegin (state_of declared (past_of book) minds) action) front }
 {}
 
 /// The events of an input, folded one by one, are the action of the law: where they concern the member's own machine, and say which hold
