@@ -1,4 +1,4 @@
--- A run that is allowed and told by its events, at the end of which member 0 accepts writes: the law isn't empty.
+-- A lawful, timely run, told by its events, at the end of which member 0 accepts writes: the law isn't empty.
 use Rattle.std.proofs.Common.{◌≡◌, ◌⊎◌, ℕ, true, false, List, [], ◌∷◌, ◌++◌, Option, Some, None, refl, ◌∙◌, sym, subst, arith, inl, inr}
 use Rattle.pat_base.specs.declared.name.Name.{Name}
 use Rattle.lease_store.specs.declared.value.MemberInfo.{MemberInfo}
@@ -19,10 +19,12 @@ use Rattle.lease_law.specs.Functions.{put_at}
 use Rattle.lease_law.specs.Writers.{writes_after, AcceptsWrites}
 use Rattle.lease_law.specs.Leases.{Create, Request, Grant, Answer, Flying, Requested, Answered}
 use Rattle.lease_law.specs.States.{Agent, Declared, State, Acts, fresh_agent}
-use Rattle.lease_law.specs.Inputs.{Move, FedKnown, Removed, SetByGrant, MaySend, IsLawful, IsInTime}
+use Rattle.lease_law.specs.Inputs.{Move, FedKnown, Removed, SetByGrant, MaySend, IsLawful}
 use Rattle.lease_law.specs.Actions.{Deliver, Input, act}
 use Rattle.lease_law.specs.Past.{Past, past_of, Mind, state_of}
-use Rattle.lease_law.specs.Books.{Page, AreAllowed, first_minds, book_of}
+use Rattle.lease_law.specs.Books.{Page, first_minds, book_of}
+use Rattle.lease_law.specs.Premises.{IsTimely, ShowsFeed}
+use Rattle.lease_law.specs.Claims.{IsArmedIn, AreLawful}
 use Rattle.lease_law.specs.Telling.{move_of}
 use Rattle.lease_law.proofs.Tools.{some-is, none-some, both, put-all}
 use Rattle.lease_law.proofs.Telling.{input-told-of}
@@ -187,30 +189,41 @@ hears-lawful name info standbys = record {
   waits = λ seq e. absurd (none-some seq e);
 }
 
-hears-in-time : (name : Name) (info : MemberInfo) (standbys : List Name) → IsInTime (s2 name info standbys) 0 (hears name info standbys)
-hears-in-time name info standbys = record {
-  by_grant = λ feeds basis g h. omega arith;
+-- its second event tells the arming
+shown : (name : Name) (info : MemberInfo) (standbys : List Name) → ShowsFeed (s2 name info standbys) 0 (hears name info standbys) (at0 (kinds.Message (messages.Delivered 2)) ∷ []) (at0 (kinds.Watchdog (watchdogs.Armed (member name) (record { 0 = 250 }) 2)))
+shown name info standbys = record {
+  by_grant = λ feeds basis number e. ((tt, tt), (refl, some-is 2 number e));
   by_failsafe = λ feeds basis. absurd (both basis);
+}
+
+armed : (name : Name) → IsArmedIn 0 2 (at0 (kinds.Message (messages.Delivered 2)) ∷ at0 (kinds.Watchdog (watchdogs.Armed (member name) (record { 0 = 250 }) 2)) ∷ [])
+armed name = record {
+  front = at0 (kinds.Message (messages.Delivered 2)) ∷ [];
+  event = at0 (kinds.Watchdog (watchdogs.Armed (member name) (record { 0 = 250 }) 2));
+  rest = [];
+  is = refl;
+  aside = (tt, tt);
+  fed = (refl, refl);
 }
 
 live-there : (name : Name) (info : MemberInfo) (standbys : List Name) (n : ℕ) → writes_after (λ k. false) (beginning name) n ≡ true → ((act (s2 name info standbys) (Input 0 (hears name info standbys))).members n).live ≡ true
 live-there name info standbys = put-all (s2 name info standbys).members 0 (hears name info standbys).machine (λ n z. put_at (λ k. false) 0 true n ≡ true → z.live ≡ true) (λ e. refl)
     (λ n other e. absurd (put-all (λ m. false) 0 true (λ k b. (k ≡ 0 → ⊥) → b ≡ true → ⊥) (λ not-zero f. not-zero refl) (λ k o no-zero f. both f) n other e))
 
-pub allowed : (name : Name) (info : MemberInfo) (standbys : List Name) → AreAllowed declared [] first_minds (pages name info standbys)
-allowed name info standbys = (
-  record { lawful = asks-lawful name info; in_time = record { by_grant = λ feeds. absurd (both feeds); by_failsafe = λ feeds. absurd (both feeds) }; begins = (tt, tt); lives = λ n e. absurd (both e) },
+pub lawful : (name : Name) (info : MemberInfo) (standbys : List Name) → AreLawful declared [] first_minds (pages name info standbys)
+lawful name info standbys = (
+  record { lawful = asks-lawful name info; shows = inl refl; begins = (tt, tt); lives = λ n e. absurd (both e) },
   (
     input-told-of declared [] first_minds 0 asked None false None (asking name info) (tt, tt) refl,
     (
-      record { lawful = tt; in_time = tt; begins = (tt, (tt, (tt, tt))); lives = λ n e. absurd (both e) },
+      record { lawful = tt; shows = tt; begins = (tt, (tt, (tt, tt))); lives = λ n e. absurd (both e) },
       (
         refl,
         (
           record {
             lawful = hears-lawful name info standbys;
-            in_time = hears-in-time name info standbys;
-            begins = (tt, (tt, ((refl, inr (record { fed = (fed name info standbys).fed; in_time = omega arith; free = omega arith })), tt)));
+            shows = inr (at0 (kinds.Message (messages.Delivered 2)) ∷ [], at0 (kinds.Watchdog (watchdogs.Armed (member name) (record { 0 = 250 }) 2)), at0 (kinds.Server (servers.Began (server name) 1)) ∷ [], refl, shown name info standbys);
+            begins = (tt, (tt, ((refl, inr (record { fed = (fed name info standbys).fed; free = omega arith; armed = armed name })), tt)));
             lives = live-there name info standbys;
           },
           (
@@ -222,6 +235,9 @@ allowed name info standbys = (
     ),
   ),
 )
+
+pub timely : (name : Name) (info : MemberInfo) (standbys : List Name) → IsTimely declared.margin (book_of (pages name info standbys))
+timely name info standbys = (tt, (tt, (tt, (tt, (tt, (omega arith, (tt, tt)))))))
 
 pub writes : (name : Name) (info : MemberInfo) (standbys : List Name) → AcceptsWrites (book_of (pages name info standbys)) 0
 writes name info standbys = refl

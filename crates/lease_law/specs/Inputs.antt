@@ -199,7 +199,6 @@ pub record Begun (s : State) (m : ℕ) (was agent : Agent) (begging : Begging) :
   -- under a new number that is counted: else acknowledgements of an older request, whose holds end earlier, are taken for those of this one
   pub later : was.last < begging.sequence
   pub counted : begging.sequence ≤ agent.last
-  pub sent : begging.sent ≡ s.clock
   -- nobody has acknowledged yet
   pub yes : (p : ℕ) → begging.yes p ≡ false
   -- by a leader that was told of a failsafe key, as with nobody to ask

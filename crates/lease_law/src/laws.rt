@@ -89,10 +89,10 @@ pub fn input_told()
         → IsTold declared book minds (record { action = Input m (move_of (past_of book) m mind heard feeds takes events); events = events; minds = put_at minds m mind }) }
 {}
 
-/// There are allowed runs in which a server accepts writes.
+/// There are lawful and timely runs in which a server accepts writes.
 pub fn example()
     ensures { (name : Name) (info : MemberInfo) (standbys : List Name) → let declared : Declared = record { margin = λ m. Some 50; failsafe = false } in
-        (pages : List Page) × AreAllowed declared [] first_minds pages × AcceptsWrites (book_of pages) 0 }
+        (pages : List Page) × AreLawful declared [] first_minds pages × IsTimely declared.margin (book_of pages) × AcceptsWrites (book_of pages) 0 }
 {}
 
 /// A book leaves the same leader key, failsafe key and last revision by the law's definitions as by the key store's.
