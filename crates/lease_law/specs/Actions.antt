@@ -8,8 +8,8 @@ use Rattle.lease_law.specs.States.{Machine, State, Acts, ticked, start_machine, 
 use Rattle.lease_law.specs.Outcomes.{delivered}
 use Rattle.lease_law.specs.Inputs.{Move, Fed, IsOnTime, IsLawful, IsInTime}
 
--- one tick with the servers that stop in it; the key store decides on a message and answers by another; a message is lost; one input
--- of an agent; an agent starts; it is killed; a server crashes; all else
+-- one tick with the servers that stop in it; the key store decides on a message and answers by another; a message is lost; one
+-- input of an agent; an agent starts; it is killed; a server crashes; all else
 pub data Action : Type 0 where
   Tick : (stops : ℕ → Bool) → Action
   Deliver : (number : ℕ) → (answer : ℕ) → (granted : Bool) → Action
@@ -57,8 +57,8 @@ pub record MayArm (s : State) (m : ℕ) (move : Move) : Type 0 where
   pub in_time : IsOnTime (s.declared.margin m) s.clock fed.grant.moment
   pub free : (s.members m).hold ≤ s.clock
 
--- who may begin to accept writes inside an action: a server whose start was under way, in a tick; and in an input its own member's,
--- where that acted before, or may arm its watchdog
+-- who may begin to accept writes inside an action: a server whose start was under way, in a tick; and in an input its own
+-- member's, where that acted before, or may arm its watchdog
 abbrev pub MayBegin : State → Action → ℕ → Type 0
 MayBegin s (Tick stops) n = (s.members n).live ≡ true
 MayBegin s (Input m move) n = (n ≡ m) × (Acts (s.members m) ⊎ MayArm s m move)
@@ -68,7 +68,8 @@ MayBegin s _ n = ⊥
 abbrev pub state_after : State → Action → List Event → State
 state_after s action events = record (act s action) { writes = writes_after s.writes events }
 
--- an action with its events is lawful and in time, only who may begin begins in it, and who accepts writes at its end is live then
+-- an action with its events is lawful and in time, only who may begin begins in it, and who accepts writes at its end is live
+-- then
 pub record IsAllowed (s : State) (action : Action) (events : List Event) : Type 0 where
   pub lawful : IsLawfulAction s action
   pub in_time : IsInTimeAction s action

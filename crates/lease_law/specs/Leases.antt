@@ -18,8 +18,8 @@ pub record FailsafeKey : Type 0 where
   pub revision : ℕ
   pub members : ℕ → Bool
 
--- what the lease reads of a question to the key store: a create with what it expects of the failsafe key, a renewal with the set of
--- members that it writes into the failsafe key, a release, another write, or a read
+-- what the lease reads of a question to the key store: a create with what it expects of the failsafe key, a renewal with the set
+-- of members that it writes into the failsafe key, a release, another write, or a read
 pub data Query : Type 0 where
   Create : (ttl : ℕ) → (expected : Option Expected) → Query
   Renew : (revision : ℕ) → (ttl : ℕ) → (carried : Option (ℕ → Bool)) → Query

@@ -20,7 +20,8 @@ use Rattle.lease_law.specs.States.{Begging, Agent, State}
 use Rattle.lease_law.specs.Inputs.{Move, IsOnTime}
 use Rattle.lease_law.specs.Past.{members_in, sent_after, taken_after, runs_after}
 
--- the moments that feeds are measured from: the clock, when each message was sent, each hold that was taken, and the run of each agent
+-- the moments that feeds are measured from: the clock, when each message was sent, each hold that was taken, and the run of each
+-- agent
 pub record Moments : Type 0 where
   pub clock : ℕ
   pub sent : ℕ → Option ℕ
@@ -42,8 +43,8 @@ abbrev pub IsSentInTime : Option ℕ → ℕ → Option ℕ → Type 0
 IsSentInTime margin clock None = Unit {0}
 IsSentInTime margin clock (Some sent) = IsOnTime margin clock sent
 
--- a feed comes at most the margin after the grant that the answer of this number tells, which was sent at once; or after each hold that
--- one of the acknowledging members took for that failsafe request
+-- a feed comes at most the margin after the grant that the answer of this number tells, which was sent at once; or after each
+-- hold that one of the acknowledging members took for that failsafe request
 abbrev pub IsFeedInTime : (ℕ → Option ℕ) → Moments → ℕ → Basis → Type 0
 IsFeedInTime margin moments m (bases.Grant answer) = IsSentInTime (margin m) moments.clock (moments.sent answer)
 IsFeedInTime margin moments m (bases.Acknowledgements members sequence) =
@@ -80,8 +81,8 @@ abbrev pub AreHandsOff : List Event → Type 0
 AreHandsOff [] = Unit {0}
 AreHandsOff (event ∷ events) = IsHandsOffKind event.kind × AreHandsOff events
 
--- nobody pauses or promotes by hand: neither the first configuration nor one in the book pauses, no operator promotes a server, and each
--- member has a watchdog that is on and works
+-- nobody pauses or promotes by hand: neither the first configuration nor one in the book pauses, no operator promotes a server,
+-- and each member has a watchdog that is on and works
 pub record IsHandsOff (first : Settings) (works : ℕ → Bool) (book : List Event) : Type 0 where
   pub unpaused : first.config.pause ≡ false
   pub watched : (m : ℕ) → works m ≡ true
