@@ -1,35 +1,34 @@
 //! Laws of every run.
 ghost use Rattle.std.specs.Prelude.{ℕ, ◌≡◌, ◌+◌, ◌++◌, Bool, true, false, List, [], ◌∷◌, Option, Some};
+ghost use Rattle.pat_base.specs.declared.name.Name.{Name};
+ghost use Rattle.pat_base.specs.declared.ticks.Ticks.{Ticks};
+ghost use Rattle.lease_store.specs.Decision.{decision_on, Refusal, Grant as Grants};
+ghost use Rattle.lease_store.specs.Settings.{Settings};
+ghost use Rattle.lease_store.specs.declared.key.Key.{Key};
+ghost use Rattle.lease_store.specs.declared.txn.Expected.{Expected};
+ghost use Rattle.lease_store.specs.declared.txn.Txn.{Txn};
+ghost use Rattle.lease_store.specs.declared.txn_kind.TxnKind.{TxnKind};
+ghost use Rattle.lease_store.specs.declared.value.MemberInfo.{MemberInfo};
+ghost use Rattle.event_book.specs.Facts.{Facts, after, start_of};
 ghost use Rattle.event_book.specs.declared.event.Event.{Event};
+ghost use Rattle.event_book.specs.declared.event.Kind.TheVariants.{Tick as Ticked, Message};
+ghost use Rattle.event_book.specs.declared.event.Kind.{Kind};
+ghost use Rattle.event_book.specs.declared.event.MessageEvent.TheVariants.{Lost};
+ghost use Rattle.event_book.specs.declared.member.Member.{Member};
 ghost use Rattle.lease_law.specs.Actions.{Action, Tick, Deliver, Lose, Input, act, IsAllowed, MayBegin, taken_by};
 ghost use Rattle.lease_law.specs.Books.{Page, IsTold, AreAllowed, first_minds, book_of, minds_after};
 ghost use Rattle.lease_law.specs.Carried.{IsCarried};
 ghost use Rattle.lease_law.specs.Claims.{AreLawful, BeginsBehind, IsLawfulPage, MayBeginBehind};
-ghost use Rattle.event_book.specs.declared.event.Kind.{Kind};
-ghost use Rattle.event_book.specs.declared.event.Kind.TheVariants.{Tick as Ticked, Message};
-ghost use Rattle.event_book.specs.declared.event.MessageEvent.TheVariants.{Lost};
-ghost use Rattle.event_book.specs.Facts.{Facts, after, start_of};
-ghost use Rattle.lease_law.specs.Pauses.{NobodyPauses};
-ghost use Rattle.lease_law.specs.Stores.{IsSameStore, IsSpanned, is_granted, outcome_by};
-ghost use Rattle.lease_law.specs.Outcomes.{outcome_of};
-ghost use Rattle.lease_store.specs.declared.txn.Txn.{Txn};
-ghost use Rattle.lease_store.specs.Decision.{decision_on, Refusal, Grant as Grants};
-ghost use Rattle.lease_law.specs.Past.{Past, Mind, first_past, past_by, past_of, past_after, machine_of, query_of, state_of};
-ghost use Rattle.lease_law.specs.Inputs.{Move, IsInTime, IsOnTime};
 ghost use Rattle.lease_law.specs.Functions.{put_at};
+ghost use Rattle.lease_law.specs.Leases.{Beg, Requested, Read};
+ghost use Rattle.lease_law.specs.Outcomes.{outcome_of};
+ghost use Rattle.lease_law.specs.Past.{Past, Mind, first_past, past_by, past_of, past_after, machine_of, query_of, state_of};
+ghost use Rattle.lease_law.specs.Pauses.{NobodyPauses};
+ghost use Rattle.lease_law.specs.Premises.{IsTimely, IsHandsOff, IsHandsOffKind, AllAre};
+ghost use Rattle.lease_law.specs.States.{Declared, is_due, tick_machine};
+ghost use Rattle.lease_law.specs.Stores.{IsSameStore, IsSpanned, is_granted, outcome_by};
 ghost use Rattle.lease_law.specs.Telling.{IsOwn, IsQuiet, IsQuietAction, move_of, granted_events, refused_events, read_events};
-ghost use Rattle.lease_law.specs.Leases.{Beg, Answer, Answered, Grant, Requested, Read};
-ghost use Rattle.lease_law.specs.Premises.{IsTimely, IsHandsOff, IsHandsOffKind, IsAside, IsFedBy, AllAre, ShowsFeed};
-ghost use Rattle.lease_law.specs.States.{Declared, State, is_due, tick_machine};
 ghost use Rattle.lease_law.specs.Writers.{AcceptsWrites, Begins, HasOneWriter};
-ghost use Rattle.pat_base.specs.declared.name.Name.{Name};
-ghost use Rattle.pat_base.specs.declared.ticks.Ticks.{Ticks};
-ghost use Rattle.lease_store.specs.declared.key.Key.{Key};
-ghost use Rattle.lease_store.specs.declared.txn.Expected.{Expected};
-ghost use Rattle.lease_store.specs.declared.txn_kind.TxnKind.{TxnKind};
-ghost use Rattle.event_book.specs.declared.member.Member.{Member};
-ghost use Rattle.lease_store.specs.declared.value.MemberInfo.{MemberInfo};
-ghost use Rattle.lease_store.specs.Settings.{Settings};
 
 /// At most one server accepts writes.
 pub fn one_writer()
