@@ -1,3 +1,4 @@
+pub mod Changing
 pub mod Deciding
 pub mod Endings
 pub mod Expiring

@@ -18,7 +18,7 @@ pub record HasRoom (cluster : Cluster) (events : ℕ) : Type 0 where
 
 -- more than the events of any step
 abbrev pub step_cost : ℕ
-step_cost = 2 ^ 24
+step_cost = 16777216
 
 -- so many more steps can't bring a counter to its end
 pub record HasRoomFor (cluster : Cluster) (steps : ℕ) : Type 0 where
