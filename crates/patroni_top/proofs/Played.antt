@@ -1,71 +1,112 @@
 -- A run on its way: what is left, from the world as it is, is the rest of the whole.
-use Rattle.std.proofs.Common.{◌≡◌, ℕ, ◌+◌, ◌-◌, ◌≤◌, ◌<◌, List, [], ◌∷◌, ◌++◌, length, drop, Option, Some, Result, Ok, Err, arith, append_assoc, refl, ◌∙◌, ap, sym, suc, replicate}
+use Rattle.std.proofs.Common.{◌≡◌, Bool, ℕ, ◌+◌, ◌-◌, ◌*◌, ◌≤◌, ◌<◌, List, [], ◌∷◌, ◌++◌, length, drop, Option, Some, Result, Ok, Err, arith, append_assoc, refl, ◌∙◌, ap, sym, subst, suc, replicate}
 use Rattle.std.specs.Prelude.{slice_get}
 use Rattle.pat_base.specs.Outside.{Grew, GrewByPrefix}
 use Rattle.event_book.specs.declared.event.Event.{Event}
-use Rattle.event_book.specs.Facts.{Facts, after_all}
 use Rattle.event_book.specs.Text.{lines_of}
-use Rattle.event_book.proofs.Runs.{after_all-append, lines_of-append}
 use Rattle.cluster_script.specs.declared.line.Line.{Line}
 use Rattle.cluster_script.specs.declared.line.Step.{Step}
 use Rattle.cluster_script.specs.Steps.{steps_of, steps_of_line, total_ticks, ticks_of_line}
 use Rattle.patroni_top.specs.declared.print_error.PrintError.{PrintError}
+use Rattle.patroni_top.specs.Cluster.{Cluster, moved_all}
 use Rattle.patroni_top.specs.Next.{next_events, run_from}
 use Rattle.patroni_top.specs.Printing.{TakesAll}
-use Rattle.patroni_top.specs.Room.{HasRoomFor}
+use Rattle.patroni_top.specs.Room.{HasRoom, HasRoomFor}
+use Rattle.patroni_top.specs.Run.{printed_from, traced_after, traced_all}
+use Rattle.patroni_top.specs.Took.{Took}
 use Rattle.patroni_top.proofs.Progress.{Progress, Progress-start, Progress-more, Progress-stop, TakesAll-stop}
+use Rattle.patroni_top.proofs.Rooms.{HasRoom-fewer}
 use Rattle.patroni_top.proofs.Starting.{drop-get}
-
-pub run_from-append : (facts : Facts) (xs ys : List Step) → run_from facts (xs ++ ys) ≡ run_from facts xs ++ run_from (after_all facts (run_from facts xs)) ys
-run_from-append facts [] ys = refl
-run_from-append facts (x ∷ xs) ys =
-    ap (λ t. next_events facts x ++ t) (run_from-append (after_all facts (next_events facts x)) xs ys)
-    ∙ sym (append_assoc (next_events facts x) (run_from (after_all facts (next_events facts x)) xs) (run_from (after_all (after_all facts (next_events facts x)) (run_from (after_all facts (next_events facts x)) xs)) ys))
-    ∙ ap (λ f. (next_events facts x ++ run_from (after_all facts (next_events facts x)) xs) ++ run_from f ys) (sym (after_all-append facts (next_events facts x) (run_from (after_all facts (next_events facts x)) xs)))
+use Rattle.patroni_top.proofs.Taking.{moved_all-append}
 
 -- fewer steps have room too
-pub HasRoomFor-fewer : (facts : Facts) (n m : ℕ) → HasRoomFor facts n → m ≤ n → HasRoomFor facts m
-HasRoomFor-fewer facts n m room fewer = record { clock = omega (arith, room.clock); revision = omega (arith, room.revision) }
+pub HasRoomFor-fewer : (cluster : Cluster) (n m : ℕ) → HasRoomFor cluster n → m ≤ n → HasRoomFor cluster m
+HasRoomFor-fewer cluster n m room fewer = record { room = HasRoom-fewer cluster (16777216 * n) (16777216 * m) (omega (arith, fewer)) room.room }
 
-pub record Playing (before now : Option (List ℕ)) (faults after : ℕ) (CouldTake CanTake : ℕ → Type 0) (start world : Facts) (whole left : List Event) : Type 0 where
-  pub text : Progress before now faults after CouldTake CanTake (lines_of whole) (lines_of left)
-  pub state : after_all world left ≡ after_all start whole
+-- a step takes the room of one
+pub HasRoomFor-step : (cluster next : Cluster) (had has events : List Event) (steps : ℕ) → Took cluster next had has events 16777216 → HasRoomFor cluster (1 + steps) → HasRoomFor next steps
+HasRoomFor-step cluster next had has events steps took room = record {
+  room = took.room (16777216 * steps) (HasRoom-fewer cluster (16777216 * (1 + steps)) (16777216 + 16777216 * steps) (omega arith) room.room);
+}
 
-pub Playing-start : (content : Option (List ℕ)) (faults : ℕ) (CanTake : ℕ → Type 0) (start : Facts) (whole : List Event) → Playing content content faults faults CanTake CanTake start start whole whole
-Playing-start content faults CanTake start whole = record { text = Progress-start content faults CanTake (lines_of whole); state = refl }
+-- a piece is printed, and what is left is the rest, from the cluster as it is then
+pub record Goes (world : Cluster) (trace : Bool) (left : List Step) (piece : List ℕ) (new : Cluster) (later : Bool) (rest : List Step) : Type 0 where
+  pub text : printed_from world trace left ≡ piece ++ printed_from new later rest
+  pub state : moved_all new (run_from new rest) ≡ moved_all world (run_from world left)
+  pub traced : traced_all later rest ≡ traced_all trace left
 
-pub Playing-more : (before now then : Option (List ℕ)) (faults mid after : ℕ) (CouldTake CanTake CanTakeThen : ℕ → Type 0) (X : Type 0) (result : Result X PrintError) (x : X) (start world new : Facts) (whole left piece rest : List Event)
-    → Playing before now faults mid CouldTake CanTake start world whole left → left ≡ piece ++ rest → new ≡ after_all world piece → Grew now then (lines_of piece) → mid ≤ after → TakesAll CanTake CanTakeThen result (lines_of piece) → result ≡ Ok x
-    → Playing before then faults after CouldTake CanTakeThen start new whole rest
-Playing-more before now then faults mid after CouldTake CanTake CanTakeThen X result x start world new whole left piece rest p is state grew rose takes ok = record {
-  text = Progress-more before now then faults mid after CouldTake CanTake CanTakeThen X result x (lines_of whole) (lines_of left) (lines_of piece) (lines_of rest) p.text (ap lines_of is ∙ lines_of-append piece rest) grew rose takes ok;
-  state = ap (λ f. after_all f rest) state ∙ sym (after_all-append world piece rest) ∙ ap (after_all world) (sym is) ∙ p.state;
+pub Goes-step : (world new : Cluster) (trace later : Bool) (step : Step) (rest : List Step) → new ≡ moved_all world (next_events world step) → later ≡ traced_after trace step
+    → Goes world trace (step ∷ rest) (lines_of trace (next_events world step)) new later rest
+Goes-step world new trace later step rest is next = record {
+  text = ap (λ c. lines_of trace (next_events world step) ++ printed_from c (traced_after trace step) rest) (sym is) ∙ ap (λ t. lines_of trace (next_events world step) ++ printed_from new t rest) (sym next);
+  state = ap (λ c. moved_all c (run_from c rest)) is ∙ sym (moved_all-append world (next_events world step) (run_from (moved_all world (next_events world step)) rest));
+  traced = ap (λ t. traced_all t rest) next;
+}
+
+lines-go : (world : Cluster) (trace : Bool) (steps rest : List Step) → Goes world trace (steps ++ rest) (printed_from world trace steps) (moved_all world (run_from world steps)) (traced_all trace steps) rest
+lines-go world trace [] rest = record { text = refl; state = refl; traced = refl }
+lines-go world trace (step ∷ steps) rest =
+    let next = moved_all world (next_events world step) in
+    let more = lines-go next (traced_after trace step) steps rest in
+    let lines = lines_of trace (next_events world step) in
+    let same : moved_all world (run_from world (step ∷ steps)) ≡ moved_all next (run_from next steps) = moved_all-append world (next_events world step) (run_from next steps) in
+    record {
+      text = ap (λ t. lines ++ t) more.text ∙ sym (append_assoc lines (printed_from next (traced_after trace step) steps) (printed_from (moved_all next (run_from next steps)) (traced_all (traced_after trace step) steps) rest))
+          ∙ ap (λ c. (lines ++ printed_from next (traced_after trace step) steps) ++ printed_from c (traced_all (traced_after trace step) steps) rest) (sym same);
+      state = ap (λ c. moved_all c (run_from c rest)) same ∙ more.state ∙ sym (moved_all-append world (next_events world step) (run_from next (steps ++ rest)));
+      traced = more.traced;
+    }
+
+pub Goes-lines : (world new : Cluster) (trace later : Bool) (steps rest : List Step) → new ≡ moved_all world (run_from world steps) → later ≡ traced_all trace steps → Goes world trace (steps ++ rest) (printed_from world trace steps) new later rest
+Goes-lines world new trace later steps rest is next = rw (is, next) (lines-go world trace steps rest)
+
+pub record Playing (before now : Option (List ℕ)) (faults after : ℕ) (CouldTake CanTake : ℕ → Type 0) (start world : Cluster) (first trace : Bool) (whole left : List Step) : Type 0 where
+  pub text : Progress before now faults after CouldTake CanTake (printed_from start first whole) (printed_from world trace left)
+  pub state : moved_all world (run_from world left) ≡ moved_all start (run_from start whole)
+  pub traced : traced_all trace left ≡ traced_all first whole
+
+pub Playing-start : (content : Option (List ℕ)) (faults : ℕ) (CanTake : ℕ → Type 0) (start : Cluster) (first : Bool) (whole : List Step) → Playing content content faults faults CanTake CanTake start start first first whole whole
+Playing-start content faults CanTake start first whole = record { text = Progress-start content faults CanTake (printed_from start first whole); state = refl; traced = refl }
+
+pub Playing-more : (before now then : Option (List ℕ)) (faults mid after : ℕ) (CouldTake CanTake CanTakeThen : ℕ → Type 0) (X : Type 0) (result : Result X PrintError) (x : X) (start world new : Cluster) (first trace later : Bool) (whole left rest : List Step) (piece : List ℕ)
+    → Playing before now faults mid CouldTake CanTake start world first trace whole left → Goes world trace left piece new later rest → Grew now then piece → mid ≤ after → TakesAll CanTake CanTakeThen result piece → result ≡ Ok x
+    → Playing before then faults after CouldTake CanTakeThen start new first later whole rest
+Playing-more before now then faults mid after CouldTake CanTake CanTakeThen X result x start world new first trace later whole left rest piece p goes grew rose takes ok = record {
+  text = Progress-more before now then faults mid after CouldTake CanTake CanTakeThen X result x (printed_from start first whole) (printed_from world trace left) piece (printed_from new later rest) p.text goes.text grew rose takes ok;
+  state = goes.state ∙ p.state;
+  traced = goes.traced ∙ p.traced;
 }
 
 -- a call that stops in the midst of a piece has written a front of the whole
-pub Playing-stop : (before now then : Option (List ℕ)) (faults mid : ℕ) (CouldTake CanTake : ℕ → Type 0) (start world : Facts) (whole left piece rest : List Event)
-    → Playing before now faults mid CouldTake CanTake start world whole left → left ≡ piece ++ rest → GrewByPrefix now then (lines_of piece) → GrewByPrefix before then (lines_of whole)
-Playing-stop before now then faults mid CouldTake CanTake start world whole left piece rest p is part =
-    Progress-stop before now then faults mid CouldTake CanTake (lines_of whole) (lines_of left) (lines_of piece) (lines_of rest) p.text (ap lines_of is ∙ lines_of-append piece rest) part
+pub Playing-stop : (before now then : Option (List ℕ)) (faults mid : ℕ) (CouldTake CanTake : ℕ → Type 0) (start world : Cluster) (first trace : Bool) (whole left : List Step) (piece rest : List ℕ)
+    → Playing before now faults mid CouldTake CanTake start world first trace whole left → printed_from world trace left ≡ piece ++ rest → GrewByPrefix now then piece → GrewByPrefix before then (printed_from start first whole)
+Playing-stop before now then faults mid CouldTake CanTake start world first trace whole left piece rest p is part =
+    Progress-stop before now then faults mid CouldTake CanTake (printed_from start first whole) (printed_from world trace left) piece rest p.text is part
 
-pub Playing-wants : (before now : Option (List ℕ)) (faults mid : ℕ) (CouldTake CanTake CanTakeThen : ℕ → Type 0) (X Y : Type 0) (result : Result X PrintError) (final : Result Y PrintError) (e : PrintError) (start world : Facts) (whole left piece rest : List Event)
-    → Playing before now faults mid CouldTake CanTake start world whole left → left ≡ piece ++ rest → TakesAll CanTake CanTakeThen result (lines_of piece) → result ≡ Err e → final ≡ Err e → TakesAll CouldTake CanTakeThen final (lines_of whole)
-Playing-wants before now faults mid CouldTake CanTake CanTakeThen X Y result final e start world whole left piece rest p is takes err stops =
-    TakesAll-stop before now faults mid CouldTake CanTake CanTakeThen X Y result final e (lines_of whole) (lines_of left) (lines_of piece) (lines_of rest) p.text (ap lines_of is ∙ lines_of-append piece rest) takes err stops
+pub Playing-wants : (before now : Option (List ℕ)) (faults mid : ℕ) (CouldTake CanTake CanTakeThen : ℕ → Type 0) (X Y : Type 0) (result : Result X PrintError) (final : Result Y PrintError) (e : PrintError) (start world : Cluster) (first trace : Bool) (whole left : List Step) (piece rest : List ℕ)
+    → Playing before now faults mid CouldTake CanTake start world first trace whole left → printed_from world trace left ≡ piece ++ rest → TakesAll CanTake CanTakeThen result piece → result ≡ Err e → final ≡ Err e
+    → TakesAll CouldTake CanTakeThen final (printed_from start first whole)
+Playing-wants before now faults mid CouldTake CanTake CanTakeThen X Y result final e start world first trace whole left piece rest p is takes err stops =
+    TakesAll-stop before now faults mid CouldTake CanTake CanTakeThen X Y result final e (printed_from start first whole) (printed_from world trace left) piece rest p.text is takes err stops
+
+ticks-left : (step : Step) (i n : ℕ) → i < n → replicate (n - i) step ≡ step ∷ replicate (n - (i + 1)) step
+ticks-left step i n h =
+    let e : n - i ≡ suc (n - (i + 1)) = omega (arith, h) in
+    rw e refl
 
 -- steps of one kind that are left, one and then the others
-pub ticks-next : (step : Step) (facts new : Facts) (i n : ℕ) → i < n → new ≡ after_all facts (next_events facts step) → run_from facts (replicate (n - i) step) ≡ next_events facts step ++ run_from new (replicate (n - (i + 1)) step)
-ticks-next step facts new i n h is =
-    let e : n - i ≡ suc (n - (i + 1)) = omega arith in
-    rw (e, is) refl
+pub ticks-next : (world new : Cluster) (trace later : Bool) (step : Step) (i n : ℕ) → i < n → new ≡ moved_all world (next_events world step) → later ≡ traced_after trace step
+    → Goes world trace (replicate (n - i) step) (lines_of trace (next_events world step)) new later (replicate (n - (i + 1)) step)
+ticks-next world new trace later step i n h is next =
+    subst (λ (left : List Step). Goes world trace left (lines_of trace (next_events world step)) new later (replicate (n - (i + 1)) step)) (sym (ticks-left step i n h))
+    (Goes-step world new trace later step (replicate (n - (i + 1)) step) is next)
 
 -- lines that are left, one and then the others
-pub body-next : (facts new : Facts) (body : List Line) (i : ℕ) (line : Line) → slice_get body i ≡ Some line → new ≡ after_all facts (run_from facts (steps_of_line line))
-    → run_from facts (steps_of (drop i body)) ≡ run_from facts (steps_of_line line) ++ run_from new (steps_of (drop (i + 1) body))
-body-next facts new body i line is state =
-    ap (λ b. run_from facts (steps_of b)) (drop-get Line body i line is)
-    ∙ run_from-append facts (steps_of_line line) (steps_of (drop (i + 1) body))
-    ∙ ap (λ f. run_from facts (steps_of_line line) ++ run_from f (steps_of (drop (i + 1) body))) (sym state)
+pub body-next : (world new : Cluster) (trace later : Bool) (body : List Line) (i : ℕ) (line : Line) → slice_get body i ≡ Some line → new ≡ moved_all world (run_from world (steps_of_line line)) → later ≡ traced_all trace (steps_of_line line)
+    → Goes world trace (steps_of (drop i body)) (printed_from world trace (steps_of_line line)) new later (steps_of (drop (i + 1) body))
+body-next world new trace later body i line found is next =
+    subst (λ (left : List Step). Goes world trace left (printed_from world trace (steps_of_line line)) new later (steps_of (drop (i + 1) body))) (sym (ap steps_of (drop-get Line body i line found)))
+    (Goes-lines world new trace later (steps_of_line line) (steps_of (drop (i + 1) body)) is next)
 
 pub total_ticks-next : (body : List Line) (i : ℕ) (line : Line) → slice_get body i ≡ Some line → total_ticks (drop i body) + length (drop i body) ≡ (ticks_of_line line + 1) + (total_ticks (drop (i + 1) body) + length (drop (i + 1) body))
 total_ticks-next body i line is =

@@ -649,7 +649,7 @@ fn agents_of(alloc: Global, count: usize) -> Result<Vec<AgentState>, AllocError>
     ensures { IfOk result (λ agents. agents.items ≡ first_agents count) }
 {
     let mut agents = Vec::new(alloc);
-    for _ in 0..count {
+    for made in 0..count {
         agents.push(AgentState {
             running: true,
             held: false,

@@ -1,0 +1,5 @@
+use Rattle.patroni_top.proofs.Starting.{phases-more}
+use Rattle.patroni_top.proofs.world.phases_of.Goals as goal
+
+pub loop-place-preserved : goal.loop-place-preserved
+loop-place-preserved c = phases-more _ _ c.loop-place.place c.args.count c.loop-place-test.true c.loop-place.invariant ?
