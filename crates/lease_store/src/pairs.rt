@@ -94,11 +94,7 @@ fn has_absent(pairs: &[(Key, Held)], now: Ticks) -> bool
 }
 
 /// The keys that are absent at a moment. It fails only for want of memory.
-pub fn absent_keys(
-    alloc: Global,
-    pairs: &[(Key, Held)],
-    now: Ticks,
-) -> Result<Vec<Key>, AllocError>
+pub fn absent_keys(alloc: Global, pairs: &[(Key, Held)], now: Ticks) -> Result<Vec<Key>, AllocError>
     ensures { IfOk result (λ keys. keys.items ≡ absent_keys now.0 pairs.now) }
 {
     let mut keys = Vec::new(alloc);

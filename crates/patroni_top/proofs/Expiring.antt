@@ -92,6 +92,6 @@ ticks-took cluster after had mid has tick at state mid_is has_is =
     let second = expiries-took (moved cluster kinds.Tick) holder all (had ++ happens cluster kinds.Tick) in
     let whole = Took-then cluster (moved cluster kinds.Tick) (moved cluster kinds.Tick) had (had ++ happens cluster kinds.Tick) _ (happens cluster kinds.Tick) (λ later. all_happen later (expiries_of holder all)) 1 0 1 first second (omega arith) in
     let events : has ≡ (had ++ happens cluster kinds.Tick) ++ stamped moment (expiries_of holder all) =
-        has_is ∙ ap (λ m. m ++ stamped tick (expiries_of holder all)) mid_is
-        ∙ ap (λ (t : Ticks). let event : Event = record { tick = t; kind = kinds.Tick } in (had ++ event ∷ []) ++ stamped t (expiries_of holder all)) same in
+    has_is ∙ ap (λ m. m ++ stamped tick (expiries_of holder all)) mid_is
+    ∙ ap (λ (t : Ticks). let event : Event = record { tick = t; kind = kinds.Tick } in (had ++ event ∷ []) ++ stamped t (expiries_of holder all)) same in
     rw (state, events) whole

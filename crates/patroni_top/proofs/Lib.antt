@@ -5,6 +5,7 @@ pub mod Flights
 pub mod Input
 pub mod Played
 pub mod Progress
+pub mod Rest
 pub mod Rooms
 pub mod Seats
 pub mod Sending
@@ -12,5 +13,6 @@ pub mod Starting
 pub mod Taking
 pub mod Telling
 pub mod TurnRooms
+pub mod Waking
 pub mod Whole
 pub mod Worlds

@@ -1,6 +1,7 @@
 -- Members with their agents.
-use Rattle.std.proofs.Common.{◌≡◌, ℕ, ◌+◌, ◌^◌, ◌<◌, ◌≤◌, List, Option, Some, None, arith, refl, ap, sym, ◌∙◌, subst}
+use Rattle.std.proofs.Common.{◌≡◌, ℕ, ◌+◌, ◌^◌, ◌<◌, ◌≤◌, List, length, Option, Some, None, arith, refl, ap, sym, ◌∙◌, subst}
 use Rattle.std.specs.Prelude.{slice_get, slice_set}
+use Rattle.std.proofs.lemmas.List.{length-set}
 use Rattle.std.proofs.lemmas.Option.{none-some, same_Some}
 use Rattle.event_book.specs.declared.agent_state.AgentState.{AgentState}
 use Rattle.event_book.specs.declared.member.Member.{Member}
@@ -47,7 +48,15 @@ pub changed-is : (X : Type 0) (xs : List X) (member : Member) (x : X) (change : 
 changed-is X xs member x change is = rw is refl
 
 pub phase-room : (cluster : Cluster) (events : ℕ) (number : ℕ) (phase : Phase) → slice_get cluster.phases number ≡ Some phase → HasRoom cluster events → PhaseHasRoom cluster.book.clock events phase
-phase-room cluster events number phase is room = All-at Phase _ cluster.phases number phase room.phases is
+phase-room cluster events number phase is room = All-at Phase (PhaseHasRoom cluster.book.clock events) cluster.phases number phase room.phases is
 
 pub run-room : (cluster : Cluster) (events : ℕ) (number : ℕ) (state : AgentState) → slice_get cluster.book.agents number ≡ Some state → HasRoom cluster events → state.run + events < 2 ^ 60
 run-room cluster events number state is room = All-at AgentState (λ (s : AgentState). s.run + events < 2 ^ 60) cluster.book.agents number state room.runs is
+
+length-changed_at : (X : Type 0) (xs : List X) (n : ℕ) (change : X → X) (found : Option X) → length (changed_at xs n change found) ≡ length xs
+length-changed_at X xs n change None = refl
+length-changed_at X xs n change (Some x) = length-set xs n (change x)
+
+-- what is changed of one keeps how many there are
+pub length-changed : (X : Type 0) (xs : List X) (member : Member) (change : X → X) → length (changed xs member change) ≡ length xs
+length-changed X xs member change = length-changed_at X xs member.id.number change (slice_get xs member.id.number)

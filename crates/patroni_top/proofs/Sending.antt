@@ -31,7 +31,7 @@ lost-took cluster number had false = rw (append-nil had) (Took-nothing cluster h
 
 launch-is : (cluster : Cluster) (message : Message) (lost : Bool) → nat_le most_in_flight (length cluster.book.flight) ≡ lost
     → with_flight cluster (launched_into cluster.book.flight (cluster.book.sent + 1) (launched cluster.book.clock cluster.book.keys message)) (cluster.book.sent + 1)
-      ≡ lost-if (moved cluster (kinds.Message (Sent (cluster.book.sent + 1) message))) (cluster.book.sent + 1) lost
+    ≡ lost-if (moved cluster (kinds.Message (Sent (cluster.book.sent + 1) message))) (cluster.book.sent + 1) lost
 launch-is cluster message true e = rw e refl
 launch-is cluster message false e = rw e refl
 
@@ -66,8 +66,8 @@ send-took cluster after message tick flight lost had mid has at launch full afte
     let number = cluster.book.sent + 1 in
     let sent : ◌≡◌ {A = List Event} ((record { tick = tick; kind = kind }) ∷ []) (happens cluster kind) = ap (λ (n : ℕ). let event : Event = record { tick = record { 0 = n }; kind = kind } in event ∷ []) at in
     let events : has ≡ had ++ sends cluster message =
-        has_is ∙ ap (λ m. m ++ stamped tick (lost_at_once lost number)) (mid_is ∙ ap (λ es. had ++ es) sent) ∙ append_assoc had (happens cluster kind) (stamped tick (lost_at_once lost number))
-        ∙ ap (λ es. had ++ (happens cluster kind ++ es)) (stamped-lost (moved cluster kind) tick number lost at)
-        ∙ ap (λ b. had ++ (happens cluster kind ++ all_happen (moved cluster kind) (lost_at_once b number))) full in
+    has_is ∙ ap (λ m. m ++ stamped tick (lost_at_once lost number)) (mid_is ∙ ap (λ es. had ++ es) sent) ∙ append_assoc had (happens cluster kind) (stamped tick (lost_at_once lost number))
+    ∙ ap (λ es. had ++ (happens cluster kind ++ es)) (stamped-lost (moved cluster kind) tick number lost at)
+    ∙ ap (λ b. had ++ (happens cluster kind ++ all_happen (moved cluster kind) (lost_at_once b number))) full in
     let state : after ≡ lost-if (moved cluster kind) number lost = after_is ∙ ap (λ f. with_flight cluster f number) launch ∙ launch-is cluster message lost (sym full) in
     rw (state, events) (sent-took cluster message had lost (sym full))

@@ -85,28 +85,37 @@ seat_if cluster (Some member) = seat_for cluster member
 abbrev pub seat_at : Cluster → ℕ → Option Seat
 seat_at cluster place = seat_if cluster (slice_get cluster.book.members place)
 
--- what an agent asks of the store
-abbrev pub question : Seat → Reaction → Body → Message
-question seat reaction body = record { from = link_ends.Member seat.member; to = link_ends.Store; run = seat.state.run; sequence = reaction.phase.sequence; body = body }
+-- what an agent asks of the store in its run of this number
+abbrev pub question : Member → ℕ → ℕ → Body → Message
+question member run sequence body = record { from = link_ends.Member member; to = link_ends.Store; run = run; sequence = sequence; body = body }
 
-abbrev pub asked : Cluster → Seat → Reaction → Option Body → List Event
-asked cluster seat reaction None = []
-asked cluster seat reaction (Some body) = sends cluster (question seat reaction body)
+abbrev pub asked_in : Cluster → Member → ℕ → Body → Option AgentState → List Event
+asked_in cluster member sequence body None = []
+asked_in cluster member sequence body (Some state) = sends cluster (question member state.run sequence body)
 
--- an agent sends what its reaction asks
-abbrev pub reacts : Cluster → Seat → Reaction → List Event
-reacts cluster seat reaction = asked cluster seat reaction reaction.asks
+abbrev pub asked : Cluster → Member → ℕ → Option Body → List Event
+asked cluster member sequence None = []
+asked cluster member sequence (Some body) = asked_in cluster member sequence body (slice_get cluster.book.agents member.id.number)
+
+-- the agent of a member sends what its reaction asks, if it has one
+abbrev pub reacts : Cluster → Member → Option Reaction → List Event
+reacts cluster member None = []
+reacts cluster member (Some reaction) = asked cluster member reaction.phase.sequence reaction.asks
 
 -- an agent that runs, isn't held and has something to do
 abbrev pub is_ready : ℕ → Seat → Bool
 is_ready now seat = seat.state.running && (not seat.state.held && is_due now seat.phase)
 
-abbrev pub woken_at : Cluster → Seat → List Event
-woken_at cluster seat = followed cluster (happens cluster (kinds.Agent (Woken seat.member))) (λ later. reacts later seat (woken cluster.book.clock seat.phase))
+-- what the agent of a member does when it is woken
+abbrev pub roused : ℕ → List Phase → Member → Option Reaction
+roused now phases member = option_map (woken now) (slice_get phases member.id.number)
+
+abbrev pub woken_at : Cluster → Member → List Event
+woken_at cluster member = followed cluster (happens cluster (kinds.Agent (Woken member))) (λ later. reacts later member (roused cluster.book.clock cluster.phases member))
 
 abbrev pub wake : Cluster → Option Seat → List Event
 wake cluster None = []
-wake cluster (Some seat) = if is_ready cluster.book.clock seat then woken_at cluster seat else []
+wake cluster (Some seat) = if is_ready cluster.book.clock seat then woken_at cluster seat.member else []
 
 -- the agent of a member is woken, where it has something to do
 abbrev pub wake_at : Cluster → ℕ → List Event
@@ -146,16 +155,13 @@ abbrev pub answers : Cluster → ℕ → Message → List Event
 answers cluster number message = answers_body cluster number message message.body
 
 -- what the agent of a member does on a message
-abbrev pub listened : Cluster → InFlightFacts → Member → Option (Seat × Reaction)
-listened cluster message member = option_map (λ seat. (seat, heard cluster.book.clock member.id message seat.phase)) (seat_for cluster member)
-
-abbrev pub reacts_if : Cluster → Option (Seat × Reaction) → List Event
-reacts_if cluster None = []
-reacts_if cluster (Some heard) = reacts cluster heard.0 heard.1
+abbrev pub listened : ℕ → List Phase → InFlightFacts → Member → Option Reaction
+listened now phases message member = option_map (heard now member.id message) (slice_get phases member.id.number)
 
 -- the agent of a member acts on a message that comes
 abbrev pub hears : Cluster → ℕ → InFlightFacts → Member → List Event
-hears cluster number message member = followed cluster (happens cluster (kinds.Message (Delivered number))) (λ later. reacts_if later (listened cluster message member))
+hears cluster number message member =
+    followed cluster (happens cluster (kinds.Message (Delivered number))) (λ later. reacts later member (listened cluster.book.clock cluster.phases message member))
 
 abbrev pub comes_to : Cluster → ℕ → InFlightFacts → LinkEnd → List Event
 comes_to cluster number message link_ends.Store = followed cluster (happens cluster (kinds.Message (Delivered number))) (λ later. answers later number message.message)

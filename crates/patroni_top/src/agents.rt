@@ -1,12 +1,16 @@
 //! Agents of members: what commands change of them, and which are ready.
-ghost use Rattle.std.specs.Prelude.{◌≡◌, slice_get, true, false, IfSome};
+ghost use Rattle.std.specs.Prelude.{◌≡◌, ◌<◌, ◌^◌, slice_get, true, false, IfSome, All};
 ghost use Rattle.event_book.specs.Agents.{agents_by, changed, running_in};
 ghost use Rattle.patroni_top.specs.Calm.{IsCalm};
 ghost use Rattle.patroni_top.specs.Commands.{hold_of, resume_of, kill_of};
-ghost use Rattle.patroni_top.specs.Next.{is_ready, seat_of};
+ghost use Rattle.patroni_top.specs.Next.{is_ready, seat_of, roused, listened};
+ghost use Rattle.patroni_top.specs.Room.{PhaseHasRoom};
+ghost use Rattle.patroni_top.specs.Short.{AsksShortly};
+ghost use Rattle.patroni_top.specs.Turns.{fresh_phase, woken, heard};
 
-use crate::agent::is_due;
-use crate::phase::{Phase, Seat};
+use crate::agent::{fresh_phase, heard, is_due, woken};
+use crate::flight::InFlight;
+use crate::phase::{Phase, Reaction, Seat};
 use event_book::{AgentEvent, AgentState, Member};
 use pat_base::Ticks;
 
@@ -127,12 +131,47 @@ fn begin(agents: &mut [AgentState], agent: Member, run: u64)
     }
 }
 
-/// Lets the agent of a member stand here from now on.
-pub fn set_phase(phases: &mut [Phase], agent: Member, phase: Phase)
-    ensures { phases.new ≡ changed phases.old agent (λ before. phase) }
+/// The agent of a member is woken. Answers what it does, where there is one.
+pub fn rouse(phases: &mut [Phase], now: Ticks, member: Member) -> Option<Reaction>
+    requires clock { now.0 < 2 ^ 61 }
+    requires room { All (PhaseHasRoom now.0 1) phases.old }
+    ensures phases { phases.new ≡ changed phases.old member (λ phase. (woken now.0 phase).phase) }
+    ensures reaction { result ≡ roused now.0 phases.old member }
+    ensures short { IfSome result (λ reaction. AsksShortly reaction.asks) }
 {
-    let place = agent.id.number as usize;
+    let place = member.id.number as usize;
+    let phase = *phases.get(place)?;
+    let reaction = woken(now, phase);
+    phases[place] = reaction.phase;
+    Some(reaction)
+}
+
+/// The agent of a member hears a message. Answers what it does, where there is one.
+pub fn listen(
+    phases: &mut [Phase],
+    now: Ticks,
+    message: &InFlight,
+    member: Member,
+) -> Option<Reaction>
+    requires clock { now.0 < 2 ^ 61 }
+    requires room { All (PhaseHasRoom now.0 1) phases.old }
+    ensures phases { phases.new ≡ changed phases.old member (λ phase. (heard now.0 member.id message.now phase).phase) }
+    ensures reaction { result ≡ listened now.0 phases.old message.now member }
+    ensures short { IfSome result (λ reaction. AsksShortly reaction.asks) }
+{
+    let place = member.id.number as usize;
+    let phase = *phases.get(place)?;
+    let reaction = heard(now, member.id, message, phase);
+    phases[place] = reaction.phase;
+    Some(reaction)
+}
+
+/// The agent of a member starts, with its first turn at this moment.
+pub fn start(phases: &mut [Phase], member: Member, first_turn: Ticks)
+    ensures { phases.new ≡ changed phases.old member (λ phase. fresh_phase first_turn.0) }
+{
+    let place = member.id.number as usize;
     if place < phases.len() {
-        phases[place] = phase;
+        phases[place] = fresh_phase(first_turn);
     }
 }

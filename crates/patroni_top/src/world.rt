@@ -8,16 +8,18 @@ ghost use Rattle.event_book.specs.Agents.{first_agents};
 ghost use Rattle.event_book.specs.Flight.{in_flight, snapshot_for, grant_for};
 ghost use Rattle.event_book.specs.Members.{members_from};
 ghost use Rattle.patroni_top.specs.Calm.{IsCalm};
-ghost use Rattle.patroni_top.specs.Cluster.{cluster_of, first_phases, phases_told};
+ghost use Rattle.patroni_top.specs.Cluster.{cluster_of, first_phases};
 ghost use Rattle.patroni_top.specs.Commands.{agent_kinds, link_kinds, restart_kinds, link_of};
-ghost use Rattle.patroni_top.specs.Next.{all_happen, happens, stamped, lost_at_once, sends, seat_at, reacts, reacts_if, listened, wake_at, wakes, answer_to, answers, decides, comes_found, moves, all_move, round, rounds, most_rounds, declared_member, expiry_of, expiries_of, ticks, delivers, loses, command_events, next_events};
+ghost use Rattle.patroni_top.specs.Next.{all_happen, happens, stamped, lost_at_once, sends, seat_at, reacts, asked, wake_at, wakes, answer_to, answers, decides, comes_found, moves, all_move, round, rounds, most_rounds, declared_member, expiry_of, expiries_of, ticks, delivers, loses, command_events, next_events};
 ghost use Rattle.patroni_top.specs.Room.{HasRoom, HasRoomFor};
 ghost use Rattle.patroni_top.specs.Short.{IsShort, AsksShortly};
 ghost use Rattle.patroni_top.specs.Took.{Took};
 ghost use Rattle.patroni_top.specs.Ways.{way_of};
 
-use crate::agent::{fresh_phase, heard, woken};
-use crate::agents::{change_agents, hold_of, is_ready, kill_of, resume_of, seat_for, set_phase};
+use crate::agent::fresh_phase;
+use crate::agents::{
+    change_agents, hold_of, is_ready, kill_of, listen, resume_of, rouse, seat_for, start,
+};
 use crate::flight::{Flight, InFlight};
 use crate::links::{change_links, cut_of, join_of, link_of};
 use crate::phase::{Phase, Reaction, Seat};
@@ -196,11 +198,10 @@ impl World {
         if !is_ready(self.clock, &seat) {
             return Ok(());
         }
-        let reaction = woken(self.clock, seat.phase);
-        set_phase(&mut self.phases, seat.member, reaction.phase);
-        let woken = AgentEvent::Woken { agent: seat.member };
-        note(events, self.clock, Kind::Agent(woken))?;
-        self.react(&seat, reaction, events)
+        let agent = seat.member;
+        let reaction = rouse(&mut self.phases, self.clock, agent);
+        note(events, self.clock, Kind::Agent(AgentEvent::Woken { agent }))?;
+        self.react(agent, reaction, events)
     }
 
     /// These messages move, one after another.
@@ -295,75 +296,68 @@ impl World {
                 self.answer(number, &carried.message, events)
             }
             LinkEnd::Member(member) => {
-                let reaction = self.listen(&carried, member);
+                let reaction = listen(&mut self.phases, self.clock, &carried, member);
                 note(
                     events,
                     self.clock,
                     Kind::Message(MessageEvent::Delivered { number }),
                 )?;
-                self.react_if(reaction, events)
+                self.react(member, reaction, events)
             }
         }
     }
 
-    /// The agent of a member acts on a message.
-    fn listen(&mut self, carried: &InFlight, member: Member) -> Option<(Seat, Reaction)>
-        requires { HasRoom self.old 4 }
-        ensures state { self.new ≡ record self.old { phases = phases_told self.old.book.clock self.old.phases carried.now (LinkEnd.Member member) } }
-        ensures reaction { result ≡ listened self.old carried.now member }
-        ensures short { IfSome result (λ heard. AsksShortly heard.1.asks) }
-    {
-        let place = member.id.number as usize;
-        let phase = *self.phases.get(place)?;
-        let reaction = heard(self.clock, member.id, carried, phase);
-        set_phase(&mut self.phases, member, reaction.phase);
-        let state = *self.agents.get(place)?;
-        let seat = Seat {
-            member,
-            state,
-            phase,
-        };
-        Some((seat, reaction))
-    }
-
-    fn react_if(
+    /// The agent of a member sends what its reaction asks, if it has one.
+    fn react(
         &mut self,
-        reaction: Option<(Seat, Reaction)>,
+        member: Member,
+        reaction: Option<Reaction>,
         events: &mut Vec<Event>,
     ) -> Result<(), AllocError>
         requires room { HasRoom self.old 2 }
-        requires short { IfSome reaction (λ heard. AsksShortly heard.1.asks) }
-        ensures { OnOk result (Took self.old self.new events.old.items events.new.items (reacts_if self.old reaction) 2) }
+        requires short { IfSome reaction (λ r. AsksShortly r.asks) }
+        ensures { OnOk result (Took self.old self.new events.old.items events.new.items (reacts self.old member reaction) 2) }
     {
         match reaction {
             None => Ok(()),
-            Some((seat, reaction)) => self.react(&seat, reaction, events),
+            Some(reaction) => self.ask(member, reaction.phase.sequence, reaction.asks, events),
         }
     }
 
-    /// An agent sends what its reaction asks.
-    fn react(
+    /// The agent of a member asks the store, if it has a question.
+    fn ask(
         &mut self,
-        seat: &Seat,
-        reaction: Reaction,
+        member: Member,
+        sequence: u64,
+        asks: Option<Body>,
         events: &mut Vec<Event>,
     ) -> Result<(), AllocError>
         requires room { HasRoom self.old 2 }
-        requires short { AsksShortly reaction.asks }
-        ensures { OnOk result (Took self.old self.new events.old.items events.new.items (reacts self.old seat.now reaction) 2) }
+        requires short { AsksShortly asks }
+        ensures { OnOk result (Took self.old self.new events.old.items events.new.items (asked self.old member sequence asks) 2) }
     {
-        let Reaction { phase, asks } = reaction;
         let Some(body) = asks else {
             return Ok(());
         };
+        let Some(state) = self.state(member) else {
+            return Ok(());
+        };
         let question = Message {
-            from: LinkEnd::Member(seat.member),
+            from: LinkEnd::Member(member),
             to: LinkEnd::Store,
-            run: seat.state.run,
-            sequence: phase.sequence,
+            run: state.run,
+            sequence,
             body,
         };
         self.send(question, None, events)
+    }
+
+    /// Whether the agent of a member runs, and in which run.
+    fn state(&self, member: Member) -> Option<AgentState>
+        ensures { result ≡ slice_get self.now.book.agents member.id.number }
+    {
+        let state = self.agents.get(member.id.number as usize)?;
+        Some(*state)
     }
 
     /// The store answers a read with a snapshot, and a request with its decision.
@@ -517,7 +511,7 @@ impl World {
             run: seat.state.run + 1,
         };
         change_agents(&mut self.agents, &started);
-        set_phase(&mut self.phases, agent, fresh_phase(first_turn));
+        start(&mut self.phases, agent, first_turn);
         note(events, self.clock, Kind::Agent(started))
     }
 

@@ -19,6 +19,6 @@ returns c =
     on_ok_weaker c.note_expiries.result
     (λ has. subst (λ (b : Cluster). Took b after c.args.events.now.items c.note_expiries.new.events.items (ticks b) 1) c.self.view_is
     (ticks-took before after c.args.events.now.items c.note.new.events.items c.note_expiries.new.events.items _ refl state c.in_ok-note.ensures
-    (has ∙ ap (λ ks. c.note.new.events.items ++ stamped _ (expiries_of c.declared_member-holder.result ks)) all
-    ∙ ap (λ h. c.note.new.events.items ++ stamped _ (expiries_of h (expired_keys before.book.keys (before.book.clock + 1)))) holder)))
+    (has ∙ ap (λ ks. c.note.new.events.items ++ stamped (record { 0 = before.book.clock + 1 }) (expiries_of c.declared_member-holder.result ks)) all
+    ∙ ap (λ h. c.note.new.events.items ++ stamped (record { 0 = before.book.clock + 1 }) (expiries_of h (expired_keys before.book.keys (before.book.clock + 1)))) holder)))
     c.note_expiries.ensures
