@@ -1,13 +1,14 @@
 -- A part of a step on its way: what is left, from the cluster as it is, completes the whole.
-use Rattle.std.proofs.Common.{◌≡◌, ℕ, ◌+◌, ◌-◌, ◌*◌, ◌≤◌, ◌<◌, List, [], ◌∷◌, ◌++◌, length, drop, get_or, arith, append-nil, append_assoc, refl, ◌∙◌, ap, sym, subst, suc}
+use Rattle.std.proofs.Common.{◌≡◌, ℕ, ◌+◌, ◌-◌, ◌*◌, ◌≤◌, ◌<◌, true, false, List, [], ◌∷◌, ◌++◌, length, length-append, drop, get_or, arith, append-nil, append_assoc, refl, ◌∙◌, ap, sym, subst, suc}
+use Rattle.std.specs.Map.{keys_of}
 use Rattle.std.proofs.lemmas.List.{drop_more, drop_all, length-drop}
 use Rattle.event_book.specs.declared.event.Event.{Event}
 use Rattle.patroni_top.specs.Cluster.{Cluster, moved_all}
-use Rattle.patroni_top.specs.Next.{followed, wakes, wake_at, all_move, moves}
+use Rattle.patroni_top.specs.Next.{followed, wakes, wake_at, all_move, moves, round, rounds, is_empty}
 use Rattle.patroni_top.specs.Room.{HasRoom}
 use Rattle.patroni_top.specs.Took.{Took}
 use Rattle.patroni_top.proofs.Rooms.{HasRoom-fewer}
-use Rattle.patroni_top.proofs.Taking.{moved_all-append}
+use Rattle.patroni_top.proofs.Taking.{moved_all-append, Took-then}
 
 -- what happened so far, and the rest, are the whole; the rest has room
 pub record Left (start cluster : Cluster) (had has whole rest : List Event) (cost left : ℕ) : Type 0 where
@@ -49,12 +50,65 @@ wakes-none cluster place n e = rw e refl
 pub wakes-end : (cluster : Cluster) (place count : ℕ) → count ≤ place → wakes cluster place (count - place) ≡ []
 wakes-end cluster place count h = wakes-none cluster place (count - place) (omega arith)
 
-pub moves-next : (cluster : Cluster) (numbers : List ℕ) (at number : ℕ) → at < length numbers → number ≡ get_or numbers at number
-    → all_move cluster (drop at numbers) ≡ followed cluster (moves cluster number) (λ later. all_move later (drop (at + 1) numbers))
-moves-next cluster numbers at number h is = ap (all_move cluster) (drop_more numbers at number h ∙ ap (λ n. n ∷ drop (at + 1) numbers) (sym is))
+pub moves-next : (cluster : Cluster) (numbers : List ℕ) (at : ℕ) → at < length numbers
+    → all_move cluster (drop at numbers) ≡ followed cluster (moves cluster (get_or numbers at 0)) (λ later. all_move later (drop (at + 1) numbers))
+moves-next cluster numbers at h = ap (all_move cluster) (drop_more numbers at 0 h)
 
 pub moves-end : (cluster : Cluster) (numbers : List ℕ) (at : ℕ) → length numbers ≤ at → all_move cluster (drop at numbers) ≡ []
 moves-end cluster numbers at h = ap (all_move cluster) (drop_all at numbers h)
 
 pub left-one : (numbers : List ℕ) (at : ℕ) → at < length numbers → length (drop at numbers) ≡ 1 + length (drop (at + 1) numbers)
 left-one numbers at h = omega (arith, length-drop at numbers, length-drop (at + 1) numbers)
+
+rounds-one : (cluster : Cluster) (n k : ℕ) → n ≡ suc k → is_empty (round cluster) ≡ false → rounds cluster n ≡ followed cluster (round cluster) (λ later. rounds later k)
+unfolding rounds
+rounds-one cluster n k e some = rw e (rw some refl)
+
+rounds-last : (cluster : Cluster) (n k : ℕ) → n ≡ suc k → is_empty (round cluster) ≡ true → rounds cluster n ≡ []
+unfolding rounds
+rounds-last cluster n k e none = rw e (rw none refl)
+
+empty-of : (events : List Event) → length events ≡ 0 → (is_empty events ≡ true) × (events ≡ [])
+empty-of [] e = (refl, refl)
+empty-of (event ∷ events) e = absurd (omega (arith, e))
+
+not-empty : (events : List Event) → (length events ≡ 0 → ⊥) → is_empty events ≡ false
+not-empty [] e = absurd (e refl)
+not-empty (event ∷ events) e = refl
+
+-- a round in which something happened, and then the rounds that may follow
+pub rounds-next : (cluster : Cluster) (at : ℕ) (had has : List Event) → at < 40 → has ≡ had ++ round cluster → (length has ≡ length had → ⊥)
+    → rounds cluster (40 - at) ≡ followed cluster (round cluster) (λ later. rounds later (40 - (at + 1)))
+rounds-next cluster at had has h is grew =
+    rounds-one cluster (40 - at) (40 - (at + 1)) (omega (arith, h)) (not-empty (round cluster) (λ e. grew (omega (arith, ap length is, length-append had (round cluster), e))))
+
+-- a round in which nothing happened is the last
+pub rounds-done : (start cluster next : Cluster) (had has longer whole : List Event) (at cost left : ℕ) → Left start cluster had has whole (rounds cluster (40 - at)) cost left → at < 40
+    → Took cluster next has longer (round cluster) 262192 → length longer ≡ length has → Took start next had longer whole cost
+rounds-done start cluster next had has longer whole at cost left l h took same =
+    let none = empty-of (round cluster) (omega (arith, ap length took.event, length-append has (round cluster), same)) in
+    let last : rounds cluster (40 - at) ≡ [] = rounds-last cluster (40 - at) (40 - (at + 1)) (omega (arith, h)) none.0 in
+    let state : next ≡ cluster = took.state ∙ ap (moved_all cluster) none.1 in
+    let event : longer ≡ has = took.event ∙ ap (λ es. has ++ es) none.1 ∙ append-nil has in
+    rw (state, event) (Left-end start cluster had has whole (rounds cluster (40 - at)) cost left l last)
+
+rounds-none : (cluster : Cluster) (n : ℕ) → n ≡ 0 → rounds cluster n ≡ []
+unfolding rounds
+rounds-none cluster n e = rw e refl
+
+pub rounds-end : (cluster : Cluster) (at : ℕ) → 40 ≤ at → rounds cluster (40 - at) ≡ []
+rounds-end cluster at h = rounds-none cluster (40 - at) (omega (arith, h))
+
+-- the agents are woken, and then the messages move
+pub round-took : (cluster woken after : Cluster) (had mid has : List Event) (count : ℕ) (numbers : List ℕ) → count ≡ length cluster.book.members → count ≤ 16
+    → Took cluster woken had mid (wakes cluster 0 count) (3 * count) → numbers ≡ keys_of woken.book.flight → length numbers ≤ 65536
+    → Took woken after mid has (all_move woken numbers) (4 * length numbers) → Took cluster after had has (round cluster) 262192
+round-took cluster woken after had mid has count numbers all few one are short two =
+    Took-then cluster woken after had mid has (wakes cluster 0 (length cluster.book.members)) (λ later. all_move later (keys_of later.book.flight)) (3 * count) (4 * length numbers) 262192
+    (subst (λ (n : ℕ). Took cluster woken had mid (wakes cluster 0 n) (3 * count)) all one)
+    (subst (λ (ns : List ℕ). Took woken after mid has (all_move woken ns) (4 * length numbers)) are two) (omega (arith, few, short))
+
+-- after the wakes there is room for all that moves
+pub moves-room : (cluster woken : Cluster) (had mid : List Event) (count moving : ℕ) → HasRoom cluster 262192 → count ≤ 16 → moving ≤ 65536 → Took cluster woken had mid (wakes cluster 0 count) (3 * count) → HasRoom woken (4 * moving)
+moves-room cluster woken had mid count moving room few short took =
+    took.room (4 * moving) (HasRoom-fewer cluster 262192 (3 * count + 4 * moving) (omega (arith, few, short)) room)

@@ -203,7 +203,7 @@ is_empty [] = true
 is_empty (event ∷ events) = false
 
 -- at most so many rounds; a round in which nothing happens is the last
-abbrev pub rounds : Cluster → ℕ → List Event
+unfoldable pub rounds : Cluster → ℕ → List Event
 rounds cluster zero = []
 rounds cluster (suc count) = if is_empty (round cluster) then [] else followed cluster (round cluster) (λ later. rounds later count)
 

@@ -155,7 +155,7 @@ impl World {
         requires { HasRoom self.old 10487680 }
         ensures { OnOk result (Took self.old self.new events.old.items events.new.items (rounds self.old most_rounds) 10487680) }
     {
-        for _ in 0..MOST_ROUNDS {
+        for done in 0..MOST_ROUNDS {
             let before = events.len();
             self.round(events)?;
             if events.len() == before {

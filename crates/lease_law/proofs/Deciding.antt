@@ -1,0 +1,195 @@
+-- The key store's decision and the law's outcome are one.
+use Rattle.std.proofs.Common.{◌≡◌, ◌⊎◌, ℕ, ◌<◌, ◌==◌, nat_lt, Bool, true, false, cond, List, Option, Some, None, IsSome, refl, ◌∙◌, ap, sym, subst, arith, inl, inr}
+use Rattle.std.proofs.lemmas.Bool.Decides.{nat_tests}
+use Rattle.std.specs.FinMap.{find}
+use Rattle.pat_base.specs.declared.ticks.Ticks.{Ticks}
+use Rattle.pat_base.specs.declared.member_id.MemberId.{MemberId}
+use Rattle.pat_base.specs.declared.member_set.MemberSet.{MemberSet}
+use Rattle.lease_store.specs.declared.key.Key.{Key}
+use Rattle.lease_store.specs.declared.key.Key.TheVariants as keys
+use Rattle.lease_store.specs.declared.txn.Expected.{Expected}
+use Rattle.lease_store.specs.declared.txn.Expected.TheVariants.{Absent, Revision}
+use Rattle.lease_store.specs.declared.txn.Txn.{Txn}
+use Rattle.lease_store.specs.declared.txn.Txn.TheVariants as txns
+use Rattle.lease_store.specs.declared.value.Held.{Held}
+use Rattle.lease_store.specs.declared.value.Value.{Value}
+use Rattle.lease_store.specs.declared.value.Value.TheVariants as values
+use Rattle.lease_store.specs.Kinds.{IsOfKind}
+use Rattle.lease_store.specs.KeyOrder.{key_cmp}
+use Rattle.lease_store.specs.Keys.{key_in, present}
+use Rattle.lease_store.specs.Decision.{Decision, Grant as Granting, Refusal as Refusing, compares_of, failsafe_compare, found_in, is_as_expected, decided, decision_by, decision_on}
+use Rattle.lease_store.proofs.Keeping.{kind_found}
+use Rattle.event_book.specs.Facts.{Facts}
+use Rattle.lease_law.specs.Leases.{LeaderKey, FailsafeKey, Create, Renew, Release, Write}
+use Rattle.lease_law.specs.Outcomes.{is_as_read, create_if, create_on, renew_if, renew_on, release_if, release_on, outcome_of}
+use Rattle.lease_law.specs.Past.{Past, members_if, query_of}
+use Rattle.lease_law.specs.Stores.{leader_held, failsafe_held, IsLeased, IsSameStore, is_granted, outcome_by}
+use Rattle.lease_law.proofs.Tools.{both}
+use Rattle.lease_law.proofs.SameStore.{ge-from, present-endless}
+
+turned-by : (b c : Bool) (m n : ℕ) → (m == n) ≡ b → (n == m) ≡ c → b ≡ c
+turned-by true true m n e f = refl
+turned-by false false m n e f = refl
+turned-by true false m n e f = absurd (grind (arith, nat_tests))
+turned-by false true m n e f = absurd (grind (arith, nat_tests))
+
+turned : (m n : ℕ) → (m == n) ≡ (n == m)
+turned m n = turned-by (m == n) (n == m) m n refl refl
+
+-- a leader key is absent, or names a member until a moment
+record IsLease (found : Option Held) : Type 0 where
+  member : MemberId
+  revision : ℕ
+  expiry : Ticks
+  is : ◌≡◌ {A = Option Held} (Some (record { value = values.Leader member; revision = revision; expiry = Some expiry })) found
+
+lease-value : (value : Value) (revision : ℕ) (expiry : Option Ticks) → IsOfKind keys.Leader value → IsSome expiry → IsLease (Some (record { value = value; revision = revision; expiry = expiry }))
+lease-value (values.Leader member) revision (Some expiry) kind leased = record { member = member; revision = revision; expiry = expiry; is = refl }
+lease-value (values.Leader member) revision None kind leased = absurd (both leased)
+lease-value (values.Config config) revision expiry kind leased = absurd kind
+lease-value (values.Member info) revision expiry kind leased = absurd kind
+lease-value (values.Failover key) revision expiry kind leased = absurd kind
+lease-value (values.Sync key) revision expiry kind leased = absurd kind
+lease-value (values.Status end) revision expiry kind leased = absurd kind
+lease-value (values.History row) revision expiry kind leased = absurd kind
+lease-value (values.Failsafe members) revision expiry kind leased = absurd kind
+
+abbrev OfKind : Key → Option Held → Type 0
+OfKind key found = (held : Held) → found ≡ Some held → IsOfKind key held.value
+
+leader-cases : (found : Option Held) → OfKind keys.Leader found → IsLeased found → (None ≡ found) ⊎ IsLease found
+leader-cases None kind leased = inl refl
+leader-cases (Some held) kind leased = inr (lease-value held.value held.revision held.expiry (kind held refl) leased)
+
+record IsSet (found : Option Held) : Type 0 where
+  members : MemberSet
+  revision : ℕ
+  expiry : Option Ticks
+  is : ◌≡◌ {A = Option Held} (Some (record { value = values.Failsafe members; revision = revision; expiry = expiry })) found
+
+set-value : (value : Value) (revision : ℕ) (expiry : Option Ticks) → IsOfKind keys.Failsafe value → IsSet (Some (record { value = value; revision = revision; expiry = expiry }))
+set-value (values.Failsafe members) revision expiry kind = record { members = members; revision = revision; expiry = expiry; is = refl }
+set-value (values.Leader member) revision expiry kind = absurd kind
+set-value (values.Config config) revision expiry kind = absurd kind
+set-value (values.Member info) revision expiry kind = absurd kind
+set-value (values.Failover key) revision expiry kind = absurd kind
+set-value (values.Sync key) revision expiry kind = absurd kind
+set-value (values.Status end) revision expiry kind = absurd kind
+set-value (values.History row) revision expiry kind = absurd kind
+
+failsafe-cases : (found : Option Held) → OfKind keys.Failsafe found → (None ≡ found) ⊎ IsSet found
+failsafe-cases None kind = inl refl
+failsafe-cases (Some held) kind = inr (set-value held.value held.revision held.expiry (kind held refl))
+
+-- the decision by what is found at the leader key and the failsafe key
+abbrev by_leader : Option Held → Expected → Decision → Decision
+by_leader found expected rest = decided (is_as_expected expected (found_in found)) keys.Leader (found_in found) rest
+
+abbrev by_failsafe : Option Held → Option Expected → Decision
+by_failsafe found None = Granting
+by_failsafe found (Some expected) = decided (is_as_expected expected (found_in found)) keys.Failsafe (found_in found) Granting
+
+-- a release and a renewal
+release-if : (b : Bool) (clock revision by sent compared : ℕ) (key : LeaderKey) (failsafe : Option FailsafeKey) (found : Expected) → release_if b key failsafe revision ≡ outcome_by (decided b keys.Leader found Granting) clock (Some key) failsafe revision by sent (Release compared)
+release-if true clock revision by sent compared key failsafe found = refl
+release-if false clock revision by sent compared key failsafe found = refl
+
+release-decided : (clock revision by sent compared : ℕ) (found : Option Held) (failsafe : Option FailsafeKey) → (None ≡ found) ⊎ IsLease found → release_on (leader_held found) failsafe revision compared ≡ outcome_by (by_leader found (Revision compared) Granting) clock (leader_held found) failsafe revision by sent (Release compared)
+release-decided clock revision by sent compared found failsafe (inl e) = subst (λ (o : Option Held). release_on (leader_held o) failsafe revision compared ≡ outcome_by (by_leader o (Revision compared) Granting) clock (leader_held o) failsafe revision by sent (Release compared)) e refl
+release-decided clock revision by sent compared found failsafe (inr l) = subst (λ (o : Option Held). release_on (leader_held o) failsafe revision compared ≡ outcome_by (by_leader o (Revision compared) Granting) clock (leader_held o) failsafe revision by sent (Release compared)) l.is
+    (let key : LeaderKey = record { holder = l.member.number; revision = l.revision; expiry = l.expiry.0 } in
+    ap (λ (b : Bool). release_if b key failsafe revision) (turned l.revision compared) ∙ release-if (compared == l.revision) clock revision by sent compared key failsafe (Revision l.revision))
+
+renew-if : (b : Bool) (clock revision by sent compared ttl : ℕ) (carried : Option (ℕ → Bool)) (key : LeaderKey) (failsafe : Option FailsafeKey) (found : Expected) → renew_if b clock key failsafe revision sent ttl carried ≡ outcome_by (decided b keys.Leader found Granting) clock (Some key) failsafe revision by sent (Renew compared ttl carried)
+renew-if true clock revision by sent compared ttl carried key failsafe found = refl
+renew-if false clock revision by sent compared ttl carried key failsafe found = refl
+
+renew-decided : (clock revision by sent compared ttl : ℕ) (carried : Option (ℕ → Bool)) (found : Option Held) (failsafe : Option FailsafeKey) → (None ≡ found) ⊎ IsLease found → renew_on clock (leader_held found) failsafe revision compared sent ttl carried ≡ outcome_by (by_leader found (Revision compared) Granting) clock (leader_held found) failsafe revision by sent (Renew compared ttl carried)
+renew-decided clock revision by sent compared ttl carried found failsafe (inl e) = subst (λ (o : Option Held). renew_on clock (leader_held o) failsafe revision compared sent ttl carried ≡ outcome_by (by_leader o (Revision compared) Granting) clock (leader_held o) failsafe revision by sent (Renew compared ttl carried)) e refl
+renew-decided clock revision by sent compared ttl carried found failsafe (inr l) = subst (λ (o : Option Held). renew_on clock (leader_held o) failsafe revision compared sent ttl carried ≡ outcome_by (by_leader o (Revision compared) Granting) clock (leader_held o) failsafe revision by sent (Renew compared ttl carried)) l.is
+    (let key : LeaderKey = record { holder = l.member.number; revision = l.revision; expiry = l.expiry.0 } in
+    ap (λ (b : Bool). renew_if b clock key failsafe revision sent ttl carried) (turned l.revision compared) ∙ renew-if (compared == l.revision) clock revision by sent compared ttl carried key failsafe (Revision l.revision))
+
+-- a create
+as-read-is : (expected : Expected) (found : Option Held) → (None ≡ found) ⊎ IsSet found → is_as_read (Some expected) (failsafe_held found) ≡ is_as_expected expected (found_in found)
+as-read-is Absent found (inl e) = subst (λ (o : Option Held). is_as_read (Some Absent) (failsafe_held o) ≡ is_as_expected Absent (found_in o)) e refl
+as-read-is Absent found (inr f) = subst (λ (o : Option Held). is_as_read (Some Absent) (failsafe_held o) ≡ is_as_expected Absent (found_in o)) f.is refl
+as-read-is (Revision r) found (inl e) = subst (λ (o : Option Held). is_as_read (Some (Revision r)) (failsafe_held o) ≡ is_as_expected (Revision r) (found_in o)) e refl
+as-read-is (Revision r) found (inr f) = subst (λ (o : Option Held). is_as_read (Some (Revision r)) (failsafe_held o) ≡ is_as_expected (Revision r) (found_in o)) f.is (turned f.revision r)
+
+create-if : (b : Bool) (clock revision by sent ttl : ℕ) (expected : Option Expected) (failsafe : Option FailsafeKey) (found : Expected) → create_if b clock failsafe revision by sent ttl ≡ outcome_by (decided b keys.Failsafe found Granting) clock None failsafe revision by sent (Create ttl expected)
+create-if true clock revision by sent ttl expected failsafe found = refl
+create-if false clock revision by sent ttl expected failsafe found = refl
+
+create-absent : (clock revision by sent ttl : ℕ) (expected : Option Expected) (found : Option Held) → (None ≡ found) ⊎ IsSet found → create_if (is_as_read expected (failsafe_held found)) clock (failsafe_held found) revision by sent ttl ≡ outcome_by (by_failsafe found expected) clock None (failsafe_held found) revision by sent (Create ttl expected)
+create-absent clock revision by sent ttl None found cases = refl
+create-absent clock revision by sent ttl (Some expected) found cases =
+    ap (λ (b : Bool). create_if b clock (failsafe_held found) revision by sent ttl) (as-read-is expected found cases)
+    ∙ create-if (is_as_expected expected (found_in found)) clock revision by sent ttl (Some expected) (failsafe_held found) (found_in found)
+
+create-decided : (clock revision by sent ttl : ℕ) (expected : Option Expected) (found listed : Option Held) → (None ≡ found) ⊎ IsLease found → (None ≡ listed) ⊎ IsSet listed → create_on clock (leader_held found) (failsafe_held listed) revision by sent ttl expected ≡ outcome_by (by_leader found Absent (by_failsafe listed expected)) clock (leader_held found) (failsafe_held listed) revision by sent (Create ttl expected)
+create-decided clock revision by sent ttl expected found listed (inl e) cases = subst (λ (o : Option Held). create_on clock (leader_held o) (failsafe_held listed) revision by sent ttl expected ≡ outcome_by (by_leader o Absent (by_failsafe listed expected)) clock (leader_held o) (failsafe_held listed) revision by sent (Create ttl expected)) e
+    (create-absent clock revision by sent ttl expected listed cases)
+create-decided clock revision by sent ttl expected found listed (inr l) cases = subst (λ (o : Option Held). create_on clock (leader_held o) (failsafe_held listed) revision by sent ttl expected ≡ outcome_by (by_leader o Absent (by_failsafe listed expected)) clock (leader_held o) (failsafe_held listed) revision by sent (Create ttl expected)) l.is refl
+
+-- what the store decides, by what it finds
+abbrev Finds : List (Key × Held) → ℕ → Option Held → Option Held → Type 0
+Finds pairs now found listed = (key_in pairs now keys.Leader ≡ found) × (key_in pairs now keys.Failsafe ≡ listed)
+
+leader-decision : (pairs : List (Key × Held)) (now : ℕ) (found : Option Held) (expected : Expected) (rest : Decision) → key_in pairs now keys.Leader ≡ found → decided (is_as_expected expected (found_in (key_in pairs now keys.Leader))) keys.Leader (found_in (key_in pairs now keys.Leader)) rest ≡ by_leader found expected rest
+leader-decision pairs now found expected rest e = ap (λ (o : Option Held). by_leader o expected rest) e
+
+failsafe-decision : (pairs : List (Key × Held)) (now : ℕ) (listed : Option Held) (expected : Option Expected) → key_in pairs now keys.Failsafe ≡ listed → decision_by pairs now (failsafe_compare expected) ≡ by_failsafe listed expected
+failsafe-decision pairs now listed None e = refl
+failsafe-decision pairs now listed (Some expected) e = ap (λ (o : Option Held). by_failsafe o (Some expected)) e
+
+write-decided : (d : Decision) (clock revision by sent : ℕ) (leader : Option LeaderKey) (failsafe : Option FailsafeKey) → outcome_of clock leader failsafe revision by sent (is_granted d) Write ≡ outcome_by d clock leader failsafe revision by sent Write
+write-decided Granting clock revision by sent leader failsafe = refl
+write-decided (Refusing key found) clock revision by sent leader failsafe = refl
+
+found-decided : (pairs : List (Key × Held)) (now revision by sent : ℕ) (found listed : Option Held) (txn : Txn) → Finds pairs now found listed → (None ≡ found) ⊎ IsLease found → (None ≡ listed) ⊎ IsSet listed →
+    outcome_of now (leader_held found) (failsafe_held listed) revision by sent (is_granted (decision_by pairs now (compares_of txn))) (query_of txn) ≡ outcome_by (decision_by pairs now (compares_of txn)) now (leader_held found) (failsafe_held listed) revision by sent (query_of txn)
+found-decided pairs now revision by sent found listed (txns.Create info ttl failsafe) finds leads sets =
+    create-decided now revision by sent ttl.0 failsafe found listed leads sets
+    ∙ ap (λ (d : Decision). outcome_by d now (leader_held found) (failsafe_held listed) revision by sent (Create ttl.0 failsafe))
+    (sym (leader-decision pairs now found Absent (decision_by pairs now (failsafe_compare failsafe)) finds.0 ∙ ap (λ (d : Decision). by_leader found Absent d) (failsafe-decision pairs now listed failsafe finds.1)))
+found-decided pairs now revision by sent found listed (txns.Renew compared info ttl status row failsafe) finds leads sets =
+    renew-decided now revision by sent compared ttl.0 (members_if failsafe) found (failsafe_held listed) leads
+    ∙ ap (λ (d : Decision). outcome_by d now (leader_held found) (failsafe_held listed) revision by sent (Renew compared ttl.0 (members_if failsafe))) (sym (leader-decision pairs now found (Revision compared) Granting finds.0))
+found-decided pairs now revision by sent found listed (txns.Release compared) finds leads sets =
+    release-decided now revision by sent compared found (failsafe_held listed) leads
+    ∙ ap (λ (d : Decision). outcome_by d now (leader_held found) (failsafe_held listed) revision by sent (Release compared)) (sym (leader-decision pairs now found (Revision compared) Granting finds.0))
+found-decided pairs now revision by sent found listed (txns.Touch info ttl) finds leads sets = write-decided (decision_by pairs now (compares_of (txns.Touch info ttl))) now revision by sent (leader_held found) (failsafe_held listed)
+found-decided pairs now revision by sent found listed (txns.Claim compared sync) finds leads sets = write-decided (decision_by pairs now (compares_of (txns.Claim compared sync))) now revision by sent (leader_held found) (failsafe_held listed)
+found-decided pairs now revision by sent found listed (txns.SetSync compared sync standbys) finds leads sets = write-decided (decision_by pairs now (compares_of (txns.SetSync compared sync standbys))) now revision by sent (leader_held found) (failsafe_held listed)
+found-decided pairs now revision by sent found listed (txns.DropSync compared sync) finds leads sets = write-decided (decision_by pairs now (compares_of (txns.DropSync compared sync))) now revision by sent (leader_held found) (failsafe_held listed)
+found-decided pairs now revision by sent found listed (txns.SetFailover failover ttl) finds leads sets = write-decided (decision_by pairs now (compares_of (txns.SetFailover failover ttl))) now revision by sent (leader_held found) (failsafe_held listed)
+found-decided pairs now revision by sent found listed (txns.DropFailover compared) finds leads sets = write-decided (decision_by pairs now (compares_of (txns.DropFailover compared))) now revision by sent (leader_held found) (failsafe_held listed)
+found-decided pairs now revision by sent found listed (txns.SetConfig compared config) finds leads sets = write-decided (decision_by pairs now (compares_of (txns.SetConfig compared config))) now revision by sent (leader_held found) (failsafe_held listed)
+
+present-by : (b : Bool) (now expiry : ℕ) (held : Held) → nat_lt now expiry ≡ b → now < expiry → cond b (Some held) None ≡ Some held
+present-by true now expiry held e later = refl
+present-by false now expiry held e later = absurd (omega (arith, ge-from now expiry e, later))
+
+present-lease : (now : ℕ) (found : Option Held) → (None ≡ found) ⊎ IsLease found → ((k : LeaderKey) → leader_held found ≡ Some k → now < k.expiry) → present now found ≡ found
+present-lease now found (inl e) there = subst (λ (o : Option Held). present now o ≡ o) e refl
+present-lease now found (inr l) there =
+    let key : LeaderKey = record { holder = l.member.number; revision = l.revision; expiry = l.expiry.0 } in
+    subst (λ (o : Option Held). present now o ≡ o) l.is
+    (present-by (nat_lt now l.expiry.0) now l.expiry.0 (record { value = values.Leader l.member; revision = l.revision; expiry = Some l.expiry }) refl (there key (ap leader_held (sym l.is))))
+
+-- the law's outcome is that of the store's decision
+pub outcome-decided : (past : Past) (facts : Facts) (by sent : ℕ) (txn : Txn) → IsSameStore past facts →
+    outcome_of past.clock past.leader past.failsafe past.revision by sent (is_granted (decision_on facts.keys facts.clock txn)) (query_of txn) ≡ outcome_by (decision_on facts.keys facts.clock txn) past.clock past.leader past.failsafe past.revision by sent (query_of txn)
+outcome-decided past facts by sent txn same =
+    let found : Option Held = find key_cmp keys.Leader facts.keys.pairs in
+    let listed : Option Held = find key_cmp keys.Failsafe facts.keys.pairs in
+    let d : Decision = decision_on facts.keys facts.clock txn in
+    let leads = leader-cases found (λ held is. kind_found keys.Leader facts.keys.pairs held same.kept.kinds is) same.leased in
+    let there = present-lease facts.clock found leads (λ k e. subst (λ (c : ℕ). c < k.expiry) same.clock (same.present k (same.leader ∙ e))) in
+    let core = found-decided facts.keys.pairs facts.clock past.revision by sent found listed txn (there, present-endless facts.clock listed same.endless)
+    leads
+    (failsafe-cases listed (λ held is. kind_found keys.Failsafe facts.keys.pairs held same.kept.kinds is)) in
+    subst (λ (c : ℕ). outcome_of c past.leader past.failsafe past.revision by sent (is_granted d) (query_of txn) ≡ outcome_by d c past.leader past.failsafe past.revision by sent (query_of txn)) (sym same.clock)
+    (subst (λ (l : Option LeaderKey). outcome_of facts.clock l past.failsafe past.revision by sent (is_granted d) (query_of txn) ≡ outcome_by d facts.clock l past.failsafe past.revision by sent (query_of txn)) (sym same.leader)
+    (subst (λ (f : Option FailsafeKey). outcome_of facts.clock (leader_held found) f past.revision by sent (is_granted d) (query_of txn) ≡ outcome_by d facts.clock (leader_held found) f past.revision by sent (query_of txn)) (sym same.failsafe) core))

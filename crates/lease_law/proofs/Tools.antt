@@ -1,0 +1,61 @@
+-- Small tools.
+use Rattle.std.proofs.Common.{◌≡◌, ◌⊎◌, ℕ, ◌≤◌, ◌<◌, ◌==◌, nat_le, Bool, true, false, cond, Option, Some, None, refl, ◌∙◌, sym, subst, arith, inl, inr}
+use Rattle.std.proofs.lemmas.Bool.Decides.{nat_tests}
+use Rattle.lease_law.specs.Functions.{put_at}
+use Rattle.lease_law.specs.Leases.{Request, Answer, Beg, Acknowledgement, Flying, Requested, Answered, Begged, Acknowledged}
+
+pub some-is : {A : Type 0} (x y : A) → ◌≡◌ {A = Option A} (Some x) (Some y) → x ≡ y
+some-is x y e = cc
+
+pub none-some : {A : Type 0} (x : A) → ◌≡◌ {A = Option A} None (Some x) → ⊥
+none-some x e = cc
+
+pub both : false ≡ true → ⊥
+both e = cc
+
+pub not-false : (b : Bool) → b ≡ false → b ≡ true → ⊥
+not-false b e f = both (sym e ∙ f)
+
+pub eq-from : (m k : ℕ) → (m == k) ≡ true → m ≡ k
+eq-from m k e = grind (arith, nat_tests)
+
+pub ne-from : (m k : ℕ) → (m == k) ≡ false → m ≡ k → ⊥
+ne-from m k e = grind (arith, nat_tests)
+
+pub le-from : (m n : ℕ) → nat_le m n ≡ true → m ≤ n
+le-from m n e = grind (arith, nat_tests)
+
+pub gt-from : (m n : ℕ) → nat_le m n ≡ false → n < m
+gt-from m n e = grind (arith, nat_tests)
+
+put-all-at : {A : Type 0} (b : Bool) (f : ℕ → A) (k : ℕ) (x : A) (P : ℕ → A → Type 0) → P k x → ((m : ℕ) → (m ≡ k → ⊥) → P m (f m)) → (m : ℕ) → (m == k) ≡ b → P m (cond b x (f m))
+put-all-at true f k x P here there m e = subst (λ (n : ℕ). P n x) (sym (eq-from m k e)) here
+put-all-at false f k x P here there m e = there m (ne-from m k e)
+
+-- what holds of the new value, and of each other one, holds of all
+pub put-all : {A : Type 0} (f : ℕ → A) (k : ℕ) (x : A) (P : ℕ → A → Type 0) → P k x → ((m : ℕ) → (m ≡ k → ⊥) → P m (f m)) → (m : ℕ) → P m (put_at f k x m)
+put-all f k x P here there m = put-all-at (m == k) f k x P here there m refl
+
+-- what is still there was there
+pub dropped : {A : Type 0} (f : ℕ → Option A) (k : ℕ) (m : ℕ) (x : A) → put_at f k None m ≡ Some x → f m ≡ Some x
+dropped f k = put-all f k None (λ m o. (x : _) → o ≡ Some x → f m ≡ Some x) (λ x e. absurd (none-some x e)) (λ m other x e. e)
+
+decide-at : (b : Bool) (m n : ℕ) → (m == n) ≡ b → (m ≡ n) ⊎ (m ≡ n → ⊥)
+decide-at true m n e = inl (eq-from m n e)
+decide-at false m n e = inr (ne-from m n e)
+
+pub decide-eq : (m n : ℕ) → (m ≡ n) ⊎ (m ≡ n → ⊥)
+decide-eq m n = decide-at (m == n) m n refl
+
+-- messages of one kind are none of another
+pub answered-requested : (a : Answer) (q : Request) → ◌≡◌ {A = Option Flying} (Some (Answered a)) (Some (Requested q)) → ⊥
+answered-requested a q e = cc
+
+pub answered-begged : (a : Answer) (q : Beg) → ◌≡◌ {A = Option Flying} (Some (Answered a)) (Some (Begged q)) → ⊥
+answered-begged a q e = cc
+
+pub answered-acknowledged : (a : Answer) (q : Acknowledgement) → ◌≡◌ {A = Option Flying} (Some (Answered a)) (Some (Acknowledged q)) → ⊥
+answered-acknowledged a q e = cc
+
+pub answered-is : (a b : Answer) → ◌≡◌ {A = Option Flying} (Some (Answered a)) (Some (Answered b)) → a ≡ b
+answered-is a b e = cc

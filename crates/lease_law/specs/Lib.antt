@@ -1,0 +1,15 @@
+pub mod Functions
+pub mod Writers
+pub mod Leases
+pub mod States
+pub mod Outcomes
+pub mod Inputs
+pub mod Actions
+pub mod Carried
+pub mod Past
+pub mod Premises
+pub mod Books
+pub mod Telling
+pub mod Stores
+pub mod Pauses
+pub mod Claims

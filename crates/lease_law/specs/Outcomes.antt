@@ -1,0 +1,119 @@
+-- What the key store makes of a question.
+use Rattle.std.specs.Prelude.{ℕ, ◌+◌, ◌==◌, Bool, true, false, Option, Some, None, max}
+use Rattle.lease_store.specs.declared.txn.Expected.{Expected}
+use Rattle.lease_store.specs.declared.txn.Expected.TheVariants.{Absent, Revision}
+use Rattle.lease_law.specs.Functions.{put_at}
+use Rattle.lease_law.specs.Leases.{LeaderKey, LeaderSeen, FailsafeKey, Query, Create, Renew, Release, Write, Read, Request, Grant, Answer, Flying, Requested, Answered}
+use Rattle.lease_law.specs.States.{State}
+
+abbrev pub seen_of : Option LeaderKey → Option LeaderSeen
+seen_of None = None
+seen_of (Some key) = Some (record { holder = key.holder; revision = key.revision })
+
+-- the keys after a question, whether the answer has a snapshot, and the grant that it tells
+pub record Outcome : Type 0 where
+  pub leader : Option LeaderKey
+  pub failsafe : Option FailsafeKey
+  pub revision : ℕ
+  pub snapshot : Bool
+  pub grant : Option Grant
+
+abbrev pub refused : Option LeaderKey → Option FailsafeKey → ℕ → Outcome
+refused leader failsafe revision = record { leader = leader; failsafe = failsafe; revision = revision; snapshot = false; grant = None }
+
+-- the failsafe key is as a create expects it
+abbrev pub is_as_read : Option Expected → Option FailsafeKey → Bool
+is_as_read None key = true
+is_as_read (Some Absent) None = true
+is_as_read (Some Absent) (Some key) = false
+is_as_read (Some (Revision revision)) None = false
+is_as_read (Some (Revision revision)) (Some key) = key.revision == revision
+
+abbrev pub create_if : Bool → ℕ → Option FailsafeKey → ℕ → ℕ → ℕ → ℕ → Outcome
+create_if true clock failsafe revision by sent ttl = record {
+  leader = Some (record { holder = by; revision = revision + 1; expiry = clock + ttl });
+  failsafe = failsafe;
+  revision = revision + 1;
+  snapshot = true;
+  grant = Some (record { revision = revision + 1; sent = sent; moment = clock; ttl = ttl; failsafe = failsafe });
+}
+create_if false clock failsafe revision by sent ttl = refused None failsafe revision
+
+abbrev pub create_on : ℕ → Option LeaderKey → Option FailsafeKey → ℕ → ℕ → ℕ → ℕ → Option Expected → Outcome
+create_on clock None failsafe revision by sent ttl expected = create_if (is_as_read expected failsafe) clock failsafe revision by sent ttl
+create_on clock (Some key) failsafe revision by sent ttl expected = refused (Some key) failsafe revision
+
+-- the failsafe key after a renewal of this revision that carries these members
+abbrev pub failsafe_carried : ℕ → Option (ℕ → Bool) → Option FailsafeKey → Option FailsafeKey
+failsafe_carried revision None failsafe = failsafe
+failsafe_carried revision (Some members) failsafe = Some (record { revision = revision; members = members })
+
+-- the lease never ends earlier than it did
+abbrev pub renewed : ℕ → ℕ → ℕ → LeaderKey → LeaderKey
+renewed clock revision ttl key = record { holder = key.holder; revision = revision; expiry = max key.expiry (clock + ttl) }
+
+abbrev pub renew_if : Bool → ℕ → LeaderKey → Option FailsafeKey → ℕ → ℕ → ℕ → Option (ℕ → Bool) → Outcome
+renew_if true clock key failsafe revision sent ttl carried = record {
+  leader = Some (renewed clock (revision + 1) ttl key);
+  failsafe = failsafe_carried (revision + 1) carried failsafe;
+  revision = revision + 1;
+  snapshot = true;
+  grant = Some (record { revision = revision + 1; sent = sent; moment = clock; ttl = ttl; failsafe = failsafe_carried (revision + 1) carried failsafe });
+}
+renew_if false clock key failsafe revision sent ttl carried = refused (Some key) failsafe revision
+
+abbrev pub renew_on : ℕ → Option LeaderKey → Option FailsafeKey → ℕ → ℕ → ℕ → ℕ → Option (ℕ → Bool) → Outcome
+renew_on clock None failsafe revision compared sent ttl carried = refused None failsafe revision
+renew_on clock (Some key) failsafe revision compared sent ttl carried = renew_if (key.revision == compared) clock key failsafe revision sent ttl carried
+
+abbrev pub release_if : Bool → LeaderKey → Option FailsafeKey → ℕ → Outcome
+release_if true key failsafe revision = record { leader = None; failsafe = failsafe; revision = revision + 1; snapshot = true; grant = None }
+release_if false key failsafe revision = refused (Some key) failsafe revision
+
+abbrev pub release_on : Option LeaderKey → Option FailsafeKey → ℕ → ℕ → Outcome
+release_on None failsafe revision compared = refused None failsafe revision
+release_on (Some key) failsafe revision compared = release_if (key.revision == compared) key failsafe revision
+
+-- what another write compares is no key of the lease, so the keys of the lease don't tell whether it is granted
+abbrev pub write_if : Bool → Option LeaderKey → Option FailsafeKey → ℕ → Outcome
+write_if true leader failsafe revision = record { leader = leader; failsafe = failsafe; revision = revision + 1; snapshot = true; grant = None }
+write_if false leader failsafe revision = refused leader failsafe revision
+
+-- what a question of this member, sent at this moment, leaves; `granted` tells whether another write was granted
+abbrev pub outcome_of : ℕ → Option LeaderKey → Option FailsafeKey → ℕ → ℕ → ℕ → Bool → Query → Outcome
+outcome_of clock leader failsafe revision by sent granted (Create ttl expected) = create_on clock leader failsafe revision by sent ttl expected
+outcome_of clock leader failsafe revision by sent granted (Renew compared ttl carried) = renew_on clock leader failsafe revision compared sent ttl carried
+outcome_of clock leader failsafe revision by sent granted (Release compared) = release_on leader failsafe revision compared
+outcome_of clock leader failsafe revision by sent granted Write = write_if granted leader failsafe revision
+outcome_of clock leader failsafe revision by sent granted Read = record { leader = leader; failsafe = failsafe; revision = revision; snapshot = true; grant = None }
+
+abbrev pub told_if : {A : Type 0} → Bool → Option A → Option A
+told_if true told = told
+told_if false told = None
+
+abbrev pub answer_to : Request → Outcome → Answer
+answer_to request outcome = record {
+  member = request.member;
+  run = request.run;
+  sequence = request.sequence;
+  leader = told_if outcome.snapshot (seen_of outcome.leader);
+  failsafe = told_if outcome.snapshot outcome.failsafe;
+  grant = outcome.grant;
+}
+
+abbrev pub with_outcome : State → ℕ → ℕ → Request → Outcome → State
+with_outcome s number answer request outcome = record s {
+  leader = outcome.leader;
+  failsafe = outcome.failsafe;
+  revision = outcome.revision;
+  flight = put_at (put_at s.flight number None) answer (Some (Answered (answer_to request outcome)));
+}
+
+abbrev pub with_question : State → ℕ → ℕ → Bool → Option Flying → State
+with_question s number answer granted (Some (Requested request)) =
+    with_outcome s number answer request (outcome_of s.clock s.leader s.failsafe s.revision request.member request.sent granted request.query)
+with_question s number answer granted _ = s
+
+-- the key store decides on the question that this message carries, and answers by another message
+abbrev pub delivered : State → ℕ → ℕ → Bool → State
+delivered s number answer granted = with_question s number answer granted (s.flight number)

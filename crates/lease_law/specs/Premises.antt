@@ -1,0 +1,122 @@
+-- What the claim of one writer asks of a book: feeds keep the margin, and nobody pauses or promotes by hand.
+use Rattle.std.specs.Prelude.{ℕ, ◌≡◌, Bool, true, false, List, [], ◌∷◌, Option, Some, None}
+use Rattle.lease_store.specs.Settings.{Settings}
+use Rattle.lease_store.specs.declared.txn.Txn.{Txn}
+use Rattle.lease_store.specs.declared.txn.Txn.TheVariants as txns
+use Rattle.event_book.specs.declared.event.Event.{Event}
+use Rattle.event_book.specs.declared.event.Kind.{Kind}
+use Rattle.event_book.specs.declared.event.Kind.TheVariants as kinds
+use Rattle.event_book.specs.declared.event.MessageEvent.TheVariants as messages
+use Rattle.event_book.specs.declared.event.StoreEvent.TheVariants as stores
+use Rattle.event_book.specs.declared.event.ServerEvent.TheVariants as servers
+use Rattle.event_book.specs.declared.event.AgentEvent.TheVariants as agents
+use Rattle.event_book.specs.declared.event.WatchdogEvent.{WatchdogEvent}
+use Rattle.event_book.specs.declared.event.WatchdogEvent.TheVariants as watchdogs
+use Rattle.event_book.specs.declared.reason.Basis.{Basis}
+use Rattle.event_book.specs.declared.reason.Basis.TheVariants as bases
+use Rattle.event_book.specs.Clock.{now_after}
+use Rattle.lease_law.specs.Leases.{Taking, IsTaken}
+use Rattle.lease_law.specs.States.{Begging, Agent, State}
+use Rattle.lease_law.specs.Inputs.{Move, IsOnTime}
+use Rattle.lease_law.specs.Past.{members_in, sent_after, taken_after, runs_after}
+
+-- the moments that feeds are measured from: the clock, when each message was sent, each hold that was taken, and the run of each
+-- agent
+pub record Moments : Type 0 where
+  pub clock : ℕ
+  pub sent : ℕ → Option ℕ
+  pub taken : List Taking
+  pub runs : ℕ → ℕ
+
+abbrev pub moments_by : Moments → Kind → Moments
+moments_by moments kind = record {
+  clock = now_after moments.clock kind;
+  sent = sent_after moments.clock moments.sent kind;
+  taken = taken_after moments.clock moments.taken kind;
+  runs = runs_after moments.runs kind;
+}
+
+abbrev pub first_moments : Moments
+first_moments = record { clock = 0; sent = λ i. None; taken = []; runs = λ m. 1 }
+
+abbrev pub IsSentInTime : Option ℕ → ℕ → Option ℕ → Type 0
+IsSentInTime margin clock None = Unit {0}
+IsSentInTime margin clock (Some sent) = IsOnTime margin clock sent
+
+-- a feed comes at most the margin after the grant that the answer of this number tells, which was sent at once; or after each
+-- hold that one of the acknowledging members took for that failsafe request
+abbrev pub IsFeedInTime : (ℕ → Option ℕ) → Moments → ℕ → Basis → Type 0
+IsFeedInTime margin moments m (bases.Grant answer) = IsSentInTime (margin m) moments.clock (moments.sent answer)
+IsFeedInTime margin moments m (bases.Acknowledgements members sequence) =
+    (p moment : ℕ) → members_in members p ≡ true → IsTaken moments.taken (record { by = p; from = m; run = moments.runs m; sequence = sequence; moment = moment }) → IsOnTime (margin m) moments.clock moment
+
+abbrev pub IsWatchdogInTime : (ℕ → Option ℕ) → Moments → WatchdogEvent → Type 0
+IsWatchdogInTime margin moments (watchdogs.Armed member until answer) = IsFeedInTime margin moments member.id.number (bases.Grant answer)
+IsWatchdogInTime margin moments (watchdogs.Fed member until basis) = IsFeedInTime margin moments member.id.number basis
+IsWatchdogInTime margin moments _ = Unit {0}
+
+abbrev pub IsKindInTime : (ℕ → Option ℕ) → Moments → Kind → Type 0
+IsKindInTime margin moments (kinds.Watchdog happening) = IsWatchdogInTime margin moments happening
+IsKindInTime margin moments _ = Unit {0}
+
+abbrev pub AreInTime : (ℕ → Option ℕ) → Moments → List Event → Type 0
+AreInTime margin moments [] = Unit {0}
+AreInTime margin moments (event ∷ events) = IsKindInTime margin moments event.kind × AreInTime margin (moments_by moments event.kind) events
+
+-- each watchdog of this book is armed and fed in time, with these margins of the members
+abbrev pub IsTimely : (ℕ → Option ℕ) → List Event → Type 0
+IsTimely margin book = AreInTime margin first_moments book
+
+-- a granted configuration doesn't pause the cluster
+abbrev pub IsUnpaused : Txn → Type 0
+IsUnpaused (txns.SetConfig revision config) = config.config.pause ≡ false
+IsUnpaused _ = Unit {0}
+
+abbrev pub IsHandsOffKind : Kind → Type 0
+IsHandsOffKind (kinds.Store (stores.Granted number by txn standbys)) = IsUnpaused txn
+IsHandsOffKind (kinds.Server (servers.Promoted server)) = ⊥
+IsHandsOffKind _ = Unit {0}
+
+abbrev pub AreHandsOff : List Event → Type 0
+AreHandsOff [] = Unit {0}
+AreHandsOff (event ∷ events) = IsHandsOffKind event.kind × AreHandsOff events
+
+-- nobody pauses or promotes by hand: neither the first configuration nor one in the book pauses, no operator promotes a server,
+-- and each member has a watchdog that is on and works
+pub record IsHandsOff (first : Settings) (works : ℕ → Bool) (book : List Event) : Type 0 where
+  pub unpaused : first.config.pause ≡ false
+  pub watched : (m : ℕ) → works m ≡ true
+  pub events : AreHandsOff book
+
+-- an event at which the clock and the runs stay as they are
+abbrev pub IsStill : Kind → Type 0
+IsStill kinds.Tick = ⊥
+IsStill (kinds.Agent (agents.Started agent run)) = ⊥
+IsStill _ = Unit {0}
+
+-- such an event that doesn't send the message of this number
+abbrev pub IsAside : ℕ → Kind → Type 0
+IsAside number (kinds.Message (messages.Sent other message)) = other ≡ number → ⊥
+IsAside number kind = IsStill kind
+
+abbrev pub AllAre : (Kind → Type 0) → List Event → Type 0
+AllAre P [] = Unit {0}
+AllAre P (event ∷ events) = P event.kind × AllAre P events
+
+-- the watchdog of this member is armed or fed in this event by the grant that the answer of this number tells
+abbrev pub IsFedBy : ℕ → ℕ → Kind → Type 0
+IsFedBy m answer (kinds.Watchdog (watchdogs.Armed member until number)) = (member.id.number ≡ m) × (number ≡ answer)
+IsFedBy m answer (kinds.Watchdog (watchdogs.Fed member until (bases.Grant number))) = (member.id.number ≡ m) × (number ≡ answer)
+IsFedBy m answer _ = ⊥
+
+-- it is fed in this event by the acknowledgements of these members of the failsafe request of this number
+abbrev pub IsFedOn : ℕ → (ℕ → Bool) → ℕ → Kind → Type 0
+IsFedOn m members sequence (kinds.Watchdog (watchdogs.Fed member until (bases.Acknowledgements acknowledging number))) =
+    (member.id.number ≡ m) × (number ≡ sequence) × ((p : ℕ) → members p ≡ true → members_in acknowledging p ≡ true)
+IsFedOn m members sequence _ = ⊥
+
+-- where an input arms or feeds the watchdog, this event behind those tells it
+pub record ShowsFeed (s : State) (m : ℕ) (move : Move) (front : List Event) (event : Event) : Type 0 where
+  pub by_grant : move.feeds ≡ true → move.machine.by_failsafe ≡ false → (number : ℕ) → move.heard ≡ Some number → AllAre (IsAside number) front × IsFedBy m number event.kind
+  pub by_failsafe : move.feeds ≡ true → move.machine.by_failsafe ≡ true → (was : Agent) (begging : Begging) → (s.members m).agent ≡ Some was → was.begging ≡ Some begging
+      → (was.run ≡ (s.members m).runs) × AllAre IsStill front × IsFedOn m begging.members begging.sequence event.kind

@@ -1,0 +1,54 @@
+-- Who accepts writes, from the book alone.
+use Rattle.std.specs.Prelude.{ℕ, ◌≡◌, Bool, true, false, List, [], ◌∷◌}
+use Rattle.event_book.specs.declared.event.Event.{Event}
+use Rattle.event_book.specs.declared.event.Kind.{Kind}
+use Rattle.event_book.specs.declared.event.Kind.TheVariants as kinds
+use Rattle.event_book.specs.declared.event.ServerEvent.{ServerEvent}
+use Rattle.event_book.specs.declared.event.ServerEvent.TheVariants as servers
+use Rattle.event_book.specs.declared.event.WatchdogEvent.{WatchdogEvent}
+use Rattle.event_book.specs.declared.event.WatchdogEvent.TheVariants as watchdogs
+use Rattle.lease_law.specs.Functions.{put_at}
+
+-- which servers accept writes after what happens to one; a server has the number of its member
+abbrev pub writes_by_server : (ℕ → Bool) → ServerEvent → ℕ → Bool
+writes_by_server writes (servers.Began server timeline) = put_at writes server.id.number true
+writes_by_server writes (servers.Ended server) = put_at writes server.id.number false
+writes_by_server writes (servers.Crashed server) = put_at writes server.id.number false
+writes_by_server writes _ = writes
+
+-- a reset of its machine ends a server too
+abbrev pub writes_by_watchdog : (ℕ → Bool) → WatchdogEvent → ℕ → Bool
+writes_by_watchdog writes (watchdogs.Reset member) = put_at writes member.id.number false
+writes_by_watchdog writes _ = writes
+
+abbrev pub writes_by : (ℕ → Bool) → Kind → ℕ → Bool
+writes_by writes (kinds.Server happening) = writes_by_server writes happening
+writes_by writes (kinds.Watchdog happening) = writes_by_watchdog writes happening
+writes_by writes _ = writes
+
+abbrev pub writes_after : (ℕ → Bool) → List Event → ℕ → Bool
+writes_after writes [] = writes
+writes_after writes (event ∷ events) = writes_after (writes_by writes event.kind) events
+
+-- at the end of this book the server of this number accepts writes: of what the book says of its beginnings, ends, crashes and
+-- resets, the last is a beginning
+abbrev pub AcceptsWrites : List Event → ℕ → Type 0
+AcceptsWrites book server = writes_after (λ n. false) book server ≡ true
+
+-- at the end of this book at most one server accepts writes
+abbrev pub HasOneWriter : List Event → Type 0
+HasOneWriter book = (m n : ℕ) → AcceptsWrites book m → AcceptsWrites book n → m ≡ n
+
+-- this holds of each server that begins
+abbrev pub BeginsServer : (ℕ → Type 0) → ServerEvent → Type 0
+BeginsServer P (servers.Began server timeline) = P server.id.number
+BeginsServer P _ = Unit {0}
+
+abbrev pub BeginsKind : (ℕ → Type 0) → Kind → Type 0
+BeginsKind P (kinds.Server happening) = BeginsServer P happening
+BeginsKind P _ = Unit {0}
+
+-- this holds of each server that begins among these events
+abbrev pub Begins : (ℕ → Type 0) → List Event → Type 0
+Begins P [] = Unit {0}
+Begins P (event ∷ events) = BeginsKind P event.kind × Begins P events
