@@ -3,12 +3,13 @@ use Rattle.std.proofs.Common.{◌≡◌, ℕ, ◌+◌, ◌-◌, ◌*◌, ◌≤�
 use Rattle.std.specs.Map.{keys_of}
 use Rattle.std.proofs.lemmas.List.{drop_more, drop_all, length-drop}
 use Rattle.event_book.specs.declared.event.Event.{Event}
+use Rattle.cluster_script.specs.declared.line.Step.{Step}
 use Rattle.patroni_top.specs.Cluster.{Cluster, moved_all}
-use Rattle.patroni_top.specs.Next.{followed, wakes, wake_at, all_move, moves, round, rounds, is_empty}
+use Rattle.patroni_top.specs.Next.{followed, wakes, wake_at, all_move, moves, round, rounds, is_empty, next_events}
 use Rattle.patroni_top.specs.Room.{HasRoom}
 use Rattle.patroni_top.specs.Took.{Took}
 use Rattle.patroni_top.proofs.Rooms.{HasRoom-fewer}
-use Rattle.patroni_top.proofs.Taking.{moved_all-append, Took-then}
+use Rattle.patroni_top.proofs.Taking.{moved_all-append, Took-then, Took-weaker}
 
 -- what happened so far, and the rest, are the whole; the rest has room
 pub record Left (start cluster : Cluster) (had has whole rest : List Event) (cost left : ℕ) : Type 0 where
@@ -112,3 +113,8 @@ round-took cluster woken after had mid has count numbers all few one are short t
 pub moves-room : (cluster woken : Cluster) (had mid : List Event) (count moving : ℕ) → HasRoom cluster 262192 → count ≤ 16 → moving ≤ 65536 → Took cluster woken had mid (wakes cluster 0 count) (3 * count) → HasRoom woken (4 * moving)
 moves-room cluster woken had mid count moving room few short took =
     took.room (4 * moving) (HasRoom-fewer cluster 262192 (3 * count + 4 * moving) (omega (arith, few, short)) room)
+
+-- what happens in a step, of the step as it was read
+pub stepped : (cluster after : Cluster) (had has : List Event) (read step : Step) (cost : ℕ) → read ≡ step → Took cluster after had has (next_events cluster step) cost → cost ≤ 16777216 → Took cluster after had has (next_events cluster read) 16777216
+stepped cluster after had has read step cost is took enough =
+    subst (λ (s : Step). Took cluster after had has (next_events cluster s) 16777216) (sym is) (Took-weaker cluster after had has (next_events cluster step) cost 16777216 took enough)

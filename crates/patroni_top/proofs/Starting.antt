@@ -55,12 +55,12 @@ phases-more done longer place count h so is =
     ∙ so
 
 first-run : (count : ℕ) → All (λ (state : AgentState). state.run + 2 ^ 59 < 2 ^ 60) (first_agents count)
-first-run zero = All-nil _
-first-run (suc count) = All-cons _ (running_in 1) (first_agents count) (omega arith) (first-run count)
+first-run zero = All-nil (λ (state : AgentState). state.run + 2 ^ 59 < 2 ^ 60)
+first-run (suc count) = All-cons (λ (state : AgentState). state.run + 2 ^ 59 < 2 ^ 60) (running_in 1) (first_agents count) (omega arith) (first-run count)
 
 first-stand : (place count : ℕ) → All (PhaseHasRoom 0 (2 ^ 59)) (first_phases place count)
-first-stand place zero = All-nil _
-first-stand place (suc count) = All-cons _ (fresh_phase (place + 1)) (first_phases (place + 1) count) (record { sequence = omega arith; turn = omega arith }) (first-stand (place + 1) count)
+first-stand place zero = All-nil (PhaseHasRoom 0 (2 ^ 59))
+first-stand place (suc count) = All-cons (PhaseHasRoom 0 (2 ^ 59)) (fresh_phase (place + 1)) (first_phases (place + 1) count) (record { sequence = omega arith; turn = omega arith }) (first-stand (place + 1) count)
 
 -- there is ample room before the first event
 pub start-room : (names : List Name) → HasRoom (cluster_of names) (2 ^ 59)

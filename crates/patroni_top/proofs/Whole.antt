@@ -1,26 +1,30 @@
 -- A whole run: the lines of its book, and then the summary.
-use Rattle.std.proofs.Common.{◌≡◌, ℕ, ◌+◌, ◌-◌, ◌≤◌, ◌++◌, List, length, Result, Ok, Err, MatchResult, arith, ◌∙◌, ap, sym, subst, length-append}
-use Rattle.event_book.specs.Facts.{Facts, after_all, start_of}
-use Rattle.event_book.specs.Text.{lines_of, summary_at}
+use Rattle.std.proofs.Common.{◌≡◌, ℕ, ◌+◌, ◌-◌, ◌*◌, ◌^◌, ◌≤◌, false, ◌++◌, List, length, Result, Ok, Err, MatchResult, arith, ◌∙◌, ap, sym, subst, length-append}
+use Rattle.event_book.specs.Text.{summary_at}
 use Rattle.cluster_script.specs.Script.{ScriptText}
 use Rattle.cluster_script.specs.Steps.{steps_of, total_ticks}
 use Rattle.patroni_top.specs.declared.print_error.PrintError.{PrintError}
 use Rattle.patroni_top.specs.declared.print_error.PrintError.TheVariants.{Memory}
+use Rattle.patroni_top.specs.Cluster.{Cluster, cluster_of, moved_all}
 use Rattle.patroni_top.specs.Next.{run_from}
 use Rattle.patroni_top.specs.Printing.{TakesAll}
-use Rattle.patroni_top.specs.Run.{output_of}
+use Rattle.patroni_top.specs.Run.{output_of, printed_from}
 use Rattle.patroni_top.specs.Room.{HasRoomFor}
+use Rattle.patroni_top.proofs.Rooms.{HasRoom-fewer}
+use Rattle.patroni_top.proofs.Starting.{start-room}
 
 -- no script within the limits brings a counter to its end
-pub has-room : (s : ScriptText) (world : Facts) → (total_ticks s.body ≤ 1000000) × (length s.body ≤ 100000) → world ≡ start_of s.head.members → HasRoomFor world (total_ticks s.body + length s.body)
-has-room s world few start = rw start (record { clock = omega (arith, few.0, few.1); revision = omega (arith, few.0, few.1) })
+pub has-room : (s : ScriptText) (world : Cluster) → (total_ticks s.body ≤ 1000000) × (length s.body ≤ 100000) → world ≡ cluster_of s.head.members → HasRoomFor world (total_ticks s.body + length s.body)
+has-room s world few start = rw start (record {
+  room = HasRoom-fewer (cluster_of s.head.members) (2 ^ 59) (16777216 * (total_ticks s.body + length s.body)) (omega (arith, few.0, few.1)) (start-room s.head.members);
+})
 
 -- the world and the clock at the end are those of the book
-pub text-is : (s : ScriptText) (world new : Facts) (clock : ℕ) → world ≡ start_of s.head.members → new ≡ after_all world (run_from world (steps_of s.body)) → clock ≡ new.clock
-    → lines_of (run_from world (steps_of s.body)) ++ summary_at clock ≡ output_of s
+pub text-is : (s : ScriptText) (world new : Cluster) (clock : ℕ) → world ≡ cluster_of s.head.members → new ≡ moved_all world (run_from world (steps_of s.body)) → clock ≡ new.book.clock
+    → printed_from world false (steps_of s.body) ++ summary_at clock ≡ output_of s
 text-is s world new clock start state moment =
-    ap (λ n. lines_of (run_from world (steps_of s.body)) ++ summary_at n) (moment ∙ ap (λ f. f.clock) state)
-    ∙ ap (λ w. lines_of (run_from w (steps_of s.body)) ++ summary_at (after_all w (run_from w (steps_of s.body))).clock) start
+    ap (λ n. printed_from world false (steps_of s.body) ++ summary_at n) (moment ∙ ap (λ f. f.book.clock) state)
+    ∙ ap (λ w. printed_from w false (steps_of s.body) ++ summary_at (moved_all w (run_from w (steps_of s.body))).book.clock) start
 
 pub TakesAll-then : (Could Can CanThen : ℕ → Type 0) (X Y : Type 0) (first : Result X PrintError) (x : X) (second : Result Y PrintError) (xs ys : List ℕ)
     → TakesAll Could Can first xs → first ≡ Ok x → TakesAll Can CanThen second ys → TakesAll Could CanThen second (xs ++ ys)
