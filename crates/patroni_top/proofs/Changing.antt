@@ -1,16 +1,14 @@
 -- What commands change of agents.
-use Rattle.std.proofs.Common.{◌≡◌, ℕ, ◌+◌, ◌≤◌, Bool, true, false, List, [], ◌∷◌, ◌++◌, length, Option, Some, None, arith, refl, ◌∙◌, ap, sym, subst}
+use Rattle.std.proofs.Common.{◌≡◌, ℕ, ◌+◌, ◌≤◌, Bool, false, List, [], ◌∷◌, ◌++◌, length, Option, Some, arith, refl, ◌∙◌, ap, sym, subst}
 use Rattle.std.specs.Prelude.{slice_get, if◌then◌else◌}
 use Rattle.std.proofs.lemmas.Option.{same_Some}
 use Rattle.pat_base.specs.declared.ticks.Ticks.{Ticks}
 use Rattle.event_book.specs.declared.agent_state.AgentState.{AgentState}
 use Rattle.event_book.specs.declared.event.Event.{Event}
-use Rattle.event_book.specs.declared.event.Kind.{Kind}
 use Rattle.event_book.specs.declared.event.Kind.TheVariants as kinds
 use Rattle.event_book.specs.declared.event.AgentEvent.{AgentEvent}
 use Rattle.event_book.specs.declared.event.AgentEvent.TheVariants as agents
 use Rattle.event_book.specs.declared.event.Note.TheVariants.{AlreadyRunning}
-use Rattle.event_book.specs.declared.member.Member.{Member}
 use Rattle.event_book.specs.Agents.{agents_by, changed}
 use Rattle.cluster_script.specs.declared.line.Command.{Command}
 use Rattle.patroni_top.specs.declared.phase.Phase.{Phase}
@@ -64,7 +62,7 @@ pub calm-took : (cluster : Cluster) (found : Option AgentEvent) (happening : Age
 calm-took cluster found happening states tick had has is calm states_is at has_is =
     let kind = kinds.Agent happening in
     let state : with_agents cluster states cluster.phases ≡ moved cluster kind =
-        ap (λ (s : List AgentState). with_agents cluster s cluster.phases) states_is ∙ ap (λ (p : List Phase). with_agents cluster (agents_by cluster.book.agents happening) p) (sym (calm-stays cluster.book.clock cluster.phases happening calm)) in
+    ap (λ (s : List AgentState). with_agents cluster s cluster.phases) states_is ∙ ap (λ (p : List Phase). with_agents cluster (agents_by cluster.book.agents happening) p) (sym (calm-stays cluster.book.clock cluster.phases happening calm)) in
     subst (λ (f : Option AgentEvent). Took cluster (with_agents cluster states cluster.phases) had has (all_happen cluster (agent_kinds f)) 1) (sym is)
     (Took-one cluster (with_agents cluster states cluster.phases) had has kind (calm-counts cluster.book.agents happening calm) state (has_is ∙ ap (λ es. had ++ es) (stamped-is cluster tick kind at)))
 
@@ -86,7 +84,7 @@ pub start-took : (cluster : Cluster) (place : ℕ) (seat : Seat) (states : List 
 start-took cluster place seat states phases tick had has there ended states_is phases_is at has_is =
     let kind = kinds.Agent (agents.Started seat.member (seat.state.run + 1)) in
     let state : with_agents cluster states phases ≡ moved cluster kind =
-        ap (λ (s : List AgentState). with_agents cluster s phases) states_is ∙ ap (λ (p : List Phase). with_agents cluster (agents_by cluster.book.agents (agents.Started seat.member (seat.state.run + 1))) p) phases_is in
+    ap (λ (s : List AgentState). with_agents cluster s phases) states_is ∙ ap (λ (p : List Phase). with_agents cluster (agents_by cluster.book.agents (agents.Started seat.member (seat.state.run + 1))) p) phases_is in
     subst (λ (o : Option Seat). Took cluster (with_agents cluster states phases) had has (all_happen cluster (restart_kinds o)) 1) (sym there)
     (restarts-if cluster (with_agents cluster states phases) had has seat ended
     (Took-one cluster (with_agents cluster states phases) had has kind (next-run cluster seat (stands-at cluster place seat there).state_is) state (has_is ∙ ap (λ es. had ++ es) (stamped-is cluster tick kind at))))

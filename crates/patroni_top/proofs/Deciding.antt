@@ -22,10 +22,8 @@ use Rattle.event_book.specs.declared.message.Body.{Body}
 use Rattle.event_book.specs.declared.message.Body.TheVariants as bodies
 use Rattle.event_book.specs.declared.message.Message.{Message}
 use Rattle.event_book.specs.Flight.{InFlightFacts, in_flight, landed}
-use Rattle.patroni_top.specs.declared.phase.Seat.{Seat}
-use Rattle.patroni_top.specs.declared.phase.Reaction.{Reaction}
 use Rattle.patroni_top.specs.Cluster.{Cluster, moved, phases_told}
-use Rattle.patroni_top.specs.Next.{happens, asked, asked_in, question, sends, answer_to, answers, decides, decided, decision_told, listened, reacts, comes, comes_to, comes_found}
+use Rattle.patroni_top.specs.Next.{happens, asked, asked_in, question, sends, answer_to, answers, decides, listened, reacts, comes_to, comes_found}
 use Rattle.patroni_top.specs.Took.{Took}
 use Rattle.patroni_top.proofs.Rooms.{Counts}
 use Rattle.patroni_top.proofs.Taking.{Took-nothing, Took-one, Took-then}

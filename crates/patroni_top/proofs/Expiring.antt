@@ -1,18 +1,17 @@
 -- The expiries of keys.
-use Rattle.std.proofs.Common.{◌≡◌, ℕ, ◌+◌, ◌<◌, List, [], ◌∷◌, ◌++◌, length, drop, get_or, map, Option, Some, None, arith, append_assoc, append-nil, refl, ◌∙◌, ap, sym, subst}
+use Rattle.std.proofs.Common.{◌≡◌, ℕ, ◌+◌, ◌<◌, List, [], ◌∷◌, ◌++◌, length, drop, get_or, Option, Some, None, arith, append_assoc, refl, ◌∙◌, ap, sym}
 use Rattle.std.proofs.lemmas.List.{drop_more}
 use Rattle.pat_base.specs.declared.ticks.Ticks.{Ticks}
 use Rattle.lease_store.specs.declared.key.Key.{Key}
 use Rattle.lease_store.specs.declared.key.Key.TheVariants as keys
-use Rattle.lease_store.specs.Answers.{keys_kept, expired_keys, expired_holder}
-use Rattle.lease_store.specs.Keys.{Keys}
+use Rattle.lease_store.specs.Answers.{expired_keys, expired_holder}
 use Rattle.event_book.specs.declared.event.Event.{Event}
 use Rattle.event_book.specs.declared.event.Kind.{Kind}
 use Rattle.event_book.specs.declared.event.Kind.TheVariants as kinds
 use Rattle.event_book.specs.declared.event.StoreEvent.TheVariants as stores
 use Rattle.event_book.specs.declared.member.Member.{Member}
 use Rattle.patroni_top.specs.Cluster.{Cluster, moved, moved_all}
-use Rattle.patroni_top.specs.Next.{all_happen, happens, stamped, expiry_of, expiries_of, leader_expiry, declared_member, ticks}
+use Rattle.patroni_top.specs.Next.{all_happen, happens, stamped, expiry_of, expiries_of, declared_member, ticks}
 use Rattle.patroni_top.specs.Took.{Took}
 use Rattle.patroni_top.proofs.Rooms.{HasRoom-fewer}
 use Rattle.patroni_top.proofs.Taking.{Took-one, Took-then}

@@ -10,7 +10,9 @@ pub mod Rest
 pub mod Rooms
 pub mod Seats
 pub mod Sending
+pub mod Standing
 pub mod Starting
+pub mod Staying
 pub mod Taking
 pub mod Telling
 pub mod TurnRooms

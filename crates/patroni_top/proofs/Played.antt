@@ -11,7 +11,7 @@ use Rattle.patroni_top.specs.declared.print_error.PrintError.{PrintError}
 use Rattle.patroni_top.specs.Cluster.{Cluster, moved_all}
 use Rattle.patroni_top.specs.Next.{next_events, run_from}
 use Rattle.patroni_top.specs.Printing.{TakesAll}
-use Rattle.patroni_top.specs.Room.{HasRoom, HasRoomFor}
+use Rattle.patroni_top.specs.Room.{HasRoomFor}
 use Rattle.patroni_top.specs.Run.{printed_from, traced_after, traced_all}
 use Rattle.patroni_top.specs.Took.{Took}
 use Rattle.patroni_top.proofs.Progress.{Progress, Progress-start, Progress-more, Progress-stop, TakesAll-stop}

@@ -1,12 +1,10 @@
 -- Counters, each of which an event counts up by one at most.
-use Rattle.std.proofs.Common.{◌≡◌, ℕ, ◌+◌, ◌*◌, ◌^◌, ◌≤◌, ◌<◌, Bool, true, false, List, [], ◌∷◌, ◌++◌, length, All, Option, Some, None, arith, refl, ap, sym, ◌∙◌, subst, get_or}
-use Rattle.std.specs.Prelude.{slice_get, if◌then◌else◌}
+use Rattle.std.proofs.Common.{◌≡◌, ℕ, ◌+◌, ◌^◌, ◌≤◌, ◌<◌, List, All, Option, Some, None, arith, refl, subst}
+use Rattle.std.specs.Prelude.{slice_get}
 use Rattle.std.proofs.lemmas.Option.{slice_get_within, get_or_from_slice_get}
 use Rattle.std.proofs.lemmas.List.Elements.{All-set}
-use Rattle.pat_base.specs.declared.member_id.MemberId.{MemberId}
 use Rattle.lease_store.specs.Keys.{Keys}
 use Rattle.event_book.specs.declared.agent_state.AgentState.{AgentState}
-use Rattle.event_book.specs.declared.event.Event.{Event}
 use Rattle.event_book.specs.declared.event.Kind.{Kind}
 use Rattle.event_book.specs.declared.event.Kind.TheVariants as kinds
 use Rattle.event_book.specs.declared.event.AgentEvent.{AgentEvent}
@@ -25,7 +23,6 @@ use Rattle.event_book.specs.Keys.{keys_at}
 use Rattle.patroni_top.specs.declared.phase.Phase.{Phase}
 use Rattle.patroni_top.specs.Cluster.{Cluster, moved, phases_after, phases_by, phases_told, phases_heard, phases_reached}
 use Rattle.patroni_top.specs.Room.{HasRoom, PhaseHasRoom}
-use Rattle.patroni_top.specs.Turns.{woken, heard, fresh_phase}
 use Rattle.patroni_top.proofs.TurnRooms.{woken-room, heard-room, fresh-room, PhaseHasRoom-fewer}
 
 -- what holds of each element holds of one

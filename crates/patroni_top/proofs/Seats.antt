@@ -1,6 +1,6 @@
 -- Members with their agents.
-use Rattle.std.proofs.Common.{◌≡◌, ℕ, ◌+◌, ◌^◌, ◌<◌, ◌≤◌, List, length, Option, Some, None, arith, refl, ap, sym, ◌∙◌, subst}
-use Rattle.std.specs.Prelude.{slice_get, slice_set}
+use Rattle.std.proofs.Common.{◌≡◌, ℕ, ◌+◌, ◌^◌, ◌<◌, List, length, Option, Some, None, refl, ap, sym, ◌∙◌}
+use Rattle.std.specs.Prelude.{slice_get}
 use Rattle.std.proofs.lemmas.List.{length-set}
 use Rattle.std.proofs.lemmas.Option.{none-some, same_Some}
 use Rattle.event_book.specs.declared.agent_state.AgentState.{AgentState}
@@ -9,7 +9,7 @@ use Rattle.event_book.specs.Agents.{changed, changed_at}
 use Rattle.patroni_top.specs.declared.phase.Phase.{Phase}
 use Rattle.patroni_top.specs.declared.phase.Seat.{Seat}
 use Rattle.patroni_top.specs.Cluster.{Cluster}
-use Rattle.patroni_top.specs.Next.{seat_of, seat_for, seat_if, seat_at}
+use Rattle.patroni_top.specs.Next.{seat_of, seat_if, seat_at}
 use Rattle.patroni_top.specs.Room.{HasRoom, PhaseHasRoom}
 use Rattle.patroni_top.proofs.Rooms.{All-at}
 

@@ -6,7 +6,6 @@ use Rattle.lease_store.specs.declared.granted.Granted.{Granted}
 use Rattle.lease_store.specs.declared.key.Key.{Key}
 use Rattle.lease_store.specs.declared.value.Held.{Held}
 use Rattle.event_book.specs.declared.event.Event.{Event}
-use Rattle.event_book.specs.declared.event.Kind.{Kind}
 use Rattle.event_book.specs.declared.event.Kind.TheVariants as kinds
 use Rattle.event_book.specs.declared.event.MessageEvent.TheVariants.{Sent, Lost}
 use Rattle.event_book.specs.declared.message.Message.{Message}

@@ -12,7 +12,7 @@ use Rattle.event_book.specs.declared.agent_state.AgentState.{AgentState}
 use Rattle.event_book.specs.Agents.{first_agents, running_in}
 use Rattle.event_book.specs.Members.{members_from, put_first}
 use Rattle.patroni_top.specs.declared.phase.Phase.{Phase}
-use Rattle.patroni_top.specs.Cluster.{Cluster, cluster_of, first_phases}
+use Rattle.patroni_top.specs.Cluster.{cluster_of, first_phases}
 use Rattle.patroni_top.specs.Room.{HasRoom, PhaseHasRoom}
 use Rattle.patroni_top.specs.Turns.{fresh_phase}
 

@@ -1,10 +1,9 @@
 -- Parts of a step, one after another.
-use Rattle.std.proofs.Common.{◌≡◌, ℕ, ◌+◌, ◌≤◌, List, [], ◌∷◌, ◌++◌, arith, append_assoc, append-nil, refl, ◌∙◌, ap, sym, subst}
+use Rattle.std.proofs.Common.{◌≡◌, ℕ, ◌+◌, ◌≤◌, List, [], ◌∷◌, ◌++◌, arith, append_assoc, append-nil, refl, ◌∙◌, ap, sym}
 use Rattle.event_book.specs.declared.event.Event.{Event}
 use Rattle.event_book.specs.declared.event.Kind.{Kind}
 use Rattle.patroni_top.specs.Cluster.{Cluster, moved, moved_all}
 use Rattle.patroni_top.specs.Next.{happens, followed}
-use Rattle.patroni_top.specs.Room.{HasRoom}
 use Rattle.patroni_top.specs.Took.{Took}
 use Rattle.patroni_top.proofs.Rooms.{Counts, HasRoom-moved, HasRoom-fewer}
 

@@ -1,5 +1,5 @@
 -- How far the questions of an agent are counted up.
-use Rattle.std.proofs.Common.{◌≡◌, ℕ, ◌+◌, ◌≤◌, ◌<◌, Bool, true, false, List, Option, Some, None, arith, refl}
+use Rattle.std.proofs.Common.{ℕ, ◌+◌, ◌≤◌, Bool, true, false, List, Option, Some, None, arith}
 use Rattle.std.specs.Prelude.{if◌then◌else◌}
 use Rattle.std.specs.FinMap.{find}
 use Rattle.pat_base.specs.declared.member_id.MemberId.{MemberId}
@@ -17,7 +17,7 @@ use Rattle.patroni_top.specs.declared.phase.Reaction.{Reaction}
 use Rattle.patroni_top.specs.declared.phase.Pending.TheVariants.{Reading}
 use Rattle.patroni_top.specs.declared.phase.Role.TheVariants.{Follower, Holder}
 use Rattle.patroni_top.specs.Room.{PhaseHasRoom}
-use Rattle.patroni_top.specs.Turns.{fresh_phase, is_overdue, has_turn, idle, begun, rested, turned, woken, awaits, awaits_lease, informed, renewing, creating, following, led_by, led, told, is_lease_of, granted, refused, heard_body, heard}
+use Rattle.patroni_top.specs.Turns.{fresh_phase, is_overdue, has_turn, idle, begun, rested, woken, awaits, informed, renewing, following, led_by, led, granted, refused, heard_body, heard}
 
 pub PhaseHasRoom-fewer : (clock later events : ℕ) → clock ≤ later → (phase : Phase) → PhaseHasRoom clock (1 + events) phase → PhaseHasRoom later events phase
 PhaseHasRoom-fewer clock later events h phase room = record { sequence = omega (arith, room.sequence); turn = omega (arith, room.turn, h) }

@@ -1,5 +1,4 @@
 -- Happenings that leave it where an agent stands.
-use Rattle.std.specs.Prelude.{Option}
 use Rattle.event_book.specs.declared.event.AgentEvent.{AgentEvent}
 use Rattle.event_book.specs.declared.event.AgentEvent.TheVariants.{Suspended, Resumed, Killed}
 

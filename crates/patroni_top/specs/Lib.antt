@@ -1,6 +1,8 @@
+pub mod Book
 pub mod Calm
 pub mod Cluster
 pub mod Commands
+pub mod Concerns
 pub mod Info
 pub mod Input
 pub mod Launches

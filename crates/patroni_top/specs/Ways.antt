@@ -1,5 +1,5 @@
 -- Whether a message can come to its receiver.
-use Rattle.std.specs.Prelude.{ℕ, ◌==◌, ◌||◌, ◌&&◌, not, Bool, true, false, if◌then◌else◌, List, Option, Some, None, slice_get}
+use Rattle.std.specs.Prelude.{◌==◌, ◌||◌, ◌&&◌, not, Bool, true, false, if◌then◌else◌, List, Option, Some, None, slice_get}
 use Rattle.event_book.specs.declared.agent_state.AgentState.{AgentState}
 use Rattle.event_book.specs.declared.link.Link.{Link}
 use Rattle.event_book.specs.declared.link.LinkEnd.{LinkEnd}
@@ -7,7 +7,6 @@ use Rattle.event_book.specs.declared.link.LinkEnd.TheVariants as link_ends
 use Rattle.event_book.specs.declared.message.Body.{Body}
 use Rattle.event_book.specs.declared.message.Body.TheVariants as bodies
 use Rattle.event_book.specs.declared.message.Message.{Message}
-use Rattle.event_book.specs.Facts.{Facts}
 use Rattle.event_book.specs.Links.{is_cut}
 use Rattle.patroni_top.specs.declared.way.Way.{Way}
 use Rattle.patroni_top.specs.declared.way.Way.TheVariants as ways

@@ -8,6 +8,7 @@ mod agents;
 mod ending;
 mod flight;
 mod info;
+mod laws;
 mod links;
 mod phase;
 mod playing;
@@ -20,6 +21,7 @@ mod way;
 mod ways;
 mod world;
 
+pub use laws::other_concerns_change_nothing;
 pub use status::Status;
 pub use top::run;
 

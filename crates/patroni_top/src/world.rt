@@ -1,14 +1,16 @@
 //! The world: it takes the steps of a script and hands out what happens.
-ghost use Rattle.std.specs.Prelude.{ℕ, ◌≡◌, ◌<◌, ◌≤◌, ◌+◌, ◌*◌, ◌^◌, ◌++◌, ◌∷◌, [], length, OnOk, IfOk, IfSome, slice_get, Some, option_map};
+ghost use Rattle.std.specs.Prelude.{ℕ, List, ◌≡◌, ◌<◌, ◌≤◌, ◌+◌, ◌*◌, ◌^◌, ◌++◌, ◌∷◌, [], length, OnOk, IfOk, IfSome, slice_get, Some, option_map};
 ghost use Rattle.pat_base.specs.MemberId.{member_of};
 ghost use Rattle.lease_store.specs.Answers.{present_pairs};
 ghost use Rattle.lease_store.specs.Decision.{decision_on};
 ghost use Rattle.lease_store.specs.Writes.{ttl_of};
+ghost use Rattle.event_book.specs.declared.event.Event.{Event};
 ghost use Rattle.event_book.specs.Agents.{first_agents};
 ghost use Rattle.event_book.specs.Flight.{in_flight, snapshot_for, grant_for};
 ghost use Rattle.event_book.specs.Members.{members_from};
+ghost use Rattle.patroni_top.specs.Book.{StandsFor, next_of};
 ghost use Rattle.patroni_top.specs.Calm.{IsCalm};
-ghost use Rattle.patroni_top.specs.Cluster.{cluster_of, first_phases};
+ghost use Rattle.patroni_top.specs.Cluster.{Cluster, cluster_of, first_phases};
 ghost use Rattle.patroni_top.specs.Commands.{agent_kinds, link_kinds, restart_kinds, link_of};
 ghost use Rattle.patroni_top.specs.Next.{all_happen, happens, stamped, lost_at_once, sends, seat_at, reacts, asked, wake_at, wakes, answer_to, answers, decides, comes_found, moves, all_move, round, rounds, most_rounds, declared_member, expiry_of, expiries_of, ticks, delivers, loses, command_events, next_events};
 ghost use Rattle.patroni_top.specs.Room.{HasRoom, HasRoomFor};
@@ -96,9 +98,20 @@ impl World {
         self.clock
     }
 
-    /// One step. On Ok the events are those that come next, and the world is what they leave. On Err, want of memory,
-    /// the world and the events aren't to be used any more.
+    /// One step. On Ok the events are those that come next, and the world is what they leave: a world that stood for a
+    /// book stands for that book with them at its end. On Err, want of memory, the world and the events aren't to be
+    /// used any more.
     pub fn step(&mut self, step: &Step, events: &mut Vec<Event>) -> Result<(), AllocError>
+        requires { HasRoomFor self.old 1 }
+        ensures took { OnOk result (Took self.old self.new events.old.items events.new.items (next_events self.old step.now) 16777216) }
+        ensures book { OnOk result ((start : Cluster) (book : List Event) → StandsFor start book self.old
+            → (events.new.items ≡ events.old.items ++ next_of start book step.now) × StandsFor start (book ++ next_of start book step.now) self.new) }
+    {
+        self.take(step, events)
+    }
+
+    /// What happens in a step.
+    fn take(&mut self, step: &Step, events: &mut Vec<Event>) -> Result<(), AllocError>
         requires { HasRoomFor self.old 1 }
         ensures { OnOk result (Took self.old self.new events.old.items events.new.items (next_events self.old step.now) 16777216) }
     {

@@ -1,4 +1,4 @@
-use Rattle.std.proofs.Common.{◌+◌, drop, get_or, length, arith}
+use Rattle.std.proofs.Common.{◌+◌, drop, get_or, arith}
 use Rattle.patroni_top.specs.Next.{moves, all_move}
 use Rattle.patroni_top.proofs.Rest.{Left-room, Left-more, Left-end, moves-next, moves-end, left-one}
 use Rattle.patroni_top.proofs.world.World.all_move.Goals as goal

@@ -1,4 +1,4 @@
-use Rattle.std.proofs.Common.{ℕ, ◌-◌, ◌*◌, drop, length}
+use Rattle.std.proofs.Common.{◌*◌, drop, length}
 use Rattle.patroni_top.specs.Next.{all_move}
 use Rattle.patroni_top.proofs.Rest.{Left}
 use Rattle.patroni_top.proofs.world.World.all_move.Given as goal

@@ -1,20 +1,19 @@
-use Rattle.std.proofs.Common.{◌≡◌, ◌∙◌, ◌+◌, List, Option, Some, arith, length, refl, ap, sym, subst}
+use Rattle.std.proofs.Common.{◌≡◌, ◌∙◌, List, Option, Some, arith, length, refl, ap, sym, subst}
 use Rattle.std.specs.Vec.{with_items}
 use Rattle.std.proofs.lemmas.List.{with_items_is}
 use Rattle.std.proofs.lemmas.Result.{on_ok_weaker}
 use Rattle.event_book.specs.declared.event.Kind.TheVariants as kinds
 use Rattle.event_book.specs.declared.event.MessageEvent.TheVariants.{Delivered}
-use Rattle.event_book.specs.declared.link.LinkEnd.{LinkEnd}
 use Rattle.event_book.specs.declared.link.LinkEnd.TheVariants as link_ends
 use Rattle.event_book.specs.declared.message.Message.{Message}
 use Rattle.event_book.specs.Flight.{Flight, InFlightFacts, in_flight}
 use Rattle.patroni_top.specs.declared.phase.Phase.{Phase}
 use Rattle.patroni_top.specs.declared.phase.Reaction.{Reaction}
-use Rattle.patroni_top.specs.Cluster.{Cluster, moved}
+use Rattle.patroni_top.specs.Cluster.{Cluster}
 use Rattle.patroni_top.specs.Next.{comes_found, answers, reacts}
 use Rattle.patroni_top.specs.Room.{HasRoom}
 use Rattle.patroni_top.specs.Took.{Took}
-use Rattle.patroni_top.proofs.Deciding.{nothing-took, stored-took, heard-took, arrived}
+use Rattle.patroni_top.proofs.Deciding.{nothing-took, stored-took, heard-took}
 use Rattle.patroni_top.proofs.Rooms.{HasRoom-moved, HasRoom-fewer}
 use Rattle.patroni_top.proofs.Seats.{length-changed}
 use Rattle.patroni_top.proofs.Worlds.{seen, landing, hearing-is, told-is, listened-is}

@@ -11,7 +11,7 @@ use Rattle.event_book.specs.declared.event.Kind.TheVariants as kinds
 use Rattle.event_book.specs.declared.event.StoreEvent.TheVariants as stores
 use Rattle.event_book.specs.declared.message.Body.TheVariants as bodies
 use Rattle.event_book.specs.declared.message.Message.{Message}
-use Rattle.patroni_top.specs.Cluster.{Cluster, moved}
+use Rattle.patroni_top.specs.Cluster.{Cluster}
 use Rattle.patroni_top.specs.Next.{decides, sends, answer_to}
 use Rattle.patroni_top.specs.Took.{Took}
 use Rattle.patroni_top.proofs.Deciding.{granted-took, refused-took, granted-event}

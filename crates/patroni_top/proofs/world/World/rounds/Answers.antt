@@ -1,4 +1,4 @@
-use Rattle.std.proofs.Common.{◌≡◌, ◌∙◌, ◌+◌, ◌-◌, arith, length, ap, sym}
+use Rattle.std.proofs.Common.{◌+◌, ◌-◌, arith}
 use Rattle.patroni_top.specs.Next.{round, rounds}
 use Rattle.patroni_top.proofs.Rest.{Left-room, Left-more, Left-end, rounds-next, rounds-done, rounds-end}
 use Rattle.patroni_top.proofs.world.World.rounds.Goals as goal

@@ -1,4 +1,4 @@
-use Rattle.std.proofs.Common.{ℕ, ◌-◌, ◌*◌}
+use Rattle.std.proofs.Common.{◌-◌, ◌*◌}
 use Rattle.patroni_top.specs.Next.{rounds, most_rounds}
 use Rattle.patroni_top.proofs.Rest.{Left}
 use Rattle.patroni_top.proofs.world.World.rounds.Given as goal

@@ -1,8 +1,7 @@
-use Rattle.std.proofs.Common.{◌∙◌, ◌+◌, ◌++◌, refl, ap, sym, subst}
+use Rattle.std.proofs.Common.{◌∙◌, ◌+◌, ◌++◌, refl, ap, subst}
 use Rattle.std.proofs.lemmas.Result.{on_ok_weaker}
-use Rattle.lease_store.specs.Answers.{expired_holder, expired_keys}
-use Rattle.event_book.specs.declared.event.Kind.TheVariants as kinds
-use Rattle.patroni_top.specs.Cluster.{Cluster, moved}
+use Rattle.lease_store.specs.Answers.{expired_keys}
+use Rattle.patroni_top.specs.Cluster.{Cluster}
 use Rattle.patroni_top.specs.Next.{ticks, stamped, expiries_of, declared_member}
 use Rattle.patroni_top.specs.Took.{Took}
 use Rattle.patroni_top.proofs.Expiring.{ticks-took}

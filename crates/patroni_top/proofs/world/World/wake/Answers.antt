@@ -30,7 +30,7 @@ react-requires-clause-room c =
     let agent = c.in-Some.seat.member in
     let long = ap length c.rouse-reaction.ensures.phases ∙ length-changed Phase c.deref_mut.result.now agent _ ∙ c.deref_mut.ensures.len in
     let phases = with_items_is c.self.inside.phases c.rouse-reaction.new.phases long ∙ c.rouse-reaction.ensures.phases
-        ∙ ap (λ (p : List Phase). changed p agent (λ phase. (woken before.book.clock phase).phase)) c.deref_mut.ensures.value in
+    ∙ ap (λ (p : List Phase). changed p agent (λ phase. (woken before.book.clock phase).phase)) c.deref_mut.ensures.value in
     let state = ap (λ (p : List Phase). let a : Cluster = record { book = before.book; phases = p } in a) phases in
     let room : HasRoom before 3 = subst (λ (b : Cluster). HasRoom b 3) (sym c.self.view_is) c.requires in
     subst (λ (b : Cluster). HasRoom b 2) (sym state) (HasRoom-moved before (kinds.Agent (Woken agent)) 2 tt room)
@@ -41,7 +41,7 @@ returns c =
     let agent = c.in-Some.seat.member in
     let long = ap length c.rouse-reaction.ensures.phases ∙ length-changed Phase c.deref_mut.result.now agent _ ∙ c.deref_mut.ensures.len in
     let phases = with_items_is c.self.inside.phases c.rouse-reaction.new.phases long ∙ c.rouse-reaction.ensures.phases
-        ∙ ap (λ (p : List Phase). changed p agent (λ phase. (woken before.book.clock phase).phase)) c.deref_mut.ensures.value in
+    ∙ ap (λ (p : List Phase). changed p agent (λ phase. (woken before.book.clock phase).phase)) c.deref_mut.ensures.value in
     let stand : List Phase = (with_items c.self.inside.phases c.rouse-reaction.new.phases).items in
     let rousing : Cluster = record { book = before.book; phases = stand } in
     let state : rousing ≡ moved before (kinds.Agent (Woken agent)) = ap (λ (p : List Phase). let a : Cluster = record { book = before.book; phases = p } in a) phases in

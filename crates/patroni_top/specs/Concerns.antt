@@ -1,0 +1,27 @@
+-- What happenings concern.
+use Rattle.event_book.specs.declared.event.Kind.{Kind}
+use Rattle.event_book.specs.declared.event.Kind.TheVariants as kinds
+
+pub data Concern : Type 0 where
+  Time : Concern
+  Messages : Concern
+  Store : Concern
+  Watchdogs : Concern
+  Servers : Concern
+  Logs : Concern
+  Replication : Concern
+  Agents : Concern
+  Links : Concern
+  Notes : Concern
+
+abbrev pub concern_of : Kind → Concern
+concern_of kinds.Tick = Time
+concern_of (kinds.Message happening) = Messages
+concern_of (kinds.Store happening) = Store
+concern_of (kinds.Watchdog happening) = Watchdogs
+concern_of (kinds.Server happening) = Servers
+concern_of (kinds.Log happening) = Logs
+concern_of (kinds.Replication happening) = Replication
+concern_of (kinds.Agent happening) = Agents
+concern_of (kinds.Link happening) = Links
+concern_of (kinds.Note note) = Notes
