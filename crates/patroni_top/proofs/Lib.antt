@@ -12,6 +12,7 @@ pub mod Seats
 pub mod Sending
 pub mod Standing
 pub mod Starting
+pub mod Settling
 pub mod Staying
 pub mod Taking
 pub mod Telling

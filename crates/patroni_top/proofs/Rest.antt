@@ -100,14 +100,14 @@ rounds-none cluster n e = rw e refl
 pub rounds-end : (cluster : Cluster) (at : ℕ) → 40 ≤ at → rounds cluster (40 - at) ≡ []
 rounds-end cluster at h = rounds-none cluster (40 - at) (omega (arith, h))
 
--- the agents are woken, and then the messages move
+-- the agents are woken, and then the messages move; only some of those in flight need be looked at
 pub round-took : (cluster woken after : Cluster) (had mid has : List Event) (count : ℕ) (numbers : List ℕ) → count ≡ length cluster.book.members → count ≤ 16
-    → Took cluster woken had mid (wakes cluster 0 count) (3 * count) → numbers ≡ keys_of woken.book.flight → length numbers ≤ 65536
+    → Took cluster woken had mid (wakes cluster 0 count) (3 * count) → all_move woken (keys_of woken.book.flight) ≡ all_move woken numbers → length numbers ≤ 65536
     → Took woken after mid has (all_move woken numbers) (4 * length numbers) → Took cluster after had has (round cluster) 262192
-round-took cluster woken after had mid has count numbers all few one are short two =
+round-took cluster woken after had mid has count numbers all few one same short two =
     Took-then cluster woken after had mid has (wakes cluster 0 (length cluster.book.members)) (λ later. all_move later (keys_of later.book.flight)) (3 * count) (4 * length numbers) 262192
     (subst (λ (n : ℕ). Took cluster woken had mid (wakes cluster 0 n) (3 * count)) all one)
-    (subst (λ (ns : List ℕ). Took woken after mid has (all_move woken ns) (4 * length numbers)) are two) (omega (arith, few, short))
+    (subst (λ (es : List Event). Took woken after mid has es (4 * length numbers)) (sym same) two) (omega (arith, few, short))
 
 -- after the wakes there is room for all that moves
 pub moves-room : (cluster woken : Cluster) (had mid : List Event) (count moving : ℕ) → HasRoom cluster 262192 → count ≤ 16 → moving ≤ 65536 → Took cluster woken had mid (wakes cluster 0 count) (3 * count) → HasRoom woken (4 * moving)
@@ -118,3 +118,10 @@ moves-room cluster woken had mid count moving room few short took =
 pub stepped : (cluster after : Cluster) (had has : List Event) (read step : Step) (cost : ℕ) → read ≡ step → Took cluster after had has (next_events cluster step) cost → cost ≤ 16777216 → Took cluster after had has (next_events cluster read) 16777216
 stepped cluster after had has read step cost is took enough =
     subst (λ (s : Step). Took cluster after had has (next_events cluster s) 16777216) (sym is) (Took-weaker cluster after had has (next_events cluster step) cost 16777216 took enough)
+
+-- after a round in which nothing happened the next would be such a round too
+pub round-still : (cluster next : Cluster) (has longer : List Event) → Took cluster next has longer (round cluster) 262192 → length longer ≡ length has → (next ≡ cluster) × (round next ≡ [])
+round-still cluster next has longer took same =
+    let none = empty-of (round cluster) (omega (arith, ap length took.event, length-append has (round cluster), same)) in
+    let state : next ≡ cluster = took.state ∙ ap (moved_all cluster) none.1 in
+    (state, ap round state ∙ none.1)

@@ -10,6 +10,7 @@ pub mod Next
 pub mod Printing
 pub mod Room
 pub mod Run
+pub mod Settled
 pub mod Short
 pub mod Status
 pub mod Took

@@ -1,11 +1,13 @@
 //! Messages in flight.
-ghost use Rattle.std.specs.Prelude.{◌≡◌, ◌≤◌, ◌+◌, nat_le, [], length, OnOk, OnErr, IfOk, IfSome, IfNone, Some, is_some, if◌then◌else◌, option_copied};
+ghost use Rattle.std.specs.Prelude.{ℕ, ◌≡◌, ◌≢◌, ◌≤◌, ◌+◌, nat_le, [], length, OnOk, OnErr, IfOk, IfSome, IfNone, Some, is_some, if◌then◌else◌, option_copied};
 ghost use Rattle.std.specs.BTreeMap.{insert_entry};
 ghost use Rattle.std.specs.Map.{keys_of};
+ghost use Rattle.std.specs.List.Sorted.{IsStrictlySortedBy};
 ghost use Rattle.std.specs.Ordering.{nat_cmp};
-ghost use Rattle.event_book.specs.Flight.{in_flight, landed};
+ghost use Rattle.event_book.specs.Flight.{InFlightFacts, in_flight, landed};
 ghost use Rattle.patroni_top.specs.Next.{most_in_flight};
 ghost use Rattle.patroni_top.specs.Launches.{launched_into};
+ghost use Rattle.patroni_top.specs.Settled.{numbers_from};
 ghost use Rattle.patroni_top.specs.Short.{IsShort};
 
 use event_book::Message;
@@ -82,6 +84,7 @@ impl Flight {
         requires { IsShort message.message.body }
         ensures flight { OnOk result (self.new ≡ launched_into self.old number message) }
         ensures lost { IfOk result (λ lost. lost ≡ nat_le most_in_flight (length self.old)) }
+        ensures others { (n : ℕ) (m : InFlightFacts) → n ≢ number → in_flight self.new n ≡ Some m → in_flight self.old n ≡ Some m }
     {
         let full = self.messages.len() >= MOST;
         put(&mut self.messages, number, message)?;
@@ -97,17 +100,19 @@ impl Flight {
         ensures message { result ≡ in_flight self.old number }
         ensures short { IfSome result (λ m. IsShort m.message.body) }
         ensures absent { IfNone result (self.new ≡ self.old) }
+        ensures others { (n : ℕ) (m : InFlightFacts) → in_flight self.new n ≡ Some m → in_flight self.old n ≡ Some m }
     {
         self.messages.remove(&number)
     }
 
-    /// The numbers of the messages in flight, in order. It fails only for want of memory.
-    pub fn numbers(&self, alloc: Global) -> Result<Vec<u64>, AllocError>
-        ensures numbers { IfOk result (λ numbers. numbers.items ≡ keys_of self.now) }
+    /// The numbers of the messages in flight from this number on, in order. It fails only for want of memory.
+    pub fn numbers_from(&self, alloc: Global, mark: u64) -> Result<Vec<u64>, AllocError>
+        ensures numbers { IfOk result (λ numbers. numbers.items ≡ numbers_from mark self.now) }
         ensures few { IfOk result (λ numbers. length numbers.items ≤ 65536) }
+        ensures order { IsStrictlySortedBy nat_cmp (keys_of self.now) }
     {
         let mut numbers = Vec::new(alloc);
-        for number in self.messages.keys() {
+        for (number, _) in self.messages.range(mark..) {
             numbers.push(*number)?;
         }
         Ok(numbers)
@@ -123,6 +128,7 @@ fn put(
     ensures entries { OnOk result (messages.new.entries ≡ insert_entry nat_cmp messages.old.entries number message) }
     ensures found { OnOk result (in_flight messages.new.entries number ≡ Some message) }
     ensures len { OnOk result (length messages.new.entries ≤ length messages.old.entries + 1) }
+    ensures others { (n : ℕ) (m : InFlightFacts) → n ≢ number → in_flight messages.new.entries n ≡ Some m → in_flight messages.old.entries n ≡ Some m }
     ensures err { OnErr result (messages.new.entries ≡ messages.old.entries) }
 {
     messages.insert(number, message)?;
@@ -132,6 +138,7 @@ fn put(
 /// Lets go of a message.
 fn discard(messages: &mut BTreeMap<u64, InFlight>, number: u64)
     ensures entries { messages.new.entries ≡ landed messages.old.entries number }
+    ensures others { (n : ℕ) (m : InFlightFacts) → in_flight messages.new.entries n ≡ Some m → in_flight messages.old.entries n ≡ Some m }
     ensures len { length messages.new.entries + (if is_some (in_flight messages.old.entries number) then 1 else 0) ≡ length messages.old.entries }
 {
     messages.remove(&number);

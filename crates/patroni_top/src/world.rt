@@ -53,11 +53,14 @@ pub struct World {
     cuts: Vec<Link>,
     flight: Flight,
     sent: u64,
+    /// Each message in flight with a number below this one is kept for an agent that is held, so no round need look at it.
+    settled: u64,
 }
 
 impl Model for World {
-    ghost use Rattle.std.specs.Prelude.{◌≤◌, length};
+    ghost use Rattle.std.specs.Prelude.{◌≤◌, ◌+◌, length};
     ghost use Rattle.patroni_top.specs.Cluster.{Cluster};
+    ghost use Rattle.patroni_top.specs.Settled.{AreKeptBelow};
 
     ghost Value = { Cluster };
 
@@ -66,7 +69,7 @@ impl Model for World {
       phases = w.phases.items;
     } };
 
-    ghost invariant = { λ w. length w.members.items ≤ 16 };
+    ghost invariant = { λ w. (length w.members.items ≤ 16) × (w.settled ≤ w.sent + 1) × AreKeptBelow w.settled w.flight w.agents.items w.cuts.items };
 }
 
 impl World {
@@ -88,6 +91,7 @@ impl World {
             cuts: Vec::new(alloc),
             flight: Flight::new(alloc),
             sent: 0,
+            settled: 0,
         })
     }
 
@@ -172,6 +176,7 @@ impl World {
             let before = events.len();
             self.round(events)?;
             if events.len() == before {
+                self.settle();
                 return Ok(());
             }
         }
@@ -185,8 +190,17 @@ impl World {
     {
         let count = self.members.len();
         self.wakes(count, events)?;
-        let numbers = self.flight.numbers(self.alloc)?;
+        let numbers = self.flight.numbers_from(self.alloc, self.settled)?;
         self.all_move(&numbers, events)
+    }
+
+    /// Nothing moves: all that is in flight is kept for agents that are held.
+    fn settle(&mut self)
+        requires still { round self.old ≡ [] }
+        requires room { HasRoom self.old 1 }
+        ensures { self.new ≡ self.old }
+    {
+        self.settled = self.sent + 1;
     }
 
     /// The agents are woken where they have something to do, in script order.
@@ -523,6 +537,7 @@ impl World {
             agent,
             run: seat.state.run + 1,
         };
+        self.settled = 0;
         change_agents(&mut self.agents, &started);
         start(&mut self.phases, agent, first_turn);
         note(events, self.clock, Kind::Agent(started))
@@ -541,6 +556,7 @@ impl World {
         let Some(happening) = happening else {
             return Ok(());
         };
+        self.settled = 0;
         change_agents(&mut self.agents, &happening);
         note(events, self.clock, Kind::Agent(happening))
     }
@@ -557,6 +573,7 @@ impl World {
         let Some(change) = change else {
             return Ok(());
         };
+        self.settled = 0;
         change_links(&mut self.cuts, &change)?;
         note(events, self.clock, Kind::Link(change))
     }

@@ -16,8 +16,37 @@ use Rattle.patroni_top.specs.Took.{Took}
 use Rattle.patroni_top.proofs.Deciding.{nothing-took, stored-took, heard-took}
 use Rattle.patroni_top.proofs.Rooms.{HasRoom-moved, HasRoom-fewer}
 use Rattle.patroni_top.proofs.Seats.{length-changed}
+use Rattle.patroni_top.proofs.Settling.{kept-fewer}
 use Rattle.patroni_top.proofs.Worlds.{seen, landing, hearing-is, told-is, listened-is}
 use Rattle.patroni_top.proofs.world.World.arrive.Goals as goal
+
+pub invariant_of-self-in_err-note-in-Store : goal.invariant_of-self-in_err-note-in-Store
+invariant_of-self-in_err-note-in-Store c = (
+  c.self.invariant.0,
+  c.self.invariant.1,
+  kept-fewer c.self.inside.settled c.self.inside.flight c.land.new.self c.self.inside.agents.items c.self.inside.cuts.items c.self.invariant.2 c.land.ensures.others,
+)
+
+pub invariant_of-self-in-Store : goal.invariant_of-self-in-Store
+invariant_of-self-in-Store c = (
+  c.self.invariant.0,
+  c.self.invariant.1,
+  kept-fewer c.self.inside.settled c.self.inside.flight c.land.new.self c.self.inside.agents.items c.self.inside.cuts.items c.self.invariant.2 c.land.ensures.others,
+)
+
+pub invariant_of-self-in_err-note-in-Member : goal.invariant_of-self-in_err-note-in-Member
+invariant_of-self-in_err-note-in-Member c = (
+  c.self.invariant.0,
+  c.self.invariant.1,
+  kept-fewer c.self.inside.settled c.self.inside.flight c.land.new.self c.self.inside.agents.items c.self.inside.cuts.items c.self.invariant.2 c.land.ensures.others,
+)
+
+pub invariant_of-self-in-Member : goal.invariant_of-self-in-Member
+invariant_of-self-in-Member c = (
+  c.self.invariant.0,
+  c.self.invariant.1,
+  kept-fewer c.self.inside.settled c.self.inside.flight c.land.new.self c.self.inside.agents.items c.self.inside.cuts.items c.self.invariant.2 c.land.ensures.others,
+)
 
 pub returns-in_default : goal.returns-in_default
 returns-in_default c =

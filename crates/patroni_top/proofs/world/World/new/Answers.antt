@@ -3,4 +3,8 @@ use Rattle.patroni_top.proofs.Starting.{members-few}
 use Rattle.patroni_top.proofs.world.World.new.Goals as goal
 
 pub invariant_of-result : goal.invariant_of-result
-invariant_of-result c = omega (arith, ap length c.in_ok-members.ensures, members-few 0 c.args.head.now.members, c.member_count.ensures.value, c.member_count.ensures.few)
+invariant_of-result c = (
+  omega (arith, ap length c.in_ok-members.ensures, members-few 0 c.args.head.now.members, c.member_count.ensures.value, c.member_count.ensures.few),
+  omega arith,
+  λ n message below is. absurd (omega (arith, below)),
+)

@@ -1,14 +1,26 @@
-use Rattle.std.proofs.Common.{◌+◌, ◌-◌, arith}
-use Rattle.patroni_top.specs.Next.{round, rounds}
-use Rattle.patroni_top.proofs.Rest.{Left-room, Left-more, Left-end, rounds-next, rounds-done, rounds-end}
+use Rattle.std.proofs.Common.{◌+◌, ◌-◌, arith, sym, subst}
+use Rattle.patroni_top.specs.Cluster.{Cluster}
+use Rattle.patroni_top.specs.Next.{round, rounds, most_rounds}
+use Rattle.patroni_top.specs.Room.{HasRoom}
+use Rattle.patroni_top.specs.Took.{Took}
+use Rattle.patroni_top.proofs.Rest.{Left-room, Left-more, Left-end, rounds-next, rounds-done, rounds-end, round-still}
 use Rattle.patroni_top.proofs.world.World.rounds.Goals as goal
 
 pub round-requires : goal.round-requires
 round-requires c = Left-room _ _ _ _ _ _ _ _ 262192 c.loop-done.invariant c.requires (omega (arith, c.loop-done-test.true))
 
+pub settle-requires-clause-still : goal.settle-requires-clause-still
+settle-requires-clause-still c = (round-still _ _ _ _ c.in_ok-round.ensures (omega (arith, c.len.ensures, c.len-before.ensures, c.if-len-before.true))).1
+
+pub settle-requires-clause-room : goal.settle-requires-clause-room
+settle-requires-clause-room c =
+    let same = (round-still _ _ _ _ c.in_ok-round.ensures (omega (arith, c.len.ensures, c.len-before.ensures, c.if-len-before.true))).0 in
+    subst (λ (b : Cluster). HasRoom b 1) (sym same) (Left-room _ _ _ _ _ _ _ _ 1 c.loop-done.invariant c.requires (omega (arith, c.loop-done-test.true)))
+
 pub returns-then-len-before : goal.returns-then-len-before
 returns-then-len-before c =
-    rounds-done _ _ _ _ _ _ _ c.loop-done.done _ _ c.loop-done.invariant c.loop-done-test.true c.in_ok-round.ensures (omega (arith, c.len.ensures, c.len-before.ensures, c.if-len-before.true))
+    subst (λ (b : Cluster). Took c.args.self.now b c.args.events.now.items c.round.new.events.items (rounds c.args.self.now most_rounds) 10487680) (sym c.settle.ensures)
+    (rounds-done _ _ _ _ _ _ _ c.loop-done.done _ _ c.loop-done.invariant c.loop-done-test.true c.in_ok-round.ensures (omega (arith, c.len.ensures, c.len-before.ensures, c.if-len-before.true)))
 
 pub loop-done-preserved : goal.loop-done-preserved
 loop-done-preserved c =

@@ -1,4 +1,4 @@
-use Rattle.std.proofs.Common.{◌∙◌, ◌+◌, refl, ap, sym, subst}
+use Rattle.std.proofs.Common.{arith, ◌∙◌, ◌+◌, refl, ap, sym, subst}
 use Rattle.std.proofs.lemmas.Result.{on_ok_weaker}
 use Rattle.lease_store.specs.Answers.{present_pairs}
 use Rattle.event_book.specs.Flight.{grant_for, snapshot_for}
@@ -7,8 +7,24 @@ use Rattle.patroni_top.specs.Launches.{launched_into}
 use Rattle.patroni_top.specs.Next.{sends}
 use Rattle.patroni_top.specs.Took.{Took}
 use Rattle.patroni_top.proofs.Sending.{send-took, loaded-is, with_flight}
+use Rattle.patroni_top.proofs.Settling.{kept-sent}
 use Rattle.patroni_top.proofs.Worlds.{seen}
 use Rattle.patroni_top.proofs.world.World.send.Goals as goal
+
+pub invariant_of-self : goal.invariant_of-self
+invariant_of-self c =
+    let kept = kept-sent c.self.inside.settled (c.self.inside.sent + 1) c.self.inside.flight c.launch.new.self c.self.inside.agents.items c.self.inside.cuts.items c.self.invariant.1 c.self.invariant.2 c.launch.ensures.others in
+    (c.self.invariant.0, c.self.invariant.1, kept)
+
+pub invariant_of-self-in_err-note : goal.invariant_of-self-in_err-note
+invariant_of-self-in_err-note c =
+    let kept = kept-sent c.self.inside.settled (c.self.inside.sent + 1) c.self.inside.flight c.launch.new.self c.self.inside.agents.items c.self.inside.cuts.items c.self.invariant.1 c.self.invariant.2 c.launch.ensures.others in
+    (c.self.invariant.0, omega (arith, c.self.invariant.1), kept)
+
+pub invariant_of-self-2 : goal.invariant_of-self-2
+invariant_of-self-2 c =
+    let kept = kept-sent c.self.inside.settled (c.self.inside.sent + 1) c.self.inside.flight c.launch.new.self c.self.inside.agents.items c.self.inside.cuts.items c.self.invariant.1 c.self.invariant.2 c.launch.ensures.others in
+    (c.self.invariant.0, omega (arith, c.self.invariant.1), kept)
 
 pub returns : goal.returns
 returns c =
