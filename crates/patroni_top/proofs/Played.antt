@@ -8,16 +8,16 @@ use Rattle.cluster_script.specs.declared.line.Line.{Line}
 use Rattle.cluster_script.specs.declared.line.Step.{Step}
 use Rattle.cluster_script.specs.Steps.{steps_of, steps_of_line, total_ticks, ticks_of_line}
 use Rattle.patroni_top.specs.declared.print_error.PrintError.{PrintError}
-use Rattle.patroni_top.specs.Cluster.{Cluster, moved_all}
-use Rattle.patroni_top.specs.Next.{next_events, run_from}
+use Rattle.pat_world.specs.Cluster.{Cluster, moved_all}
+use Rattle.pat_world.specs.Next.{next_events, run_from}
 use Rattle.patroni_top.specs.Printing.{TakesAll}
-use Rattle.patroni_top.specs.Room.{HasRoomFor}
+use Rattle.pat_world.specs.Room.{HasRoomFor}
 use Rattle.patroni_top.specs.Run.{printed_from, traced_after, traced_all}
-use Rattle.patroni_top.specs.Took.{Took}
+use Rattle.pat_world.specs.Took.{Took}
 use Rattle.patroni_top.proofs.Progress.{Progress, Progress-start, Progress-more, Progress-stop, TakesAll-stop}
-use Rattle.patroni_top.proofs.Rooms.{HasRoom-fewer}
-use Rattle.patroni_top.proofs.Starting.{drop-get}
-use Rattle.patroni_top.proofs.Taking.{moved_all-append}
+use Rattle.pat_world.proofs.Rooms.{HasRoom-fewer}
+use Rattle.pat_world.proofs.Starting.{drop-get}
+use Rattle.pat_world.proofs.Taking.{moved_all-append}
 
 -- fewer steps have room too
 pub HasRoomFor-fewer : (cluster : Cluster) (n m : ℕ) → HasRoomFor cluster n → m ≤ n → HasRoomFor cluster m

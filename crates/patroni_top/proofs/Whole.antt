@@ -5,13 +5,13 @@ use Rattle.cluster_script.specs.Script.{ScriptText}
 use Rattle.cluster_script.specs.Steps.{steps_of, total_ticks}
 use Rattle.patroni_top.specs.declared.print_error.PrintError.{PrintError}
 use Rattle.patroni_top.specs.declared.print_error.PrintError.TheVariants.{Memory}
-use Rattle.patroni_top.specs.Cluster.{Cluster, cluster_of, moved_all}
-use Rattle.patroni_top.specs.Next.{run_from}
+use Rattle.pat_world.specs.Cluster.{Cluster, cluster_of, moved_all}
+use Rattle.pat_world.specs.Next.{run_from}
 use Rattle.patroni_top.specs.Printing.{TakesAll}
 use Rattle.patroni_top.specs.Run.{output_of, printed_from}
-use Rattle.patroni_top.specs.Room.{HasRoomFor}
-use Rattle.patroni_top.proofs.Rooms.{HasRoom-fewer}
-use Rattle.patroni_top.proofs.Starting.{start-room}
+use Rattle.pat_world.specs.Room.{HasRoomFor}
+use Rattle.pat_world.proofs.Rooms.{HasRoom-fewer}
+use Rattle.pat_world.proofs.Starting.{start-room}
 
 -- no script within the limits brings a counter to its end
 pub has-room : (s : ScriptText) (world : Cluster) → (total_ticks s.body ≤ 1000000) × (length s.body ≤ 100000) → world ≡ cluster_of s.head.members → HasRoomFor world (total_ticks s.body + length s.body)

@@ -12,8 +12,8 @@ use Rattle.cluster_script.specs.declared.line.Command.{Command}
 use Rattle.cluster_script.specs.declared.line.Command.TheVariants as commands
 use Rattle.cluster_script.specs.declared.line.Step.{Step}
 use Rattle.cluster_script.specs.declared.line.Step.TheVariants as steps
-use Rattle.patroni_top.specs.Cluster.{Cluster, cluster_of, moved_all}
-use Rattle.patroni_top.specs.Next.{next_events, run_from}
+use Rattle.pat_world.specs.Cluster.{Cluster, cluster_of, moved_all}
+use Rattle.pat_world.specs.Next.{next_events, run_from}
 
 -- the book of a script: what happens from its head on, step by step
 abbrev pub run_of : ScriptText → List Event

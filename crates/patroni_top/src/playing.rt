@@ -3,18 +3,18 @@ ghost use Rattle.std.specs.Prelude.{ℕ, ◌≡◌, ◌<◌, ◌≤◌, ◌+◌,
 ghost use Rattle.pat_base.specs.Outside.{Grew, GrewByPrefix, Rose};
 ghost use Rattle.event_book.specs.Text.{lines_of};
 ghost use Rattle.cluster_script.specs.Steps.{steps_of_line, steps_of, ticks_of_line, total_ticks};
-ghost use Rattle.patroni_top.specs.Cluster.{moved_all};
-ghost use Rattle.patroni_top.specs.Next.{next_events, run_from};
+ghost use Rattle.pat_world.specs.Cluster.{moved_all};
+ghost use Rattle.pat_world.specs.Next.{next_events, run_from};
 ghost use Rattle.patroni_top.specs.Printing.{TakesAll};
 ghost use Rattle.patroni_top.specs.Run.{output_of, printed_from, traced_after, traced_all};
-ghost use Rattle.patroni_top.specs.Room.{HasRoomFor};
+ghost use Rattle.pat_world.specs.Room.{HasRoomFor};
 
 use crate::print_error::PrintError;
 use crate::printing::{print_events, print_summary};
-use crate::world::World;
 use cluster_script::{Command, Line, Script, Step};
 use event_book::Event;
 use pat_base::Sink;
+use pat_world::World;
 use std::alloc::Global;
 
 /// Takes the steps of a script from its head on, and prints what happens and the closing summary.

@@ -2,10 +2,10 @@ use Rattle.std.proofs.Common.{◌∙◌, ℕ, List, false, ap, subst, refl, Err}
 use Rattle.std.proofs.lemmas.Result.{on_ok_weaker, on_err_weaker, err_from_is_err_and}
 use Rattle.pat_base.specs.Outside.{Grew, GrewByPrefix}
 use Rattle.pat_base.proofs.Contents.{OnErr-holds, Grew-Grew, Grew-part, GrewByPrefix-more}
-use Rattle.patroni_top.specs.Cluster.{cluster_of, moved_all}
+use Rattle.pat_world.specs.Cluster.{cluster_of, moved_all}
 use Rattle.event_book.specs.Text.{summary_at}
 use Rattle.cluster_script.specs.Steps.{steps_of}
-use Rattle.patroni_top.specs.Next.{run_from}
+use Rattle.pat_world.specs.Next.{run_from}
 use Rattle.patroni_top.specs.Printing.{TakesAll}
 use Rattle.patroni_top.specs.Run.{printed_from}
 use Rattle.patroni_top.proofs.Whole.{has-room, text-is, TakesAll-then, TakesAll-early}

@@ -1,7 +1,7 @@
 use Rattle.std.proofs.Common.{ℕ, ◌+◌, drop, length}
 use Rattle.cluster_script.specs.Steps.{steps_of, total_ticks}
-use Rattle.patroni_top.specs.Cluster.{Cluster}
-use Rattle.patroni_top.specs.Room.{HasRoomFor}
+use Rattle.pat_world.specs.Cluster.{Cluster}
+use Rattle.pat_world.specs.Room.{HasRoomFor}
 use Rattle.patroni_top.proofs.Played.{Playing}
 use Rattle.patroni_top.proofs.playing.play_body.Given as goal
 

@@ -1,6 +1,6 @@
 use Rattle.std.proofs.Common.{ℕ, ◌+◌, ◌-◌, replicate}
-use Rattle.patroni_top.specs.Cluster.{Cluster}
-use Rattle.patroni_top.specs.Room.{HasRoomFor}
+use Rattle.pat_world.specs.Cluster.{Cluster}
+use Rattle.pat_world.specs.Room.{HasRoomFor}
 use Rattle.patroni_top.proofs.Played.{Playing}
 use Rattle.patroni_top.proofs.playing.play_ticks.Given as goal
 

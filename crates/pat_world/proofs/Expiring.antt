@@ -1,0 +1,96 @@
+-- The expiries of keys.
+use Rattle.std.proofs.Common.{◌≡◌, ℕ, ◌+◌, ◌<◌, List, [], ◌∷◌, ◌++◌, length, drop, get_or, Option, Some, None, arith, append_assoc, refl, ◌∙◌, ap, sym}
+use Rattle.std.proofs.lemmas.List.{drop_more}
+use Rattle.pat_base.specs.declared.ticks.Ticks.{Ticks}
+use Rattle.lease_store.specs.declared.key.Key.{Key}
+use Rattle.lease_store.specs.declared.key.Key.TheVariants as keys
+use Rattle.lease_store.specs.Answers.{expired_keys, expired_holder}
+use Rattle.event_book.specs.declared.event.Event.{Event}
+use Rattle.event_book.specs.declared.event.Kind.{Kind}
+use Rattle.event_book.specs.declared.event.Kind.TheVariants as kinds
+use Rattle.event_book.specs.declared.event.StoreEvent.TheVariants as stores
+use Rattle.event_book.specs.declared.member.Member.{Member}
+use Rattle.pat_world.specs.Cluster.{Cluster, moved, moved_all}
+use Rattle.pat_world.specs.Next.{all_happen, happens, stamped, expiry_of, expiries_of, declared_member, ticks}
+use Rattle.pat_world.specs.Took.{Took}
+use Rattle.pat_world.proofs.Rooms.{HasRoom-fewer}
+use Rattle.pat_world.proofs.Taking.{Took-one, Took-then}
+
+pub stamped-append : (tick : Ticks) (xs ys : List Kind) → stamped tick (xs ++ ys) ≡ stamped tick xs ++ stamped tick ys
+stamped-append tick [] ys = refl
+stamped-append tick (x ∷ xs) ys = ap (λ (t : List Event). let event : Event = record { tick = tick; kind = x } in event ∷ t) (stamped-append tick xs ys)
+
+-- one key more is written down
+pub expiries-more : (tick : Ticks) (holder : Option Member) (all : List Key) (at : ℕ) (key : Key) (had done longer : List Event) → at < length all → key ≡ get_or all at key
+    → done ++ stamped tick (expiries_of holder (drop at all)) ≡ had ++ stamped tick (expiries_of holder all) → longer ≡ done ++ stamped tick (expiry_of holder key)
+    → longer ++ stamped tick (expiries_of holder (drop (at + 1) all)) ≡ had ++ stamped tick (expiries_of holder all)
+expiries-more tick holder all at key had done longer h is so more =
+    let next : drop at all ≡ key ∷ drop (at + 1) all = drop_more all at key h ∙ ap (λ k. k ∷ drop (at + 1) all) (sym is) in
+    ap (λ es. es ++ stamped tick (expiries_of holder (drop (at + 1) all))) more
+    ∙ append_assoc done (stamped tick (expiry_of holder key)) (stamped tick (expiries_of holder (drop (at + 1) all)))
+    ∙ ap (λ es. done ++ es) (sym (stamped-append tick (expiry_of holder key) (expiries_of holder (drop (at + 1) all))))
+    ∙ ap (λ ks. done ++ stamped tick (expiries_of holder ks)) (sym next)
+    ∙ so
+
+-- an expiry changes nothing: what has expired was dropped with the tick
+pub record IsStill (cluster : Cluster) (tick : Ticks) (happenings : List Kind) : Type 0 where
+  pub events : all_happen cluster happenings ≡ stamped tick happenings
+  pub state : moved_all cluster (stamped tick happenings) ≡ cluster
+
+still-nothing : (cluster : Cluster) (tick : Ticks) → IsStill cluster tick []
+still-nothing cluster tick = record { events = refl; state = refl }
+
+still-leader : (cluster : Cluster) (holder : Member) (more : List Kind) → IsStill cluster (record { 0 = cluster.book.clock }) more → IsStill cluster (record { 0 = cluster.book.clock }) (kinds.Store (stores.LeaderExpired holder) ∷ more)
+still-leader cluster holder more rest = record {
+  events = ap (λ (t : List Event). let event : Event = record { tick = record { 0 = cluster.book.clock }; kind = kinds.Store (stores.LeaderExpired holder) } in event ∷ t) rest.events;
+  state = rest.state;
+}
+
+still-key : (cluster : Cluster) (key : Key) (more : List Kind) → IsStill cluster (record { 0 = cluster.book.clock }) more → IsStill cluster (record { 0 = cluster.book.clock }) (kinds.Store (stores.Expired key) ∷ more)
+still-key cluster key more rest = record {
+  events = ap (λ (t : List Event). let event : Event = record { tick = record { 0 = cluster.book.clock }; kind = kinds.Store (stores.Expired key) } in event ∷ t) rest.events;
+  state = rest.state;
+}
+
+still-one : (cluster : Cluster) (holder : Option Member) (key : Key) (more : List Kind) → IsStill cluster (record { 0 = cluster.book.clock }) more → IsStill cluster (record { 0 = cluster.book.clock }) (expiry_of holder key ++ more)
+still-one cluster None keys.Leader more rest = rest
+still-one cluster (Some member) keys.Leader more rest = still-leader cluster member more rest
+still-one cluster holder keys.Config more rest = still-key cluster keys.Config more rest
+still-one cluster holder (keys.Member member) more rest = still-key cluster (keys.Member member) more rest
+still-one cluster holder keys.Failover more rest = still-key cluster keys.Failover more rest
+still-one cluster holder keys.Sync more rest = still-key cluster keys.Sync more rest
+still-one cluster holder keys.Status more rest = still-key cluster keys.Status more rest
+still-one cluster holder (keys.History timeline) more rest = still-key cluster (keys.History timeline) more rest
+still-one cluster holder keys.Failsafe more rest = still-key cluster keys.Failsafe more rest
+
+pub still-all : (cluster : Cluster) (holder : Option Member) (all : List Key) → IsStill cluster (record { 0 = cluster.book.clock }) (expiries_of holder all)
+still-all cluster holder [] = still-nothing cluster (record { 0 = cluster.book.clock })
+still-all cluster holder (key ∷ more) = still-one cluster holder key (expiries_of holder more) (still-all cluster holder more)
+
+expiries-took : (cluster : Cluster) (holder : Option Member) (all : List Key) (had : List Event)
+    → Took cluster cluster had (had ++ stamped (record { 0 = cluster.book.clock }) (expiries_of holder all)) (all_happen cluster (expiries_of holder all)) 0
+expiries-took cluster holder all had =
+    let still = still-all cluster holder all in
+    record {
+      state = sym (ap (moved_all cluster) still.events ∙ still.state);
+      event = ap (λ es. had ++ es) (sym still.events);
+      room = λ more room. HasRoom-fewer cluster (0 + more) more (omega arith) room;
+    }
+
+-- a tick, and then the expiries of its moment
+pub ticks-took : (cluster after : Cluster) (had mid has : List Event) (tick : Ticks) → tick.0 ≡ cluster.book.clock + 1 → after ≡ moved cluster kinds.Tick
+    → mid ≡ had ++ record { tick = tick; kind = kinds.Tick } ∷ []
+    → has ≡ mid ++ stamped tick (expiries_of (declared_member cluster.book.members (expired_holder cluster.book.keys (cluster.book.clock + 1))) (expired_keys cluster.book.keys (cluster.book.clock + 1)))
+    → Took cluster after had has (ticks cluster) 1
+ticks-took cluster after had mid has tick at state mid_is has_is =
+    let holder = declared_member cluster.book.members (expired_holder cluster.book.keys (cluster.book.clock + 1)) in
+    let all = expired_keys cluster.book.keys (cluster.book.clock + 1) in
+    let moment : Ticks = record { 0 = cluster.book.clock + 1 } in
+    let same : ◌≡◌ {A = Ticks} tick moment = ap (λ (n : ℕ). let t : Ticks = record { 0 = n } in t) at in
+    let first : Took cluster (moved cluster kinds.Tick) had (had ++ happens cluster kinds.Tick) (happens cluster kinds.Tick) 1 = Took-one cluster (moved cluster kinds.Tick) had (had ++ happens cluster kinds.Tick) kinds.Tick tt refl refl in
+    let second = expiries-took (moved cluster kinds.Tick) holder all (had ++ happens cluster kinds.Tick) in
+    let whole = Took-then cluster (moved cluster kinds.Tick) (moved cluster kinds.Tick) had (had ++ happens cluster kinds.Tick) _ (happens cluster kinds.Tick) (λ later. all_happen later (expiries_of holder all)) 1 0 1 first second (omega arith) in
+    let events : has ≡ (had ++ happens cluster kinds.Tick) ++ stamped moment (expiries_of holder all) =
+    has_is ∙ ap (λ m. m ++ stamped tick (expiries_of holder all)) mid_is
+    ∙ ap (λ (t : Ticks). let event : Event = record { tick = t; kind = kinds.Tick } in (had ++ event ∷ []) ++ stamped t (expiries_of holder all)) same in
+    rw (state, events) whole

@@ -1,0 +1,16 @@
+pub mod Changing
+pub mod Deciding
+pub mod Expiring
+pub mod Flights
+pub mod Rest
+pub mod Rooms
+pub mod Seats
+pub mod Sending
+pub mod Standing
+pub mod Starting
+pub mod Settling
+pub mod Staying
+pub mod Taking
+pub mod TurnRooms
+pub mod Waking
+pub mod Worlds

@@ -1,0 +1,99 @@
+-- Events of other concerns.
+use Rattle.std.proofs.Common.{ℕ, ◌≡◌, ◌≢◌, List, refl}
+use Rattle.lease_store.specs.Keys.{Keys}
+use Rattle.event_book.specs.declared.agent_state.AgentState.{AgentState}
+use Rattle.event_book.specs.declared.event.Kind.{Kind}
+use Rattle.event_book.specs.declared.event.Kind.TheVariants as kinds
+use Rattle.event_book.specs.declared.link.Link.{Link}
+use Rattle.event_book.specs.Agents.{agents_after}
+use Rattle.event_book.specs.Clock.{now_after}
+use Rattle.event_book.specs.Flight.{Flight, flight_at, sent_after}
+use Rattle.event_book.specs.Keys.{keys_at}
+use Rattle.event_book.specs.Links.{cuts_after}
+use Rattle.pat_world.specs.declared.phase.Phase.{Phase}
+use Rattle.pat_world.specs.Cluster.{phases_after}
+use Rattle.pat_world.specs.Concerns.{concern_of, Time, Messages, Store, Agents, Links}
+
+pub clock-stays : (now : ℕ) (kind : Kind) → concern_of kind ≢ Time → now_after now kind ≡ now
+clock-stays now kinds.Tick other = absurd (other refl)
+clock-stays now (kinds.Message happening) other = refl
+clock-stays now (kinds.Store happening) other = refl
+clock-stays now (kinds.Watchdog happening) other = refl
+clock-stays now (kinds.Server happening) other = refl
+clock-stays now (kinds.Log happening) other = refl
+clock-stays now (kinds.Replication happening) other = refl
+clock-stays now (kinds.Agent happening) other = refl
+clock-stays now (kinds.Link happening) other = refl
+clock-stays now (kinds.Note note) other = refl
+
+pub store-stays : (now : ℕ) (known : Keys) (kind : Kind) → concern_of kind ≢ Time → concern_of kind ≢ Store → keys_at now known kind ≡ known
+store-stays now known kinds.Tick time store = absurd (time refl)
+store-stays now known (kinds.Message happening) time store = refl
+store-stays now known (kinds.Store happening) time store = absurd (store refl)
+store-stays now known (kinds.Watchdog happening) time store = refl
+store-stays now known (kinds.Server happening) time store = refl
+store-stays now known (kinds.Log happening) time store = refl
+store-stays now known (kinds.Replication happening) time store = refl
+store-stays now known (kinds.Agent happening) time store = refl
+store-stays now known (kinds.Link happening) time store = refl
+store-stays now known (kinds.Note note) time store = refl
+
+pub agents-stay : (states : List AgentState) (kind : Kind) → concern_of kind ≢ Agents → agents_after states kind ≡ states
+agents-stay states kinds.Tick other = refl
+agents-stay states (kinds.Message happening) other = refl
+agents-stay states (kinds.Store happening) other = refl
+agents-stay states (kinds.Watchdog happening) other = refl
+agents-stay states (kinds.Server happening) other = refl
+agents-stay states (kinds.Log happening) other = refl
+agents-stay states (kinds.Replication happening) other = refl
+agents-stay states (kinds.Agent happening) other = absurd (other refl)
+agents-stay states (kinds.Link happening) other = refl
+agents-stay states (kinds.Note note) other = refl
+
+pub phases-stay : (now : ℕ) (flight : Flight) (phases : List Phase) (kind : Kind) → concern_of kind ≢ Messages → concern_of kind ≢ Agents → phases_after now flight phases kind ≡ phases
+phases-stay now flight phases kinds.Tick messages agents = refl
+phases-stay now flight phases (kinds.Message happening) messages agents = absurd (messages refl)
+phases-stay now flight phases (kinds.Store happening) messages agents = refl
+phases-stay now flight phases (kinds.Watchdog happening) messages agents = refl
+phases-stay now flight phases (kinds.Server happening) messages agents = refl
+phases-stay now flight phases (kinds.Log happening) messages agents = refl
+phases-stay now flight phases (kinds.Replication happening) messages agents = refl
+phases-stay now flight phases (kinds.Agent happening) messages agents = absurd (agents refl)
+phases-stay now flight phases (kinds.Link happening) messages agents = refl
+phases-stay now flight phases (kinds.Note note) messages agents = refl
+
+pub links-stay : (cuts : List Link) (kind : Kind) → concern_of kind ≢ Links → cuts_after cuts kind ≡ cuts
+links-stay cuts kinds.Tick other = refl
+links-stay cuts (kinds.Message happening) other = refl
+links-stay cuts (kinds.Store happening) other = refl
+links-stay cuts (kinds.Watchdog happening) other = refl
+links-stay cuts (kinds.Server happening) other = refl
+links-stay cuts (kinds.Log happening) other = refl
+links-stay cuts (kinds.Replication happening) other = refl
+links-stay cuts (kinds.Agent happening) other = refl
+links-stay cuts (kinds.Link happening) other = absurd (other refl)
+links-stay cuts (kinds.Note note) other = refl
+
+pub messages-stay : (now : ℕ) (known : Keys) (flight : Flight) (kind : Kind) → concern_of kind ≢ Messages → flight_at now known flight kind ≡ flight
+messages-stay now known flight kinds.Tick other = refl
+messages-stay now known flight (kinds.Message happening) other = absurd (other refl)
+messages-stay now known flight (kinds.Store happening) other = refl
+messages-stay now known flight (kinds.Watchdog happening) other = refl
+messages-stay now known flight (kinds.Server happening) other = refl
+messages-stay now known flight (kinds.Log happening) other = refl
+messages-stay now known flight (kinds.Replication happening) other = refl
+messages-stay now known flight (kinds.Agent happening) other = refl
+messages-stay now known flight (kinds.Link happening) other = refl
+messages-stay now known flight (kinds.Note note) other = refl
+
+pub numbers-stay : (last : ℕ) (kind : Kind) → concern_of kind ≢ Messages → sent_after last kind ≡ last
+numbers-stay last kinds.Tick other = refl
+numbers-stay last (kinds.Message happening) other = absurd (other refl)
+numbers-stay last (kinds.Store happening) other = refl
+numbers-stay last (kinds.Watchdog happening) other = refl
+numbers-stay last (kinds.Server happening) other = refl
+numbers-stay last (kinds.Log happening) other = refl
+numbers-stay last (kinds.Replication happening) other = refl
+numbers-stay last (kinds.Agent happening) other = refl
+numbers-stay last (kinds.Link happening) other = refl
+numbers-stay last (kinds.Note note) other = refl

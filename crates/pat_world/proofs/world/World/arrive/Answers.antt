@@ -1,0 +1,117 @@
+use Rattle.std.proofs.Common.{◌≡◌, ◌∙◌, List, Option, Some, arith, length, refl, ap, sym, subst}
+use Rattle.std.specs.Vec.{with_items}
+use Rattle.std.proofs.lemmas.List.{with_items_is}
+use Rattle.std.proofs.lemmas.Result.{on_ok_weaker}
+use Rattle.event_book.specs.declared.event.Kind.TheVariants as kinds
+use Rattle.event_book.specs.declared.event.MessageEvent.TheVariants.{Delivered}
+use Rattle.event_book.specs.declared.link.LinkEnd.TheVariants as link_ends
+use Rattle.event_book.specs.declared.message.Message.{Message}
+use Rattle.event_book.specs.Flight.{Flight, InFlightFacts, in_flight}
+use Rattle.pat_world.specs.declared.phase.Phase.{Phase}
+use Rattle.pat_world.specs.declared.phase.Reaction.{Reaction}
+use Rattle.pat_world.specs.Cluster.{Cluster}
+use Rattle.pat_world.specs.Next.{comes_found, answers, reacts}
+use Rattle.pat_world.specs.Room.{HasRoom}
+use Rattle.pat_world.specs.Took.{Took}
+use Rattle.pat_world.proofs.Deciding.{nothing-took, stored-took, heard-took}
+use Rattle.pat_world.proofs.Rooms.{HasRoom-moved, HasRoom-fewer}
+use Rattle.pat_world.proofs.Seats.{length-changed}
+use Rattle.pat_world.proofs.Settling.{kept-fewer}
+use Rattle.pat_world.proofs.Worlds.{seen, landing, hearing-is, told-is, listened-is}
+use Rattle.pat_world.proofs.world.World.arrive.Goals as goal
+
+pub invariant_of-self-in_err-note-in-Store : goal.invariant_of-self-in_err-note-in-Store
+invariant_of-self-in_err-note-in-Store c = (
+  c.self.invariant.0,
+  c.self.invariant.1,
+  kept-fewer c.self.inside.settled c.self.inside.flight c.land.new.self c.self.inside.agents.items c.self.inside.cuts.items c.self.invariant.2 c.land.ensures.others,
+)
+
+pub invariant_of-self-in-Store : goal.invariant_of-self-in-Store
+invariant_of-self-in-Store c = (
+  c.self.invariant.0,
+  c.self.invariant.1,
+  kept-fewer c.self.inside.settled c.self.inside.flight c.land.new.self c.self.inside.agents.items c.self.inside.cuts.items c.self.invariant.2 c.land.ensures.others,
+)
+
+pub invariant_of-self-in_err-note-in-Member : goal.invariant_of-self-in_err-note-in-Member
+invariant_of-self-in_err-note-in-Member c = (
+  c.self.invariant.0,
+  c.self.invariant.1,
+  kept-fewer c.self.inside.settled c.self.inside.flight c.land.new.self c.self.inside.agents.items c.self.inside.cuts.items c.self.invariant.2 c.land.ensures.others,
+)
+
+pub invariant_of-self-in-Member : goal.invariant_of-self-in-Member
+invariant_of-self-in-Member c = (
+  c.self.invariant.0,
+  c.self.invariant.1,
+  kept-fewer c.self.inside.settled c.self.inside.flight c.land.new.self c.self.inside.agents.items c.self.inside.cuts.items c.self.invariant.2 c.land.ensures.others,
+)
+
+pub returns-in_default : goal.returns-in_default
+returns-in_default c =
+    let before = seen c.self.inside in
+    let state = ap (λ (f : Flight). landing before f before.phases) c.in_default.ensures.absent in
+    subst (λ (b : Cluster). Took b (landing before c.land.new.self before.phases) c.args.events.now.items c.args.events.now.items (comes_found b c.args.number (in_flight b.book.flight c.args.number)) 4) c.self.view_is
+    (nothing-took before _ c.args.number c.args.events.now.items (sym c.land.ensures.message ∙ c.in_default.is) state)
+
+pub returns-in-Store : goal.returns-in-Store
+returns-in-Store c =
+    let before = seen c.self.inside in
+    let carried = c.in-Some.carried in
+    let found : in_flight before.book.flight c.args.number ≡ Some carried = sym c.land.ensures.message ∙ c.in-Some.is in
+    let to : carried.message.to ≡ link_ends.Store = ap (λ m. m.message.to) (sym c.carried.view_is) ∙ c.in-Store.is in
+    let state = hearing-is before c.args.number carried link_ends.Store c.land.new.self before.phases c.land.ensures.flight refl to found in
+    on_ok_weaker c.answer.result
+    (λ took. subst (λ (b : Cluster). Took b c.answer.new.self c.args.events.now.items c.answer.new.events.items (comes_found b c.args.number (in_flight b.book.flight c.args.number)) 4) c.self.view_is
+    (stored-took before (landing before c.land.new.self before.phases) c.answer.new.self c.args.number carried c.self.inside.clock c.args.events.now.items c.note.new.events.items c.answer.new.events.items
+    found to refl state c.in_ok-note-in-Store.ensures
+    (subst (λ (m : Message). Took (landing before c.land.new.self before.phases) c.answer.new.self c.note.new.events.items c.answer.new.events.items (answers (landing before c.land.new.self before.phases) c.args.number m) 3)
+    (ap (λ (m : InFlightFacts). m.message) c.carried.view_is) took)))
+    c.answer.ensures
+
+pub listen-reaction-requires-clause-clock : goal.listen-reaction-requires-clause-clock
+listen-reaction-requires-clause-clock c = omega (arith, c.requires.clock, ap (λ (b : Cluster). b.book.clock) c.self.view_is)
+
+pub listen-reaction-requires-clause-room : goal.listen-reaction-requires-clause-room
+listen-reaction-requires-clause-room c =
+    let before = seen c.self.inside in
+    let room : HasRoom before 4 = subst (λ (b : Cluster). HasRoom b 4) (sym c.self.view_is) c.requires in
+    rw c.deref_mut.ensures.value (HasRoom-fewer before 4 1 (omega arith) room).phases
+
+pub react-requires-clause-room : goal.react-requires-clause-room
+react-requires-clause-room c =
+    let before = seen c.self.inside in
+    let carried = c.in-Some.carried in
+    let member = c.in-Member.member in
+    let found : in_flight before.book.flight c.args.number ≡ Some carried = sym c.land.ensures.message ∙ c.in-Some.is in
+    let to : carried.message.to ≡ link_ends.Member member = ap (λ m. m.message.to) (sym c.carried.view_is) ∙ c.in-Member.is in
+    let old = c.deref_mut.ensures.value in
+    let heard_so = told-is before.book.clock _ _ before.phases member _ carried c.listen-reaction.ensures.phases old refl in
+    let long = ap length c.listen-reaction.ensures.phases ∙ length-changed Phase c.deref_mut.result.now member _ ∙ c.deref_mut.ensures.len in
+    let phases = with_items_is c.self.inside.phases c.listen-reaction.new.phases long ∙ heard_so in
+    let state = hearing-is before c.args.number carried (link_ends.Member member) c.land.new.self _ c.land.ensures.flight phases to found in
+    let room : HasRoom before 4 = subst (λ (b : Cluster). HasRoom b 4) (sym c.self.view_is) c.requires in
+    subst (λ (b : Cluster). HasRoom b 2) (sym state) (HasRoom-moved before (kinds.Message (Delivered c.args.number)) 2 tt (HasRoom-fewer before 4 3 (omega arith) room))
+
+pub returns : goal.returns
+returns c =
+    let before = seen c.self.inside in
+    let carried = c.in-Some.carried in
+    let member = c.in-Member.member in
+    let found : in_flight before.book.flight c.args.number ≡ Some carried = sym c.land.ensures.message ∙ c.in-Some.is in
+    let to : carried.message.to ≡ link_ends.Member member = ap (λ m. m.message.to) (sym c.carried.view_is) ∙ c.in-Member.is in
+    let old = c.deref_mut.ensures.value in
+    let heard_so = told-is before.book.clock _ _ before.phases member _ carried c.listen-reaction.ensures.phases old refl in
+    let long = ap length c.listen-reaction.ensures.phases ∙ length-changed Phase c.deref_mut.result.now member _ ∙ c.deref_mut.ensures.len in
+    let phases = with_items_is c.self.inside.phases c.listen-reaction.new.phases long ∙ heard_so in
+    let stand : List Phase = (with_items c.self.inside.phases c.listen-reaction.new.phases).items in
+    let state = hearing-is before c.args.number carried (link_ends.Member member) c.land.new.self stand c.land.ensures.flight phases to found in
+    let reaction = listened-is before.book.clock _ before.phases member _ carried _ c.listen-reaction.ensures.reaction old refl in
+    let hearing = landing before c.land.new.self stand in
+    on_ok_weaker c.react.result
+    (λ took. subst (λ (b : Cluster). Took b c.react.new.self c.args.events.now.items c.react.new.events.items (comes_found b c.args.number (in_flight b.book.flight c.args.number)) 4) c.self.view_is
+    (heard-took before hearing c.react.new.self c.args.number carried member c.self.inside.clock c.args.events.now.items c.note-in-Member.new.events.items c.react.new.events.items
+    found to refl state c.in_ok-note-in-Member.ensures
+    (subst (λ (r : Option Reaction). Took hearing c.react.new.self c.note-in-Member.new.events.items c.react.new.events.items (reacts hearing member r) 2) reaction took)))
+    c.react.ensures

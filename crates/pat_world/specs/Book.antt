@@ -1,0 +1,25 @@
+-- Which books a world stands for.
+use Rattle.std.specs.Prelude.{◌≡◌, List}
+use Rattle.event_book.specs.declared.event.Event.{Event}
+use Rattle.cluster_script.specs.declared.line.Step.{Step}
+use Rattle.pat_world.specs.Cluster.{Cluster, moved_all}
+use Rattle.pat_world.specs.Next.{next_events}
+
+-- what a book that began so determines
+abbrev pub left_by : Cluster → List Event → Cluster
+left_by start book = moved_all start book
+
+-- each thing that a world keeps is what the book determines
+pub record StandsFor (start : Cluster) (book : List Event) (world : Cluster) : Type 0 where
+  pub clock : world.book.clock ≡ (left_by start book).book.clock
+  pub store : world.book.keys ≡ (left_by start book).book.keys
+  pub members : world.book.members ≡ (left_by start book).book.members
+  pub agents : world.book.agents ≡ (left_by start book).book.agents
+  pub phases : world.phases ≡ (left_by start book).phases
+  pub links : world.book.cuts ≡ (left_by start book).book.cuts
+  pub messages : world.book.flight ≡ (left_by start book).book.flight
+  pub numbers : world.book.sent ≡ (left_by start book).book.sent
+
+-- the events that a step adds to a book
+abbrev pub next_of : Cluster → List Event → Step → List Event
+next_of start book step = next_events (left_by start book) step

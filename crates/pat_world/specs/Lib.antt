@@ -1,0 +1,14 @@
+pub mod Book
+pub mod Calm
+pub mod Cluster
+pub mod Commands
+pub mod Concerns
+pub mod Info
+pub mod Launches
+pub mod Next
+pub mod Room
+pub mod Settled
+pub mod Short
+pub mod Took
+pub mod Turns
+pub mod Ways

@@ -1,0 +1,273 @@
+-- What happens in a step.
+use Rattle.std.specs.Prelude.{ℕ, ◌+◌, ◌&&◌, not, nat_le, Bool, true, false, if◌then◌else◌, List, [], ◌∷◌, ◌++◌, map, Option, Some, None, option_map, slice_get, length, zero, suc}
+use Rattle.std.specs.Map.{keys_of}
+use Rattle.pat_base.specs.declared.member_id.MemberId.{MemberId}
+use Rattle.pat_base.specs.declared.ticks.Ticks.{Ticks}
+use Rattle.lease_store.specs.declared.key.Key.{Key}
+use Rattle.lease_store.specs.declared.key.Key.TheVariants as keys
+use Rattle.lease_store.specs.declared.txn.Txn.{Txn}
+use Rattle.lease_store.specs.Answers.{expired_holder, expired_keys}
+use Rattle.lease_store.specs.Decision.{Decision, Grant, Refusal, decision_on}
+use Rattle.lease_store.specs.TxnKinds.{kind_of}
+use Rattle.lease_store.specs.Writes.{is_lease}
+use Rattle.event_book.specs.declared.agent_state.AgentState.{AgentState}
+use Rattle.event_book.specs.declared.event.Event.{Event}
+use Rattle.event_book.specs.declared.event.Kind.{Kind}
+use Rattle.event_book.specs.declared.event.Kind.TheVariants as kinds
+use Rattle.event_book.specs.declared.event.MessageEvent.TheVariants.{Sent, Delivered, Lost}
+use Rattle.event_book.specs.declared.event.StoreEvent.TheVariants as stores
+use Rattle.event_book.specs.declared.event.AgentEvent.TheVariants.{Woken}
+use Rattle.event_book.specs.declared.event.Note.TheVariants.{NoMessage, Undeliverable}
+use Rattle.event_book.specs.declared.link.LinkEnd.{LinkEnd}
+use Rattle.event_book.specs.declared.link.LinkEnd.TheVariants as link_ends
+use Rattle.event_book.specs.declared.member.Member.{Member}
+use Rattle.event_book.specs.declared.message.Body.{Body}
+use Rattle.event_book.specs.declared.message.Body.TheVariants as bodies
+use Rattle.event_book.specs.declared.message.Message.{Message}
+use Rattle.event_book.specs.Flight.{InFlightFacts, in_flight}
+use Rattle.cluster_script.specs.declared.line.Command.{Command}
+use Rattle.cluster_script.specs.declared.line.Command.TheVariants as commands
+use Rattle.cluster_script.specs.declared.line.Step.{Step}
+use Rattle.cluster_script.specs.declared.line.Step.TheVariants as steps
+use Rattle.pat_world.specs.declared.phase.Phase.{Phase}
+use Rattle.pat_world.specs.declared.phase.Reaction.{Reaction}
+use Rattle.pat_world.specs.declared.phase.Seat.{Seat}
+use Rattle.pat_world.specs.declared.way.Way.{Way}
+use Rattle.pat_world.specs.declared.way.Way.TheVariants as ways
+use Rattle.pat_world.specs.Cluster.{Cluster, moved, moved_all}
+use Rattle.pat_world.specs.Commands.{agent_kinds, hold_of, resume_of, kill_of, restart_kinds, link_kinds, link_of, cut_of, join_of}
+use Rattle.pat_world.specs.Turns.{is_due, woken, heard}
+use Rattle.pat_world.specs.Ways.{way_of}
+
+-- one happening, at its moment
+abbrev pub happens : Cluster → Kind → List Event
+happens cluster kind = record { tick = record { 0 = (moved cluster kind).book.clock }; kind = kind } ∷ []
+
+-- happenings, one after another
+abbrev pub all_happen : Cluster → List Kind → List Event
+all_happen cluster [] = []
+all_happen cluster (kind ∷ more) = happens cluster kind ++ all_happen (moved cluster kind) more
+
+-- these happenings at one moment
+abbrev pub stamped : Ticks → List Kind → List Event
+stamped tick kinds = map (λ kind. record { tick = tick; kind = kind }) kinds
+
+-- these events, and then what comes after them
+abbrev pub followed : Cluster → List Event → (Cluster → List Event) → List Event
+followed cluster events more = events ++ more (moved_all cluster events)
+
+-- so many messages may be in flight
+abbrev pub most_in_flight : ℕ
+most_in_flight = 65536
+
+abbrev pub lost_at_once : Bool → ℕ → List Kind
+lost_at_once true number = kinds.Message (Lost number) ∷ []
+lost_at_once false number = []
+
+-- a message is sent under the next number; one that is sent beyond the most in flight is lost at once
+abbrev pub sends : Cluster → Message → List Event
+sends cluster message =
+    all_happen cluster (kinds.Message (Sent (cluster.book.sent + 1) message) ∷ lost_at_once (nat_le most_in_flight (length cluster.book.flight)) (cluster.book.sent + 1))
+
+abbrev pub seat_of : Member → Option AgentState → Option Phase → Option Seat
+seat_of member (Some state) (Some phase) = Some (record { member = member; state = state; phase = phase })
+seat_of member _ _ = None
+
+-- a member with its agent
+abbrev pub seat_for : Cluster → Member → Option Seat
+seat_for cluster member = seat_of member (slice_get cluster.book.agents member.id.number) (slice_get cluster.phases member.id.number)
+
+abbrev pub seat_if : Cluster → Option Member → Option Seat
+seat_if cluster None = None
+seat_if cluster (Some member) = seat_for cluster member
+
+-- the declared member of this number with its agent
+abbrev pub seat_at : Cluster → ℕ → Option Seat
+seat_at cluster place = seat_if cluster (slice_get cluster.book.members place)
+
+-- what an agent asks of the store in its run of this number
+abbrev pub question : Member → ℕ → ℕ → Body → Message
+question member run sequence body = record { from = link_ends.Member member; to = link_ends.Store; run = run; sequence = sequence; body = body }
+
+abbrev pub asked_in : Cluster → Member → ℕ → Body → Option AgentState → List Event
+asked_in cluster member sequence body None = []
+asked_in cluster member sequence body (Some state) = sends cluster (question member state.run sequence body)
+
+abbrev pub asked : Cluster → Member → ℕ → Option Body → List Event
+asked cluster member sequence None = []
+asked cluster member sequence (Some body) = asked_in cluster member sequence body (slice_get cluster.book.agents member.id.number)
+
+-- the agent of a member sends what its reaction asks, if it has one
+abbrev pub reacts : Cluster → Member → Option Reaction → List Event
+reacts cluster member None = []
+reacts cluster member (Some reaction) = asked cluster member reaction.phase.sequence reaction.asks
+
+-- an agent that runs, isn't held and has something to do
+abbrev pub is_ready : ℕ → Seat → Bool
+is_ready now seat = seat.state.running && (not seat.state.held && is_due now seat.phase)
+
+-- what the agent of a member does when it is woken
+abbrev pub roused : ℕ → List Phase → Member → Option Reaction
+roused now phases member = option_map (woken now) (slice_get phases member.id.number)
+
+abbrev pub woken_at : Cluster → Member → List Event
+woken_at cluster member = followed cluster (happens cluster (kinds.Agent (Woken member))) (λ later. reacts later member (roused cluster.book.clock cluster.phases member))
+
+abbrev pub wake : Cluster → Option Seat → List Event
+wake cluster None = []
+wake cluster (Some seat) = if is_ready cluster.book.clock seat then woken_at cluster seat.member else []
+
+-- the agent of a member is woken, where it has something to do
+abbrev pub wake_at : Cluster → ℕ → List Event
+wake_at cluster place = wake cluster (seat_at cluster place)
+
+-- the agents of so many members from a place on are woken, in script order
+abbrev pub wakes : Cluster → ℕ → ℕ → List Event
+wakes cluster place zero = []
+wakes cluster place (suc count) = followed cluster (wake_at cluster place) (λ later. wakes later (place + 1) count)
+
+-- an answer of the store
+abbrev pub answer_to : Message → Body → Message
+answer_to message body = record { from = link_ends.Store; to = message.from; run = message.run; sequence = message.sequence; body = body }
+
+-- the store's decision on the request that a message carries, as an event. No request names standbys yet
+abbrev pub decided : ℕ → Member → Txn → Decision → Kind
+decided number by txn Grant = kinds.Store (stores.Granted number by txn [])
+decided number by txn (Refusal key found) = kinds.Store (stores.Refused number by (kind_of txn) key found)
+
+-- and what the store answers
+abbrev pub decision_told : ℕ → Txn → Decision → Body
+decision_told number txn Grant = bodies.Granted number (is_lease txn)
+decision_told number txn (Refusal key found) = bodies.Refused number key found
+
+abbrev pub decides : Cluster → ℕ → Message → Txn → Decision → LinkEnd → List Event
+decides cluster number message txn decision link_ends.Store = []
+decides cluster number message txn decision (link_ends.Member by) =
+    followed cluster (happens cluster (decided number by txn decision)) (λ later. sends later (answer_to message (decision_told number txn decision)))
+
+abbrev pub answers_body : Cluster → ℕ → Message → Body → List Event
+answers_body cluster number message bodies.Read = sends cluster (answer_to message bodies.Snapshot)
+answers_body cluster number message (bodies.Request txn) = decides cluster number message txn (decision_on cluster.book.keys cluster.book.clock txn) message.from
+answers_body cluster number message _ = []
+
+-- the store answers a read with a snapshot, and a request with its decision
+abbrev pub answers : Cluster → ℕ → Message → List Event
+answers cluster number message = answers_body cluster number message message.body
+
+-- what the agent of a member does on a message
+abbrev pub listened : ℕ → List Phase → InFlightFacts → Member → Option Reaction
+listened now phases message member = option_map (heard now member.id message) (slice_get phases member.id.number)
+
+-- the agent of a member acts on a message that comes
+abbrev pub hears : Cluster → ℕ → InFlightFacts → Member → List Event
+hears cluster number message member =
+    followed cluster (happens cluster (kinds.Message (Delivered number))) (λ later. reacts later member (listened cluster.book.clock cluster.phases message member))
+
+abbrev pub comes_to : Cluster → ℕ → InFlightFacts → LinkEnd → List Event
+comes_to cluster number message link_ends.Store = followed cluster (happens cluster (kinds.Message (Delivered number))) (λ later. answers later number message.message)
+comes_to cluster number message (link_ends.Member member) = hears cluster number message member
+
+-- a message comes to its receiver, which acts on it
+abbrev pub comes : Cluster → ℕ → InFlightFacts → List Event
+comes cluster number message = comes_to cluster number message message.message.to
+
+abbrev pub comes_found : Cluster → ℕ → Option InFlightFacts → List Event
+comes_found cluster number None = []
+comes_found cluster number (Some message) = comes cluster number message
+
+abbrev pub goes : Cluster → ℕ → InFlightFacts → Way → List Event
+goes cluster number message ways.Open = comes cluster number message
+goes cluster number message ways.Cut = happens cluster (kinds.Message (Lost number))
+goes cluster number message ways.Held = []
+goes cluster number message ways.Gone = happens cluster (kinds.Message (Lost number))
+
+abbrev pub moves_found : Cluster → ℕ → Option InFlightFacts → List Event
+moves_found cluster number None = []
+moves_found cluster number (Some message) = goes cluster number message (way_of cluster.book.cuts cluster.book.agents message.message)
+
+-- a message in flight comes to its receiver, is lost, or is kept for a receiver that is held
+abbrev pub moves : Cluster → ℕ → List Event
+moves cluster number = moves_found cluster number (in_flight cluster.book.flight number)
+
+-- these messages, one after another
+abbrev pub all_move : Cluster → List ℕ → List Event
+all_move cluster [] = []
+all_move cluster (number ∷ more) = followed cluster (moves cluster number) (λ later. all_move later more)
+
+-- each due agent is woken, and then each message that is in flight at that point moves, in the order of numbers
+abbrev pub round : Cluster → List Event
+round cluster = followed cluster (wakes cluster 0 (length cluster.book.members)) (λ later. all_move later (keys_of later.book.flight))
+
+abbrev pub is_empty : List Event → Bool
+is_empty [] = true
+is_empty (event ∷ events) = false
+
+-- at most so many rounds; a round in which nothing happens is the last
+unfoldable pub rounds : Cluster → ℕ → List Event
+rounds cluster zero = []
+rounds cluster (suc count) = if is_empty (round cluster) then [] else followed cluster (round cluster) (λ later. rounds later count)
+
+abbrev pub most_rounds : ℕ
+most_rounds = 40
+
+abbrev pub declared_member : List Member → Option MemberId → Option Member
+declared_member members None = None
+declared_member members (Some id) = slice_get members id.number
+
+abbrev pub leader_expiry : Option Member → List Kind
+leader_expiry None = []
+leader_expiry (Some holder) = kinds.Store (stores.LeaderExpired holder) ∷ []
+
+-- the expiry of a key, as an event; that of the leader key names its holder
+abbrev pub expiry_of : Option Member → Key → List Kind
+expiry_of holder keys.Leader = leader_expiry holder
+expiry_of holder key = kinds.Store (stores.Expired key) ∷ []
+
+abbrev pub expiries_of : Option Member → List Key → List Kind
+expiries_of holder [] = []
+expiries_of holder (key ∷ more) = expiry_of holder key ++ expiries_of holder more
+
+-- the clock grows by one, and what has expired is dropped
+abbrev pub ticks : Cluster → List Event
+ticks cluster = all_happen cluster
+    (kinds.Tick ∷ expiries_of (declared_member cluster.book.members (expired_holder cluster.book.keys (cluster.book.clock + 1))) (expired_keys cluster.book.keys (cluster.book.clock + 1)))
+
+-- a script delivers a message where nothing stands in its way
+abbrev pub delivers_on : Cluster → ℕ → InFlightFacts → Way → List Event
+delivers_on cluster number message ways.Open = comes cluster number message
+delivers_on cluster number message ways.Cut = happens cluster (kinds.Note (Undeliverable number))
+delivers_on cluster number message ways.Held = happens cluster (kinds.Note (Undeliverable number))
+delivers_on cluster number message ways.Gone = happens cluster (kinds.Message (Lost number))
+
+abbrev pub delivers : Cluster → ℕ → Option InFlightFacts → List Event
+delivers cluster number None = happens cluster (kinds.Note (NoMessage number))
+delivers cluster number (Some message) = delivers_on cluster number message (way_of cluster.book.cuts cluster.book.agents message.message)
+
+-- a script loses a message that is in flight, wherever it goes
+abbrev pub loses : Cluster → ℕ → Option InFlightFacts → List Event
+loses cluster number None = happens cluster (kinds.Note (NoMessage number))
+loses cluster number (Some message) = happens cluster (kinds.Message (Lost number))
+
+-- the events of a command
+abbrev pub command_events : Cluster → Command → List Event
+command_events cluster (commands.Turn member) = wake_at cluster member.number
+command_events cluster (commands.Deliver number) = delivers cluster number (in_flight cluster.book.flight number)
+command_events cluster (commands.Lose number) = loses cluster number (in_flight cluster.book.flight number)
+command_events cluster (commands.Hold member) = all_happen cluster (agent_kinds (hold_of (seat_at cluster member.number)))
+command_events cluster (commands.Resume member) = all_happen cluster (agent_kinds (resume_of (seat_at cluster member.number)))
+command_events cluster (commands.Kill member) = all_happen cluster (agent_kinds (kill_of (seat_at cluster member.number)))
+command_events cluster (commands.Restart member) = all_happen cluster (restart_kinds (seat_at cluster member.number))
+command_events cluster (commands.Cut first second) = all_happen cluster (link_kinds (cut_of cluster.book.cuts (link_of cluster.book.members first second)))
+command_events cluster (commands.Join first second) = all_happen cluster (link_kinds (join_of cluster.book.cuts (link_of cluster.book.members first second)))
+command_events cluster (commands.Trace on) = []
+
+-- the events of a step
+abbrev pub next_events : Cluster → Step → List Event
+next_events cluster steps.Scheduled = followed cluster (ticks cluster) (λ later. rounds later most_rounds)
+next_events cluster steps.Tick = ticks cluster
+next_events cluster (steps.Command command) = command_events cluster command
+
+-- the events of these steps, one after another
+abbrev pub run_from : Cluster → List Step → List Event
+run_from cluster [] = []
+run_from cluster (step ∷ more) = followed cluster (next_events cluster step) (λ later. run_from later more)

@@ -1,0 +1,25 @@
+//! Laws of books.
+ghost use Rattle.std.specs.Prelude.{ℕ, ◌≡◌, ◌≢◌, List};
+ghost use Rattle.lease_store.specs.Keys.{Keys};
+ghost use Rattle.event_book.specs.declared.agent_state.AgentState.{AgentState};
+ghost use Rattle.event_book.specs.declared.event.Kind.{Kind};
+ghost use Rattle.event_book.specs.declared.link.Link.{Link};
+ghost use Rattle.event_book.specs.Agents.{agents_after};
+ghost use Rattle.event_book.specs.Clock.{now_after};
+ghost use Rattle.event_book.specs.Flight.{Flight, flight_at, sent_after};
+ghost use Rattle.event_book.specs.Keys.{keys_at};
+ghost use Rattle.event_book.specs.Links.{cuts_after};
+ghost use Rattle.pat_world.specs.declared.phase.Phase.{Phase};
+ghost use Rattle.pat_world.specs.Cluster.{phases_after};
+ghost use Rattle.pat_world.specs.Concerns.{concern_of, Time, Messages, Store, Agents, Links};
+
+/// Each part of what a book determines is left as it was by events of other concerns.
+pub fn other_concerns_change_nothing()
+    ensures clock { (now : ℕ) (kind : Kind) → concern_of kind ≢ Time → now_after now kind ≡ now }
+    ensures store { (now : ℕ) (known : Keys) (kind : Kind) → concern_of kind ≢ Time → concern_of kind ≢ Store → keys_at now known kind ≡ known }
+    ensures agents { (states : List AgentState) (kind : Kind) → concern_of kind ≢ Agents → agents_after states kind ≡ states }
+    ensures phases { (now : ℕ) (flight : Flight) (phases : List Phase) (kind : Kind) → concern_of kind ≢ Messages → concern_of kind ≢ Agents → phases_after now flight phases kind ≡ phases }
+    ensures links { (cuts : List Link) (kind : Kind) → concern_of kind ≢ Links → cuts_after cuts kind ≡ cuts }
+    ensures messages { (now : ℕ) (known : Keys) (flight : Flight) (kind : Kind) → concern_of kind ≢ Messages → flight_at now known flight kind ≡ flight }
+    ensures numbers { (last : ℕ) (kind : Kind) → concern_of kind ≢ Messages → sent_after last kind ≡ last }
+{}

@@ -1,0 +1,16 @@
+//! The world: a cluster at a moment, which takes the steps of a script and hands out what happens.
+#![tactic(auto)]
+
+mod agent;
+mod agents;
+mod flight;
+mod info;
+mod laws;
+mod links;
+mod phase;
+mod way;
+mod ways;
+mod world;
+
+pub use laws::other_concerns_change_nothing;
+pub use world::World;

@@ -1,8 +1,0 @@
-use Rattle.std.proofs.Common.{◌*◌, drop, length}
-use Rattle.patroni_top.specs.Next.{all_move}
-use Rattle.patroni_top.proofs.Rest.{Left}
-use Rattle.patroni_top.proofs.world.World.all_move.Given as goal
-
--- the messages from this place on are still to move
-abbrev pub invariant-loop-number : goal.invariant-loop-number
-invariant-loop-number l = Left l.fn.self l.self l.fn.events.items l.events.items (all_move l.fn.self l.numbers) (all_move l.self (drop l.number-index l.numbers)) (4 * length l.numbers) (4 * length (drop l.number-index l.numbers))

@@ -1,8 +1,0 @@
-use Rattle.std.proofs.Common.{◌-◌, ◌*◌}
-use Rattle.patroni_top.specs.Next.{rounds, most_rounds}
-use Rattle.patroni_top.proofs.Rest.{Left}
-use Rattle.patroni_top.proofs.world.World.rounds.Given as goal
-
--- so many rounds may still follow
-abbrev pub invariant-loop-done : goal.invariant-loop-done
-invariant-loop-done l = Left l.fn.self l.self l.fn.events.items l.events.items (rounds l.fn.self most_rounds) (rounds l.self (40 - l.done)) 10487680 (262192 * (40 - l.done))
