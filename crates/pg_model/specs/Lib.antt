@@ -1,3 +1,5 @@
 pub mod Facts
+pub mod InStep
 pub mod Replication
 pub mod Running
+pub mod Servers

@@ -11,6 +11,7 @@ use Rattle.pat_base.specs.declared.server_state.Required.TheVariants as required
 use Rattle.pat_base.specs.Lsn.{lsn_at}
 use Rattle.pat_base.specs.ServerState.{writes}
 use Rattle.wal_model.specs.declared.entry.Entry.{Entry}
+use Rattle.wal_model.specs.History.{same_points}
 use Rattle.wal_model.specs.Log.{end_of, is_prefix, fork_of, received}
 use Rattle.pg_model.specs.declared.answers.Streamed.{Streamed}
 use Rattle.pg_model.specs.declared.answers.Streamed.TheVariants as streams
@@ -24,11 +25,15 @@ following upstream s = record s { upstream = Some upstream; diverged = false }
 abbrev pub entry_of : ServerFacts → ℕ → ℕ → Entry
 entry_of s serial bytes = record { serial = serial; timeline = s.timeline; bytes = bytes }
 
+-- an entry stands at the log's end, and waits for acknowledgement
+abbrev pub appended : Entry → ServerFacts → ServerFacts
+appended entry s =
+    let log = entries_of s.log ++ entry ∷ [] in
+    record s { log = Some log; waiting = s.waiting ++ record { serial = entry.serial; end = lsn_at (end_of log) } ∷ [] }
+
 -- a commit of so many bytes stands at the log's end, and waits for acknowledgement
 abbrev pub committed : ℕ → ℕ → ServerFacts → ServerFacts
-committed serial bytes s =
-    let log = entries_of s.log ++ entry_of s serial bytes ∷ [] in
-    record s { log = Some log; waiting = s.waiting ++ record { serial = serial; end = lsn_at (end_of log) } ∷ [] }
+committed serial bytes s = appended (entry_of s serial bytes) s
 
 abbrev pub stream_by : Bool → List Entry → List Entry → ℕ → Streamed
 stream_by false mine theirs most = streams.NotConnected
@@ -51,6 +56,38 @@ streamed_by (streams.Received count) s upstream most = record s {
 -- the standby after that
 abbrev pub streamed : ServerFacts → ServerFacts → ℕ → ServerFacts
 streamed s upstream most = streamed_by (stream_of s upstream most) s upstream most
+
+-- the standby has so many more entries of its upstream's log, and its timeline and history
+abbrev pub received_from : ℕ → ServerFacts → ServerFacts → ServerFacts
+received_from count s upstream = record s {
+  log = Some (received (entries_of s.log) (entries_of upstream.log) count);
+  timeline = upstream.timeline;
+  history = upstream.history;
+}
+
+-- its timeline and its history are the upstream's
+abbrev pub is_current : ServerFacts → ServerFacts → Bool
+is_current s upstream = (s.timeline == upstream.timeline) && same_points s.history upstream.history
+
+abbrev pub news_by : Streamed → ServerFacts → ServerFacts → Option Streamed
+news_by streams.NotConnected s upstream = None
+news_by (streams.Diverged at) s upstream = if s.diverged then None else Some (streams.Diverged at)
+news_by (streams.Received count) s upstream = if (count == 0) && is_current s upstream then None else Some (streams.Received count)
+
+-- what a standby gets from its upstream, where that changes anything: a divergence that wasn't found before, an entry,
+-- or another timeline or history
+abbrev pub news_of : ServerFacts → ServerFacts → ℕ → Option Streamed
+news_of s upstream most = news_by (stream_of s upstream most) s upstream
+
+abbrev pub told : Streamed → ServerFacts → ServerFacts → ServerFacts
+told streams.NotConnected s upstream = s
+told (streams.Diverged at) s upstream = record s { diverged = true }
+told (streams.Received count) s upstream = received_from count s upstream
+
+-- the standby after such news
+abbrev pub after_news : Option Streamed → ServerFacts → ServerFacts → ServerFacts
+after_news None s upstream = s
+after_news (Some news) s upstream = told news s upstream
 
 -- a member has flushed the log up to this position
 abbrev pub confirming : MemberId → Lsn → ServerFacts → ServerFacts

@@ -1,14 +1,16 @@
-//! PostgreSQL servers: how they start, stop, are promoted, stream and acknowledge commits.
+//! PostgreSQL servers: how they start, stop, are promoted, stream and acknowledge commits, alone and in a cluster.
 #![tactic(auto)]
 
 mod answers;
 mod laws;
 mod server;
+mod servers;
 mod waiting;
 
 pub use answers::{CommitFault, InState, StreamFault, Streamed};
 pub use laws::required_is_met;
 pub use server::Server;
+pub use servers::Servers;
 pub use waiting::Waiting;
 
 #[cfg(test)]

@@ -11,6 +11,10 @@ ghost use Rattle.pg_model.specs.Replication.{following, committed, stream_of, st
 ghost use Rattle.pg_model.specs.declared.answers.CommitFault.TheVariants as commit_faults;
 ghost use Rattle.pg_model.specs.declared.answers.StreamFault.TheVariants as stream_faults;
 
+mod hearing;
+
+pub(crate) use hearing::Heard;
+
 use crate::{CommitFault, InState, StreamFault, Streamed, Waiting};
 use pat_base::{Lsn, MemberId, MemberSet, Required, ServerId, State, Ticks};
 use std::alloc::{AllocError, Global};
@@ -21,8 +25,8 @@ use wal_model::{Entry, History, HistoryPoint, Wal, WalFault};
 /// How many members may confirm positions.
 const MEMBERS: usize = 16;
 
-/// A PostgreSQL server: its state, its log (absent after a wipe), its timeline with its history, whom it follows, and
-/// what its commits wait for.
+/// A PostgreSQL server: its state, its log (absent while it waits for a copy), its timeline with its history, whom it
+/// follows, and what its commits wait for.
 #[derive(Drop)]
 pub struct Server {
     state: State,
@@ -337,7 +341,8 @@ impl Server {
         Ok(())
     }
 
-    /// Ends without a shutdown. A server that waits for a copy goes on to wait.
+    /// Ends without a shutdown: it is crashed afterwards, also where it was stopped before. A server that waits for a
+    /// copy goes on to wait.
     pub fn crash(&mut self)
         ensures { self.new ≡ crashed self.old }
     {

@@ -1,6 +1,6 @@
 //! The histories of timelines.
 ghost use Rattle.std.specs.Prelude.{ℕ, ◌≡◌, ◌<◌, ◌-◌, ◌++◌, ◌↔◌, [], ◌∷◌, length, max, slice_get, IsTrue, IsOk, IfOk, OnOk, OnErr, option_copied};
-ghost use Rattle.wal_model.specs.History.{Points, point_of};
+ghost use Rattle.wal_model.specs.History.{Points, point_of, same_points};
 
 use crate::HistoryPoint;
 use pat_base::Lsn;
@@ -97,6 +97,13 @@ impl History {
             .iter()
             .find(|point| point.timeline == timeline)
             .map(|point| point.at)
+    }
+
+    /// Whether the other history has the same points.
+    pub fn same_points(&self, other: &History) -> bool
+        ensures { result ≡ same_points self.now.points other.now.points }
+    {
+        self.points == other.points
     }
 
     /// The same points once more, without the room. It fails only for want of memory.

@@ -113,12 +113,29 @@ impl Wal {
         self.entries.get(place).copied()
     }
 
-    /// Whether the other log begins with this one.
+    /// Whether the other log begins with this one. It first looks at the last own entry alone, and so tells most logs
+    /// that diverged without walking over them.
     pub fn is_prefix(&self, of: &Wal) -> bool
         ensures test { result ≡ is_prefix self.now of.now }
         ensures prefix { IsTrue result ↔ IsPrefixOf self.now of.now }
     {
+        if !self.last_stands_in(of) {
+            return false;
+        }
         of.entries.starts_with(&self.entries)
+    }
+
+    /// Whether the last entry, if there is one, stands at the same place of the other log.
+    fn last_stands_in(&self, of: &Wal) -> bool
+        ensures { IsPrefixOf self.now of.now → IsTrue result }
+    {
+        let Some(place) = self.entries.len().checked_sub(1) else {
+            return true;
+        };
+        match of.entries.get(place) {
+            Some(entry) => *entry == self.entries[place],
+            None => false,
+        }
     }
 
     /// Where the two logs part: the end of the longest list of entries with which both begin.

@@ -1,0 +1,56 @@
+-- Standbys that are known to be in step with their upstream.
+use Rattle.std.specs.Prelude.{◌≡◌, ℕ, ◌==◌, Bool, true, false, List, Option, Some, None, length, slice_get, option_map}
+use Rattle.pat_base.specs.declared.server_id.ServerId.{ServerId}
+use Rattle.wal_model.specs.declared.entry.Entry.{Entry}
+use Rattle.wal_model.specs.declared.entry.HistoryPoint.{HistoryPoint}
+use Rattle.wal_model.specs.Log.{IsPrefixOf}
+use Rattle.pg_model.specs.Facts.{ServerFacts, entries_of}
+
+-- what a server has of the cluster's log, and whom it follows
+pub record Standing : Type 0 where
+  pub log : List Entry
+  pub timeline : ℕ
+  pub history : List HistoryPoint
+  -- the number of the server that it follows
+  pub upstream : Option ℕ
+
+abbrev pub number_of : Option ServerId → Option ℕ
+number_of upstream = option_map (λ server. server.number) upstream
+
+abbrev pub standing_of : ServerFacts → Standing
+standing_of s = record { log = entries_of s.log; timeline = s.timeline; history = s.history; upstream = number_of s.upstream }
+
+-- whether this is the number of the server at a place
+abbrev pub is_place : ℕ → Option ℕ → Bool
+is_place place None = false
+is_place place (Some number) = number == place
+
+-- the upstream's log begins with the standby's, and they are on one timeline with one history
+pub record IsBehind (s upstream : Standing) : Type 0 where
+  pub log : IsPrefixOf s.log upstream.log
+  pub timeline : s.timeline ≡ upstream.timeline
+  pub history : s.history ≡ upstream.history
+
+-- it follows one of these servers, and is behind it
+pub record IsInStep (servers : List Standing) (s : Standing) : Type 0 where
+  pub number : ℕ
+  pub follows : s.upstream ≡ Some number
+  pub leader : Standing
+  pub found : slice_get servers number ≡ Some leader
+  pub behind : IsBehind s leader
+
+-- each server has a mark, and is in step where the mark is set
+pub record MarksHold (marks : List Bool) (servers : List Standing) : Type 0 where
+  pub one_each : length marks ≡ length servers
+  pub in_step : (place : ℕ) (s : Standing) → slice_get marks place ≡ Some true → slice_get servers place ≡ Some s → IsInStep servers s
+
+-- no mark is set but what was set, and none at a place or at a server that follows it
+pub record Forgets (old new : List Bool) (servers : List Standing) (place : ℕ) : Type 0 where
+  pub one_each : length new ≡ length old
+  pub kept : (k : ℕ) → slice_get new k ≡ Some true → slice_get old k ≡ Some true
+  pub own : slice_get new place ≡ Some true → ⊥
+  pub followers : (k : ℕ) (s : Standing) → slice_get new k ≡ Some true → slice_get servers k ≡ Some s → is_place place s.upstream ≡ false
+
+-- of these servers, the one at the first place is behind the one at the second
+abbrev pub AreInStep : List ServerFacts → ℕ → ℕ → Type 0
+AreInStep servers place from = (s upstream : ServerFacts) → slice_get servers place ≡ Some s → slice_get servers from ≡ Some upstream → IsBehind (standing_of s) (standing_of upstream)

@@ -1,0 +1,69 @@
+-- The servers of a cluster, by the number of their member.
+use Rattle.std.specs.Prelude.{ℕ, ◌+◌, ◌^◌, ◌&&◌, nat_le, if◌then◌else◌, List, Option, Some, None, slice_get, slice_set}
+use Rattle.pat_base.specs.declared.ticks.Ticks.{Ticks}
+use Rattle.pat_base.specs.declared.server_state.Required.{Required}
+use Rattle.pat_base.specs.ServerState.{writes, live}
+use Rattle.wal_model.specs.declared.entry.Entry.{Entry}
+use Rattle.wal_model.specs.Log.{end_of}
+use Rattle.pg_model.specs.declared.answers.Streamed.{Streamed}
+use Rattle.pg_model.specs.Facts.{ServerFacts, entries_of}
+use Rattle.pg_model.specs.Running.{ticked}
+use Rattle.pg_model.specs.Replication.{entry_of, appended, news_of, told}
+
+-- what a server is to others: without the room of its history
+abbrev pub seen : ServerFacts → ServerFacts
+seen s = record s { spare = 0 }
+
+abbrev pub with_server_at : List ServerFacts → ℕ → (ServerFacts → ServerFacts) → Option ServerFacts → List ServerFacts
+with_server_at servers place change None = servers
+with_server_at servers place change (Some s) = slice_set servers place (change s)
+
+-- the servers with the one at a place changed, if there is one
+abbrev pub with_server : List ServerFacts → ℕ → (ServerFacts → ServerFacts) → List ServerFacts
+with_server servers place change = with_server_at servers place change (slice_get servers place)
+
+-- its commits wait for these
+abbrev pub requiring : Required → ServerFacts → ServerFacts
+requiring required s = record s { required = required }
+
+-- a start or a stop is complete whose moment has come, but for a start as a primary and the stop of one
+abbrev pub quietly_ticked : Ticks → ServerFacts → ServerFacts
+quietly_ticked now s = if live s.state then s else ticked now s
+
+abbrev pub entry_at : Option ServerFacts → ℕ → ℕ → Option Entry
+entry_at None serial bytes = None
+entry_at (Some s) serial bytes = if writes s.state && nat_le (end_of (entries_of s.log) + bytes) (2 ^ 63) then Some (entry_of s serial bytes) else None
+
+-- the entry of a commit, where the server at the place accepts writes and its log doesn't pass 2^63 bytes
+abbrev pub entry_for : List ServerFacts → ℕ → ℕ → ℕ → Option Entry
+entry_for servers place serial bytes = entry_at (slice_get servers place) serial bytes
+
+abbrev pub after_entry : Option Entry → ServerFacts → ServerFacts
+after_entry None s = s
+after_entry (Some entry) s = appended entry s
+
+-- the servers after that
+abbrev pub committed_at : List ServerFacts → ℕ → Option Entry → List ServerFacts
+committed_at servers place None = servers
+committed_at servers place (Some entry) = with_server servers place (appended entry)
+
+abbrev pub news_between : Option ServerFacts → Option ServerFacts → ℕ → Option Streamed
+news_between None upstream most = None
+news_between (Some s) None most = None
+news_between (Some s) (Some upstream) most = news_of s upstream most
+
+-- what the standby at a place gets from the server at another one, where that changes anything
+abbrev pub news_at : List ServerFacts → ℕ → ℕ → ℕ → Option Streamed
+news_at servers place from most = news_between (slice_get servers place) (slice_get servers from) most
+
+abbrev pub told_from : List ServerFacts → ℕ → Streamed → Option ServerFacts → List ServerFacts
+told_from servers place news None = servers
+told_from servers place news (Some upstream) = with_server servers place (λ s. told news s upstream)
+
+abbrev pub after_news_at : List ServerFacts → ℕ → ℕ → Option Streamed → List ServerFacts
+after_news_at servers place from None = servers
+after_news_at servers place from (Some news) = told_from servers place news (slice_get servers from)
+
+-- the servers after that
+abbrev pub streamed_at : List ServerFacts → ℕ → ℕ → ℕ → List ServerFacts
+streamed_at servers place from most = after_news_at servers place from (news_at servers place from most)

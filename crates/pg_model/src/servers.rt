@@ -1,0 +1,304 @@
+//! The servers of a cluster.
+ghost use Rattle.std.specs.Prelude.{ℕ, ◌≡◌, ◌≤◌, ◌<◌, ◌^◌, [], length, map, replicate, Option, Some, slice_get, ◌≢◌, false, IsTrue, IfSome, IfOk, OnOk, OnErr, option_map, option_copied, option_and_then};
+ghost use Rattle.std.specs.Option.{ForSome};
+ghost use Rattle.pg_model.specs.Facts.{ServerFacts, fresh, is_replica, is_down};
+ghost use Rattle.pg_model.specs.Running.{promoted, replica_started, crashed, delayed};
+ghost use Rattle.pg_model.specs.Replication.{following, confirming, next_acknowledged, acknowledged};
+ghost use Rattle.pg_model.specs.InStep.{Forgets, AreInStep, standing_of, number_of, is_place};
+ghost use Rattle.pg_model.specs.Servers.{seen, with_server, requiring, quietly_ticked, entry_at, entry_for, after_entry, committed_at, news_at, streamed_at};
+
+use crate::server::Heard;
+use crate::{CommitFault, Server, Streamed};
+use pat_base::{Lsn, MemberId, Required, ServerId, Ticks};
+use std::alloc::{AllocError, Global};
+use std::marker::Model;
+use wal_model::Entry;
+
+/// The servers of a cluster, by the number of their member.
+///
+/// It keeps for each server whether it is known to be in step: it follows one of these servers, that one's log begins
+/// with its own, and both are on one timeline with one history. A standby in step is never compared with its upstream:
+/// receiving costs the entries that move. Logs and histories are compared once after a promotion, a change of upstream
+/// or a divergence, and then until the standby is in step.
+#[derive(Drop)]
+pub struct Servers {
+    servers: Vec<Server>,
+    in_step: Vec<bool>,
+}
+
+impl Model for Servers {
+    ghost use Rattle.std.specs.Prelude.{List, map};
+    ghost use Rattle.pg_model.specs.Facts.{ServerFacts};
+    ghost use Rattle.pg_model.specs.Servers.{seen};
+    ghost use Rattle.pg_model.specs.InStep.{MarksHold, standing_of};
+
+    ghost Value = { List ServerFacts };
+
+    ghost view = { λ cluster. map seen cluster.servers.items };
+
+    ghost invariant = { λ cluster. MarksHold cluster.in_step.items (map standing_of cluster.servers.items) };
+}
+
+impl Servers {
+    /// So many running standbys on timeline 1, each with a log of so many bytes of data. It fails only for want of
+    /// memory.
+    pub fn new(alloc: Global, count: usize, base: u64) -> Result<Servers, AllocError>
+        requires { base ≤ 2 ^ 63 }
+        ensures { IfOk result (λ servers. servers ≡ replicate count (fresh base)) }
+    {
+        let mut servers = Vec::with_capacity(alloc, count)?;
+        let mut in_step = Vec::with_capacity(alloc, count)?;
+        for _ in 0..count {
+            servers.push(Server::new(alloc, base)?)?;
+            in_step.push(false)?;
+        }
+        Ok(Servers { servers, in_step })
+    }
+
+    /// How many servers there are.
+    pub fn len(&self) -> usize
+        ensures { result ≡ length self.now }
+    {
+        self.servers.len()
+    }
+
+    /// Whether there is no server.
+    pub fn is_empty(&self) -> bool
+        ensures { IsTrue result ↔ (self.now ≡ []) }
+    {
+        self.servers.is_empty()
+    }
+
+    /// The server at a place, counted from 0. `None` exactly past the last one.
+    pub fn get(&self, place: usize) -> Option<&Server>
+        ensures { option_map seen (option_copied result) ≡ slice_get self.now place }
+    {
+        self.servers.get(place)
+    }
+
+    /// Promotes the standby at a place, if there is one there: it accepts writes on the next timeline. It fails only for
+    /// want of memory, and then all stay as they were. It costs time in the number of servers.
+    pub fn promote(&mut self, place: usize, now: Ticks) -> Result<(), AllocError>
+        requires { IfSome (slice_get self.old place) (λ s. IsTrue (is_replica s.state) × (s.timeline < 2 ^ 60)) }
+        ensures ok { OnOk result (self.new ≡ with_server self.old place promoted) }
+        ensures err { OnErr result (self.new ≡ self.old) }
+    {
+        if place >= self.servers.len() {
+            return Ok(());
+        }
+        let server = &mut self.servers[place];
+        server.reserve()?;
+        server.promote(now).unwrap();
+        forget(&mut self.in_step, &self.servers, place);
+        Ok(())
+    }
+
+    /// Ends the server at a place, if there is one there, without a shutdown.
+    pub fn crash(&mut self, place: usize)
+        ensures { self.new ≡ with_server self.old place crashed }
+    {
+        if place < self.servers.len() {
+            self.servers[place].crash();
+        }
+    }
+
+    /// Lets the standby at a place, if there is one there, follow another server.
+    pub fn follow(&mut self, place: usize, upstream: ServerId)
+        requires { IfSome (slice_get self.old place) (λ s. IsTrue (is_replica s.state)) }
+        ensures { self.new ≡ with_server self.old place (following upstream) }
+    {
+        if place >= self.servers.len() {
+            return;
+        }
+        let server = &mut self.servers[place];
+        let is_same = follows(server, upstream.number as usize);
+        server.follow(upstream).unwrap();
+        self.in_step[place] &= is_same;
+    }
+
+    /// Starts the server at a place, if there is one there, as a standby of a server, or of none. The moment is at most
+    /// 2^62 ticks.
+    pub fn start_replica(&mut self, place: usize, now: Ticks, upstream: Option<ServerId>)
+        requires moment { now.0 ≤ 2 ^ 62 }
+        requires down { IfSome (slice_get self.old place) (λ s. IsTrue (is_down s.state)) }
+        ensures { self.new ≡ with_server self.old place (replica_started now upstream) }
+    {
+        if place >= self.servers.len() {
+            return;
+        }
+        let server = &mut self.servers[place];
+        let is_same = match upstream {
+            Some(upstream) => follows(server, upstream.number as usize),
+            None => false,
+        };
+        server.start_replica(now, upstream).unwrap();
+        self.in_step[place] &= is_same;
+    }
+
+    /// Sets how long later stops and starts of the server at a place take, if there is one there, each only where it is
+    /// given.
+    pub fn set_delays(&mut self, place: usize, stop: Option<Ticks>, start: Option<Ticks>)
+        requires stop { ForSome stop (λ delay. delay.0 ≤ 2 ^ 40) }
+        requires start { ForSome start (λ delay. delay.0 ≤ 2 ^ 40) }
+        ensures { self.new ≡ with_server self.old place (delayed stop start) }
+    {
+        if place < self.servers.len() {
+            self.servers[place].set_delays(stop, start);
+        }
+    }
+
+    /// Appends a commit of so many bytes to the log of the server at a place, and answers its entry, which then waits
+    /// for acknowledgement. `None` exactly where there is no server, it doesn't accept writes, or its log would end past
+    /// 2^63 bytes; then all stay as they were. It fails only for want of memory, and then too. It costs constant time
+    /// beside the log's growth.
+    pub fn commit(&mut self, place: usize, serial: u64, bytes: u64) -> Result<Option<Entry>, AllocError>
+        ensures entry { IfOk result (λ entry. entry ≡ entry_for self.old place serial bytes) }
+        ensures ok { OnOk result (self.new ≡ committed_at self.old place (entry_for self.old place serial bytes)) }
+        ensures err { OnErr result (self.new ≡ self.old) }
+    {
+        if place >= self.servers.len() {
+            return Ok(None);
+        }
+        let server = &mut self.servers[place];
+        let entry = commit_entry(server, serial, bytes)?;
+        self.in_step[place] = false;
+        Ok(entry)
+    }
+
+    /// Lets the standby at a place receive from the server at another one at most so many entries, with the timeline and
+    /// the history, and answers what it got. `None` exactly where that changes nothing: one of the two is absent, the
+    /// upstream doesn't accept writes, a divergence was found before, or there is nothing to receive. It fails only for
+    /// want of memory, and then all stay as they were. It costs the entries that move, and time in the number of
+    /// servers; only a standby that isn't known to be in step is compared with the other server.
+    pub fn stream(&mut self, place: usize, from: usize, most: usize) -> Result<Option<Streamed>, AllocError>
+        requires { IfSome (slice_get self.old place) (λ s. IsTrue (is_replica s.state)) }
+        ensures news { IfOk result (λ news. news ≡ news_at self.old place from most) }
+        ensures ok { OnOk result (self.new ≡ streamed_at self.old place from most) }
+        ensures err { OnErr result (self.new ≡ self.old) }
+    {
+        let count = self.servers.len();
+        if place >= count || from >= count || place == from {
+            return Ok(None);
+        }
+        let is_upstream = follows(&self.servers[place], from);
+        let in_step = self.in_step[place] && is_upstream;
+        let heard = hear_between(&mut self.servers, place, from, most, in_step)?;
+        if heard.received && !in_step {
+            forget(&mut self.in_step, &self.servers, place);
+            self.in_step[place] = is_upstream;
+        }
+        Ok(heard.news)
+    }
+
+    /// Records at the server at a place, if there is one there, up to where a member has flushed the log.
+    pub fn confirm(&mut self, place: usize, by: MemberId, end: Lsn)
+        ensures { self.new ≡ with_server self.old place (confirming by end) }
+    {
+        if place < self.servers.len() {
+            self.servers[place].confirm(by, end);
+        }
+    }
+
+    /// Takes the oldest waiting commit of the server at a place, where it may be acknowledged. `None` exactly otherwise.
+    pub fn next_acknowledged(&mut self, place: usize) -> Option<u64>
+        ensures commit { result ≡ option_and_then next_acknowledged (slice_get self.old place) }
+        ensures after { self.new ≡ with_server self.old place acknowledged }
+    {
+        if place >= self.servers.len() {
+            return None;
+        }
+        self.servers[place].next_acknowledged()
+    }
+
+    /// Sets whose confirmation the commits of the server at a place wait for, if there is one there.
+    pub fn set_required(&mut self, place: usize, required: Required)
+        ensures { self.new ≡ with_server self.old place (requiring required) }
+    {
+        if place < self.servers.len() {
+            self.servers[place].set_required(required);
+        }
+    }
+
+    /// Completes each start and each stop whose moment has come, but for a start as a primary and the stop of one:
+    /// those are told by events of their own, and whoever tells of one completes it.
+    pub fn tick(&mut self, now: Ticks)
+        ensures { self.new ≡ map (quietly_ticked now) self.old }
+    {
+        for place in 0..self.servers.len() {
+            let server = &mut self.servers[place];
+            if !server.live() {
+                server.tick(now);
+            }
+        }
+    }
+}
+
+/// Whether a server follows the one at a place.
+fn follows(server: &Server, place: usize) -> bool
+    ensures { result ≡ is_place place (number_of server.now.upstream) }
+{
+    match server.upstream() {
+        Some(upstream) => upstream.number as usize == place,
+        None => false,
+    }
+}
+
+/// Clears the mark of the server at a place, and of each that follows it.
+fn forget(in_step: &mut [bool], servers: &[Server], place: usize)
+    requires { length in_step.old ≡ length servers.now }
+    ensures { Forgets in_step.old in_step.new (map standing_of servers.now) place }
+{
+    for k in 0..in_step.len() {
+        if k == place || follows(&servers[k], place) {
+            in_step[k] = false;
+        }
+    }
+}
+
+/// Appends a commit, and answers its entry. `None` exactly where the server doesn't accept writes, or its log would end
+/// past 2^63 bytes. It fails only for want of memory.
+fn commit_entry(server: &mut Server, serial: u64, bytes: u64) -> Result<Option<Entry>, AllocError>
+    ensures entry { IfOk result (λ entry. entry ≡ entry_at (Some server.old) serial bytes) }
+    ensures ok { OnOk result (server.new ≡ after_entry (entry_at (Some server.old) serial bytes) server.old) }
+    ensures err { OnErr result (server.new ≡ server.old) }
+{
+    let entry = Entry {
+        serial,
+        timeline: server.timeline(),
+        bytes,
+    };
+    match server.commit(serial, bytes) {
+        Ok(()) => Ok(Some(entry)),
+        Err(CommitFault::Memory) => Err(AllocError),
+        Err(_) => Ok(None),
+    }
+}
+
+/// Lets the standby at a place receive from the server at another one. One that is known to be in step with it isn't
+/// compared.
+fn hear_between(
+    servers: &mut [Server],
+    place: usize,
+    from: usize,
+    most: usize,
+    in_step: bool,
+) -> Result<Heard, AllocError>
+    requires apart { place ≢ from }
+    requires standby { place < length servers.old }
+    requires upstream { from < length servers.old }
+    requires replica { (s : ServerFacts) → slice_get servers.old place ≡ Some s → IsTrue (is_replica s.state) }
+    requires in_step { IsTrue in_step → AreInStep servers.old place from }
+    ensures news { IfOk result (λ heard. heard.news ≡ news_at servers.old place from most) }
+    ensures ok { OnOk result (servers.new ≡ streamed_at servers.old place from most) }
+    ensures received { IfOk result (λ heard. IsTrue heard.received → AreInStep servers.new place from) }
+    ensures otherwise { IfOk result (λ heard. heard.received ≡ false → map standing_of servers.new ≡ map standing_of servers.old) }
+    ensures err { OnErr result (servers.new ≡ servers.old) }
+{
+    if place < from {
+        let (low, high) = servers.split_at_mut(from);
+        low[place].hear(&high[0], most, in_step)
+    } else {
+        let (low, high) = servers.split_at_mut(place);
+        high[0].hear(&low[from], most, in_step)
+    }
+}
