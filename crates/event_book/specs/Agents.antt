@@ -20,9 +20,13 @@ abbrev pub changed_at : {A : Type 0} → List A → ℕ → (A → A) → Option
 changed_at items number change None = items
 changed_at items number change (Some item) = slice_set items number (change item)
 
+-- a list with the item of one number changed, if there is one
+abbrev pub changed_by : {A : Type 0} → List A → ℕ → (A → A) → List A
+changed_by items number change = changed_at items number change (slice_get items number)
+
 -- a list by members, with the item of one member changed
 abbrev pub changed : {A : Type 0} → List A → Member → (A → A) → List A
-changed items member change = changed_at items member.id.number change (slice_get items member.id.number)
+changed items member change = changed_by items member.id.number change
 
 -- the agents after what happens to one; a kill ends a hold
 abbrev pub agents_by : List AgentState → AgentEvent → List AgentState

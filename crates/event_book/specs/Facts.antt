@@ -1,22 +1,27 @@
 -- What a book of events leaves.
-use Rattle.std.specs.Prelude.{ℕ, List, [], ◌∷◌, length}
+use Rattle.std.specs.Prelude.{ℕ, Bool, false, List, [], ◌∷◌, length, replicate}
 use Rattle.pat_base.specs.declared.name.Name.{Name}
 use Rattle.lease_store.specs.Defaults.{default_settings}
 use Rattle.lease_store.specs.Keys.{Keys, first_keys}
+use Rattle.pg_model.specs.Facts.{ServerFacts, fresh}
 use Rattle.event_book.specs.declared.event.Event.{Event}
 use Rattle.event_book.specs.declared.event.Kind.{Kind}
 use Rattle.event_book.specs.declared.member.Member.{Member}
 use Rattle.event_book.specs.declared.agent_state.AgentState.{AgentState}
 use Rattle.event_book.specs.declared.link.Link.{Link}
+use Rattle.event_book.specs.Acknowledged.{acknowledged_after, commits_after}
 use Rattle.event_book.specs.Agents.{agents_after, first_agents}
 use Rattle.event_book.specs.Clock.{now_after}
 use Rattle.event_book.specs.Flight.{Flight, flight_at, sent_after}
+use Rattle.event_book.specs.Frozen.{frozen_after}
 use Rattle.event_book.specs.Keys.{keys_at}
 use Rattle.event_book.specs.Links.{cuts_after}
 use Rattle.event_book.specs.Members.{members_from}
+use Rattle.event_book.specs.Servers.{servers_after}
 
 -- what a book determines over the declared members: the clock, the keys, which agents run, the links that are cut, the messages
--- in flight, and the number of the message that was sent last
+-- in flight, the number of the message that was sent last, the servers and which of them are frozen, the number of the last
+-- commit, and the commits that were acknowledged
 pub record Facts : Type 0 where
   pub clock : ℕ
   pub keys : Keys
@@ -25,6 +30,10 @@ pub record Facts : Type 0 where
   pub cuts : List Link
   pub flight : Flight
   pub sent : ℕ
+  pub servers : List ServerFacts
+  pub frozen : List Bool
+  pub commits : ℕ
+  pub acknowledged : List ℕ
 
 -- what one more event leaves
 abbrev pub after : Facts → Kind → Facts
@@ -36,6 +45,10 @@ after facts kind = record {
   cuts = cuts_after facts.cuts kind;
   flight = flight_at facts.clock facts.keys facts.flight kind;
   sent = sent_after facts.sent kind;
+  servers = servers_after (now_after facts.clock kind) facts.servers kind;
+  frozen = frozen_after facts.frozen kind;
+  commits = commits_after facts.commits kind;
+  acknowledged = acknowledged_after facts.acknowledged kind;
 }
 
 -- what these events leave
@@ -43,9 +56,9 @@ abbrev pub after_all : Facts → List Event → Facts
 after_all facts [] = facts
 after_all facts (event ∷ events) = after_all (after facts event.kind) events
 
--- what there is before the first event, over members of these names
-abbrev pub start_of : List Name → Facts
-start_of names = record {
+-- what there is before the first event, over members of these names, each with a server whose log has so many bytes of data
+abbrev pub start_of : List Name → ℕ → Facts
+start_of names base = record {
   clock = 0;
   keys = first_keys default_settings;
   members = members_from 0 names;
@@ -53,4 +66,8 @@ start_of names = record {
   cuts = [];
   flight = [];
   sent = 0;
+  servers = replicate (length names) (fresh base);
+  frozen = replicate (length names) false;
+  commits = 0;
+  acknowledged = [];
 }

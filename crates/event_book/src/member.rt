@@ -15,3 +15,18 @@ pub struct ServerOf {
     pub id: ServerId,
     pub name: Name,
 }
+
+impl ServerOf {
+    ghost use Rattle.std.specs.Prelude.{◌≡◌};
+    ghost use Rattle.event_book.specs.Members.{server_of};
+
+    /// The server of a member.
+    pub fn of(member: Member) -> ServerOf
+        ensures { result ≡ server_of member }
+    {
+        ServerOf {
+            id: ServerId::of(member.id),
+            name: member.name,
+        }
+    }
+}

@@ -1,7 +1,7 @@
 -- Actions in which nobody comes to act: losses, kills, starts, crashes, and a tick.
 use Rattle.std.proofs.Common.{◌≡◌, ◌⊎◌, ℕ, ◌+◌, ◌≤◌, ◌<◌, nat_le, Bool, true, false, Option, Some, None, refl, ◌∙◌, ap, sym, subst, arith, inl, inr}
 use Rattle.lease_store.specs.declared.txn.Expected.TheVariants.{Absent, Revision}
-use Rattle.lease_law.specs.Functions.{put_at}
+use Rattle.event_book.specs.Functions.{put_at}
 use Rattle.lease_law.specs.Leases.{LeaderKey, FailsafeKey, Query, Create, Renew, Release, Write, Read, Request, Grant, Flying, Requested, Answered, Begged, Acknowledged, Taking}
 use Rattle.lease_law.specs.States.{Begging, Agent, Machine, State, is_ready, Acts, is_due, tick_machine, kept_if, leader_kept, ticked, deadline_if, fresh_agent, start_machine, kill_machine, crash_machine}
 use Rattle.lease_law.proofs.Tools.{some-is, none-some, both, not-false, le-from, gt-from, put-all, dropped}

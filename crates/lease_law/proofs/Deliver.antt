@@ -2,7 +2,7 @@
 use Rattle.std.proofs.Common.{◌≡◌, ◌⊎◌, ℕ, ◌+◌, ◌≤◌, ◌<◌, ◌==◌, Bool, true, false, Option, Some, None, max, refl, ◌∙◌, ap, sym, subst, arith, inl, inr}
 use Rattle.lease_store.specs.declared.txn.Expected.{Expected}
 use Rattle.lease_store.specs.declared.txn.Expected.TheVariants.{Absent, Revision}
-use Rattle.lease_law.specs.Functions.{put_at}
+use Rattle.event_book.specs.Functions.{put_at}
 use Rattle.lease_law.specs.Leases.{LeaderKey, LeaderSeen, FailsafeKey, Query, Create, Renew, Release, Write, Read, Request, Grant, Answer, Beg, Acknowledgement, Flying, Requested, Answered, Begged, Acknowledged}
 use Rattle.lease_law.specs.States.{Machine, State, Acts}
 use Rattle.lease_law.specs.Outcomes.{seen_of, Outcome, is_as_read, create_if, create_on, failsafe_carried, renew_if, renew_on, release_if, release_on, write_if, outcome_of, told_if, answer_to, with_outcome, with_question, delivered}

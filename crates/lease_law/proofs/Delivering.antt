@@ -18,8 +18,8 @@ use Rattle.event_book.specs.declared.event.StoreEvent.TheVariants as stores
 use Rattle.event_book.specs.declared.event.MessageEvent.TheVariants as messages
 use Rattle.event_book.specs.declared.member.Member.{Member}
 use Rattle.event_book.specs.Facts.{Facts}
-use Rattle.lease_law.specs.Functions.{put_at}
-use Rattle.lease_law.specs.Writers.{writes_after}
+use Rattle.event_book.specs.Functions.{put_at}
+use Rattle.event_book.specs.Writers.{writes_after}
 use Rattle.lease_law.specs.Leases.{LeaderKey, FailsafeKey, Read, Request, Grant, Answer, Beg, Acknowledgement, Flying, Requested, Answered, Begged, Acknowledged, Taking}
 use Rattle.lease_law.specs.States.{Machine, Declared, State}
 use Rattle.lease_law.specs.Outcomes.{Outcome, refused, outcome_of, with_outcome, with_question, delivered}

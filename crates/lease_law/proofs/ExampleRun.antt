@@ -15,8 +15,8 @@ use Rattle.event_book.specs.declared.link.LinkEnd.TheVariants as ends
 use Rattle.event_book.specs.declared.member.Member.{Member}
 use Rattle.event_book.specs.declared.member.ServerOf.{ServerOf}
 use Rattle.event_book.specs.declared.message.Body.TheVariants as bodies
-use Rattle.lease_law.specs.Functions.{put_at}
-use Rattle.lease_law.specs.Writers.{writes_after, AcceptsWrites}
+use Rattle.event_book.specs.Functions.{put_at}
+use Rattle.event_book.specs.Writers.{writes_after, AcceptsWrites}
 use Rattle.lease_law.specs.Leases.{Create, Request, Grant, Answer, Flying, Requested, Answered}
 use Rattle.lease_law.specs.States.{Agent, Declared, State, Acts, fresh_agent}
 use Rattle.lease_law.specs.Inputs.{Move, FedKnown, Removed, SetByGrant, MaySend, IsLawful}

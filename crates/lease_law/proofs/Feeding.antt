@@ -13,7 +13,7 @@ use Rattle.event_book.specs.declared.link.LinkEnd.TheVariants as ends
 use Rattle.event_book.specs.declared.message.Body.{Body}
 use Rattle.event_book.specs.declared.message.Body.TheVariants as bodies
 use Rattle.event_book.specs.Clock.{now_after}
-use Rattle.lease_law.specs.Functions.{put_at}
+use Rattle.event_book.specs.Functions.{put_at}
 use Rattle.lease_law.specs.Leases.{Request, Grant, Answer, Flying, Requested, Answered, Taking, IsTaken}
 use Rattle.lease_law.specs.States.{Declared}
 use Rattle.lease_law.specs.Inputs.{Move, IsOnTime, IsInTime}

@@ -1,7 +1,7 @@
 -- One lawful input of an agent, in time.
 use Rattle.std.proofs.Common.{◌≡◌, ◌⊎◌, ℕ, ◌+◌, ◌≤◌, Bool, true, false, List, Option, Some, None, refl, ◌∙◌, ap, sym, subst, arith, inl, inr}
 use Rattle.lease_store.specs.declared.txn.Expected.TheVariants.{Absent, Revision}
-use Rattle.lease_law.specs.Functions.{put_at}
+use Rattle.event_book.specs.Functions.{put_at}
 use Rattle.lease_law.specs.Leases.{LeaderSeen, FailsafeKey, Query, Create, Renew, Release, Write, Read, Request, Grant, Answer, Beg, Acknowledgement, Requested, Answered, Begged, Acknowledged, Taking, IsTaken}
 use Rattle.lease_law.specs.States.{Begging, Agent, Machine, State, is_ready, Acts}
 use Rattle.lease_law.specs.Inputs.{Move, Waits, HeardLeader, HeardFailsafe, WatchdogMay, Owns, MayQuery, Going, Begun, IsLawful, IsInTime}

@@ -7,8 +7,8 @@ use Rattle.event_book.specs.declared.event.ServerEvent.{ServerEvent}
 use Rattle.event_book.specs.declared.event.ServerEvent.TheVariants as servers
 use Rattle.event_book.specs.declared.event.WatchdogEvent.{WatchdogEvent}
 use Rattle.event_book.specs.declared.event.WatchdogEvent.TheVariants as watchdogs
-use Rattle.lease_law.specs.Functions.{put_at}
-use Rattle.lease_law.specs.Writers.{writes_by_server, writes_by_watchdog, writes_by, writes_after, HasOneWriter, BeginsServer, BeginsKind, Begins}
+use Rattle.event_book.specs.Functions.{put_at}
+use Rattle.event_book.specs.Writers.{writes_by_server, writes_by_watchdog, writes_by, writes_after, HasOneWriter, BeginsServer, BeginsKind, Begins}
 use Rattle.lease_law.specs.States.{Declared, State, Acts}
 use Rattle.lease_law.specs.Actions.{Action, Tick, Deliver, Lose, Input, Start, Kill, Crash, Note, act, IsLawfulAction, IsInTimeAction, MayBegin, state_after, IsAllowed}
 use Rattle.lease_law.specs.Past.{Past, past_by, past_after, first_past, past_of, Mind, state_of}

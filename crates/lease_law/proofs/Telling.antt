@@ -8,8 +8,8 @@ use Rattle.event_book.specs.declared.event.StoreEvent.TheVariants as stores
 use Rattle.event_book.specs.declared.event.WatchdogEvent.{WatchdogEvent}
 use Rattle.event_book.specs.declared.event.WatchdogEvent.TheVariants as watchdogs
 use Rattle.event_book.specs.declared.event.AgentEvent.TheVariants as agents
-use Rattle.lease_law.specs.Functions.{put_at}
-use Rattle.lease_law.specs.Writers.{writes_after}
+use Rattle.event_book.specs.Functions.{put_at}
+use Rattle.event_book.specs.Writers.{writes_after}
 use Rattle.lease_law.specs.Leases.{LeaderKey, FailsafeKey, Beg, Flying, Taking}
 use Rattle.lease_law.specs.States.{Agent, Machine, Declared, State}
 use Rattle.lease_law.specs.Actions.{Input, taken_by, state_after}

@@ -1,7 +1,7 @@
 -- A lawful run has at most one writer as long as its feeds are in time.
 use Rattle.std.proofs.Common.{◌≡◌, ℕ, false, List, [], ◌∷◌, ◌++◌, ◌∙◌, ap, sym, subst, inl, inr}
 use Rattle.event_book.specs.declared.event.Event.{Event}
-use Rattle.lease_law.specs.Writers.{HasOneWriter, BeginsKind, Begins}
+use Rattle.event_book.specs.Writers.{HasOneWriter, BeginsKind, Begins}
 use Rattle.lease_law.specs.States.{Declared, State}
 use Rattle.lease_law.specs.Inputs.{Move, IsInTime}
 use Rattle.lease_law.specs.Actions.{Action, Tick, Deliver, Lose, Input, Start, Kill, Crash, Note, IsInTimeAction, MayArm, MayBegin, IsAllowed}

@@ -1,7 +1,7 @@
 -- Small tools.
 use Rattle.std.proofs.Common.{◌≡◌, ◌⊎◌, ℕ, ◌≤◌, ◌<◌, ◌==◌, nat_le, Bool, true, false, cond, Option, Some, None, refl, ◌∙◌, sym, subst, arith, inl, inr}
 use Rattle.std.proofs.lemmas.Bool.Decides.{nat_tests}
-use Rattle.lease_law.specs.Functions.{put_at}
+use Rattle.event_book.specs.Functions.{put_at}
 use Rattle.lease_law.specs.Leases.{Request, Answer, Beg, Acknowledgement, Flying, Requested, Answered, Begged, Acknowledged}
 
 pub some-is : {A : Type 0} (x y : A) → ◌≡◌ {A = Option A} (Some x) (Some y) → x ≡ y

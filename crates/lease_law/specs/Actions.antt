@@ -1,8 +1,8 @@
 -- Which atomic actions there are, what each may be, and the state after it.
 use Rattle.std.specs.Prelude.{ℕ, ◌≡◌, ◌⊎◌, ◌≤◌, Bool, true, List, ◌∷◌, Option, Some, None}
 use Rattle.event_book.specs.declared.event.Event.{Event}
-use Rattle.lease_law.specs.Functions.{put_at}
-use Rattle.lease_law.specs.Writers.{writes_after, Begins}
+use Rattle.event_book.specs.Functions.{put_at}
+use Rattle.event_book.specs.Writers.{writes_after, Begins}
 use Rattle.lease_law.specs.Leases.{Beg, Taking}
 use Rattle.lease_law.specs.States.{Machine, State, Acts, ticked, start_machine, kill_machine, crash_machine}
 use Rattle.lease_law.specs.Outcomes.{delivered}

@@ -1,7 +1,7 @@
 -- Runs that are lawful whether or not their feeds are in time.
 use Rattle.std.specs.Prelude.{ℕ, ◌≡◌, ◌⊎◌, ◌≤◌, true, false, List, [], ◌∷◌, ◌++◌}
 use Rattle.event_book.specs.declared.event.Event.{Event}
-use Rattle.lease_law.specs.Writers.{writes_after, BeginsKind}
+use Rattle.event_book.specs.Writers.{writes_after, BeginsKind}
 use Rattle.lease_law.specs.States.{Declared, State, Acts}
 use Rattle.lease_law.specs.Inputs.{Move, Fed}
 use Rattle.lease_law.specs.Actions.{Action, Tick, Input, act, IsLawfulAction}

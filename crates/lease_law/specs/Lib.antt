@@ -1,5 +1,3 @@
-pub mod Functions
-pub mod Writers
 pub mod Leases
 pub mod States
 pub mod Outcomes

@@ -2,7 +2,7 @@
 use Rattle.std.specs.Prelude.{ℕ, ◌+◌, ◌==◌, Bool, true, false, Option, Some, None, max}
 use Rattle.lease_store.specs.declared.txn.Expected.{Expected}
 use Rattle.lease_store.specs.declared.txn.Expected.TheVariants.{Absent, Revision}
-use Rattle.lease_law.specs.Functions.{put_at}
+use Rattle.event_book.specs.Functions.{put_at}
 use Rattle.lease_law.specs.Leases.{LeaderKey, LeaderSeen, FailsafeKey, Query, Create, Renew, Release, Write, Read, Request, Grant, Answer, Flying, Requested, Answered}
 use Rattle.lease_law.specs.States.{State}
 

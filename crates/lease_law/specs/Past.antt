@@ -20,8 +20,8 @@ use Rattle.event_book.specs.declared.link.LinkEnd.TheVariants as ends
 use Rattle.event_book.specs.declared.message.Body.{Body}
 use Rattle.event_book.specs.declared.message.Body.TheVariants as bodies
 use Rattle.event_book.specs.Clock.{now_after}
-use Rattle.lease_law.specs.Functions.{put_at}
-use Rattle.lease_law.specs.Writers.{writes_by}
+use Rattle.event_book.specs.Functions.{put_at}
+use Rattle.event_book.specs.Writers.{writes_by}
 use Rattle.lease_law.specs.Leases.{LeaderKey, FailsafeKey, Query, Create, Renew, Release, Write, Read, Request, Grant, Answer, Flying, Requested, Answered, Begged, Acknowledged, Taking}
 use Rattle.lease_law.specs.Outcomes.{seen_of, told_if, failsafe_carried, renewed}
 use Rattle.lease_law.specs.States.{Agent, Machine, Declared, State, leader_kept, fresh_agent}

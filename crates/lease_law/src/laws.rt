@@ -19,7 +19,7 @@ ghost use Rattle.lease_law.specs.Actions.{Action, Tick, Deliver, Lose, Input, ac
 ghost use Rattle.lease_law.specs.Books.{Page, IsTold, AreAllowed, first_minds, book_of, minds_after};
 ghost use Rattle.lease_law.specs.Carried.{IsCarried};
 ghost use Rattle.lease_law.specs.Claims.{AreLawful, BeginsBehind, IsLawfulPage, MayBeginBehind};
-ghost use Rattle.lease_law.specs.Functions.{put_at};
+ghost use Rattle.event_book.specs.Functions.{put_at};
 ghost use Rattle.lease_law.specs.Leases.{Beg, Requested, Read};
 ghost use Rattle.lease_law.specs.Outcomes.{outcome_of};
 ghost use Rattle.lease_law.specs.Past.{Past, Mind, first_past, past_by, past_of, past_after, machine_of, query_of, state_of};
@@ -28,7 +28,7 @@ ghost use Rattle.lease_law.specs.Premises.{IsTimely, IsHandsOff, IsHandsOffKind,
 ghost use Rattle.lease_law.specs.States.{Declared, is_due, tick_machine};
 ghost use Rattle.lease_law.specs.Stores.{IsSameStore, IsSpanned, is_granted, outcome_by};
 ghost use Rattle.lease_law.specs.Telling.{IsOwn, IsQuiet, IsQuietAction, move_of, granted_events, refused_events, read_events};
-ghost use Rattle.lease_law.specs.Writers.{AcceptsWrites, Begins, HasOneWriter};
+ghost use Rattle.event_book.specs.Writers.{AcceptsWrites, Begins, HasOneWriter};
 
 /// At most one server accepts writes.
 pub fn one_writer()

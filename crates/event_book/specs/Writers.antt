@@ -7,7 +7,7 @@ use Rattle.event_book.specs.declared.event.ServerEvent.{ServerEvent}
 use Rattle.event_book.specs.declared.event.ServerEvent.TheVariants as servers
 use Rattle.event_book.specs.declared.event.WatchdogEvent.{WatchdogEvent}
 use Rattle.event_book.specs.declared.event.WatchdogEvent.TheVariants as watchdogs
-use Rattle.lease_law.specs.Functions.{put_at}
+use Rattle.event_book.specs.Functions.{put_at}
 
 -- which servers accept writes after what happens to one; a server has the number of its member
 abbrev pub writes_by_server : (ℕ → Bool) → ServerEvent → ℕ → Bool

@@ -1,0 +1,41 @@
+-- The logs of servers, from the book alone.
+use Rattle.std.specs.Prelude.{ℕ, List, [], ◌∷◌, ◌++◌, Option, Some, None, slice_get, take}
+use Rattle.wal_model.specs.declared.entry.Entry.{Entry}
+use Rattle.wal_model.specs.Log.{received}
+use Rattle.pg_model.specs.Facts.{entries_of}
+use Rattle.event_book.specs.declared.event.Event.{Event}
+use Rattle.event_book.specs.declared.event.Kind.{Kind}
+use Rattle.event_book.specs.declared.event.Kind.TheVariants as kinds
+use Rattle.event_book.specs.declared.event.LogEvent.{LogEvent}
+use Rattle.event_book.specs.declared.event.LogEvent.TheVariants as logs
+use Rattle.event_book.specs.Agents.{changed_by}
+
+-- logs by the numbers of their servers; a server that was wiped has none
+abbrev pub Logs : Type 0
+Logs = List (Option (List Entry))
+
+abbrev pub log_received : Logs → ℕ → ℕ → Option (Option (List Entry)) → Logs
+log_received known number count None = known
+log_received known number count (Some theirs) = changed_by known number (λ log. Some (received (entries_of log) (entries_of theirs) count))
+
+abbrev pub log_copied : Logs → ℕ → Option (Option (List Entry)) → Logs
+log_copied known number None = known
+log_copied known number (Some theirs) = changed_by known number (λ log. theirs)
+
+-- the logs after what happens to one: a commit stands at its end; the next entries of another log do, as that one is at
+-- that moment; it keeps so many entries; it is a copy of another one; it is gone
+abbrev pub logs_by : Logs → LogEvent → Logs
+logs_by known (logs.Appended server entry) = changed_by known server.id.number (λ log. Some (entries_of log ++ entry ∷ []))
+logs_by known (logs.Received server from count) = log_received known server.id.number count (slice_get known from.id.number)
+logs_by known (logs.Rewound server from kept at) = changed_by known server.id.number (λ log. Some (take kept (entries_of log)))
+logs_by known (logs.Copied server from) = log_copied known server.id.number (slice_get known from.id.number)
+logs_by known (logs.Wiped server) = changed_by known server.id.number (λ log. None)
+
+abbrev pub logs_at : Logs → Kind → Logs
+logs_at known (kinds.Log happening) = logs_by known happening
+logs_at known _ = known
+
+-- the logs at the end of a book that began with these
+abbrev pub logs_after : Logs → List Event → Logs
+logs_after known [] = known
+logs_after known (event ∷ events) = logs_after (logs_at known event.kind) events

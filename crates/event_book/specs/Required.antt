@@ -1,0 +1,32 @@
+-- Whose confirmation the commits of servers wait for, and what was confirmed, from the book alone.
+use Rattle.std.specs.Prelude.{List, [], ◌∷◌, Option, Some, slice_set}
+use Rattle.pat_base.specs.declared.lsn.Lsn.{Lsn}
+use Rattle.pat_base.specs.declared.server_state.Required.{Required}
+use Rattle.pg_model.specs.Facts.{none_confirmed}
+use Rattle.event_book.specs.declared.event.Event.{Event}
+use Rattle.event_book.specs.declared.event.Kind.{Kind}
+use Rattle.event_book.specs.declared.event.Kind.TheVariants as kinds
+use Rattle.event_book.specs.declared.event.ReplicationEvent.TheVariants as replications
+use Rattle.event_book.specs.declared.event.ServerEvent.TheVariants as servers
+use Rattle.event_book.specs.Agents.{changed_by}
+
+-- the required lists after an event, by the numbers of their servers
+abbrev pub required_at : List Required → Kind → List Required
+required_at known (kinds.Replication (replications.RequiredSet server required names)) = changed_by known server.id.number (λ before. required)
+required_at known _ = known
+
+-- the required list of each server is the last one that was set
+abbrev pub required_after : List Required → List Event → List Required
+required_after known [] = known
+required_after known (event ∷ events) = required_after (required_at known event.kind) events
+
+-- the positions that members confirmed to each server, after an event; those from before it began count no more
+abbrev pub confirmed_at : List (List (Option Lsn)) → Kind → List (List (Option Lsn))
+confirmed_at known (kinds.Server (servers.Began server timeline)) = changed_by known server.id.number (λ before. none_confirmed)
+confirmed_at known (kinds.Replication (replications.Confirmed server by end)) = changed_by known server.id.number (λ before. slice_set before by.id.number (Some end))
+confirmed_at known _ = known
+
+-- what was confirmed to each server since it last began
+abbrev pub confirmed_after : List (List (Option Lsn)) → List Event → List (List (Option Lsn))
+confirmed_after known [] = known
+confirmed_after known (event ∷ events) = confirmed_after (confirmed_at known event.kind) events
