@@ -1,5 +1,5 @@
 -- Which books a world stands for.
-use Rattle.std.specs.Prelude.{◌≡◌, List}
+use Rattle.std.specs.Prelude.{ℕ, ◌≡◌, ◌<◌, ◌++◌, List, length}
 use Rattle.event_book.specs.declared.event.Event.{Event}
 use Rattle.cluster_script.specs.declared.line.Step.{Step}
 use Rattle.pat_world.specs.Cluster.{Cluster, moved_all}

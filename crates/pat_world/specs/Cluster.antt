@@ -1,6 +1,6 @@
 -- What a book leaves, with where its agents stand.
 use Rattle.std.specs.Prelude.{ℕ, ◌+◌, List, [], ◌∷◌, Option, Some, None, length, zero, suc}
-use Rattle.pat_base.specs.declared.name.Name.{Name}
+use Rattle.cluster_script.specs.Script.{HeadText}
 use Rattle.event_book.specs.declared.event.Event.{Event}
 use Rattle.event_book.specs.declared.event.Kind.{Kind}
 use Rattle.event_book.specs.declared.event.Kind.TheVariants as kinds
@@ -63,6 +63,6 @@ abbrev pub first_phases : ℕ → ℕ → List Phase
 first_phases number zero = []
 first_phases number (suc count) = fresh_phase (number + 1) ∷ first_phases (number + 1) count
 
--- what there is before the first event, over members of these names
-abbrev pub cluster_of : List Name → Cluster
-cluster_of names = record { book = start_of names; phases = first_phases 0 (length names) }
+-- what there is before the first event, over the head of a script
+abbrev pub cluster_of : HeadText → Cluster
+cluster_of head = record { book = start_of head.members head.base; phases = first_phases 0 (length head.members) }

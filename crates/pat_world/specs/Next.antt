@@ -1,5 +1,5 @@
 -- What happens in a step.
-use Rattle.std.specs.Prelude.{ℕ, ◌+◌, ◌&&◌, not, nat_le, Bool, true, false, if◌then◌else◌, List, [], ◌∷◌, ◌++◌, map, Option, Some, None, option_map, slice_get, length, zero, suc}
+use Rattle.std.specs.Prelude.{ℕ, ◌+◌, ◌-◌, ◌^◌, ◌&&◌, not, nat_le, Bool, true, false, if◌then◌else◌, List, [], ◌∷◌, ◌++◌, map, Option, Some, None, option_map, slice_get, length, zero, suc}
 use Rattle.std.specs.Map.{keys_of}
 use Rattle.pat_base.specs.declared.member_id.MemberId.{MemberId}
 use Rattle.pat_base.specs.declared.ticks.Ticks.{Ticks}
@@ -10,11 +10,16 @@ use Rattle.lease_store.specs.Answers.{expired_holder, expired_keys}
 use Rattle.lease_store.specs.Decision.{Decision, Grant, Refusal, decision_on}
 use Rattle.lease_store.specs.TxnKinds.{kind_of}
 use Rattle.lease_store.specs.Writes.{is_lease}
+use Rattle.pg_model.specs.declared.answers.Streamed.{Streamed}
+use Rattle.pg_model.specs.declared.answers.Streamed.TheVariants as streams
+use Rattle.pg_model.specs.Servers.{entry_for, news_at}
 use Rattle.event_book.specs.declared.agent_state.AgentState.{AgentState}
 use Rattle.event_book.specs.declared.event.Event.{Event}
 use Rattle.event_book.specs.declared.event.Kind.{Kind}
 use Rattle.event_book.specs.declared.event.Kind.TheVariants as kinds
+use Rattle.event_book.specs.declared.event.LogEvent.TheVariants as logs
 use Rattle.event_book.specs.declared.event.MessageEvent.TheVariants.{Sent, Delivered, Lost}
+use Rattle.event_book.specs.declared.event.ServerEvent.TheVariants as servers
 use Rattle.event_book.specs.declared.event.StoreEvent.TheVariants as stores
 use Rattle.event_book.specs.declared.event.AgentEvent.TheVariants.{Woken}
 use Rattle.event_book.specs.declared.event.Note.TheVariants.{NoMessage, Undeliverable}
@@ -25,10 +30,14 @@ use Rattle.event_book.specs.declared.message.Body.{Body}
 use Rattle.event_book.specs.declared.message.Body.TheVariants as bodies
 use Rattle.event_book.specs.declared.message.Message.{Message}
 use Rattle.event_book.specs.Flight.{InFlightFacts, in_flight}
+use Rattle.event_book.specs.Members.{server_of}
 use Rattle.cluster_script.specs.declared.line.Command.{Command}
 use Rattle.cluster_script.specs.declared.line.Command.TheVariants as commands
+use Rattle.cluster_script.specs.declared.line.Transition.{Transition}
+use Rattle.cluster_script.specs.declared.ranges.Delay.{Delay}
 use Rattle.cluster_script.specs.declared.line.Step.{Step}
 use Rattle.cluster_script.specs.declared.line.Step.TheVariants as steps
+use Rattle.pat_world.specs.Acknowledging.{acknowledge_kinds}
 use Rattle.pat_world.specs.declared.phase.Phase.{Phase}
 use Rattle.pat_world.specs.declared.phase.Reaction.{Reaction}
 use Rattle.pat_world.specs.declared.phase.Seat.{Seat}
@@ -37,6 +46,9 @@ use Rattle.pat_world.specs.declared.way.Way.TheVariants as ways
 use Rattle.pat_world.specs.Cluster.{Cluster, moved, moved_all}
 use Rattle.pat_world.specs.Commands.{agent_kinds, hold_of, resume_of, kill_of, restart_kinds, link_kinds, link_of, cut_of, join_of}
 use Rattle.pat_world.specs.Turns.{is_due, woken, heard}
+use Rattle.pat_world.specs.FollowRows.{follow_kinds, follow_row_of}
+use Rattle.pat_world.specs.ServerCommands.{server_kinds, promote_kinds, promoted_timeline, crash_of, freeze_of, thaw_of, slow_of, commit_kinds}
+use Rattle.pat_world.specs.Streaming.{source_of, confirm_kinds, unconfirmed_end}
 use Rattle.pat_world.specs.Ways.{way_of}
 
 -- one happening, at its moment
@@ -97,10 +109,19 @@ abbrev pub asked : Cluster → Member → ℕ → Option Body → List Event
 asked cluster member sequence None = []
 asked cluster member sequence (Some body) = asked_in cluster member sequence body (slice_get cluster.book.agents member.id.number)
 
--- the agent of a member sends what its reaction asks, if it has one
+abbrev pub declared_member : List Member → Option MemberId → Option Member
+declared_member members None = None
+declared_member members (Some id) = slice_get members id.number
+
+-- the server of a member follows this leader, where it doesn't already
+abbrev pub follows : Cluster → Member → Option Member → List Event
+follows cluster member None = []
+follows cluster member (Some leader) = all_happen cluster (follow_kinds member leader (follow_row_of leader (slice_get cluster.book.servers member.id.number)))
+
+-- the server of a member follows whom its agent's reaction says, and the agent sends what it asks
 abbrev pub reacts : Cluster → Member → Option Reaction → List Event
 reacts cluster member None = []
-reacts cluster member (Some reaction) = asked cluster member reaction.phase.sequence reaction.asks
+reacts cluster member (Some reaction) = followed cluster (follows cluster member (declared_member cluster.book.members reaction.follows)) (λ later. asked later member reaction.phase.sequence reaction.asks)
 
 -- an agent that runs, isn't held and has something to do
 abbrev pub is_ready : ℕ → Seat → Bool
@@ -210,10 +231,6 @@ rounds cluster (suc count) = if is_empty (round cluster) then [] else followed c
 abbrev pub most_rounds : ℕ
 most_rounds = 40
 
-abbrev pub declared_member : List Member → Option MemberId → Option Member
-declared_member members None = None
-declared_member members (Some id) = slice_get members id.number
-
 abbrev pub leader_expiry : Option Member → List Kind
 leader_expiry None = []
 leader_expiry (Some holder) = kinds.Store (stores.LeaderExpired holder) ∷ []
@@ -248,6 +265,85 @@ abbrev pub loses : Cluster → ℕ → Option InFlightFacts → List Event
 loses cluster number None = happens cluster (kinds.Note (NoMessage number))
 loses cluster number (Some message) = happens cluster (kinds.Message (Lost number))
 
+-- a standby confirms what it has, where that isn't known
+abbrev pub confirms : Cluster → Member → Member → List Event
+confirms cluster member from = all_happen cluster (confirm_kinds member from (unconfirmed_end member (slice_get cluster.book.servers member.id.number) (slice_get cluster.book.servers from.id.number)))
+
+-- the server of a member receives from that of another one what is new to it, and confirms; or finds that its log diverged
+abbrev pub receives : Cluster → Member → Member → Option Streamed → List Event
+receives cluster member from None = confirms cluster member from
+receives cluster member from (Some streams.NotConnected) = []
+receives cluster member from (Some (streams.Diverged at)) = happens cluster (kinds.Server (servers.Diverged (server_of member) (server_of from) at))
+receives cluster member from (Some (streams.Received count)) =
+    followed cluster (happens cluster (kinds.Log (logs.Received (server_of member) (server_of from) count))) (λ later. confirms later member from)
+
+abbrev pub receives_from : Cluster → Member → ℕ → Option Member → List Event
+receives_from cluster member most None = []
+receives_from cluster member most (Some from) = receives cluster member from (news_at cluster.book.servers member.id.number from.id.number most)
+
+-- the server of a member receives at most so many entries
+abbrev pub receives_at_most : Cluster → ℕ → Option Member → List Event
+receives_at_most cluster most None = []
+receives_at_most cluster most (Some member) = receives_from cluster member most (source_of cluster.book.members cluster.book.servers cluster.book.cuts member)
+
+-- more entries than a log has
+abbrev pub all_entries : ℕ
+all_entries = 2 ^ 64 - 1
+
+abbrev pub receives_unless : Cluster → Member → Option Bool → List Event
+receives_unless cluster member None = []
+receives_unless cluster member (Some frozen) = if frozen then [] else receives_at_most cluster all_entries (Some member)
+
+abbrev pub receives_all : Cluster → Option Member → List Event
+receives_all cluster None = []
+receives_all cluster (Some member) = receives_unless cluster member (slice_get cluster.book.frozen member.id.number)
+
+-- the server of the member at a place receives all, unless it is frozen
+abbrev pub receives_at : Cluster → ℕ → List Event
+receives_at cluster place = receives_all cluster (slice_get cluster.book.members place)
+
+-- so many servers from a place on receive, in script order
+abbrev pub all_receive : Cluster → ℕ → ℕ → List Event
+all_receive cluster place zero = []
+all_receive cluster place (suc count) = followed cluster (receives_at cluster place) (λ later. all_receive later (place + 1) count)
+
+abbrev pub acknowledges_for : Cluster → Option Member → List Event
+acknowledges_for cluster None = []
+acknowledges_for cluster (Some member) = all_happen cluster (acknowledge_kinds member (slice_get cluster.book.servers member.id.number))
+
+-- the commits of the server of the member at a place are acknowledged, as far as they may be
+abbrev pub acknowledges_at : Cluster → ℕ → List Event
+acknowledges_at cluster place = acknowledges_for cluster (slice_get cluster.book.members place)
+
+-- those of so many servers from a place on, in script order
+abbrev pub acknowledges : Cluster → ℕ → ℕ → List Event
+acknowledges cluster place zero = []
+acknowledges cluster place (suc count) = followed cluster (acknowledges_at cluster place) (λ later. acknowledges later (place + 1) count)
+
+abbrev pub promotes : Cluster → Option Member → List Event
+promotes cluster None = []
+promotes cluster (Some member) = all_happen cluster (promote_kinds member (promoted_timeline (slice_get cluster.book.servers member.id.number)))
+
+abbrev pub crashes : Cluster → Option Member → List Event
+crashes cluster None = []
+crashes cluster (Some member) = all_happen cluster (server_kinds (crash_of member (slice_get cluster.book.servers member.id.number)))
+
+abbrev pub freezes : Cluster → Option Member → List Event
+freezes cluster None = []
+freezes cluster (Some member) = all_happen cluster (server_kinds (freeze_of member (slice_get cluster.book.frozen member.id.number)))
+
+abbrev pub thaws : Cluster → Option Member → List Event
+thaws cluster None = []
+thaws cluster (Some member) = all_happen cluster (server_kinds (thaw_of member (slice_get cluster.book.frozen member.id.number)))
+
+abbrev pub slows : Cluster → Option Member → Transition → Delay → List Event
+slows cluster None transition delay = []
+slows cluster (Some member) transition delay = all_happen cluster (server_kinds (slow_of member transition delay (slice_get cluster.book.servers member.id.number)))
+
+abbrev pub commits_of : Cluster → Option Member → ℕ → List Event
+commits_of cluster None bytes = []
+commits_of cluster (Some member) bytes = all_happen cluster (commit_kinds member (entry_for cluster.book.servers member.id.number (cluster.book.commits + 1) bytes))
+
 -- the events of a command
 abbrev pub command_events : Cluster → Command → List Event
 command_events cluster (commands.Turn member) = wake_at cluster member.number
@@ -257,15 +353,29 @@ command_events cluster (commands.Hold member) = all_happen cluster (agent_kinds 
 command_events cluster (commands.Resume member) = all_happen cluster (agent_kinds (resume_of (seat_at cluster member.number)))
 command_events cluster (commands.Kill member) = all_happen cluster (agent_kinds (kill_of (seat_at cluster member.number)))
 command_events cluster (commands.Restart member) = all_happen cluster (restart_kinds (seat_at cluster member.number))
+command_events cluster (commands.Promote member) = promotes cluster (slice_get cluster.book.members member.number)
+command_events cluster (commands.Crash member) = crashes cluster (slice_get cluster.book.members member.number)
+command_events cluster (commands.Commit member size) = commits_of cluster (slice_get cluster.book.members member.number) size.bytes
+command_events cluster (commands.Stream member most) = receives_at_most cluster most (slice_get cluster.book.members member.number)
+command_events cluster (commands.Freeze member) = freezes cluster (slice_get cluster.book.members member.number)
+command_events cluster (commands.Thaw member) = thaws cluster (slice_get cluster.book.members member.number)
+command_events cluster (commands.Slow member transition delay) = slows cluster (slice_get cluster.book.members member.number) transition delay
 command_events cluster (commands.Cut first second) = all_happen cluster (link_kinds (cut_of cluster.book.cuts (link_of cluster.book.members first second)))
 command_events cluster (commands.Join first second) = all_happen cluster (link_kinds (join_of cluster.book.cuts (link_of cluster.book.members first second)))
 command_events cluster (commands.Trace on) = []
 
--- the events of a step
+-- a tick of the default schedule: standbys receive, and then agents are woken and messages come
+abbrev pub scheduled : Cluster → List Event
+scheduled cluster = followed cluster (all_receive cluster 0 (length cluster.book.members)) (λ later. rounds later most_rounds)
+
+abbrev pub taken : Cluster → Step → List Event
+taken cluster steps.Scheduled = followed cluster (ticks cluster) scheduled
+taken cluster steps.Tick = ticks cluster
+taken cluster (steps.Command command) = command_events cluster command
+
+-- the events of a step; after each the commits that may be are acknowledged
 abbrev pub next_events : Cluster → Step → List Event
-next_events cluster steps.Scheduled = followed cluster (ticks cluster) (λ later. rounds later most_rounds)
-next_events cluster steps.Tick = ticks cluster
-next_events cluster (steps.Command command) = command_events cluster command
+next_events cluster step = followed cluster (taken cluster step) (λ later. acknowledges later 0 (length later.book.members))
 
 -- the events of these steps, one after another
 abbrev pub run_from : Cluster → List Step → List Event

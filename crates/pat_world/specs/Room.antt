@@ -15,6 +15,8 @@ pub record HasRoom (cluster : Cluster) (events : ℕ) : Type 0 where
   pub sent : cluster.book.sent + events < 2 ^ 60
   pub runs : All (λ state. state.run + events < 2 ^ 60) cluster.book.agents
   pub phases : All (PhaseHasRoom cluster.book.clock events) cluster.phases
+  pub timelines : All (λ s. s.timeline + events < 2 ^ 60) cluster.book.servers
+  pub commits : cluster.book.commits + events < 2 ^ 60
 
 -- more than the events of any step
 abbrev pub step_cost : ℕ

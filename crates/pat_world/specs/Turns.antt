@@ -54,13 +54,14 @@ abbrev pub is_due : ℕ → Phase → Bool
 is_due now phase = is_overdue now phase.waited || has_turn now phase
 
 abbrev pub idle : Phase → Reaction
-idle phase = record { phase = phase; asks = None }
+idle phase = record { phase = phase; asks = None; follows = None }
 
 -- the agent asks, and waits for the answer until a moment
 abbrev pub asking : Pending → Ticks → Body → Phase → Reaction
 asking question until body phase = record {
   phase = record phase { sequence = phase.sequence + 1; waited = Some (record { question = question; sequence = phase.sequence + 1; until = until }) };
   asks = Some body;
+  follows = None;
 }
 
 -- a turn begins: the agent reads the store
@@ -118,16 +119,18 @@ creating now phase = asking Creating (seconds_after now phase.settings.retry_tim
 abbrev pub renewing : ℕ → Phase → Reaction
 renewing revision phase = asking Renewing (seconds_after phase.turn.0 phase.settings.retry_timeout) (bodies.Request (txns.Renew revision bare_info (lease phase) None None None)) phase
 
--- the leader key is another's: the agent has no lease, and tells of itself without waiting for the answer
-abbrev pub following : Phase → Reaction
-following phase = record {
+-- the leader key is another's: the agent has no lease, its server follows the leader, and it tells of itself without waiting
+-- for the answer
+abbrev pub following : MemberId → Phase → Reaction
+following leader phase = record {
   phase = record phase { role = Follower; sequence = phase.sequence + 1 };
   asks = Some (bodies.Request (txns.Touch bare_info (lease phase)));
+  follows = Some leader;
 }
 
 abbrev pub led_by : MemberId → ℕ → Option MemberId → Phase → Reaction
 led_by me revision None phase = idle phase
-led_by me revision (Some holder) phase = if holder.number == me.number then renewing revision phase else following phase
+led_by me revision (Some holder) phase = if holder.number == me.number then renewing revision phase else following holder phase
 
 abbrev pub led : ℕ → MemberId → Option Held → Phase → Reaction
 led now me None phase = creating now phase

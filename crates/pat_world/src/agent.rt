@@ -96,7 +96,11 @@ fn idle(phase: Phase) -> Reaction
     ensures reaction { result ≡ idle phase }
     ensures short { AsksShortly result.asks }
 {
-    Reaction { phase, asks: None }
+    Reaction {
+        phase,
+        asks: None,
+        follows: None,
+    }
 }
 
 /// The agent asks, and waits for the answer until a moment.
@@ -119,6 +123,7 @@ fn asking(question: Pending, until: Ticks, body: Body, phase: Phase) -> Reaction
             ..phase
         },
         asks: Some(body),
+        follows: None,
     }
 }
 
@@ -192,7 +197,7 @@ fn led_by(me: MemberId, revision: u64, holder: Option<MemberId>, phase: Phase) -
             if holder.number == me.number {
                 renewing(revision, phase)
             } else {
-                following(phase)
+                following(holder, phase)
             }
         }
     }
@@ -237,10 +242,11 @@ fn renewing(revision: u64, phase: Phase) -> Reaction
     asking(Pending::Renewing, until, Body::Request(renew), phase)
 }
 
-/// The leader key is another's: the agent has no lease, and tells of itself without waiting for the answer.
-fn following(phase: Phase) -> Reaction
+/// The leader key is another's: the agent has no lease, its server follows the leader, and it tells of itself without
+/// waiting for the answer.
+fn following(leader: MemberId, phase: Phase) -> Reaction
     requires sequence { phase.sequence < 2 ^ 60 }
-    ensures reaction { result ≡ following phase }
+    ensures reaction { result ≡ following leader phase }
     ensures short { AsksShortly result.asks }
 {
     let touch = Txn::Touch {
@@ -254,6 +260,7 @@ fn following(phase: Phase) -> Reaction
             ..phase
         },
         asks: Some(Body::Request(touch)),
+        follows: Some(leader),
     }
 }
 

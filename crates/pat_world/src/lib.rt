@@ -4,10 +4,14 @@
 mod agent;
 mod agents;
 mod flight;
+mod follow_row;
+mod following;
 mod info;
 mod laws;
 mod links;
 mod phase;
+mod server_commands;
+mod streaming;
 mod way;
 mod ways;
 mod world;

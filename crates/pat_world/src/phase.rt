@@ -2,7 +2,7 @@
 
 use event_book::{AgentState, Body, Member};
 use lease_store::Config;
-use pat_base::Ticks;
+use pat_base::{MemberId, Ticks};
 
 /// What an agent is to the cluster. A holder keeps the lease of the leader key that was granted at this revision.
 #[derive(Clone, Copy, Debug, PartialEq, Eq)]
@@ -42,11 +42,13 @@ pub struct Phase {
     pub settings: Config,
 }
 
-/// What an agent does on an input: where it stands then, and what it asks of the store, if anything.
+/// What an agent does on an input: where it stands then, what it asks of the store, if anything, and the leader that its
+/// server is to follow, if there is another one.
 #[derive(Debug, Drop)]
 pub struct Reaction {
     pub phase: Phase,
     pub asks: Option<Body>,
+    pub follows: Option<MemberId>,
 }
 
 /// A declared member with its agent.

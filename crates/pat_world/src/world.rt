@@ -12,11 +12,15 @@ ghost use Rattle.pat_world.specs.Book.{StandsFor, next_of};
 ghost use Rattle.pat_world.specs.Calm.{IsCalm};
 ghost use Rattle.pat_world.specs.Cluster.{Cluster, cluster_of, first_phases};
 ghost use Rattle.pat_world.specs.Commands.{agent_kinds, link_kinds, restart_kinds, link_of};
-ghost use Rattle.pat_world.specs.Next.{all_happen, happens, stamped, lost_at_once, sends, seat_at, reacts, asked, wake_at, wakes, answer_to, answers, decides, comes_found, moves, all_move, round, rounds, most_rounds, declared_member, expiry_of, expiries_of, ticks, delivers, loses, command_events, next_events};
+ghost use Rattle.pat_world.specs.Next.{all_happen, happens, stamped, lost_at_once, sends, seat_at, reacts, asked, wake_at, wakes, answer_to, answers, decides, comes_found, moves, all_move, round, rounds, most_rounds, declared_member, expiry_of, expiries_of, ticks, delivers, loses, command_events, scheduled, taken, next_events};
 ghost use Rattle.pat_world.specs.Room.{HasRoom, HasRoomFor};
 ghost use Rattle.pat_world.specs.Short.{IsShort, AsksShortly};
 ghost use Rattle.pat_world.specs.Took.{Took};
 ghost use Rattle.pat_world.specs.Ways.{way_of};
+
+mod acknowledging;
+mod servers;
+mod streaming;
 
 use crate::agent::fresh_phase;
 use crate::agents::{
@@ -34,14 +38,15 @@ use event_book::{
 };
 use lease_store::{ConfigValue, Granted, Held, Key, Store, StoreRefusal, Txn};
 use pat_base::{MemberId, Ticks};
+use pg_model::Servers;
 use std::alloc::{AllocError, Global};
 use std::marker::Model;
 
 /// The most rounds of one tick.
 const MOST_ROUNDS: usize = 40;
 
-/// A cluster at a moment: the clock, the key store, the declared members with their agents, the links that are cut, and
-/// the messages in flight.
+/// A cluster at a moment: the clock, the key store, the declared members with their agents and servers, the links that are
+/// cut, the messages in flight, and the commits.
 #[derive(Drop)]
 pub struct World {
     alloc: Global,
@@ -53,6 +58,12 @@ pub struct World {
     cuts: Vec<Link>,
     flight: Flight,
     sent: u64,
+    servers: Servers,
+    frozen: Vec<bool>,
+    /// The number of the last commit.
+    commits: u64,
+    /// The commits whose clients were told that they are stored, in order.
+    acknowledged: Vec<u64>,
     /// Each message in flight with a number below this one is kept for an agent that is held, so no round need look at it.
     settled: u64,
 }
@@ -65,7 +76,19 @@ impl Model for World {
     ghost Value = { Cluster };
 
     ghost view = { λ w. record {
-      book = record { clock = w.clock.0; keys = w.store; members = w.members.items; agents = w.agents.items; cuts = w.cuts.items; flight = w.flight; sent = w.sent };
+      book = record {
+        clock = w.clock.0;
+        keys = w.store;
+        members = w.members.items;
+        agents = w.agents.items;
+        cuts = w.cuts.items;
+        flight = w.flight;
+        sent = w.sent;
+        servers = w.servers;
+        frozen = w.frozen.items;
+        commits = w.commits;
+        acknowledged = w.acknowledged.items;
+      };
       phases = w.phases.items;
     } };
 
@@ -75,11 +98,14 @@ impl Model for World {
 impl World {
     /// The world of a script's head, before the first step. It fails only for want of memory.
     pub fn new(alloc: Global, head: &Head) -> Result<World, AllocError>
-        ensures { IfOk result (λ world. world ≡ cluster_of head.now.members) }
+        ensures { IfOk result (λ world. world ≡ cluster_of head.now) }
     {
+        let count = head.member_count();
         let members = members_of(alloc, head)?;
-        let agents = agents_of(alloc, head.member_count())?;
-        let phases = phases_of(alloc, head.member_count())?;
+        let agents = agents_of(alloc, count)?;
+        let phases = phases_of(alloc, count)?;
+        let servers = Servers::new(alloc, count, head.base())?;
+        let frozen = Vec::from_elem(alloc, false, count)?;
         let store = Store::new(alloc, ConfigValue::defaults(alloc)?)?;
         Ok(World {
             alloc,
@@ -91,6 +117,10 @@ impl World {
             cuts: Vec::new(alloc),
             flight: Flight::new(alloc),
             sent: 0,
+            servers,
+            frozen,
+            commits: 0,
+            acknowledged: Vec::new(alloc),
             settled: 0,
         })
     }
@@ -111,28 +141,39 @@ impl World {
         ensures book { OnOk result ((start : Cluster) (book : List Event) → StandsFor start book self.old
             → (events.new.items ≡ events.old.items ++ next_of start book step.now) × StandsFor start (book ++ next_of start book step.now) self.new) }
     {
-        self.take(step, events)
+        self.take(step, events)?;
+        self.acknowledge_all(events)
     }
 
     /// What happens in a step.
     fn take(&mut self, step: &Step, events: &mut Vec<Event>) -> Result<(), AllocError>
         requires { HasRoomFor self.old 1 }
-        ensures { OnOk result (Took self.old self.new events.old.items events.new.items (next_events self.old step.now) 16777216) }
+        ensures { OnOk result (Took self.old self.new events.old.items events.new.items (taken self.old step.now) 16777216) }
     {
         match step {
             Step::Scheduled => {
                 self.tick(events)?;
-                self.rounds(events)
+                self.scheduled(events)
             }
             Step::Tick => self.tick(events),
             Step::Command(command) => self.command(command, events),
         }
     }
 
+    /// A tick of the default schedule: standbys receive, and then agents are woken and messages come.
+    fn scheduled(&mut self, events: &mut Vec<Event>) -> Result<(), AllocError>
+        requires { HasRoom self.old 13110432 }
+        ensures { OnOk result (Took self.old self.new events.old.items events.new.items (scheduled self.old) 13110432) }
+    {
+        let count = self.members.len();
+        self.all_receive(count, events)?;
+        self.rounds(events)
+    }
+
     /// What a command comes to.
     fn command(&mut self, command: &Command, events: &mut Vec<Event>) -> Result<(), AllocError>
-        requires { HasRoom self.old 4 }
-        ensures { OnOk result (Took self.old self.new events.old.items events.new.items (command_events self.old command.now) 4) }
+        requires { HasRoom self.old 5 }
+        ensures { OnOk result (Took self.old self.new events.old.items events.new.items (command_events self.old command.now) 5) }
     {
         match *command {
             Command::Turn(member) => self.wake(member.number as usize, events),
@@ -142,6 +183,15 @@ impl World {
             Command::Resume(member) => self.change_agent(resume_of(self.seat(member)), events),
             Command::Kill(member) => self.change_agent(kill_of(self.seat(member)), events),
             Command::Restart(member) => self.restart(member, events),
+            Command::Promote(id) => self.promote(self.declared(id), events),
+            Command::Crash(id) => self.crash(self.declared(id), events),
+            Command::Commit(id, size) => self.commit(self.declared(id), size, events),
+            Command::Stream(id, most) => self.receive(self.declared(id), most, events),
+            Command::Freeze(id) => self.freeze(self.declared(id), events),
+            Command::Thaw(id) => self.thaw(self.declared(id), events),
+            Command::Slow(id, transition, delay) => {
+                self.slow(self.declared(id), transition, delay, events)
+            }
             Command::Cut(first, second) => {
                 let change = cut_of(&self.cuts, self.link(first, second));
                 self.change_link(change, events)
@@ -160,6 +210,7 @@ impl World {
         ensures { OnOk result (Took self.old self.new events.old.items events.new.items (ticks self.old) 1) }
     {
         self.clock = Ticks(self.clock.0 + 1);
+        self.servers.tick(self.clock);
         note(events, self.clock, Kind::Tick)?;
         let expired = self.store.expired(self.clock)?;
         let holder = self.store.drop_expired(self.clock);
@@ -169,8 +220,8 @@ impl World {
 
     /// The rounds of a tick. A round in which nothing happens is the last.
     fn rounds(&mut self, events: &mut Vec<Event>) -> Result<(), AllocError>
-        requires { HasRoom self.old 10487680 }
-        ensures { OnOk result (Took self.old self.new events.old.items events.new.items (rounds self.old most_rounds) 10487680) }
+        requires { HasRoom self.old 13110400 }
+        ensures { OnOk result (Took self.old self.new events.old.items events.new.items (rounds self.old most_rounds) 13110400) }
     {
         for done in 0..MOST_ROUNDS {
             let before = events.len();
@@ -185,8 +236,8 @@ impl World {
 
     /// A round: each due agent is woken, and then each message that is in flight at that point moves.
     fn round(&mut self, events: &mut Vec<Event>) -> Result<(), AllocError>
-        requires { HasRoom self.old 262192 }
-        ensures { OnOk result (Took self.old self.new events.old.items events.new.items (round self.old) 262192) }
+        requires { HasRoom self.old 327760 }
+        ensures { OnOk result (Took self.old self.new events.old.items events.new.items (round self.old) 327760) }
     {
         let count = self.members.len();
         self.wakes(count, events)?;
@@ -205,8 +256,8 @@ impl World {
 
     /// The agents are woken where they have something to do, in script order.
     fn wakes(&mut self, count: usize, events: &mut Vec<Event>) -> Result<(), AllocError>
-        requires { HasRoom self.old (3 * count) }
-        ensures { OnOk result (Took self.old self.new events.old.items events.new.items (wakes self.old 0 count) (3 * count)) }
+        requires { HasRoom self.old (5 * count) }
+        ensures { OnOk result (Took self.old self.new events.old.items events.new.items (wakes self.old 0 count) (5 * count)) }
     {
         for place in 0..count {
             self.wake(place, events)?;
@@ -216,8 +267,8 @@ impl World {
 
     /// The agent at a place is woken, where it has something to do.
     fn wake(&mut self, place: usize, events: &mut Vec<Event>) -> Result<(), AllocError>
-        requires { HasRoom self.old 3 }
-        ensures { OnOk result (Took self.old self.new events.old.items events.new.items (wake_at self.old place) 3) }
+        requires { HasRoom self.old 5 }
+        ensures { OnOk result (Took self.old self.new events.old.items events.new.items (wake_at self.old place) 5) }
     {
         let Some(seat) = self.seat_at(place) else {
             return Ok(());
@@ -233,8 +284,8 @@ impl World {
 
     /// These messages move, one after another.
     fn all_move(&mut self, numbers: &[u64], events: &mut Vec<Event>) -> Result<(), AllocError>
-        requires { HasRoom self.old (4 * length numbers.now) }
-        ensures { OnOk result (Took self.old self.new events.old.items events.new.items (all_move self.old numbers.now) (4 * length numbers.now)) }
+        requires { HasRoom self.old (5 * length numbers.now) }
+        ensures { OnOk result (Took self.old self.new events.old.items events.new.items (all_move self.old numbers.now) (5 * length numbers.now)) }
     {
         for number in numbers {
             self.move_message(*number, events)?;
@@ -244,8 +295,8 @@ impl World {
 
     /// A message comes to its receiver, is lost, or is kept for a receiver that is held.
     fn move_message(&mut self, number: u64, events: &mut Vec<Event>) -> Result<(), AllocError>
-        requires { HasRoom self.old 4 }
-        ensures { OnOk result (Took self.old self.new events.old.items events.new.items (moves self.old number) 4) }
+        requires { HasRoom self.old 5 }
+        ensures { OnOk result (Took self.old self.new events.old.items events.new.items (moves self.old number) 5) }
     {
         match self.way(number) {
             None | Some(Way::Held) => Ok(()),
@@ -256,8 +307,8 @@ impl World {
 
     /// A script delivers a message, where it is in flight and nothing stands in its way.
     fn deliver(&mut self, number: u64, events: &mut Vec<Event>) -> Result<(), AllocError>
-        requires { HasRoom self.old 4 }
-        ensures { OnOk result (Took self.old self.new events.old.items events.new.items (delivers self.old number (in_flight self.old.book.flight number)) 4) }
+        requires { HasRoom self.old 5 }
+        ensures { OnOk result (Took self.old self.new events.old.items events.new.items (delivers self.old number (in_flight self.old.book.flight number)) 5) }
     {
         match self.way(number) {
             None => note(events, self.clock, Kind::Note(Note::NoMessage { number })),
@@ -307,8 +358,8 @@ impl World {
 
     /// A message in flight comes to its receiver, which acts on it.
     fn arrive(&mut self, number: u64, events: &mut Vec<Event>) -> Result<(), AllocError>
-        requires { HasRoom self.old 4 }
-        ensures { OnOk result (Took self.old self.new events.old.items events.new.items (comes_found self.old number (in_flight self.old.book.flight number)) 4) }
+        requires { HasRoom self.old 5 }
+        ensures { OnOk result (Took self.old self.new events.old.items events.new.items (comes_found self.old number (in_flight self.old.book.flight number)) 5) }
     {
         let Some(carried) = self.flight.land(number) else {
             return Ok(());
@@ -334,21 +385,23 @@ impl World {
         }
     }
 
-    /// The agent of a member sends what its reaction asks, if it has one.
+    /// The server of a member follows whom its agent's reaction says, and the agent sends what it asks.
     fn react(
         &mut self,
         member: Member,
         reaction: Option<Reaction>,
         events: &mut Vec<Event>,
     ) -> Result<(), AllocError>
-        requires room { HasRoom self.old 2 }
+        requires room { HasRoom self.old 4 }
         requires short { IfSome reaction (λ r. AsksShortly r.asks) }
-        ensures { OnOk result (Took self.old self.new events.old.items events.new.items (reacts self.old member reaction) 2) }
+        ensures { OnOk result (Took self.old self.new events.old.items events.new.items (reacts self.old member reaction) 4) }
     {
-        match reaction {
-            None => Ok(()),
-            Some(reaction) => self.ask(member, reaction.phase.sequence, reaction.asks, events),
-        }
+        let Some(reaction) = reaction else {
+            return Ok(());
+        };
+        let leader = declared_member(&self.members, reaction.follows);
+        self.follow(member, leader, events)?;
+        self.ask(member, reaction.phase.sequence, reaction.asks, events)
     }
 
     /// The agent of a member asks the store, if it has a question.
@@ -492,6 +545,21 @@ impl World {
             Body::Snapshot | Body::Granted { .. } => self.store.entries(self.clock),
             _ => Ok(Vec::new(self.alloc)),
         }
+    }
+
+    /// The declared member at a place.
+    fn member(&self, place: usize) -> Option<Member>
+        ensures { result ≡ slice_get self.now.book.members place }
+    {
+        let member = self.members.get(place)?;
+        Some(*member)
+    }
+
+    /// The declared member of this number.
+    fn declared(&self, id: MemberId) -> Option<Member>
+        ensures { result ≡ slice_get self.now.book.members id.number }
+    {
+        self.member(id.number as usize)
     }
 
     /// The declared member at a place, with its agent.

@@ -1,0 +1,114 @@
+//! What commands of a script come to at servers.
+ghost use Rattle.std.specs.Prelude.{◌≡◌, ◌<◌, ◌^◌, IfSome, slice_get};
+ghost use Rattle.pat_world.specs.ServerCommands.{promoted_timeline, is_gone, crash_of, freeze_of, thaw_of, slow_by, slow_of};
+
+use cluster_script::{Delay, Transition};
+use event_book::{Member, ServerEvent, ServerOf};
+use pat_base::{State, Ticks};
+use pg_model::Servers;
+
+/// The timeline to which the server of a member is promoted, if it is a standby.
+pub fn promoted_timeline(servers: &Servers, member: Member) -> Option<u64>
+    requires { IfSome (slice_get servers.now member.id.number) (λ s. s.timeline < 2 ^ 60) }
+    ensures { result ≡ promoted_timeline (slice_get servers.now member.id.number) }
+{
+    let server = servers.get(member.id.number as usize)?;
+    match server.state() {
+        State::Replica => Some(server.timeline() + 1),
+        _ => None,
+    }
+}
+
+/// A crash: what happens where the server isn't gone already.
+pub fn crash_of(servers: &Servers, member: Member) -> Option<ServerEvent>
+    ensures { result ≡ crash_of member (slice_get servers.now member.id.number) }
+{
+    let server = servers.get(member.id.number as usize)?;
+    if is_gone(server.state()) {
+        None
+    } else {
+        Some(ServerEvent::Crashed {
+            server: ServerOf::of(member),
+        })
+    }
+}
+
+/// Whether a server crashed, or waits for a copy.
+fn is_gone(state: State) -> bool
+    ensures { result ≡ is_gone state }
+{
+    matches!(state, State::Crashed | State::Creating)
+}
+
+/// What happens where the server isn't frozen.
+pub fn freeze_of(frozen: &[bool], member: Member) -> Option<ServerEvent>
+    ensures { result ≡ freeze_of member (slice_get frozen.now member.id.number) }
+{
+    let is_frozen = *frozen.get(member.id.number as usize)?;
+    if is_frozen {
+        None
+    } else {
+        Some(ServerEvent::Frozen {
+            server: ServerOf::of(member),
+        })
+    }
+}
+
+/// What happens where the server is frozen.
+pub fn thaw_of(frozen: &[bool], member: Member) -> Option<ServerEvent>
+    ensures { result ≡ thaw_of member (slice_get frozen.now member.id.number) }
+{
+    let is_frozen = *frozen.get(member.id.number as usize)?;
+    if is_frozen {
+        Some(ServerEvent::Thawed {
+            server: ServerOf::of(member),
+        })
+    } else {
+        None
+    }
+}
+
+/// Another delay: what happens where the server hasn't it already.
+pub fn slow_of(
+    servers: &Servers,
+    member: Member,
+    transition: Transition,
+    delay: Delay,
+) -> Option<ServerEvent>
+    ensures { result ≡ slow_of member transition delay (slice_get servers.now member.id.number) }
+{
+    let server = servers.get(member.id.number as usize)?;
+    slow_by(
+        member,
+        transition,
+        delay,
+        server.stop_delay(),
+        server.start_delay(),
+    )
+}
+
+fn slow_by(
+    member: Member,
+    transition: Transition,
+    delay: Delay,
+    stop: Ticks,
+    start: Ticks,
+) -> Option<ServerEvent>
+    ensures { result ≡ slow_by member transition delay stop start }
+{
+    let server = ServerOf::of(member);
+    let ticks = Ticks(delay.ticks);
+    match transition {
+        Transition::Stop if stop.0 != delay.ticks => Some(ServerEvent::Slowed {
+            server,
+            stop: Some(ticks),
+            start: None,
+        }),
+        Transition::Start if start.0 != delay.ticks => Some(ServerEvent::Slowed {
+            server,
+            stop: None,
+            start: Some(ticks),
+        }),
+        _ => None,
+    }
+}
