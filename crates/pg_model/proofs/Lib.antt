@@ -1,1 +1,4 @@
 pub mod Acks
+pub mod Clusters
+pub mod News
+pub mod Sights

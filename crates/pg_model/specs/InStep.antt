@@ -1,10 +1,12 @@
 -- Standbys that are known to be in step with their upstream.
-use Rattle.std.specs.Prelude.{◌≡◌, ℕ, ◌==◌, Bool, true, false, List, Option, Some, None, length, slice_get, option_map}
+use Rattle.std.specs.Prelude.{◌≡◌, ℕ, ◌==◌, Bool, true, false, List, Option, Some, None, length, slice_get, slice_set, option_map}
 use Rattle.pat_base.specs.declared.server_id.ServerId.{ServerId}
 use Rattle.wal_model.specs.declared.entry.Entry.{Entry}
 use Rattle.wal_model.specs.declared.entry.HistoryPoint.{HistoryPoint}
 use Rattle.wal_model.specs.Log.{IsPrefixOf}
+use Rattle.pg_model.specs.declared.answers.Streamed.{Streamed}
 use Rattle.pg_model.specs.Facts.{ServerFacts, entries_of}
+use Rattle.pg_model.specs.Replication.{news_of, after_news}
 
 -- what a server has of the cluster's log, and whom it follows
 pub record Standing : Type 0 where
@@ -50,6 +52,18 @@ pub record Forgets (old new : List Bool) (servers : List Standing) (place : ℕ)
   pub kept : (k : ℕ) → slice_get new k ≡ Some true → slice_get old k ≡ Some true
   pub own : slice_get new place ≡ Some true → ⊥
   pub followers : (k : ℕ) (s : Standing) → slice_get new k ≡ Some true → slice_get servers k ≡ Some s → is_place place s.upstream ≡ false
+
+-- a standby is this one after it heard of its upstream, with these news; it received exactly where so is said, and is
+-- behind the upstream then
+pub record Hears (s upstream : ServerFacts) (most : ℕ) (after : ServerFacts) (news : Option Streamed) (received : Bool) : Type 0 where
+  pub news_are : news ≡ news_of s upstream most
+  pub after_is : after ≡ after_news news s upstream
+  pub behind : received ≡ true → IsBehind (standing_of after) (standing_of upstream)
+  pub standing : received ≡ false → standing_of after ≡ standing_of s
+
+-- the one at a place heard of the one at another place, and the others are as they were
+abbrev pub HearsAt : List ServerFacts → List ServerFacts → ℕ → ℕ → ℕ → Option Streamed → Bool → Type 0
+HearsAt old new place from most news received = (s upstream : ServerFacts) → slice_get old place ≡ Some s → slice_get old from ≡ Some upstream → (after : ServerFacts) × (new ≡ slice_set old place after) × Hears s upstream most after news received
 
 -- of these servers, the one at the first place is behind the one at the second
 abbrev pub AreInStep : List ServerFacts → ℕ → ℕ → Type 0

@@ -1,10 +1,10 @@
 //! The servers of a cluster.
-ghost use Rattle.std.specs.Prelude.{ℕ, ◌≡◌, ◌≤◌, ◌<◌, ◌^◌, [], length, map, replicate, Option, Some, slice_get, ◌≢◌, false, IsTrue, IfSome, IfOk, OnOk, OnErr, option_map, option_copied, option_and_then};
+ghost use Rattle.std.specs.Prelude.{ℕ, ◌≡◌, ◌≤◌, ◌<◌, ◌^◌, ◌↔◌, [], length, map, replicate, Option, Some, slice_get, ◌≢◌, false, IsTrue, IfSome, IfOk, OnOk, OnErr, option_map, option_copied, option_and_then};
 ghost use Rattle.std.specs.Option.{ForSome};
 ghost use Rattle.pg_model.specs.Facts.{ServerFacts, fresh, is_replica, is_down};
 ghost use Rattle.pg_model.specs.Running.{promoted, replica_started, crashed, delayed};
 ghost use Rattle.pg_model.specs.Replication.{following, confirming, next_acknowledged, acknowledged};
-ghost use Rattle.pg_model.specs.InStep.{Forgets, AreInStep, standing_of, number_of, is_place};
+ghost use Rattle.pg_model.specs.InStep.{Forgets, HearsAt, AreInStep, standing_of, number_of, is_place};
 ghost use Rattle.pg_model.specs.Servers.{seen, with_server, requiring, quietly_ticked, entry_at, entry_for, after_entry, committed_at, news_at, streamed_at};
 
 use crate::server::Heard;
@@ -46,12 +46,8 @@ impl Servers {
         requires { base ≤ 2 ^ 63 }
         ensures { IfOk result (λ servers. servers ≡ replicate count (fresh base)) }
     {
-        let mut servers = Vec::with_capacity(alloc, count)?;
-        let mut in_step = Vec::with_capacity(alloc, count)?;
-        for _ in 0..count {
-            servers.push(Server::new(alloc, base)?)?;
-            in_step.push(false)?;
-        }
+        let servers = standbys(alloc, count, base)?;
+        let in_step = vec![in alloc; false; count]?;
         Ok(Servers { servers, in_step })
     }
 
@@ -224,12 +220,38 @@ impl Servers {
     pub fn tick(&mut self, now: Ticks)
         ensures { self.new ≡ map (quietly_ticked now) self.old }
     {
-        for place in 0..self.servers.len() {
-            let server = &mut self.servers[place];
-            if !server.live() {
-                server.tick(now);
-            }
-        }
+        tick_all(&mut self.servers, now);
+    }
+}
+
+/// So many new standbys.
+fn standbys(alloc: Global, count: usize, base: u64) -> Result<Vec<Server>, AllocError>
+    requires { base ≤ 2 ^ 63 }
+    ensures { IfOk result (λ servers. servers.items ≡ replicate count (fresh base)) }
+{
+    let mut servers = Vec::with_capacity(alloc, count)?;
+    for _place in 0..count {
+        servers.push(Server::new(alloc, base)?)?;
+    }
+    Ok(servers)
+}
+
+/// Completes each start and each stop whose moment has come, but for those of primaries.
+fn tick_all(servers: &mut [Server], now: Ticks)
+    ensures after { map seen servers.new ≡ map (quietly_ticked now) (map seen servers.old) }
+    ensures standing { map standing_of servers.new ≡ map standing_of servers.old }
+{
+    for place in 0..servers.len() {
+        tick_one(&mut servers[place], now);
+    }
+}
+
+/// Completes a start or a stop whose moment has come, but for that of a primary.
+fn tick_one(server: &mut Server, now: Ticks)
+    ensures { server.new ≡ quietly_ticked now server.old }
+{
+    if !server.live() {
+        server.tick(now);
     }
 }
 
@@ -288,10 +310,7 @@ fn hear_between(
     requires upstream { from < length servers.old }
     requires replica { (s : ServerFacts) → slice_get servers.old place ≡ Some s → IsTrue (is_replica s.state) }
     requires in_step { IsTrue in_step → AreInStep servers.old place from }
-    ensures news { IfOk result (λ heard. heard.news ≡ news_at servers.old place from most) }
-    ensures ok { OnOk result (servers.new ≡ streamed_at servers.old place from most) }
-    ensures received { IfOk result (λ heard. IsTrue heard.received → AreInStep servers.new place from) }
-    ensures otherwise { IfOk result (λ heard. heard.received ≡ false → map standing_of servers.new ≡ map standing_of servers.old) }
+    ensures ok { IfOk result (λ heard. HearsAt servers.old servers.new place from most heard.news heard.received) }
     ensures err { OnErr result (servers.new ≡ servers.old) }
 {
     if place < from {

@@ -1,11 +1,11 @@
 -- Lists of points of a history.
-use Rattle.std.proofs.Common.{◌≡◌, ℕ, ◌==◌, ◌&&◌, Bool, true, false, not, List, refl, sym, ap, subst, ◌∙◌, arith}
+use Rattle.std.proofs.Common.{◌≡◌, ℕ, ◌==◌, ◌&&◌, Bool, true, false, not, IsTrue, List, refl, sym, ap, subst, ◌∙◌, arith}
 use Rattle.std.specs.Bool.{Decides}
 use Rattle.std.specs.Cmp.Lexicographic.{pointwise}
 use Rattle.std.proofs.lemmas.Bool.Decides.{nat_tests}
 use Rattle.std.proofs.lemmas.Slice.Eq.{slice_eq-Decides}
 use Rattle.pat_base.proofs.Positions.{lsn-injective}
-use Rattle.wal_model.specs.History.{Points}
+use Rattle.wal_model.specs.History.{Points, same_points}
 use Rattle.wal_model.specs.declared.entry.HistoryPoint.{HistoryPoint}
 
 abbrev is_same : HistoryPoint → HistoryPoint → Bool
@@ -32,6 +32,12 @@ not-false false e = sym e
 
 pub same-points : (xs ys : List HistoryPoint) → not (pointwise is_same xs ys) ≡ false → xs ≡ ys
 same-points xs ys e = (slice_eq-Decides is_same-Decides xs ys (pointwise is_same xs ys) refl).0 (not-false (pointwise is_same xs ys) e)
+
+pub same-points-to : (xs ys : List HistoryPoint) → IsTrue (same_points xs ys) → xs ≡ ys
+same-points-to xs ys h = (slice_eq-Decides is_same-Decides xs ys (same_points xs ys) refl).0 h
+
+pub same-points-from : (xs ys : List HistoryPoint) → xs ≡ ys → IsTrue (same_points xs ys)
+same-points-from xs ys e = (slice_eq-Decides is_same-Decides xs ys (same_points xs ys) refl).1 e
 
 -- a history with the points of another one is that history with its own room
 pub copied : (a b : Points) (xs ys : List HistoryPoint) (n m : ℕ) → record { points = xs; spare = n } ≡ a → record { points = ys; spare = m } ≡ b → xs ≡ ys → a ≡ record { points = b.points; spare = a.spare }

@@ -1,10 +1,11 @@
 //! What a standby hears of its upstream.
-ghost use Rattle.std.specs.Prelude.{ℕ, ◌≡◌, ◌-◌, length, min, false, IsTrue, IsSome, IfOk, OnOk, OnErr};
+ghost use Rattle.std.specs.Prelude.{ℕ, ◌≡◌, ◌-◌, ◌==◌, if◌then◌else◌, None, Some, length, min, false, IsTrue, IsSome, IfOk, OnOk, OnErr};
 ghost use Rattle.pat_base.specs.Lsn.{lsn_at};
+ghost use Rattle.pat_base.specs.ServerState.{writes};
 ghost use Rattle.wal_model.specs.Log.{IsPrefixOf, is_prefix, fork_of, received};
 ghost use Rattle.pg_model.specs.Facts.{entries_of, is_replica};
-ghost use Rattle.pg_model.specs.InStep.{IsBehind, standing_of};
-ghost use Rattle.pg_model.specs.Replication.{is_current, news_by, news_of, after_news};
+ghost use Rattle.pg_model.specs.InStep.{Hears, IsBehind, standing_of};
+ghost use Rattle.pg_model.specs.Replication.{is_current, news_by, after_news};
 ghost use Rattle.pg_model.specs.declared.answers.Streamed.TheVariants as streams;
 
 use super::{receive, wal};
@@ -32,10 +33,7 @@ impl Server {
     ) -> Result<Heard, AllocError>
         requires replica { IsTrue (is_replica self.old.state) }
         requires in_step { IsTrue in_step → IsBehind (standing_of self.old) (standing_of upstream.now) }
-        ensures news { IfOk result (λ heard. heard.news ≡ news_of self.old upstream.now most) }
-        ensures ok { OnOk result (self.new ≡ after_news (news_of self.old upstream.now most) self.old upstream.now) }
-        ensures received { IfOk result (λ heard. IsTrue heard.received → IsBehind (standing_of self.new) (standing_of upstream.now)) }
-        ensures otherwise { IfOk result (λ heard. heard.received ≡ false → standing_of self.new ≡ standing_of self.old) }
+        ensures ok { IfOk result (λ heard. Hears self.old upstream.now most self.new heard.news heard.received) }
         ensures err { OnErr result (self.new ≡ self.old) }
     {
         if !upstream.state.writes() {
@@ -61,8 +59,8 @@ impl Server {
 
     /// Whether the upstream's log begins with its own. Nothing is compared where it is known to be in step.
     fn is_front_of(&self, upstream: &Server, in_step: bool) -> bool
-        requires mine { IsSome self.now.log }
-        requires theirs { IsSome upstream.now.log }
+        requires replica { IsTrue (is_replica self.now.state) }
+        requires writing { IsTrue (writes upstream.now.state) }
         requires in_step { IsTrue in_step → IsBehind (standing_of self.now) (standing_of upstream.now) }
         ensures { result ≡ is_prefix (entries_of self.now.log) (entries_of upstream.now.log) }
     {
@@ -80,8 +78,8 @@ impl Server {
 
     /// Notes that the logs parted, and answers where, unless that was known.
     fn note_divergence(&mut self, upstream: &Server) -> Option<Streamed>
-        requires mine { IsSome self.old.log }
-        requires theirs { IsSome upstream.now.log }
+        requires replica { IsTrue (is_replica self.old.state) }
+        requires writing { IsTrue (writes upstream.now.state) }
         ensures news { result ≡ news_by (streams.Diverged (lsn_at (fork_of (entries_of self.old.log) (entries_of upstream.now.log)))) self.old upstream.now }
         ensures after { self.new ≡ after_news result self.old upstream.now }
         ensures standing { standing_of self.new ≡ standing_of self.old }
@@ -103,8 +101,8 @@ impl Server {
         most: usize,
         current: bool,
     ) -> Result<Option<Streamed>, AllocError>
-        requires mine { IsSome self.old.log }
-        requires theirs { IsSome upstream.now.log }
+        requires replica { IsTrue (is_replica self.old.state) }
+        requires writing { IsTrue (writes upstream.now.state) }
         requires prefix { IsPrefixOf (entries_of self.old.log) (entries_of upstream.now.log) }
         requires current { current ≡ is_current self.old upstream.now }
         ensures news { IfOk result (λ news. news ≡ news_by (streams.Received (min most (length (entries_of upstream.now.log) - length (entries_of self.old.log)))) self.old upstream.now) }
