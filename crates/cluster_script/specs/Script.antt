@@ -124,7 +124,7 @@ pub record IsHeadLines (head : HeadText) (lines : List (List ℕ)) : Type 0 wher
   pub behind : List Name
   pub members : before ++ behind ≡ head.members
   pub base : base_or_default said ≡ head.base
-  pub lines : lines ≡ head_with_base head.cluster before said behind
+  pub order : lines ≡ head_with_base head.cluster before said behind
 
 -- all lines of a script, in order: those of its head say the base first, and only where it isn't the default
 abbrev pub head_lines : HeadText → List (List ℕ)

@@ -2,7 +2,7 @@
 ghost use Rattle.std.specs.Prelude.{ℕ, ◌≡◌, ◌<◌, ◌≤◌, ◌+◌, ◌++◌, ◌∷◌, ◌^◌, List, [], length, map, Option, None, Some, Ok, IfOk, OnOk, OnErr, IfErr, IfSome};
 ghost use Rattle.std.specs.Option.{option_copied};
 ghost use Rattle.indexmap.specs.IndexMap.{keys};
-ghost use Rattle.cluster_script.specs.Script.{ScriptText, IsScript};
+ghost use Rattle.cluster_script.specs.Script.{ScriptText, IsScript, base_or_default};
 ghost use Rattle.cluster_script.specs.Reading.{Gives, IsNew, addition_of, addition_in, base_after, members_after, body_after, after_counted, after_line, after_lines, at_line, finished};
 
 use crate::addition::Addition;
@@ -115,6 +115,16 @@ fn located<T: Drop>(line: u64, outcome: Result<T, Fault>) -> Result<T, ScriptFau
     }
 }
 
+/// The base that is said, or the default.
+fn base_or_default(said: Option<u64>) -> u64
+    ensures { result ≡ base_or_default said }
+{
+    match said {
+        None => DEFAULT_BASE,
+        Some(base) => base,
+    }
+}
+
 impl Draft {
     /// A draft of no line.
     pub fn new(alloc: Global) -> Draft
@@ -196,7 +206,7 @@ impl Draft {
                 fault: Fault::NoMember,
             });
         }
-        let base = base.unwrap_or(DEFAULT_BASE);
-        Ok(Script::new(Head::new(cluster, base, members), body))
+        let head = Head::new(cluster, base_or_default(base), members);
+        Ok(Script::new(head, body))
     }
 }
