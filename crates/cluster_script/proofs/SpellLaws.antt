@@ -179,10 +179,10 @@ switch-again members false some = one_word-again members switch_in (codes "off")
 number_in-again : (n : ℕ) → n < 2 ^ 64 → number_in (decimal n) ≡ Ok n
 number_in-again n fits = ap (some_or faults.BadNumber) (number-decimal n fits)
 
-size-fits : (size : CommitSize) → size.bytes < 2 ^ 64
+pub size-fits : (size : CommitSize) → size.bytes < 2 ^ 64
 size-fits size = omega (arith, size.most)
 
-delay-fits : (delay : Delay) → delay.ticks < 2 ^ 64
+pub delay-fits : (delay : Delay) → delay.ticks < 2 ^ 64
 delay-fits delay = omega (arith, delay.most)
 
 commit_size_in-again : (size : CommitSize) → commit_size_in (decimal size.bytes) ≡ Ok size
@@ -297,7 +297,7 @@ new-again members name small absent =
 in_range : (n : ℕ) → 1 ≤ n → n ≤ 2 ^ 40 → (nat_le 1 n && nat_le n (2 ^ 40)) ≡ true
 in_range n least most = grind (arith, nat_tests)
 
-base-fits : (n : ℕ) → n ≤ 2 ^ 40 → n < 2 ^ 64
+pub base-fits : (n : ℕ) → n ≤ 2 ^ 40 → n < 2 ^ 64
 base-fits n most = omega arith
 
 next_base-again : (n : ℕ) → 1 ≤ n → n ≤ 2 ^ 40 → next_base None [] (Some (decimal n)) ≡ Ok n
