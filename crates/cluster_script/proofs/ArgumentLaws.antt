@@ -8,11 +8,12 @@ use Rattle.pat_base.specs.Name.{name_of}
 use Rattle.pat_base.specs.declared.name.Name.{Name}
 use Rattle.pat_base.specs.declared.member_id.MemberId.{MemberId}
 use Rattle.pat_base.proofs.Names.{name_of-text}
-use Rattle.cluster_script.specs.Arguments.{number_in, switch_in, declared_member, member_in, end_in, missing_word, line_end, last_word, one_word, same_end, apart, second_end, two_ends, command, line_of_words}
+use Rattle.cluster_script.specs.Arguments.{number_in, switch_in, transition_in, commit_size_in, delay_in, some_or, declared_member, member_in, end_in, line_end, last_word, one_word, word_behind, two_words, words_behind, three_words, same_end, apart, two_ends, commit_in, stream_in, slow_in, command, line_of_words}
 use Rattle.cluster_script.specs.Faults.{on_ok, both}
 use Rattle.cluster_script.specs.Members.{member_of, place_of, member_named}
 use Rattle.cluster_script.specs.Numbers.{number}
-use Rattle.cluster_script.specs.Script.{text_of_name, member_text, end_text, switch_text, two_texts, line_text, IsMember, IsEnd, IsLink, IsLine}
+use Rattle.cluster_script.specs.Ranges.{commit_size_of, delay_of}
+use Rattle.cluster_script.specs.Script.{text_of_name, member_text, end_text, switch_text, transition_text, two_texts, line_text, IsMember, IsEnd, IsLink, IsLine}
 use Rattle.cluster_script.specs.Words.{spelled, cut_word}
 use Rattle.cluster_script.specs.declared.fault.Fault.{Fault}
 use Rattle.cluster_script.specs.declared.fault.Fault.TheVariants as faults
@@ -23,9 +24,14 @@ use Rattle.cluster_script.specs.declared.line.End.TheVariants as ends
 use Rattle.cluster_script.specs.declared.line.Command.TheVariants as commands
 use Rattle.cluster_script.specs.declared.line.Line.{Line}
 use Rattle.cluster_script.specs.declared.line.Line.TheVariants as lines
+use Rattle.cluster_script.specs.declared.line.Transition.{Transition}
+use Rattle.cluster_script.specs.declared.line.Transition.TheVariants as transitions
+use Rattle.cluster_script.specs.declared.ranges.CommitSize.{CommitSize}
+use Rattle.cluster_script.specs.declared.ranges.Delay.{Delay}
 use Rattle.cluster_script.proofs.NameLaws.{place_of-Some, member_of-number}
 use Rattle.cluster_script.proofs.NumberLaws.{number-is, number-below}
 use Rattle.cluster_script.proofs.Outcomes.{ok_is, err_is, on_some-Some, on_ok-Ok, some_or-Ok, both-Ok, cond-Err}
+use Rattle.cluster_script.proofs.RangeLaws.{commit_size_of-bytes, delay_of-ticks}
 use Rattle.cluster_script.proofs.WordLaws.{cut_word-None, cut_word-Some}
 
 -- a member that a word names
@@ -97,6 +103,62 @@ one_word-Ok members read (Some words) x e =
     let same : (cut_word words).0 ≡ words = cut_word-None words p.1 in
     record { word = words; is = refl; value = ap read (sym same) ∙ p.0 }
 
+-- the last word, behind what the words before it say
+word_behind-Ok : {A B : Type 0} (members : List Name) (before : Result A Fault) (read : List ℕ → Result B Fault) (rest : Option (List ℕ)) (p : A × B) → word_behind members before read rest ≡ Ok p → (before ≡ Ok p.0) × HasWord read rest p.1
+word_behind-Ok members before read None p e = absurd (err_is _ p e)
+word_behind-Ok members before read (Some words) p e =
+    let l = last_word-Ok members (both before (read (cut_word words).0)) (cut_word words).1 p e in
+    let b = both-Ok before (read (cut_word words).0) p l.0 in
+    let same : (cut_word words).0 ≡ words = cut_word-None words l.1 in
+    (b.0, record { word = words; is = refl; value = ap read (sym same) ∙ b.1 })
+
+-- two words behind the first
+pub record HasTwoWords {A B : Type 0} (first : List ℕ → Result A Fault) (second : List ℕ → Result B Fault) (rest : Option (List ℕ)) (x : A) (y : B) : Type 0 where
+  pub word : List ℕ
+  pub other : List ℕ
+  pub is : rest ≡ Some (two_texts word other)
+  pub value : first word ≡ Ok x
+  pub other_value : second other ≡ Ok y
+
+pub two_words-Ok : {A B : Type 0} (members : List Name) (first : List ℕ → Result A Fault) (second : List ℕ → Result B Fault) (rest : Option (List ℕ)) (p : A × B) → two_words members first second rest ≡ Ok p → HasTwoWords first second rest p.0 p.1
+two_words-Ok members first second None p e = absurd (err_is _ p e)
+two_words-Ok members first second (Some words) p e =
+    let b = word_behind-Ok members (first (cut_word words).0) second (cut_word words).1 p e in
+    record { word = (cut_word words).0; other = b.1.word; is = ap Some (cut_word-Some words b.1.word b.1.is); value = b.0; other_value = b.1.value }
+
+words_behind-Ok : {A B C : Type 0} (members : List Name) (before : Result A Fault) (read : List ℕ → Result B Fault) (last : List ℕ → Result C Fault) (rest : Option (List ℕ)) (p : (A × B) × C) → words_behind members before read last rest ≡ Ok p
+    → (before ≡ Ok p.0.0) × HasTwoWords read last rest p.0.1 p.1
+words_behind-Ok members before read last None p e = absurd (err_is _ p e)
+words_behind-Ok members before read last (Some words) p e =
+    let b = word_behind-Ok members (both before (read (cut_word words).0)) last (cut_word words).1 p e in
+    let c = both-Ok before (read (cut_word words).0) p.0 b.0 in
+    (c.0, record { word = (cut_word words).0; other = b.1.word; is = ap Some (cut_word-Some words b.1.word b.1.is); value = c.1; other_value = b.1.value })
+
+-- three words behind the first
+pub record HasThreeWords {A B C : Type 0} (first : List ℕ → Result A Fault) (second : List ℕ → Result B Fault) (third : List ℕ → Result C Fault) (rest : Option (List ℕ)) (x : A) (y : B) (z : C) : Type 0 where
+  pub word : List ℕ
+  pub middle : List ℕ
+  pub last : List ℕ
+  pub is : rest ≡ Some (two_texts word (two_texts middle last))
+  pub value : first word ≡ Ok x
+  pub middle_value : second middle ≡ Ok y
+  pub last_value : third last ≡ Ok z
+
+pub three_words-Ok : {A B C : Type 0} (members : List Name) (first : List ℕ → Result A Fault) (second : List ℕ → Result B Fault) (third : List ℕ → Result C Fault) (rest : Option (List ℕ)) (p : (A × B) × C) → three_words members first second third rest ≡ Ok p
+    → HasThreeWords first second third rest p.0.0 p.0.1 p.1
+three_words-Ok members first second third None p e = absurd (err_is _ p e)
+three_words-Ok members first second third (Some words) p e =
+    let b = words_behind-Ok members (first (cut_word words).0) second third (cut_word words).1 p e in
+    record {
+      word = (cut_word words).0;
+      middle = b.1.word;
+      last = b.1.other;
+      is = ap Some (cut_word-Some words (two_texts b.1.word b.1.other) b.1.is);
+      value = b.0;
+      middle_value = b.1.value;
+      last_value = b.1.other_value;
+    }
+
 -- the two ends of a link behind the first word
 pub record HasLink (members : List Name) (rest : Option (List ℕ)) (first second : End) : Type 0 where
   pub words : List ℕ
@@ -111,30 +173,53 @@ same_end-refl (ends.Member m) = eq-eqb m.number m.number refl
 different : (x y : End) → same_end x y ≡ false → x ≡ y → ⊥
 different x y unequal equal = let t : same_end x y ≡ true = subst (λ (z : End). same_end x z ≡ true) equal (same_end-refl x) in cc
 
-second-link : (members : List Name) (words : List ℕ) (first : Result End Fault) (rest : Option (List ℕ)) (p : End × End) → end_in members (cut_word words).0 ≡ first → (cut_word words).1 ≡ rest → second_end members first rest ≡ Ok p → HasLink members (Some words) p.0 p.1
-second-link members words first None p at is e =
-    let q = on_ok-Ok first (λ _. Err (missing_word members)) p e in
-    absurd (err_is _ p q.2)
-second-link members words first (Some more) p at is e =
-    let q = on_ok-Ok (last_word members (both first (end_in members (cut_word more).0)) (cut_word more).1) apart p e in
-    let l = last_word-Ok members (both first (end_in members (cut_word more).0)) (cut_word more).1 q.0 q.1 in
-    let b = both-Ok first (end_in members (cut_word more).0) q.0 l.0 in
+pub two_ends-Ok : (members : List Name) (rest : Option (List ℕ)) (p : End × End) → two_ends members rest ≡ Ok p → HasLink members rest p.0 p.1
+two_ends-Ok members rest p e =
+    let q = on_ok-Ok (two_words members (end_in members) (end_in members) rest) apart p e in
+    let w = two_words-Ok members (end_in members) (end_in members) rest q.0 q.1 in
     let d = cond-Err (same_end q.0.0 q.0.1) (Ok q.0) faults.SameEnds p q.2 in
     let same : q.0 ≡ p = ok_is q.0 p d.1 in
-    let x = end_in-Ok members (cut_word words).0 q.0.0 (at ∙ b.0) in
-    let y = end_in-Ok members (cut_word more).0 q.0.1 b.1 in
-    let last : (cut_word more).0 ≡ more = cut_word-None more l.1 in
-    let parts : words ≡ (cut_word words).0 ++ (32 ∷ more) = cut_word-Some words more is in
-    subst (λ (r : End × End). HasLink members (Some words) r.0 r.1) same (record {
-      words = words;
-      is = refl;
-      text = ap (λ t. two_texts t (end_text members q.0.1)) x.text ∙ ap (λ t. (cut_word words).0 ++ (32 ∷ t)) (y.text ∙ last) ∙ sym parts;
+    let x = end_in-Ok members w.word q.0.0 w.value in
+    let y = end_in-Ok members w.other q.0.1 w.other_value in
+    subst (λ (r : End × End). HasLink members rest r.0 r.1) same (record {
+      words = two_texts w.word w.other;
+      is = w.is;
+      text = ap (λ t. two_texts t (end_text members q.0.1)) x.text ∙ ap (λ t. two_texts w.word t) y.text;
       link = record { first_is = x.is_end; second_is = y.is_end; apart = different q.0.0 q.0.1 d.0 };
     })
 
-pub two_ends-Ok : (members : List Name) (rest : Option (List ℕ)) (p : End × End) → two_ends members rest ≡ Ok p → HasLink members rest p.0 p.1
-two_ends-Ok members None p e = absurd (err_is _ p e)
-two_ends-Ok members (Some words) p e = second-link members words (end_in members (cut_word words).0) (cut_word words).1 p refl refl e
+-- numbers in a range
+pub number_in-Ok : (word : List ℕ) (n : ℕ) → number_in word ≡ Ok n → number word ≡ Some n
+number_in-Ok word n e = some_or-Ok faults.BadNumber (number word) n e
+
+commit_size_in-Ok : (word : List ℕ) (size : CommitSize) → commit_size_in word ≡ Ok size → decimal size.bytes ≡ word
+commit_size_in-Ok word size e =
+    let p = on_ok-Ok (number_in word) (λ n. some_or faults.BadNumber (commit_size_of n)) size e in
+    let same : size.bytes ≡ p.0 = commit_size_of-bytes p.0 size (some_or-Ok faults.BadNumber (commit_size_of p.0) size p.2) in
+    ap decimal same ∙ sym (number-is word p.0 (number_in-Ok word p.0 p.1))
+
+delay_in-Ok : (word : List ℕ) (delay : Delay) → delay_in word ≡ Ok delay → decimal delay.ticks ≡ word
+delay_in-Ok word delay e =
+    let p = on_ok-Ok (number_in word) (λ n. some_or faults.BadNumber (delay_of n)) delay e in
+    let same : delay.ticks ≡ p.0 = delay_of-ticks p.0 delay (some_or-Ok faults.BadNumber (delay_of p.0) delay p.2) in
+    ap decimal same ∙ sym (number-is word p.0 (number_in-Ok word p.0 p.1))
+
+-- 'stop' and 'start'
+start-Ok : (word : List ℕ) (transition : Transition) (t : Bool) → bytes_eq word (codes "start") ≡ t → cond t (Ok transitions.Start) (Err faults.BadOption) ≡ Ok transition → transition_text transition ≡ word
+start-Ok word transition true is e =
+    let same : transitions.Start ≡ transition = ok_is transitions.Start transition e in
+    ap transition_text (sym same) ∙ sym ((bytes_eq-Decides word (codes "start")).0 is)
+start-Ok word transition false is e = absurd (err_is _ transition e)
+
+stop-Ok : (word : List ℕ) (transition : Transition) (t : Bool) → bytes_eq word (codes "stop") ≡ t → cond t (Ok transitions.Stop) (cond (bytes_eq word (codes "start")) (Ok transitions.Start) (Err faults.BadOption)) ≡ Ok transition
+    → transition_text transition ≡ word
+stop-Ok word transition true is e =
+    let same : transitions.Stop ≡ transition = ok_is transitions.Stop transition e in
+    ap transition_text (sym same) ∙ sym ((bytes_eq-Decides word (codes "stop")).0 is)
+stop-Ok word transition false is e = start-Ok word transition (bytes_eq word (codes "start")) refl e
+
+transition_in-Ok : (word : List ℕ) (transition : Transition) → transition_in word ≡ Ok transition → transition_text transition ≡ word
+transition_in-Ok word transition e = stop-Ok word transition (bytes_eq word (codes "stop")) refl e
 
 -- 'on' and 'off'
 off-Ok : (word : List ℕ) (on : Bool) (t : Bool) → bytes_eq word (codes "off") ≡ t → cond t (Ok false) (Err faults.BadOption) ≡ Ok on → switch_text on ≡ word
@@ -212,6 +297,51 @@ trace-line members rest line e =
       fits = tt;
     })
 
+commit-line : (members : List Name) (rest : Option (List ℕ)) (line : Line) → on_ok (commit_in members rest) command ≡ Ok line → Says members words.Commit rest line
+commit-line members rest line e =
+    let p = on_ok-Ok (commit_in members rest) command line e in
+    let q = on_ok-Ok (two_words members (member_in members) commit_size_in rest) (λ said. Ok (commands.Commit said.0 said.1)) p.0 p.1 in
+    let w = two_words-Ok members (member_in members) commit_size_in rest q.0 q.1 in
+    let m = member_in-Ok members w.word q.0.0 w.value in
+    let same : lines.Command (commands.Commit q.0.0 q.0.1) ≡ line = ap lines.Command (ok_is _ p.0 q.2) ∙ ok_is (lines.Command p.0) line p.2 in
+    subst (Says members words.Commit rest) same (record {
+      words = two_texts w.word w.other;
+      is = w.is;
+      text = ap (λ t. spelled words.Commit (two_texts t (decimal q.0.1.bytes))) m.text ∙ ap (λ t. spelled words.Commit (two_texts w.word t)) (commit_size_in-Ok w.other q.0.1 w.other_value);
+      fits = m.member;
+    })
+
+stream-line : (members : List Name) (rest : Option (List ℕ)) (line : Line) → on_ok (stream_in members rest) command ≡ Ok line → Says members words.Stream rest line
+stream-line members rest line e =
+    let p = on_ok-Ok (stream_in members rest) command line e in
+    let q = on_ok-Ok (two_words members (member_in members) number_in rest) (λ said. Ok (commands.Stream said.0 said.1)) p.0 p.1 in
+    let w = two_words-Ok members (member_in members) number_in rest q.0 q.1 in
+    let m = member_in-Ok members w.word q.0.0 w.value in
+    let n : number w.other ≡ Some q.0.1 = number_in-Ok w.other q.0.1 w.other_value in
+    let same : lines.Command (commands.Stream q.0.0 q.0.1) ≡ line = ap lines.Command (ok_is _ p.0 q.2) ∙ ok_is (lines.Command p.0) line p.2 in
+    subst (Says members words.Stream rest) same (record {
+      words = two_texts w.word w.other;
+      is = w.is;
+      text = ap (λ t. spelled words.Stream (two_texts t (decimal q.0.1))) m.text ∙ ap (λ t. spelled words.Stream (two_texts w.word t)) (sym (number-is w.other q.0.1 n));
+      fits = (m.member, number-below w.other q.0.1 n);
+    })
+
+slow-line : (members : List Name) (rest : Option (List ℕ)) (line : Line) → on_ok (slow_in members rest) command ≡ Ok line → Says members words.Slow rest line
+slow-line members rest line e =
+    let p = on_ok-Ok (slow_in members rest) command line e in
+    let q = on_ok-Ok (three_words members (member_in members) transition_in delay_in rest) (λ said. Ok (commands.Slow said.0.0 said.0.1 said.1)) p.0 p.1 in
+    let w = three_words-Ok members (member_in members) transition_in delay_in rest q.0 q.1 in
+    let m = member_in-Ok members w.word q.0.0.0 w.value in
+    let same : lines.Command (commands.Slow q.0.0.0 q.0.0.1 q.0.1) ≡ line = ap lines.Command (ok_is _ p.0 q.2) ∙ ok_is (lines.Command p.0) line p.2 in
+    subst (Says members words.Slow rest) same (record {
+      words = two_texts w.word (two_texts w.middle w.last);
+      is = w.is;
+      text = ap (λ t. spelled words.Slow (two_texts t (two_texts (transition_text q.0.0.1) (decimal q.0.1.ticks)))) m.text
+          ∙ ap (λ t. spelled words.Slow (two_texts w.word (two_texts t (decimal q.0.1.ticks)))) (transition_in-Ok w.middle q.0.0.1 w.middle_value)
+          ∙ ap (λ t. spelled words.Slow (two_texts w.word (two_texts w.middle t))) (delay_in-Ok w.last q.0.1 w.last_value);
+      fits = m.member;
+    })
+
 pub line_of_words-Ok : (members : List Name) (keyword : Keyword) (rest : Option (List ℕ)) (line : Line) → line_of_words members keyword rest ≡ Ok line → Says members keyword rest line
 line_of_words-Ok members words.Tick rest line e = number-line members words.Tick (λ n. lines.Tick n) (λ n. refl) (λ n h. h) rest line e
 line_of_words-Ok members words.Deliver rest line e = number-line members words.Deliver (λ n. lines.Command (commands.Deliver n)) (λ n. refl) (λ n h. h) rest line e
@@ -222,6 +352,13 @@ line_of_words-Ok members words.Hold rest line e = member-line members words.Hold
 line_of_words-Ok members words.Resume rest line e = member-line members words.Resume (λ m. lines.Command (commands.Resume m)) (λ m. refl) (λ m h. h) rest line e
 line_of_words-Ok members words.Kill rest line e = member-line members words.Kill (λ m. lines.Command (commands.Kill m)) (λ m. refl) (λ m h. h) rest line e
 line_of_words-Ok members words.Restart rest line e = member-line members words.Restart (λ m. lines.Command (commands.Restart m)) (λ m. refl) (λ m h. h) rest line e
+line_of_words-Ok members words.Promote rest line e = member-line members words.Promote (λ m. lines.Command (commands.Promote m)) (λ m. refl) (λ m h. h) rest line e
+line_of_words-Ok members words.Crash rest line e = member-line members words.Crash (λ m. lines.Command (commands.Crash m)) (λ m. refl) (λ m h. h) rest line e
+line_of_words-Ok members words.Freeze rest line e = member-line members words.Freeze (λ m. lines.Command (commands.Freeze m)) (λ m. refl) (λ m h. h) rest line e
+line_of_words-Ok members words.Thaw rest line e = member-line members words.Thaw (λ m. lines.Command (commands.Thaw m)) (λ m. refl) (λ m h. h) rest line e
+line_of_words-Ok members words.Commit rest line e = commit-line members rest line e
+line_of_words-Ok members words.Stream rest line e = stream-line members rest line e
+line_of_words-Ok members words.Slow rest line e = slow-line members rest line e
 line_of_words-Ok members words.Cut rest line e = link-line members words.Cut (λ x y. lines.Command (commands.Cut x y)) (λ x y. refl) (λ x y h. h) rest line e
 line_of_words-Ok members words.Join rest line e = link-line members words.Join (λ x y. lines.Command (commands.Join x y)) (λ x y. refl) (λ x y h. h) rest line e
 line_of_words-Ok members words.Trace rest line e = trace-line members rest line e

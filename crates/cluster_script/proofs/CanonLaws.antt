@@ -1,8 +1,9 @@
 -- The lines of a script and nothing else spell it.
-use Rattle.std.proofs.Common.{◌≡◌, ℕ, ◌+◌, ◌^◌, ◌≤◌, ◌<◌, ◌&&◌, ◌==◌, nat_le, nat_lt, not, Bool, true, false, List, [], ◌∷◌, ◌++◌, length, map, slice_get, get_or, Option, Some, None, Ok, ◌%◌, refl, ◌∙◌, ap, sym, subst, zero, suc, arith, length-append}
+use Rattle.std.proofs.Common.{◌≡◌, ℕ, ◌+◌, ◌^◌, ◌≤◌, ◌<◌, ◌&&◌, ◌==◌, nat_le, nat_lt, not, Bool, true, false, cond, List, [], ◌∷◌, ◌++◌, length, map, slice_get, get_or, Option, Some, None, Ok, ◌%◌, refl, ◌∙◌, ap, sym, subst, zero, suc, arith, length-append}
 use Rattle.std.specs.Fmt.{decimal}
 use Rattle.std.specs.List.{list_all}
 use Rattle.std.specs.Str.{is_utf8}
+use Rattle.std.proofs.lemmas.Bool.{eqb-true}
 use Rattle.std.proofs.lemmas.Bool.Decides.{nat_tests}
 use Rattle.std.proofs.lemmas.Fmt.{decimal_by_steps, length-decimal-le}
 use Rattle.std.proofs.lemmas.Str.{IsUtf8-from_ascii, is_utf8-from_IsUtf8}
@@ -13,7 +14,7 @@ use Rattle.pat_base.specs.declared.name.Name.{Name}
 use Rattle.pat_base.specs.declared.member_id.MemberId.{MemberId}
 use Rattle.cluster_script.specs.Lines.{ended, lines_in, is_skipped, counted_lines}
 use Rattle.cluster_script.specs.Reading.{script_of}
-use Rattle.cluster_script.specs.Script.{ScriptText, IsScript, IsCommand, IsLine, AllAreLines, text_of_name, member_text, end_text, switch_text, two_texts, command_text, member_line_text, line_text, body_lines, lines_of, spelling_of, AllInForm, Spells}
+use Rattle.cluster_script.specs.Script.{ScriptText, IsScript, IsCommand, IsLine, AllAreLines, text_of_name, member_text, end_text, switch_text, transition_text, two_texts, command_text, member_line_text, base_text, line_text, member_lines, default_base, base_or_default, base_lines, base_to_say, head_lines, body_lines, lines_of, spelling_of, AllInForm, Spells}
 use Rattle.cluster_script.specs.Words.{spelled, word_of}
 use Rattle.cluster_script.specs.declared.keyword.Keyword.{Keyword}
 use Rattle.cluster_script.specs.declared.keyword.Keyword.TheVariants as words
@@ -23,7 +24,11 @@ use Rattle.cluster_script.specs.declared.line.Command.{Command}
 use Rattle.cluster_script.specs.declared.line.Command.TheVariants as commands
 use Rattle.cluster_script.specs.declared.line.Line.{Line}
 use Rattle.cluster_script.specs.declared.line.Line.TheVariants as lines
-use Rattle.cluster_script.proofs.SpellLaws.{spelled-is-read}
+use Rattle.cluster_script.specs.declared.line.Transition.{Transition}
+use Rattle.cluster_script.specs.declared.line.Transition.TheVariants as transitions
+use Rattle.cluster_script.specs.declared.ranges.CommitSize.{CommitSize}
+use Rattle.cluster_script.specs.declared.ranges.Delay.{Delay}
+use Rattle.cluster_script.proofs.SpellLaws.{size-fits, delay-fits, base-fits, spelled-is-read}
 use Rattle.cluster_script.proofs.WordLaws.{spelled-counts}
 
 -- a byte of ASCII that ends no line
@@ -144,6 +149,25 @@ number-IsPlain n fits = IsPlain-most (decimal n) 20 100 (omega arith) (decimal-I
 member-IsPlain : (members : List Name) (m : MemberId) → IsPlain (member_text members m) 100
 member-IsPlain members m = IsPlain-most (member_text members m) 32 100 (omega arith) (some_name-IsPlain (slice_get members m.number))
 
+transition-IsPlain : (transition : Transition) → IsPlain (transition_text transition) 5
+transition-IsPlain transitions.Stop = record { plain = refl; short = omega arith }
+transition-IsPlain transitions.Start = record { plain = refl; short = omega arith }
+
+-- a member's name and a number
+member_number-IsPlain : (members : List Name) (m : MemberId) (n : ℕ) → n < 2 ^ 64 → IsPlain (two_texts (member_text members m) (decimal n)) 100
+member_number-IsPlain members m n fits =
+    IsPlain-most (two_texts (member_text members m) (decimal n)) (32 + (20 + 1)) 100 (omega arith)
+    (IsPlain-append (member_text members m) (32 ∷ decimal n) 32 (20 + 1) (some_name-IsPlain (slice_get members m.number)) (blank-IsPlain (decimal n) 20 (decimal-IsPlain n fits)))
+
+-- a member's name, what is delayed and a number
+delay-IsPlain : (members : List Name) (m : MemberId) (transition : Transition) (n : ℕ) → n < 2 ^ 64 → IsPlain (two_texts (member_text members m) (two_texts (transition_text transition) (decimal n))) 100
+delay-IsPlain members m transition n fits =
+    let behind : IsPlain (two_texts (transition_text transition) (decimal n)) (5 + (20 + 1)) =
+        IsPlain-append (transition_text transition) (32 ∷ decimal n) 5 (20 + 1) (transition-IsPlain transition) (blank-IsPlain (decimal n) 20 (decimal-IsPlain n fits))
+    in
+    IsPlain-most (two_texts (member_text members m) (two_texts (transition_text transition) (decimal n))) (32 + ((5 + (20 + 1)) + 1)) 100 (omega arith)
+    (IsPlain-append (member_text members m) (32 ∷ two_texts (transition_text transition) (decimal n)) 32 ((5 + (20 + 1)) + 1) (some_name-IsPlain (slice_get members m.number)) (blank-IsPlain (two_texts (transition_text transition) (decimal n)) (5 + (20 + 1)) behind))
+
 command-IsLineText : (members : List Name) (c : Command) → IsCommand members c → IsLineText (command_text members c)
 command-IsLineText members (commands.Turn m) is = spelled-IsLineText words.Turn (member_text members m) (member-IsPlain members m)
 command-IsLineText members (commands.Deliver n) is = spelled-IsLineText words.Deliver (decimal n) (number-IsPlain n is)
@@ -152,6 +176,13 @@ command-IsLineText members (commands.Hold m) is = spelled-IsLineText words.Hold 
 command-IsLineText members (commands.Resume m) is = spelled-IsLineText words.Resume (member_text members m) (member-IsPlain members m)
 command-IsLineText members (commands.Kill m) is = spelled-IsLineText words.Kill (member_text members m) (member-IsPlain members m)
 command-IsLineText members (commands.Restart m) is = spelled-IsLineText words.Restart (member_text members m) (member-IsPlain members m)
+command-IsLineText members (commands.Promote m) is = spelled-IsLineText words.Promote (member_text members m) (member-IsPlain members m)
+command-IsLineText members (commands.Crash m) is = spelled-IsLineText words.Crash (member_text members m) (member-IsPlain members m)
+command-IsLineText members (commands.Commit m size) is = spelled-IsLineText words.Commit (two_texts (member_text members m) (decimal size.bytes)) (member_number-IsPlain members m size.bytes (size-fits size))
+command-IsLineText members (commands.Stream m n) is = spelled-IsLineText words.Stream (two_texts (member_text members m) (decimal n)) (member_number-IsPlain members m n is.1)
+command-IsLineText members (commands.Freeze m) is = spelled-IsLineText words.Freeze (member_text members m) (member-IsPlain members m)
+command-IsLineText members (commands.Thaw m) is = spelled-IsLineText words.Thaw (member_text members m) (member-IsPlain members m)
+command-IsLineText members (commands.Slow m transition delay) is = spelled-IsLineText words.Slow (two_texts (member_text members m) (two_texts (transition_text transition) (decimal delay.ticks))) (delay-IsPlain members m transition delay.ticks (delay-fits delay))
 command-IsLineText members (commands.Cut x y) is = spelled-IsLineText words.Cut (two_texts (end_text members x) (end_text members y)) (link-IsPlain members x y)
 command-IsLineText members (commands.Join x y) is = spelled-IsLineText words.Join (two_texts (end_text members x) (end_text members y)) (link-IsPlain members x y)
 command-IsLineText members (commands.Trace on) is = spelled-IsLineText words.Trace (switch_text on) (switch-IsPlain on)
@@ -176,15 +207,30 @@ members-AllLineTexts : (members : List Name) → AllLineTexts (map member_line_t
 members-AllLineTexts [] = tt
 members-AllLineTexts (m ∷ members) = (name-line words.Member m, members-AllLineTexts members)
 
+base-AllLineTexts : (said : Option ℕ) → base_or_default said < 2 ^ 64 → AllLineTexts (base_lines said)
+base-AllLineTexts None fits = tt
+base-AllLineTexts (Some n) fits = (spelled-IsLineText words.Base (decimal n) (number-IsPlain n fits), tt)
+
+-- what is to be said of a base says it
+base-to-say : (base : ℕ) (t : Bool) → (base == default_base) ≡ t → base_or_default (cond t None (Some base)) ≡ base
+base-to-say base true is = sym (eqb-true base default_base is)
+base-to-say base false is = refl
+
+base-is-said : (base : ℕ) → base_or_default (base_to_say base) ≡ base
+base-is-said base = base-to-say base (base == default_base) refl
+
 body-AllLineTexts : (members : List Name) (body : List Line) → AllAreLines members body → AllLineTexts (body_lines members body)
 body-AllLineTexts members [] is = tt
 body-AllLineTexts members (line ∷ body) is = (line-IsLineText members line is.0, body-AllLineTexts members body is.1)
 
 script-AllLineTexts : (s : ScriptText) → IsScript s → AllLineTexts (lines_of s)
-script-AllLineTexts s h = (
-  name-line words.Cluster s.head.cluster,
-  AllLineTexts-append (map member_line_text s.head.members) (body_lines s.head.members s.body) (members-AllLineTexts s.head.members) (body-AllLineTexts s.head.members s.body h.body),
-)
+script-AllLineTexts s h =
+    let fits : base_or_default (base_to_say s.head.base) < 2 ^ 64 = subst (λ (n : ℕ). n < 2 ^ 64) (sym (base-is-said s.head.base)) (base-fits s.head.base h.head.base_most) in (
+      name-line words.Cluster s.head.cluster,
+      AllLineTexts-append (base_lines (base_to_say s.head.base) ++ member_lines s.head.members) (body_lines s.head.members s.body)
+          (AllLineTexts-append (base_lines (base_to_say s.head.base)) (member_lines s.head.members) (base-AllLineTexts (base_to_say s.head.base) fits) (members-AllLineTexts s.head.members))
+          (body-AllLineTexts s.head.members s.body h.body),
+    )
 
 -- such lines are text of few bytes, and are cut again
 ascii-byte : (b : ℕ) → is_plain b ≡ true → b < 128
@@ -223,6 +269,8 @@ spelling-Spells s h =
     let texts : AllLineTexts (lines_of s) = script-AllLineTexts s h in
     record {
       form = subst AllInForm (sym (lines-again (lines_of s) texts)) (all-in-form (lines_of s) texts);
+      head = head_lines s.head;
+      says = record { before = []; said = base_to_say s.head.base; behind = s.head.members; members = refl; base = base-is-said s.head.base; order = refl };
       lines = ap counted_lines (lines-again (lines_of s) texts) ∙ all-count (lines_of s) texts;
     }
 

@@ -1,4 +1,5 @@
 pub mod ArgumentLaws
+pub mod Behind
 pub mod CanonLaws
 pub mod Cutting
 pub mod Finishing
@@ -8,6 +9,7 @@ pub mod NameLaws
 pub mod NumberLaws
 pub mod Outcomes
 pub mod Places
+pub mod RangeLaws
 pub mod ReadLaws
 pub mod SpellLaws
 pub mod WordLaws

@@ -1,5 +1,5 @@
 -- What a script within the limits has at most.
-use Rattle.std.proofs.Common.{◌≡◌, ℕ, ◌+◌, ◌-◌, ◌^◌, ◌≤◌, nat_lt, min, Bool, true, false, cond, List, [], ◌∷◌, length, Option, Some, None, Ok, refl, ap, subst, arith, length-append}
+use Rattle.std.proofs.Common.{◌≡◌, ℕ, ◌+◌, ◌-◌, ◌^◌, ◌≤◌, nat_lt, min, Bool, true, false, cond, List, [], ◌∷◌, ◌++◌, length, Option, Some, None, Ok, refl, ap, subst, arith, length-append}
 use Rattle.std.specs.List.{sum_by}
 use Rattle.std.proofs.lemmas.Bool.Decides.{nat_tests}
 use Rattle.std.proofs.lemmas.List.{length-map}
@@ -8,7 +8,7 @@ use Rattle.pat_base.specs.declared.name.Name.{Name}
 use Rattle.cluster_script.specs.Lines.{lines_in, is_skipped, counted_lines}
 use Rattle.cluster_script.specs.Limits.{members_in, ticks_or_none, ticks_in_line, ticks_in, limit_of_lines, limit_of}
 use Rattle.cluster_script.specs.Reading.{script_of}
-use Rattle.cluster_script.specs.Script.{ScriptText, IsLine, AllAreLines, line_text, head_lines, body_lines, lines_of}
+use Rattle.cluster_script.specs.Script.{ScriptText, IsLine, AllAreLines, line_text, body_lines}
 use Rattle.cluster_script.specs.Steps.{ticks_of_line, total_ticks}
 use Rattle.cluster_script.specs.declared.line.Line.{Line}
 use Rattle.cluster_script.specs.declared.line.Line.TheVariants as lines
@@ -53,11 +53,11 @@ body-ticks members [] h = omega arith
 body-ticks members (line ∷ body) h = omega (arith, line-ticks members line h.0, body-ticks members body h.1, sum_by-cons ticks_in_line (line_text members line) (body_lines members body))
 
 -- the lines of a body are among those of its script
-all-ticks : (text : ScriptText) → sum_by ticks_in_line (body_lines text.head.members text.body) ≤ sum_by ticks_in_line (lines_of text)
-all-ticks text = omega (arith, sum_by-append ticks_in_line (head_lines text.head) (body_lines text.head.members text.body))
+all-ticks : (head : List (List ℕ)) (members : List Name) (body : List Line) → sum_by ticks_in_line (body_lines members body) ≤ sum_by ticks_in_line (head ++ body_lines members body)
+all-ticks head members body = omega (arith, sum_by-append ticks_in_line head (body_lines members body))
 
-all-lines : (text : ScriptText) → length text.body ≤ length (lines_of text)
-all-lines text = omega (arith, length-append (head_lines text.head) (body_lines text.head.members text.body), length-map text.body (line_text text.head.members))
+all-lines : (head : List (List ℕ)) (members : List Name) (body : List Line) → length body ≤ length (head ++ body_lines members body)
+all-lines head members body = omega (arith, length-append head (body_lines members body), length-map body (line_text members))
 
 least : (n : ℕ) → min n (2 ^ 64 - 1) ≤ 1000000 → n ≤ 1000000
 least n h = omega arith
@@ -71,15 +71,15 @@ lines-within ls none =
     (not-more 100000 (length ls) l.0, least (sum_by ticks_in_line ls) (not-more 1000000 (ticks_in ls) t.0))
 
 -- a script of lines that pass none
-text-within : (ls : List (List ℕ)) (text : ScriptText) → AllAreLines text.head.members text.body → counted_lines ls ≡ lines_of text → (length ls ≤ 100000) × (sum_by ticks_in_line ls ≤ 1000000)
-    → (total_ticks text.body ≤ 1000000) × (length text.body ≤ 100000)
-text-within ls text body same within =
-    let few : length (lines_of text) ≤ length ls = subst (λ (some : List (List ℕ)). length some ≤ length ls) same (fewer ls) in
-    let ticks : sum_by ticks_in_line (lines_of text) ≤ sum_by ticks_in_line ls = subst (λ (some : List (List ℕ)). sum_by ticks_in_line some ≤ sum_by ticks_in_line ls) same (fewer-ticks ls) in
-    (omega (arith, within.1, ticks, all-ticks text, body-ticks text.head.members text.body body), omega (arith, within.0, few, all-lines text))
+text-within : (ls head : List (List ℕ)) (members : List Name) (body : List Line) → AllAreLines members body → counted_lines ls ≡ head ++ body_lines members body → (length ls ≤ 100000) × (sum_by ticks_in_line ls ≤ 1000000)
+    → (total_ticks body ≤ 1000000) × (length body ≤ 100000)
+text-within ls head members body fit same within =
+    let few : length (head ++ body_lines members body) ≤ length ls = subst (λ (some : List (List ℕ)). length some ≤ length ls) same (fewer ls) in
+    let ticks : sum_by ticks_in_line (head ++ body_lines members body) ≤ sum_by ticks_in_line ls = subst (λ (some : List (List ℕ)). sum_by ticks_in_line some ≤ sum_by ticks_in_line ls) same (fewer-ticks ls) in
+    (omega (arith, within.1, ticks, all-ticks head members body, body-ticks members body fit), omega (arith, within.0, few, all-lines head members body))
 
 pub within-limits : (bytes : List ℕ) (text : ScriptText) → script_of bytes ≡ Ok text → limit_of bytes ≡ None → (total_ticks text.body ≤ 1000000) × (length text.body ≤ 100000)
 within-limits bytes text e none =
     let read = read-is-spelled bytes text e in
     let passed = none_passed (nat_lt 1048576 (length bytes)) limits.Bytes (limit_of_lines (lines_in bytes)) none in
-    text-within (lines_in bytes) text read.0.body read.1.lines (lines-within (lines_in bytes) passed.1)
+    text-within (lines_in bytes) read.1.head text.head.members text.body read.0.body read.1.lines (lines-within (lines_in bytes) passed.1)

@@ -1,17 +1,19 @@
 -- What is read as a script is one, and is spelled so.
-use Rattle.std.proofs.Common.{◌≡◌, ℕ, ◌+◌, ◌≤◌, ◌<◌, nat_le, Bool, true, false, cond, List, [], ◌∷◌, ◌++◌, length, map, Option, Some, None, Ok, Err, refl, ◌∙◌, ap, sym, subst, arith, append_assoc, append-nil, length-append}
+use Rattle.std.proofs.Common.{◌≡◌, ℕ, ◌+◌, ◌^◌, ◌≤◌, ◌<◌, ◌&&◌, nat_le, Bool, true, false, cond, List, [], ◌∷◌, ◌++◌, length, map, Option, Some, None, Ok, Err, refl, ◌∙◌, ap, sym, subst, arith, append_assoc, append-nil, length-append}
+use Rattle.std.specs.Fmt.{decimal}
 use Rattle.std.specs.Str.{is_utf8}
 use Rattle.std.proofs.lemmas.Bool.Decides.{nat_tests}
 use Rattle.std.proofs.lemmas.List.{map-append}
 use Rattle.pat_base.specs.Name.{name_bytes, name_of}
 use Rattle.pat_base.specs.declared.name.Name.{Name}
 use Rattle.pat_base.proofs.Names.{name_of-text}
-use Rattle.cluster_script.specs.Arguments.{line_of_words}
+use Rattle.cluster_script.specs.Arguments.{number_in, line_of_words}
+use Rattle.cluster_script.specs.Draft.{DraftText, script_so_far}
 use Rattle.cluster_script.specs.Faults.{on_ok}
 use Rattle.cluster_script.specs.Lines.{lines_in, is_skipped, counted_lines}
 use Rattle.cluster_script.specs.Members.{place_of}
-use Rattle.cluster_script.specs.Reading.{has_option, declared_in_head, declared_once, named_member, new_member, next_member, addition_of, known_addition, addition_in, with_addition, with_line, alone, cluster_named, cluster_of, begun_by, first_line, begun, after_counted, after_text, after_line, after_lines, at_line, with_some, finished, script_of}
-use Rattle.cluster_script.specs.Script.{ScriptText, IsScript, IsLine, AllAreLines, cluster_text, member_line_text, line_text, head_lines, body_lines, lines_of, IsInForm, AllInForm, Spells}
+use Rattle.cluster_script.specs.Reading.{has_option, declared_in_head, declared_once, named_member, new_member, next_member, ranged_base, base_in, head_end, base_end, next_base, addition_of, known_addition, addition_in, with_addition, with_line, alone, cluster_named, cluster_of, begun_by, first_line, begun, after_counted, after_text, after_line, after_lines, at_line, with_some, finished, script_of}
+use Rattle.cluster_script.specs.Script.{ScriptText, IsScript, IsLine, AllAreLines, cluster_text, member_line_text, base_text, line_text, member_lines, base_or_default, head_with_base, IsHeadLines, body_lines, IsInForm, AllInForm, Spells}
 use Rattle.cluster_script.specs.Words.{spelled, keyword_of, cut_word}
 use Rattle.cluster_script.specs.declared.addition.Addition.{Addition}
 use Rattle.cluster_script.specs.declared.addition.Addition.TheVariants as additions
@@ -19,15 +21,17 @@ use Rattle.cluster_script.specs.declared.fault.Fault.TheVariants as faults
 use Rattle.cluster_script.specs.declared.keyword.Keyword.{Keyword}
 use Rattle.cluster_script.specs.declared.keyword.Keyword.TheVariants as words
 use Rattle.cluster_script.specs.declared.line.Line.{Line}
-use Rattle.cluster_script.proofs.ArgumentLaws.{line_of_words-Ok}
+use Rattle.cluster_script.proofs.ArgumentLaws.{number_in-Ok, line_of_words-Ok}
 use Rattle.cluster_script.proofs.NameLaws.{AreDifferent, AreDifferent-push}
-use Rattle.cluster_script.proofs.Outcomes.{ok_is, err_is, on_ok-Ok, at_line-Ok, cond-Ok, cond-Err}
+use Rattle.cluster_script.proofs.NumberLaws.{number-is}
+use Rattle.cluster_script.proofs.Outcomes.{none_is, ok_is, err_is, on_ok-Ok, at_line-Ok, cond-Ok, cond-Err}
 use Rattle.cluster_script.proofs.WordLaws.{cut_word-None, cut_word-Some, keyword_of-is}
 
 -- what a line adds, and how it is spelled
-abbrev IsAddition : List Name → List Line → List ℕ → Addition → Type 0
-IsAddition members body line (additions.Member name) = (member_line_text name ≡ line) × (length members < 16) × (place_of members name ≡ None) × (body ≡ [])
-IsAddition members body line (additions.Body l) = (line_text members l ≡ line) × IsLine members l
+abbrev IsAddition : Option ℕ → List Name → List Line → List ℕ → Addition → Type 0
+IsAddition base members body line (additions.Member name) = (member_line_text name ≡ line) × (length members < 16) × (place_of members name ≡ None) × (body ≡ [])
+IsAddition base members body line (additions.Base n) = (base_text n ≡ line) × (1 ≤ n) × (n ≤ 2 ^ 40) × (base ≡ None) × (body ≡ [])
+IsAddition base members body line (additions.Body l) = (line_text members l ≡ line) × IsLine members l
 
 -- the words of a member's line
 record DeclaresMember (members : List Name) (body : List Line) (rest : Option (List ℕ)) (name : Name) : Type 0 where
@@ -69,102 +73,241 @@ next_member-Ok members body rest x e =
         let q = named-Ok members body (cut_word words).0 (name_of (cut_word words).0) (cut_word words).1 x refl p.1 in
         record { words = words; is = refl; text = q.0 ∙ cut_word-None words q.1; few = few; absent = q.2; in_head = q.3 }
 
+-- the words of a base's line
+record DeclaresBase (said : Option ℕ) (body : List Line) (rest : Option (List ℕ)) (n : ℕ) : Type 0 where
+  pub words : List ℕ
+  pub is : rest ≡ Some words
+  pub text : decimal n ≡ words
+  pub least : 1 ≤ n
+  pub most : n ≤ 2 ^ 40
+  pub first : said ≡ None
+  pub in_head : body ≡ []
+
+head_end-Ok : (body : List Line) (rest : Option (List ℕ)) (u : Unit {0}) → head_end body rest ≡ Ok u → (body ≡ []) × (rest ≡ None)
+head_end-Ok [] None u e = (refl, refl)
+head_end-Ok [] (Some words) u e = absurd (err_is _ u e)
+head_end-Ok (l ∷ body) rest u e = absurd (err_is _ u e)
+
+base_end-Ok : (said : Option ℕ) (body : List Line) (rest : Option (List ℕ)) (u : Unit {0}) → base_end said body rest ≡ Ok u → (said ≡ None) × (body ≡ []) × (rest ≡ None)
+base_end-Ok (Some n) body rest u e = absurd (err_is _ u e)
+base_end-Ok None body rest u e = let p = head_end-Ok body rest u e in (refl, p.0, p.1)
+
+in_range : (n : ℕ) → (nat_le 1 n && nat_le n (2 ^ 40)) ≡ true → (1 ≤ n) × (n ≤ 2 ^ 40)
+in_range n e = (grind (arith, nat_tests), grind (arith, nat_tests))
+
+ranged_base-Ok : (n k : ℕ) → ranged_base n ≡ Ok k → (n ≡ k) × (1 ≤ n) × (n ≤ 2 ^ 40)
+ranged_base-Ok n k e =
+    let p = cond-Ok (nat_le 1 n && nat_le n (2 ^ 40)) (Ok n) faults.BadNumber k e in
+    let r = in_range n p.0 in
+    (ok_is n k p.1, r.0, r.1)
+
+base_in-Ok : (word : List ℕ) (n : ℕ) → base_in word ≡ Ok n → (decimal n ≡ word) × (1 ≤ n) × (n ≤ 2 ^ 40)
+base_in-Ok word n e =
+    let p = on_ok-Ok (number_in word) ranged_base n e in
+    let r = ranged_base-Ok p.0 n p.2 in
+    (sym (ap decimal r.0) ∙ sym (number-is word p.0 (number_in-Ok word p.0 p.1)), subst (λ (k : ℕ). 1 ≤ k) r.0 r.1, subst (λ (k : ℕ). k ≤ 2 ^ 40) r.0 r.2)
+
+next_base-Ok : (said : Option ℕ) (body : List Line) (rest : Option (List ℕ)) (n : ℕ) → next_base said body rest ≡ Ok n → DeclaresBase said body rest n
+next_base-Ok said body None n e = absurd (err_is _ n e)
+next_base-Ok said body (Some words) n e =
+    let p = on_ok-Ok (base_in (cut_word words).0) (λ k. on_ok (base_end said body (cut_word words).1) (λ _. Ok k)) n e in
+    let q = on_ok-Ok (base_end said body (cut_word words).1) (λ _. Ok p.0) n p.2 in
+    let last = base_end-Ok said body (cut_word words).1 q.0 q.1 in
+    let b = base_in-Ok (cut_word words).0 n (p.1 ∙ q.2) in
+    record { words = words; is = refl; text = b.0 ∙ cut_word-None words last.2; least = b.1; most = b.2; first = last.0; in_head = last.1 }
+
 -- a line of a known first word, and of the words behind its blank
 line-is : (line : List ℕ) (keyword : Keyword) (words : List ℕ) → keyword_of (cut_word line).0 ≡ Some keyword → (cut_word line).1 ≡ Some words → spelled keyword words ≡ line
 line-is line keyword words k r =
     sym (cut_word-Some line words r ∙ ap (λ t. t ++ (32 ∷ words)) (keyword_of-is (cut_word line).0 keyword k))
 
-body-Ok : (members : List Name) (body : List Line) (line : List ℕ) (keyword : Keyword) (a : Addition) → keyword_of (cut_word line).0 ≡ Some keyword → on_ok (line_of_words members keyword (cut_word line).1) (λ l. Ok (additions.Body l)) ≡ Ok a → IsAddition members body line a
-body-Ok members body line keyword a k e =
+body-Ok : (base : Option ℕ) (members : List Name) (body : List Line) (line : List ℕ) (keyword : Keyword) (a : Addition) → keyword_of (cut_word line).0 ≡ Some keyword → on_ok (line_of_words members keyword (cut_word line).1) (λ l. Ok (additions.Body l)) ≡ Ok a
+    → IsAddition base members body line a
+body-Ok base members body line keyword a k e =
     let p = on_ok-Ok (line_of_words members keyword (cut_word line).1) (λ l. Ok (additions.Body l)) a e in
     let s = line_of_words-Ok members keyword (cut_word line).1 p.0 p.1 in
     let same : additions.Body p.0 ≡ a = ok_is (additions.Body p.0) a p.2 in
-    subst (IsAddition members body line) same (s.text ∙ line-is line keyword s.words k s.is, s.fits)
+    subst (IsAddition base members body line) same (s.text ∙ line-is line keyword s.words k s.is, s.fits)
 
-member-Ok : (members : List Name) (body : List Line) (line : List ℕ) (a : Addition) → keyword_of (cut_word line).0 ≡ Some words.Member → on_ok (next_member members body (cut_word line).1) (λ name. Ok (additions.Member name)) ≡ Ok a → IsAddition members body line a
-member-Ok members body line a k e =
+member-Ok : (base : Option ℕ) (members : List Name) (body : List Line) (line : List ℕ) (a : Addition) → keyword_of (cut_word line).0 ≡ Some words.Member → on_ok (next_member members body (cut_word line).1) (λ name. Ok (additions.Member name)) ≡ Ok a
+    → IsAddition base members body line a
+member-Ok base members body line a k e =
     let p = on_ok-Ok (next_member members body (cut_word line).1) (λ name. Ok (additions.Member name)) a e in
     let s = next_member-Ok members body (cut_word line).1 p.0 p.1 in
     let same : additions.Member p.0 ≡ a = ok_is (additions.Member p.0) a p.2 in
-    subst (IsAddition members body line) same (ap (spelled words.Member) s.text ∙ line-is line words.Member s.words k s.is, s.few, s.absent, s.in_head)
+    subst (IsAddition base members body line) same (ap (spelled words.Member) s.text ∙ line-is line words.Member s.words k s.is, s.few, s.absent, s.in_head)
 
-of-Ok : (members : List Name) (body : List Line) (line : List ℕ) (keyword : Keyword) (a : Addition) → keyword_of (cut_word line).0 ≡ Some keyword → addition_of members body keyword (cut_word line).1 ≡ Ok a → IsAddition members body line a
-of-Ok members body line words.Cluster a k e = absurd (err_is _ a e)
-of-Ok members body line words.Member a k e = member-Ok members body line a k e
-of-Ok members body line words.Config a k e = body-Ok members body line words.Config a k e
-of-Ok members body line words.Base a k e = body-Ok members body line words.Base a k e
-of-Ok members body line words.Tick a k e = body-Ok members body line words.Tick a k e
-of-Ok members body line words.Run a k e = body-Ok members body line words.Run a k e
-of-Ok members body line words.Turn a k e = body-Ok members body line words.Turn a k e
-of-Ok members body line words.Deliver a k e = body-Ok members body line words.Deliver a k e
-of-Ok members body line words.Lose a k e = body-Ok members body line words.Lose a k e
-of-Ok members body line words.Hold a k e = body-Ok members body line words.Hold a k e
-of-Ok members body line words.Resume a k e = body-Ok members body line words.Resume a k e
-of-Ok members body line words.Kill a k e = body-Ok members body line words.Kill a k e
-of-Ok members body line words.Restart a k e = body-Ok members body line words.Restart a k e
-of-Ok members body line words.Crash a k e = body-Ok members body line words.Crash a k e
-of-Ok members body line words.Promote a k e = body-Ok members body line words.Promote a k e
-of-Ok members body line words.Commit a k e = body-Ok members body line words.Commit a k e
-of-Ok members body line words.Stream a k e = body-Ok members body line words.Stream a k e
-of-Ok members body line words.Freeze a k e = body-Ok members body line words.Freeze a k e
-of-Ok members body line words.Thaw a k e = body-Ok members body line words.Thaw a k e
-of-Ok members body line words.Cut a k e = body-Ok members body line words.Cut a k e
-of-Ok members body line words.Join a k e = body-Ok members body line words.Join a k e
-of-Ok members body line words.Slow a k e = body-Ok members body line words.Slow a k e
-of-Ok members body line words.Rest a k e = body-Ok members body line words.Rest a k e
-of-Ok members body line words.Ctl a k e = body-Ok members body line words.Ctl a k e
-of-Ok members body line words.Trace a k e = body-Ok members body line words.Trace a k e
+base-Ok : (base : Option ℕ) (members : List Name) (body : List Line) (line : List ℕ) (a : Addition) → keyword_of (cut_word line).0 ≡ Some words.Base → on_ok (next_base base body (cut_word line).1) (λ n. Ok (additions.Base n)) ≡ Ok a
+    → IsAddition base members body line a
+base-Ok base members body line a k e =
+    let p = on_ok-Ok (next_base base body (cut_word line).1) (λ n. Ok (additions.Base n)) a e in
+    let s = next_base-Ok base body (cut_word line).1 p.0 p.1 in
+    let same : additions.Base p.0 ≡ a = ok_is (additions.Base p.0) a p.2 in
+    subst (IsAddition base members body line) same (ap (spelled words.Base) s.text ∙ line-is line words.Base s.words k s.is, s.least, s.most, s.first, s.in_head)
 
-known-Ok : (members : List Name) (body : List Line) (line : List ℕ) (o : Option Keyword) (a : Addition) → keyword_of (cut_word line).0 ≡ o → known_addition members body o (cut_word line).1 ≡ Ok a → IsAddition members body line a
-known-Ok members body line None a k e = absurd (err_is _ a e)
-known-Ok members body line (Some keyword) a k e = of-Ok members body line keyword a k e
+of-Ok : (base : Option ℕ) (members : List Name) (body : List Line) (line : List ℕ) (keyword : Keyword) (a : Addition) → keyword_of (cut_word line).0 ≡ Some keyword → addition_of base members body keyword (cut_word line).1 ≡ Ok a → IsAddition base members body line a
+of-Ok base members body line words.Cluster a k e = absurd (err_is _ a e)
+of-Ok base members body line words.Base a k e = base-Ok base members body line a k e
+of-Ok base members body line words.Member a k e = member-Ok base members body line a k e
+of-Ok base members body line words.Config a k e = body-Ok base members body line words.Config a k e
+of-Ok base members body line words.Tick a k e = body-Ok base members body line words.Tick a k e
+of-Ok base members body line words.Run a k e = body-Ok base members body line words.Run a k e
+of-Ok base members body line words.Turn a k e = body-Ok base members body line words.Turn a k e
+of-Ok base members body line words.Deliver a k e = body-Ok base members body line words.Deliver a k e
+of-Ok base members body line words.Lose a k e = body-Ok base members body line words.Lose a k e
+of-Ok base members body line words.Hold a k e = body-Ok base members body line words.Hold a k e
+of-Ok base members body line words.Resume a k e = body-Ok base members body line words.Resume a k e
+of-Ok base members body line words.Kill a k e = body-Ok base members body line words.Kill a k e
+of-Ok base members body line words.Restart a k e = body-Ok base members body line words.Restart a k e
+of-Ok base members body line words.Crash a k e = body-Ok base members body line words.Crash a k e
+of-Ok base members body line words.Promote a k e = body-Ok base members body line words.Promote a k e
+of-Ok base members body line words.Commit a k e = body-Ok base members body line words.Commit a k e
+of-Ok base members body line words.Stream a k e = body-Ok base members body line words.Stream a k e
+of-Ok base members body line words.Freeze a k e = body-Ok base members body line words.Freeze a k e
+of-Ok base members body line words.Thaw a k e = body-Ok base members body line words.Thaw a k e
+of-Ok base members body line words.Cut a k e = body-Ok base members body line words.Cut a k e
+of-Ok base members body line words.Join a k e = body-Ok base members body line words.Join a k e
+of-Ok base members body line words.Slow a k e = body-Ok base members body line words.Slow a k e
+of-Ok base members body line words.Rest a k e = body-Ok base members body line words.Rest a k e
+of-Ok base members body line words.Ctl a k e = body-Ok base members body line words.Ctl a k e
+of-Ok base members body line words.Trace a k e = body-Ok base members body line words.Trace a k e
 
-pub addition_in-Ok : (members : List Name) (body : List Line) (line : List ℕ) (a : Addition) → addition_in members body line ≡ Ok a → IsAddition members body line a
-addition_in-Ok members body line a e = known-Ok members body line (keyword_of (cut_word line).0) a refl e
+known-Ok : (base : Option ℕ) (members : List Name) (body : List Line) (line : List ℕ) (o : Option Keyword) (a : Addition) → keyword_of (cut_word line).0 ≡ o → known_addition base members body o (cut_word line).1 ≡ Ok a → IsAddition base members body line a
+known-Ok base members body line None a k e = absurd (err_is _ a e)
+known-Ok base members body line (Some keyword) a k e = of-Ok base members body line keyword a k e
+
+pub addition_in-Ok : (base : Option ℕ) (members : List Name) (body : List Line) (line : List ℕ) (a : Addition) → addition_in base members body line ≡ Ok a → IsAddition base members body line a
+addition_in-Ok base members body line a e = known-Ok base members body line (keyword_of (cut_word line).0) a refl e
+
+-- a base that is said is in its range
+abbrev IsBaseIfSaid : Option ℕ → Type 0
+IsBaseIfSaid None = Unit {0}
+IsBaseIfSaid (Some n) = (1 ≤ n) × (n ≤ 2 ^ 40)
 
 -- what holds of the lines so far
-record IsBegun (s : ScriptText) : Type 0 where
-  pub few : length s.head.members ≤ 16
-  pub different : AreDifferent s.head.members
-  pub body : AllAreLines s.head.members s.body
+record IsBegun (d : DraftText) : Type 0 where
+  pub base : IsBaseIfSaid d.base
+  pub few : length d.members ≤ 16
+  pub different : AreDifferent d.members
+  pub body : AllAreLines d.members d.body
+
+-- the lines so far, which say a draft: those of its head with the base somewhere among its members, and those of its body
+record SayDraft (d : DraftText) (ls : List (List ℕ)) : Type 0 where
+  pub before : List Name
+  pub behind : List Name
+  pub members : before ++ behind ≡ d.members
+  pub no_base : d.base ≡ None → behind ≡ []
+  pub lines : ls ≡ head_with_base d.cluster before d.base behind ++ body_lines d.members d.body
 
 -- one more line was taken
-record Adds (s : ScriptText) (line : List ℕ) (t : ScriptText) : Type 0 where
-  pub lines : lines_of t ≡ lines_of s ++ line ∷ []
-  pub begun : IsBegun t
+record Adds (d : DraftText) (ls : List (List ℕ)) : Type 0 where
+  pub says : SayDraft d ls
+  pub begun : IsBegun d
 
 AllAreLines-push : (members : List Name) (body : List Line) (line : Line) → AllAreLines members body → IsLine members line → AllAreLines members (body ++ line ∷ [])
 AllAreLines-push members [] line h k = (k, tt)
 AllAreLines-push members (l ∷ body) line h k = (h.0, AllAreLines-push members body line h.1 k)
 
-member-lines : (cluster name : Name) (members : List Name) → lines_of (record { head = record { cluster = cluster; members = members ++ name ∷ [] }; body = [] }) ≡ lines_of (record { head = record { cluster = cluster; members = members }; body = [] }) ++ member_line_text name ∷ []
-member-lines cluster name members =
-    ap (λ t. cluster_text cluster ∷ t)
-    (append-nil (map member_line_text (members ++ name ∷ []))
-    ∙ map-append member_line_text members (name ∷ [])
-    ∙ ap (λ t. t ++ member_line_text name ∷ []) (sym (append-nil (map member_line_text members))))
+-- where one more line goes
+push-member : {X : Type 0} (f : List X) (l : X) → ((f ++ []) ++ []) ++ l ∷ [] ≡ ((f ++ l ∷ []) ++ []) ++ []
+push-member f l = simp (append_assoc, append-nil)
 
-member-Adds : (cluster name : Name) (members : List Name) (body : List Line) → body ≡ [] → length members < 16 → place_of members name ≡ None → AreDifferent members
-    → Adds (record { head = record { cluster = cluster; members = members }; body = body }) (member_line_text name) (record { head = record { cluster = cluster; members = members ++ name ∷ [] }; body = body })
-member-Adds cluster name members [] is few absent different = record {
-  lines = member-lines cluster name members;
-  begun = record { few = omega (arith, length-append members (name ∷ [])); different = AreDifferent-push members name different absent; body = tt };
+push-base : {X : Type 0} (f : List X) (l : X) → ((f ++ []) ++ []) ++ l ∷ [] ≡ (f ++ l ∷ []) ++ []
+push-base f l = simp (append_assoc, append-nil)
+
+push-behind : {X : Type 0} (f g h : List X) (l : X) → ((f ++ (g ++ h)) ++ []) ++ l ∷ [] ≡ (f ++ (g ++ (h ++ l ∷ []))) ++ []
+push-behind f g h l = simp (append_assoc, append-nil)
+
+-- a head alone
+start : Name → Option ℕ → List Name → DraftText
+start cluster base members = record { cluster = cluster; base = base; members = members; body = [] }
+
+-- as long as no base is said, all members stand before it
+no-base-lines : (cluster : Name) (members : List Name) (ls : List (List ℕ)) → SayDraft (start cluster None members) ls → ls ≡ head_with_base cluster members None [] ++ []
+unfolding start
+no-base-lines cluster members ls h =
+    let none : h.behind ≡ [] = h.no_base refl in
+    let all : h.before ≡ members = sym (append-nil h.before) ∙ ap (λ b. h.before ++ b) (sym none) ∙ h.members in
+    h.lines ∙ ap (λ b. head_with_base cluster h.before None b ++ []) none ∙ ap (λ f. head_with_base cluster f None [] ++ []) all
+
+member-lines : (cluster name : Name) (base : Option ℕ) (members : List Name) (ls : List (List ℕ)) → SayDraft (start cluster base members) ls → SayDraft (start cluster base (members ++ name ∷ [])) (ls ++ member_line_text name ∷ [])
+unfolding start
+member-lines cluster name None members ls h = record {
+  before = members ++ name ∷ [];
+  behind = [];
+  members = append-nil (members ++ name ∷ []);
+  no_base = λ _. refl;
+  lines = ap (λ t. t ++ member_line_text name ∷ []) (no-base-lines cluster members ls h)
+      ∙ ap (λ t. cluster_text cluster ∷ t) (push-member (member_lines members) (member_line_text name) ∙ ap (λ t. (t ++ []) ++ []) (sym (map-append member_line_text members (name ∷ []))));
 }
-member-Adds cluster name members (l ∷ body) is few absent different = cc
+member-lines cluster name (Some n) members ls h = record {
+  before = h.before;
+  behind = h.behind ++ name ∷ [];
+  members = sym (append_assoc h.before h.behind (name ∷ [])) ∙ ap (λ t. t ++ name ∷ []) h.members;
+  no_base = λ e. absurd (none_is n (sym e));
+  lines = ap (λ t. t ++ member_line_text name ∷ []) h.lines
+      ∙ ap (λ t. cluster_text cluster ∷ t)
+          (push-behind (member_lines h.before) (base_text n ∷ []) (member_lines h.behind) (member_line_text name)
+          ∙ ap (λ t. (member_lines h.before ++ (base_text n ∷ t)) ++ []) (sym (map-append member_line_text h.behind (name ∷ []))));
+}
 
-addition-Adds : (s : ScriptText) (line : List ℕ) (a : Addition) → IsBegun s → IsAddition s.head.members s.body line a → Adds s line (with_addition s a)
-addition-Adds s line (additions.Member name) h is =
-    subst (λ (l : List ℕ). Adds s l (with_addition s (additions.Member name))) is.0 (member-Adds s.head.cluster name s.head.members s.body is.3 is.1 is.2 h.different)
-addition-Adds s line (additions.Body l) h is =
-    subst (λ (t : List ℕ). Adds s t (with_addition s (additions.Body l))) is.0 (record {
-      lines = ap (λ t. head_lines s.head ++ t) (map-append (line_text s.head.members) s.body (l ∷ [])) ∙ sym (append_assoc (head_lines s.head) (body_lines s.head.members s.body) (line_text s.head.members l ∷ []));
-      begun = record { few = h.few; different = h.different; body = AllAreLines-push s.head.members s.body l h.body is.1 };
+base-lines : (cluster : Name) (n : ℕ) (members : List Name) (ls : List (List ℕ)) → SayDraft (start cluster None members) ls → SayDraft (start cluster (Some n) members) (ls ++ base_text n ∷ [])
+unfolding start
+base-lines cluster n members ls h = record {
+  before = members;
+  behind = [];
+  members = append-nil members;
+  no_base = λ e. absurd (none_is n (sym e));
+  lines = ap (λ t. t ++ base_text n ∷ []) (no-base-lines cluster members ls h) ∙ ap (λ t. cluster_text cluster ∷ t) (push-base (member_lines members) (base_text n));
+}
+
+body-lines : (d : DraftText) (l : Line) (ls : List (List ℕ)) → SayDraft d ls → SayDraft (record d { body = d.body ++ l ∷ [] }) (ls ++ line_text d.members l ∷ [])
+body-lines d l ls h = record {
+  before = h.before;
+  behind = h.behind;
+  members = h.members;
+  no_base = h.no_base;
+  lines = ap (λ t. t ++ line_text d.members l ∷ []) h.lines
+      ∙ append_assoc (head_with_base d.cluster h.before d.base h.behind) (body_lines d.members d.body) (line_text d.members l ∷ [])
+      ∙ ap (λ t. head_with_base d.cluster h.before d.base h.behind ++ t) (sym (map-append (line_text d.members) d.body (l ∷ [])));
+}
+
+member-Adds : (cluster name : Name) (base : Option ℕ) (members : List Name) (body : List Line) (ls : List (List ℕ)) → body ≡ [] → length members < 16 → place_of members name ≡ None
+    → Adds (record { cluster = cluster; base = base; members = members; body = body }) ls
+    → Adds (record { cluster = cluster; base = base; members = members ++ name ∷ []; body = body }) (ls ++ member_line_text name ∷ [])
+unfolding start
+member-Adds cluster name base members [] ls is few absent h = record {
+  says = member-lines cluster name base members ls h.says;
+  begun = record { base = h.begun.base; few = omega (arith, length-append members (name ∷ [])); different = AreDifferent-push members name h.begun.different absent; body = tt };
+}
+member-Adds cluster name base members (l ∷ body) ls is few absent h = cc
+
+base-Adds : (cluster : Name) (n : ℕ) (base : Option ℕ) (members : List Name) (body : List Line) (ls : List (List ℕ)) → base ≡ None → body ≡ [] → 1 ≤ n → n ≤ 2 ^ 40
+    → Adds (record { cluster = cluster; base = base; members = members; body = body }) ls
+    → Adds (record { cluster = cluster; base = Some n; members = members; body = body }) (ls ++ base_text n ∷ [])
+unfolding start
+base-Adds cluster n None members [] ls first is least most h = record {
+  says = base-lines cluster n members ls h.says;
+  begun = record { base = (least, most); few = h.begun.few; different = h.begun.different; body = tt };
+}
+base-Adds cluster n None members (l ∷ body) ls first is least most h = cc
+base-Adds cluster n (Some k) members body ls first is least most h = absurd (none_is k (sym first))
+
+addition-Adds : (d : DraftText) (ls : List (List ℕ)) (line : List ℕ) (a : Addition) → Adds d ls → IsAddition d.base d.members d.body line a → Adds (with_addition d a) (ls ++ line ∷ [])
+addition-Adds d ls line (additions.Member name) h is =
+    subst (λ (l : List ℕ). Adds (with_addition d (additions.Member name)) (ls ++ l ∷ [])) is.0 (member-Adds d.cluster name d.base d.members d.body ls is.3 is.1 is.2 h)
+addition-Adds d ls line (additions.Base n) h is =
+    subst (λ (l : List ℕ). Adds (with_addition d (additions.Base n)) (ls ++ l ∷ [])) is.0 (base-Adds d.cluster n d.base d.members d.body ls is.3 is.4 is.1 is.2 h)
+addition-Adds d ls line (additions.Body l) h is =
+    subst (λ (t : List ℕ). Adds (with_addition d (additions.Body l)) (ls ++ t ∷ [])) is.0 (record {
+      says = body-lines d l ls h.says;
+      begun = record { base = h.begun.base; few = h.begun.few; different = h.begun.different; body = AllAreLines-push d.members d.body l h.begun.body is.1 };
     })
 
-line-Adds : (s t : ScriptText) (line : List ℕ) → IsBegun s → with_line s line ≡ Ok t → Adds s line t
-line-Adds s t line h e =
-    let p = on_ok-Ok (addition_in s.head.members s.body line) (λ added. Ok (with_addition s added)) t e in
-    subst (Adds s line) (ok_is (with_addition s p.0) t p.2) (addition-Adds s line p.0 h (addition_in-Ok s.head.members s.body line p.0 p.1))
+line-Adds : (d e : DraftText) (ls : List (List ℕ)) (line : List ℕ) → Adds d ls → with_line d line ≡ Ok e → Adds e (ls ++ line ∷ [])
+line-Adds d e ls line h is =
+    let p = on_ok-Ok (addition_in d.base d.members d.body line) (λ added. Ok (with_addition d added)) e is in
+    subst (λ (x : DraftText). Adds x (ls ++ line ∷ [])) (ok_is (with_addition d p.0) e p.2) (addition-Adds d ls line p.0 h (addition_in-Ok d.base d.members d.body line p.0 p.1))
 
 -- the first line
 alone-Ok : (name x : Name) (rest : Option (List ℕ)) → alone name rest ≡ Ok x → (name ≡ x) × (rest ≡ None)
@@ -193,85 +336,101 @@ first_line-Ok line x e = begun_by-Ok line (keyword_of (cut_word line).0) x refl 
 nothing-AreDifferent : AreDifferent []
 nothing-AreDifferent i j name p q = cc
 
-begun-IsBegun : (name : Name) → IsBegun (begun name)
-begun-IsBegun name = record { few = omega arith; different = nothing-AreDifferent; body = tt }
+begun-Adds : (name : Name) → Adds (begun name) (cluster_text name ∷ [])
+begun-Adds name = record {
+  says = record { before = []; behind = []; members = refl; no_base = λ _. refl; lines = refl };
+  begun = record { base = tt; few = omega arith; different = nothing-AreDifferent; body = tt };
+}
 
--- the lines so far, where there are some
-abbrev lines_so_far : Option ScriptText → List (List ℕ)
-lines_so_far None = []
-lines_so_far (Some s) = lines_of s
+-- the lines so far, which say a draft or are none
+abbrev AddsIfAny : Option DraftText → List (List ℕ) → Type 0
+AddsIfAny None ls = ls ≡ []
+AddsIfAny (Some d) ls = Adds d ls
 
-abbrev IsBegunIfAny : Option ScriptText → Type 0
-IsBegunIfAny None = Unit {0}
-IsBegunIfAny (Some s) = IsBegun s
-
--- lines were taken
-record Takes (o : Option ScriptText) (more : List (List ℕ)) (p : Option ScriptText) : Type 0 where
-  pub lines : lines_so_far p ≡ lines_so_far o ++ more
-  pub begun : IsBegunIfAny p
-
-counted-Takes : (o p : Option ScriptText) (line : List ℕ) → IsBegunIfAny o → after_counted o line ≡ Ok p → Takes o (line ∷ []) p
-counted-Takes None p line h e =
+counted-Adds : (o p : Option DraftText) (ls : List (List ℕ)) (line : List ℕ) → AddsIfAny o ls → after_counted o line ≡ Ok p → AddsIfAny p (ls ++ line ∷ [])
+counted-Adds None p ls line h e =
     let q = on_ok-Ok (first_line line) (λ name. Ok (Some (begun name))) p e in
-    subst (Takes None (line ∷ [])) (ok_is (Some (begun q.0)) p q.2) (record { lines = ap (λ t. t ∷ []) (first_line-Ok line q.0 q.1); begun = begun-IsBegun q.0 })
-counted-Takes (Some s) p line h e =
-    let q = on_ok-Ok (with_line s line) (λ t. Ok (Some t)) p e in
-    let a = line-Adds s q.0 line h q.1 in
-    subst (Takes (Some s) (line ∷ [])) (ok_is (Some q.0) p q.2) (record { lines = a.lines; begun = a.begun })
+    let all : cluster_text q.0 ∷ [] ≡ ls ++ line ∷ [] = ap (λ t. t ∷ []) (first_line-Ok line q.0 q.1) ∙ ap (λ t. t ++ line ∷ []) (sym h) in
+    subst (λ (x : Option DraftText). AddsIfAny x (ls ++ line ∷ [])) (ok_is (Some (begun q.0)) p q.2) (subst (Adds (begun q.0)) all (begun-Adds q.0))
+counted-Adds (Some d) p ls line h e =
+    let q = on_ok-Ok (with_line d line) (λ t. Ok (Some t)) p e in
+    subst (λ (x : Option DraftText). AddsIfAny x (ls ++ line ∷ [])) (ok_is (Some q.0) p q.2) (line-Adds d q.0 ls line h q.1)
 
-text-Takes : (o p : Option ScriptText) (line : List ℕ) (t : Bool) → IsBegunIfAny o → cond t (Ok o) (after_counted o line) ≡ Ok p → Takes o (cond t [] (line ∷ [])) p
-text-Takes o p line true h e = subst (Takes o []) (ok_is o p e) (record { lines = sym (append-nil (lines_so_far o)); begun = h })
-text-Takes o p line false h e = counted-Takes o p line h e
+text-Adds : (o p : Option DraftText) (ls : List (List ℕ)) (line : List ℕ) (t : Bool) → AddsIfAny o ls → cond t (Ok o) (after_counted o line) ≡ Ok p → AddsIfAny p (ls ++ cond t [] (line ∷ []))
+text-Adds o p ls line true h e = subst (λ (x : Option DraftText). AddsIfAny x (ls ++ [])) (ok_is o p e) (subst (AddsIfAny o) (sym (append-nil ls)) h)
+text-Adds o p ls line false h e = counted-Adds o p ls line h e
 
 short : (line : List ℕ) → nat_le (length line) 8192 ≡ true → length line ≤ 8192
 short line e = grind (arith, nat_tests)
 
-line-Takes : (o p : Option ScriptText) (line : List ℕ) → IsBegunIfAny o → after_line o line ≡ Ok p → IsInForm line × Takes o (cond (is_skipped line) [] (line ∷ [])) p
-line-Takes o p line h e =
+line-read : (o p : Option DraftText) (ls : List (List ℕ)) (line : List ℕ) → AddsIfAny o ls → after_line o line ≡ Ok p → IsInForm line × AddsIfAny p (ls ++ cond (is_skipped line) [] (line ∷ []))
+line-read o p ls line h e =
     let a = cond-Ok (is_utf8 line) (cond (nat_le (length line) 8192) (after_text o line) (Err faults.TooLong)) faults.NotUtf8 p e in
     let b = cond-Ok (nat_le (length line) 8192) (after_text o line) faults.TooLong p a.1 in
-    (record { text = a.0; short = short line b.0 }, text-Takes o p line (is_skipped line) h b.1)
+    (record { text = a.0; short = short line b.0 }, text-Adds o p ls line (is_skipped line) h b.1)
 
 counted : (t : Bool) (line : List ℕ) (rest : List (List ℕ)) → cond t [] (line ∷ []) ++ rest ≡ cond t rest (line ∷ rest)
 counted true line rest = refl
 counted false line rest = refl
 
-lines-Takes : (number : ℕ) (o p : Option ScriptText) (lines : List (List ℕ)) → IsBegunIfAny o → after_lines number o lines ≡ Ok p → AllInForm lines × Takes o (counted_lines lines) p
-lines-Takes number o p [] h e = (tt, subst (Takes o []) (ok_is o p e) (record { lines = sym (append-nil (lines_so_far o)); begun = h }))
-lines-Takes number o p (line ∷ rest) h e =
+lines-Adds : (number : ℕ) (o p : Option DraftText) (ls lines : List (List ℕ)) → AddsIfAny o ls → after_lines number o lines ≡ Ok p → AllInForm lines × AddsIfAny p (ls ++ counted_lines lines)
+lines-Adds number o p ls [] h e = (tt, subst (λ (x : Option DraftText). AddsIfAny x (ls ++ [])) (ok_is o p e) (subst (AddsIfAny o) (sym (append-nil ls)) h))
+lines-Adds number o p ls (line ∷ rest) h e =
     let q = on_ok-Ok (at_line number (after_line o line)) (λ t. after_lines (number + 1) t rest) p e in
-    let a = line-Takes o q.0 line h (at_line-Ok number (after_line o line) q.0 q.1) in
-    let b = lines-Takes (number + 1) q.0 p rest a.1.begun q.2 in (
-      (a.0, b.0),
-      record {
-        lines = b.1.lines
-            ∙ ap (λ ls. ls ++ counted_lines rest) a.1.lines
-            ∙ append_assoc (lines_so_far o) (cond (is_skipped line) [] (line ∷ [])) (counted_lines rest)
-            ∙ ap (λ ls. lines_so_far o ++ ls) (counted (is_skipped line) line (counted_lines rest));
-        begun = b.1.begun;
-      },
-    )
+    let a = line-read o q.0 ls line h (at_line-Ok number (after_line o line) q.0 q.1) in
+    let b = lines-Adds (number + 1) q.0 p (ls ++ cond (is_skipped line) [] (line ∷ [])) rest a.1 q.2 in
+    let all : (ls ++ cond (is_skipped line) [] (line ∷ [])) ++ counted_lines rest ≡ ls ++ cond (is_skipped line) (counted_lines rest) (line ∷ counted_lines rest) =
+        append_assoc ls (cond (is_skipped line) [] (line ∷ [])) (counted_lines rest) ∙ ap (λ t. ls ++ t) (counted (is_skipped line) line (counted_lines rest))
+    in
+    ((a.0, b.0), subst (AddsIfAny p) all b.1)
 
 -- a whole script
 with_some-Ok : (s t : ScriptText) (members : List Name) → with_some s members ≡ Ok t → (s ≡ t) × (0 < length members)
 with_some-Ok s t [] e = absurd (err_is _ t e)
 with_some-Ok s t (m ∷ members) e = (ok_is s t e, omega arith)
 
-finished-Ok : (o : Option ScriptText) (t : ScriptText) → finished o ≡ Ok t → (o ≡ Some t) × (0 < length t.head.members)
+finished-Ok : (o : Option DraftText) (t : ScriptText) → finished o ≡ Ok t → (d : DraftText) × (o ≡ Some d) × (script_so_far d ≡ t) × (0 < length d.members)
 finished-Ok None t e = absurd (err_is _ t e)
-finished-Ok (Some s) t e =
-    let p = with_some-Ok s t s.head.members e in
-    (ap Some p.0, subst (λ (u : ScriptText). 0 < length u.head.members) p.0 p.1)
+finished-Ok (Some d) t e =
+    let p = with_some-Ok (script_so_far d) t d.members e in
+    (d, refl, p.0, p.1)
 
-pub lines-read : (lines : List (List ℕ)) (o : Option ScriptText) (text : ScriptText) → after_lines 1 None lines ≡ Ok o → finished o ≡ Ok text → IsScript text × (AllInForm lines × (counted_lines lines ≡ lines_of text))
+-- lines that are a script
+pub record AreScript (text : ScriptText) (all : List (List ℕ)) : Type 0 where
+  pub script : IsScript text
+  pub head : List (List ℕ)
+  pub says : IsHeadLines text.head head
+  pub counted : counted_lines all ≡ head ++ body_lines text.head.members text.body
+
+base-range : (said : Option ℕ) → IsBaseIfSaid said → (1 ≤ base_or_default said) × (base_or_default said ≤ 2 ^ 40)
+base-range None h = (omega arith, omega arith)
+base-range (Some n) h = h
+
+draft-AreScript : (d : DraftText) (all : List (List ℕ)) → Adds d (counted_lines all) → 0 < length d.members → AreScript (script_so_far d) all
+draft-AreScript d all h some =
+    let range = base-range d.base h.begun.base in
+    record {
+      script = record {
+        head = record { base_least = range.0; base_most = range.1; some = some; few = h.begun.few; different = h.begun.different };
+        body = h.begun.body;
+      };
+      head = head_with_base d.cluster h.says.before d.base h.says.behind;
+      says = record { before = h.says.before; said = d.base; behind = h.says.behind; members = h.says.members; base = refl; order = refl };
+      counted = h.says.lines;
+    }
+
+lines-form : (lines : List (List ℕ)) (o : Option DraftText) → after_lines 1 None lines ≡ Ok o → AllInForm lines × AddsIfAny o (counted_lines lines)
+lines-form lines o e = lines-Adds 1 None o [] lines refl e
+
+pub lines-read : (lines : List (List ℕ)) (o : Option DraftText) (text : ScriptText) → after_lines 1 None lines ≡ Ok o → finished o ≡ Ok text → AreScript text lines
 lines-read lines o text e f =
-    let p = lines-Takes 1 None o lines tt e in
+    let p = lines-form lines o e in
     let q = finished-Ok o text f in
-    let t : Takes None (counted_lines lines) (Some text) = subst (Takes None (counted_lines lines)) q.0 p.1 in
-    (record { head = record { some = q.1; few = t.begun.few; different = t.begun.different }; body = t.begun.body }, (p.0, sym t.lines))
+    let h : AddsIfAny (Some q.0) (counted_lines lines) = subst (λ (x : Option DraftText). AddsIfAny x (counted_lines lines)) q.1 p.1 in
+    subst (λ (t : ScriptText). AreScript t lines) q.2 (draft-AreScript q.0 lines h q.3)
 
 pub read-is-spelled : (bytes : List ℕ) (text : ScriptText) → script_of bytes ≡ Ok text → IsScript text × Spells bytes text
 read-is-spelled bytes text e =
-    let p = on_ok-Ok (after_lines 1 None (lines_in bytes)) (λ s. at_line (length (lines_in bytes) + 1) (finished s)) text e in
+    let p = on_ok-Ok (after_lines 1 None (lines_in bytes)) (λ d. at_line (length (lines_in bytes) + 1) (finished d)) text e in
     let q = lines-read (lines_in bytes) p.0 text p.1 (at_line-Ok (length (lines_in bytes) + 1) (finished p.0) text p.2) in
-    (q.0, record { form = q.1.0; lines = q.1.1 })
+    (q.script, record { form = (lines-form (lines_in bytes) p.0 p.1).0; head = q.head; says = q.says; lines = q.counted })

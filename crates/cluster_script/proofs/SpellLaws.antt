@@ -14,16 +14,18 @@ use Rattle.cluster_script.specs.Members.{member_of}
 use Rattle.cluster_script.specs.Numbers.{number}
 use Rattle.cluster_script.specs.Lines.{first_at}
 use Rattle.cluster_script.specs.Options.{on_some}
-use Rattle.cluster_script.specs.Arguments.{some_or, number_in, switch_in, declared_member, member_in, end_in, line_end, last_word, one_word, same_end, apart, second_end, two_ends, command}
+use Rattle.cluster_script.specs.Ranges.{commit_size_of, delay_of}
+use Rattle.cluster_script.specs.Arguments.{some_or, number_in, switch_in, transition_in, commit_size_in, delay_in, declared_member, member_in, end_in, line_end, last_word, one_word, word_behind, two_words, words_behind, same_end, apart, two_ends, commit_in, stream_in, slow_in, command}
+use Rattle.cluster_script.specs.Draft.{DraftText, script_so_far}
 use Rattle.cluster_script.specs.Faults.{both}
-use Rattle.cluster_script.specs.Script.{end_text, switch_text, two_texts}
+use Rattle.cluster_script.specs.Script.{end_text, switch_text, transition_text, two_texts, base_text, member_lines, base_or_default, base_lines, head_with_base, IsHeadLines}
 use Rattle.pat_base.specs.Name.{name_bytes, name_of}
 use Rattle.pat_base.specs.declared.name.Name.{Name}
 use Rattle.cluster_script.specs.Faults.{on_ok}
 use Rattle.cluster_script.specs.Lines.{lines_in, is_skipped, counted_lines}
 use Rattle.cluster_script.specs.Members.{place_of}
-use Rattle.cluster_script.specs.Reading.{has_option, declared_once, named_member, new_member, next_member, addition_of, known_addition, addition_in, with_addition, with_line, cluster_named, begun_by, first_line, begun, after_counted, after_text, after_line, after_lines, at_line, with_some, finished, script_of}
-use Rattle.cluster_script.specs.Script.{HeadText, ScriptText, IsHead, IsScript, IsMember, IsEnd, IsLink, IsCommand, IsLine, AllAreLines, cluster_text, member_line_text, line_text, body_lines, lines_of, IsInForm, AllInForm, Spells, member_text, text_of_name}
+use Rattle.cluster_script.specs.Reading.{has_option, declared_once, named_member, new_member, next_member, ranged_base, base_in, base_end, next_base, addition_of, known_addition, addition_in, with_addition, with_line, cluster_named, begun_by, first_line, begun, after_counted, after_text, after_line, after_lines, at_line, with_some, finished, script_of}
+use Rattle.cluster_script.specs.Script.{ScriptText, IsScript, IsMember, IsEnd, IsLink, IsCommand, IsLine, AllAreLines, cluster_text, member_line_text, line_text, body_lines, IsInForm, AllInForm, Spells, member_text, text_of_name}
 use Rattle.cluster_script.specs.Words.{spelled, keyword_of, cut_word}
 use Rattle.cluster_script.specs.declared.addition.Addition.TheVariants as additions
 use Rattle.cluster_script.specs.declared.fault.Fault.{Fault}
@@ -36,9 +38,14 @@ use Rattle.cluster_script.specs.declared.line.Command.{Command}
 use Rattle.cluster_script.specs.declared.line.Command.TheVariants as commands
 use Rattle.cluster_script.specs.declared.line.Line.{Line}
 use Rattle.cluster_script.specs.declared.line.Line.TheVariants as lines
+use Rattle.cluster_script.specs.declared.line.Transition.{Transition}
+use Rattle.cluster_script.specs.declared.line.Transition.TheVariants as transitions
+use Rattle.cluster_script.specs.declared.ranges.CommitSize.{CommitSize}
+use Rattle.cluster_script.specs.declared.ranges.Delay.{Delay}
 use Rattle.cluster_script.proofs.MemberLaws.{member_of-is, same_member_id}
 use Rattle.cluster_script.proofs.NameLaws.{AreDifferent, place_of-Some, place_of-None}
 use Rattle.cluster_script.proofs.NumberLaws.{number-decimal, first_at-decimal}
+use Rattle.cluster_script.proofs.RangeLaws.{commit_size_of-Some, delay_of-Some}
 use Rattle.cluster_script.proofs.WordLaws.{cut_word-again, cut_word-alone, cut_word-spelled, keyword_of-word_of, passed}
 
 -- no blank stands in a name
@@ -130,13 +137,31 @@ other_end : (x y : End) (t : Bool) → same_end x y ≡ t → x ≢ y → t ≡ 
 other_end x y true is other = absurd (other (same_end-is x y is))
 other_end x y false is other = refl
 
+-- words behind others
+word_behind-again : {A B : Type 0} (members : List Name) (x : A) (read : List ℕ → Result B Fault) (word : List ℕ) (y : B) → 0 < length members → first_at 32 word ≡ None → read word ≡ Ok y → word_behind members (Ok x) read (Some word) ≡ Ok (x, y)
+word_behind-again members x read word y some plain value =
+    ap (λ p. last_word members (both (Ok x) (read p.0)) p.1) (cut_word-alone word plain)
+    ∙ ap (λ r. last_word members (both (Ok x) r) None) value
+    ∙ last_word-again members (x, y) some
+
+two_words-again : {A B : Type 0} (members : List Name) (first : List ℕ → Result A Fault) (second : List ℕ → Result B Fault) (word other : List ℕ) (x : A) (y : B) → 0 < length members
+    → first_at 32 word ≡ None → first word ≡ Ok x → first_at 32 other ≡ None → second other ≡ Ok y → two_words members first second (Some (two_texts word other)) ≡ Ok (x, y)
+two_words-again members first second word other x y some plain value other_plain other_value =
+    ap (λ p. word_behind members (first p.0) second p.1) (cut_word-again word other plain)
+    ∙ ap (λ r. word_behind members r second (Some other)) value
+    ∙ word_behind-again members x second other y some other_plain other_value
+
+words_behind-again : {A B C : Type 0} (members : List Name) (x : A) (read : List ℕ → Result B Fault) (last : List ℕ → Result C Fault) (word other : List ℕ) (y : B) (z : C) → 0 < length members
+    → first_at 32 word ≡ None → read word ≡ Ok y → first_at 32 other ≡ None → last other ≡ Ok z → words_behind members (Ok x) read last (Some (two_texts word other)) ≡ Ok ((x, y), z)
+words_behind-again members x read last word other y z some plain value other_plain other_value =
+    ap (λ p. word_behind members (both (Ok x) (read p.0)) last p.1) (cut_word-again word other plain)
+    ∙ ap (λ r. word_behind members (both (Ok x) r) last (Some other)) value
+    ∙ word_behind-again members (x, y) last other z some other_plain other_value
+
 two_ends-again : (members : List Name) (x y : End) → 0 < length members → AreDifferent members → IsLink members x y → two_ends members (Some (two_texts (end_text members x) (end_text members y))) ≡ Ok (x, y)
 two_ends-again members x y some h link =
-    ap (λ p. second_end members (end_in members p.0) p.1) (cut_word-again (end_text members x) (end_text members y) (first_at-end members x))
-    ∙ ap (λ r. second_end members r (Some (end_text members y))) (end_in-again members x h link.first_is)
-    ∙ ap (λ p. on_ok (last_word members (both (Ok x) (end_in members p.0)) p.1) apart) (cut_word-alone (end_text members y) (first_at-end members y))
-    ∙ ap (λ r. on_ok (last_word members (both (Ok x) r) None) apart) (end_in-again members y h link.second_is)
-    ∙ ap (λ r. on_ok r apart) (last_word-again members (x, y) some)
+    ap (λ r. on_ok r apart)
+    (two_words-again members (end_in members) (end_in members) (end_text members x) (end_text members y) x y some (first_at-end members x) (end_in-again members x h link.first_is) (first_at-end members y) (end_in-again members y h link.second_is))
     ∙ ap (λ t. cond t (Err faults.SameEnds) (Ok (x, y))) (other_end x y (same_end x y) refl link.apart)
 
 -- lines of the body
@@ -150,41 +175,105 @@ switch-again : (members : List Name) (on : Bool) → 0 < length members → one_
 switch-again members true some = one_word-again members switch_in (codes "on") true some refl refl
 switch-again members false some = one_word-again members switch_in (codes "off") false some refl refl
 
+-- numbers in a range
+number_in-again : (n : ℕ) → n < 2 ^ 64 → number_in (decimal n) ≡ Ok n
+number_in-again n fits = ap (some_or faults.BadNumber) (number-decimal n fits)
+
+pub size-fits : (size : CommitSize) → size.bytes < 2 ^ 64
+size-fits size = omega (arith, size.most)
+
+pub delay-fits : (delay : Delay) → delay.ticks < 2 ^ 64
+delay-fits delay = omega (arith, delay.most)
+
+commit_size_in-again : (size : CommitSize) → commit_size_in (decimal size.bytes) ≡ Ok size
+commit_size_in-again size =
+    ap (λ r. on_ok r (λ n. some_or faults.BadNumber (commit_size_of n))) (number_in-again size.bytes (size-fits size))
+    ∙ ap (some_or faults.BadNumber) (commit_size_of-Some size.bytes size refl)
+
+delay_in-again : (delay : Delay) → delay_in (decimal delay.ticks) ≡ Ok delay
+delay_in-again delay =
+    ap (λ r. on_ok r (λ n. some_or faults.BadNumber (delay_of n))) (number_in-again delay.ticks (delay-fits delay))
+    ∙ ap (some_or faults.BadNumber) (delay_of-Some delay.ticks delay refl)
+
+transition_in-again : (transition : Transition) → transition_in (transition_text transition) ≡ Ok transition
+transition_in-again transitions.Stop = refl
+transition_in-again transitions.Start = refl
+
+first_at-transition : (transition : Transition) → first_at 32 (transition_text transition) ≡ None
+first_at-transition transitions.Stop = refl
+first_at-transition transitions.Start = refl
+
+first_at-member : (members : List Name) (m : MemberId) → first_at 32 (member_text members m) ≡ None
+first_at-member members m = first_at-some_name (slice_get members m.number)
+
+-- a member and how long its commit is
+commit-again : (members : List Name) (m : MemberId) (size : CommitSize) → 0 < length members → AreDifferent members → IsMember members m → commit_in members (Some (two_texts (member_text members m) (decimal size.bytes))) ≡ Ok (commands.Commit m size)
+commit-again members m size some h is =
+    ap (λ r. on_ok r (λ said. Ok (commands.Commit said.0 said.1)))
+    (two_words-again members (member_in members) commit_size_in (member_text members m) (decimal size.bytes) m size some (first_at-member members m) (member_in-again members m h is) (first_at-decimal 32 size.bytes (omega arith) (size-fits size)) (commit_size_in-again size))
+
+-- a member and a number
+stream-again : (members : List Name) (m : MemberId) (n : ℕ) → 0 < length members → AreDifferent members → IsMember members m → n < 2 ^ 64 → stream_in members (Some (two_texts (member_text members m) (decimal n))) ≡ Ok (commands.Stream m n)
+stream-again members m n some h is fits =
+    ap (λ r. on_ok r (λ said. Ok (commands.Stream said.0 said.1)))
+    (two_words-again members (member_in members) number_in (member_text members m) (decimal n) m n some (first_at-member members m) (member_in-again members m h is) (first_at-decimal 32 n (omega arith) fits) (number_in-again n fits))
+
+-- a member, what is delayed, and by how long
+slow-again : (members : List Name) (m : MemberId) (transition : Transition) (delay : Delay) → 0 < length members → AreDifferent members → IsMember members m
+    → slow_in members (Some (two_texts (member_text members m) (two_texts (transition_text transition) (decimal delay.ticks)))) ≡ Ok (commands.Slow m transition delay)
+slow-again members m transition delay some h is =
+    let words : List ℕ = two_texts (transition_text transition) (decimal delay.ticks) in
+    ap (λ r. on_ok r (λ said. Ok (commands.Slow said.0.0 said.0.1 said.1)))
+    (ap (λ p. words_behind members (member_in members p.0) transition_in delay_in p.1) (cut_word-again (member_text members m) words (first_at-member members m))
+    ∙ ap (λ r. words_behind members r transition_in delay_in (Some words)) (member_in-again members m h is)
+    ∙ words_behind-again members m transition_in delay_in (transition_text transition) (decimal delay.ticks) transition delay some (first_at-transition transition) (transition_in-again transition) (first_at-decimal 32 delay.ticks (omega arith) (delay-fits delay)) (delay_in-again delay))
+
 -- a line with its first word and the words behind it
 record IsSaid (members : List Name) (line : Line) : Type 0 where
   pub keyword : Keyword
   pub words : List ℕ
   pub text : line_text members line ≡ spelled keyword words
-  pub in_body : (body : List Line) → addition_of members body keyword (Some words) ≡ Ok (additions.Body line)
+  pub in_body : (base : Option ℕ) (body : List Line) → addition_of base members body keyword (Some words) ≡ Ok (additions.Body line)
+
+-- a line that was read is added to the body
+added : (line : Line) (r : Result Line Fault) → r ≡ Ok line → on_ok r (λ l. Ok (additions.Body l)) ≡ Ok (additions.Body line)
+added line r e = ap (λ r. on_ok r (λ l. Ok (additions.Body l))) e
 
 command-IsSaid : (members : List Name) (c : Command) → 0 < length members → AreDifferent members → IsCommand members c → IsSaid members (lines.Command c)
-command-IsSaid members (commands.Turn m) some h is = record { keyword = words.Turn; words = member_text members m; text = refl; in_body = λ body. ap (λ r. on_ok (on_ok r (λ m. command (commands.Turn m))) (λ l. Ok (additions.Body l))) (member-again members m some h is) }
-command-IsSaid members (commands.Deliver n) some h is = record { keyword = words.Deliver; words = decimal n; text = refl; in_body = λ body. ap (λ r. on_ok (on_ok r (λ n. command (commands.Deliver n))) (λ l. Ok (additions.Body l))) (number-again members n some is) }
-command-IsSaid members (commands.Lose n) some h is = record { keyword = words.Lose; words = decimal n; text = refl; in_body = λ body. ap (λ r. on_ok (on_ok r (λ n. command (commands.Lose n))) (λ l. Ok (additions.Body l))) (number-again members n some is) }
-command-IsSaid members (commands.Hold m) some h is = record { keyword = words.Hold; words = member_text members m; text = refl; in_body = λ body. ap (λ r. on_ok (on_ok r (λ m. command (commands.Hold m))) (λ l. Ok (additions.Body l))) (member-again members m some h is) }
-command-IsSaid members (commands.Resume m) some h is = record { keyword = words.Resume; words = member_text members m; text = refl; in_body = λ body. ap (λ r. on_ok (on_ok r (λ m. command (commands.Resume m))) (λ l. Ok (additions.Body l))) (member-again members m some h is) }
-command-IsSaid members (commands.Kill m) some h is = record { keyword = words.Kill; words = member_text members m; text = refl; in_body = λ body. ap (λ r. on_ok (on_ok r (λ m. command (commands.Kill m))) (λ l. Ok (additions.Body l))) (member-again members m some h is) }
-command-IsSaid members (commands.Restart m) some h is = record { keyword = words.Restart; words = member_text members m; text = refl; in_body = λ body. ap (λ r. on_ok (on_ok r (λ m. command (commands.Restart m))) (λ l. Ok (additions.Body l))) (member-again members m some h is) }
-command-IsSaid members (commands.Cut x y) some h is = record { keyword = words.Cut; words = two_texts (end_text members x) (end_text members y); text = refl; in_body = λ body. ap (λ r. on_ok (on_ok r (λ link. command (commands.Cut link.0 link.1))) (λ l. Ok (additions.Body l))) (two_ends-again members x y some h is) }
-command-IsSaid members (commands.Join x y) some h is = record { keyword = words.Join; words = two_texts (end_text members x) (end_text members y); text = refl; in_body = λ body. ap (λ r. on_ok (on_ok r (λ link. command (commands.Join link.0 link.1))) (λ l. Ok (additions.Body l))) (two_ends-again members x y some h is) }
-command-IsSaid members (commands.Trace on) some h is = record { keyword = words.Trace; words = switch_text on; text = refl; in_body = λ body. ap (λ r. on_ok (on_ok r (λ on. command (commands.Trace on))) (λ l. Ok (additions.Body l))) (switch-again members on some) }
+command-IsSaid members (commands.Turn m) some h is = record { keyword = words.Turn; words = member_text members m; text = refl; in_body = λ base body. added _ _ (ap (λ r. on_ok r (λ m. command (commands.Turn m))) (member-again members m some h is)) }
+command-IsSaid members (commands.Hold m) some h is = record { keyword = words.Hold; words = member_text members m; text = refl; in_body = λ base body. added _ _ (ap (λ r. on_ok r (λ m. command (commands.Hold m))) (member-again members m some h is)) }
+command-IsSaid members (commands.Resume m) some h is = record { keyword = words.Resume; words = member_text members m; text = refl; in_body = λ base body. added _ _ (ap (λ r. on_ok r (λ m. command (commands.Resume m))) (member-again members m some h is)) }
+command-IsSaid members (commands.Kill m) some h is = record { keyword = words.Kill; words = member_text members m; text = refl; in_body = λ base body. added _ _ (ap (λ r. on_ok r (λ m. command (commands.Kill m))) (member-again members m some h is)) }
+command-IsSaid members (commands.Restart m) some h is = record { keyword = words.Restart; words = member_text members m; text = refl; in_body = λ base body. added _ _ (ap (λ r. on_ok r (λ m. command (commands.Restart m))) (member-again members m some h is)) }
+command-IsSaid members (commands.Promote m) some h is = record { keyword = words.Promote; words = member_text members m; text = refl; in_body = λ base body. added _ _ (ap (λ r. on_ok r (λ m. command (commands.Promote m))) (member-again members m some h is)) }
+command-IsSaid members (commands.Crash m) some h is = record { keyword = words.Crash; words = member_text members m; text = refl; in_body = λ base body. added _ _ (ap (λ r. on_ok r (λ m. command (commands.Crash m))) (member-again members m some h is)) }
+command-IsSaid members (commands.Freeze m) some h is = record { keyword = words.Freeze; words = member_text members m; text = refl; in_body = λ base body. added _ _ (ap (λ r. on_ok r (λ m. command (commands.Freeze m))) (member-again members m some h is)) }
+command-IsSaid members (commands.Thaw m) some h is = record { keyword = words.Thaw; words = member_text members m; text = refl; in_body = λ base body. added _ _ (ap (λ r. on_ok r (λ m. command (commands.Thaw m))) (member-again members m some h is)) }
+command-IsSaid members (commands.Deliver n) some h is = record { keyword = words.Deliver; words = decimal n; text = refl; in_body = λ base body. added _ _ (ap (λ r. on_ok r (λ n. command (commands.Deliver n))) (number-again members n some is)) }
+command-IsSaid members (commands.Lose n) some h is = record { keyword = words.Lose; words = decimal n; text = refl; in_body = λ base body. added _ _ (ap (λ r. on_ok r (λ n. command (commands.Lose n))) (number-again members n some is)) }
+command-IsSaid members (commands.Commit m size) some h is = record { keyword = words.Commit; words = two_texts (member_text members m) (decimal size.bytes); text = refl; in_body = λ base body. added _ _ (ap (λ r. on_ok r command) (commit-again members m size some h is)) }
+command-IsSaid members (commands.Stream m n) some h is = record { keyword = words.Stream; words = two_texts (member_text members m) (decimal n); text = refl; in_body = λ base body. added _ _ (ap (λ r. on_ok r command) (stream-again members m n some h is.0 is.1)) }
+command-IsSaid members (commands.Slow m transition delay) some h is = record { keyword = words.Slow; words = two_texts (member_text members m) (two_texts (transition_text transition) (decimal delay.ticks)); text = refl; in_body = λ base body. added _ _ (ap (λ r. on_ok r command) (slow-again members m transition delay some h is)) }
+command-IsSaid members (commands.Cut x y) some h is = record { keyword = words.Cut; words = two_texts (end_text members x) (end_text members y); text = refl; in_body = λ base body. added _ _ (ap (λ r. on_ok r (λ link. command (commands.Cut link.0 link.1))) (two_ends-again members x y some h is)) }
+command-IsSaid members (commands.Join x y) some h is = record { keyword = words.Join; words = two_texts (end_text members x) (end_text members y); text = refl; in_body = λ base body. added _ _ (ap (λ r. on_ok r (λ link. command (commands.Join link.0 link.1))) (two_ends-again members x y some h is)) }
+command-IsSaid members (commands.Trace on) some h is = record { keyword = words.Trace; words = switch_text on; text = refl; in_body = λ base body. added _ _ (ap (λ r. on_ok r (λ on. command (commands.Trace on))) (switch-again members on some)) }
 
 line-IsSaid : (members : List Name) (line : Line) → 0 < length members → AreDifferent members → IsLine members line → IsSaid members line
-line-IsSaid members (lines.Run n) some h is = record { keyword = words.Run; words = decimal n; text = refl; in_body = λ body. ap (λ r. on_ok (on_ok r (λ n. Ok (lines.Run n))) (λ l. Ok (additions.Body l))) (number-again members n some is) }
-line-IsSaid members (lines.Tick n) some h is = record { keyword = words.Tick; words = decimal n; text = refl; in_body = λ body. ap (λ r. on_ok (on_ok r (λ n. Ok (lines.Tick n))) (λ l. Ok (additions.Body l))) (number-again members n some is) }
+line-IsSaid members (lines.Run n) some h is = record { keyword = words.Run; words = decimal n; text = refl; in_body = λ base body. added _ _ (ap (λ r. on_ok r (λ n. Ok (lines.Run n))) (number-again members n some is)) }
+line-IsSaid members (lines.Tick n) some h is = record { keyword = words.Tick; words = decimal n; text = refl; in_body = λ base body. added _ _ (ap (λ r. on_ok r (λ n. Ok (lines.Tick n))) (number-again members n some is)) }
 line-IsSaid members (lines.Command c) some h is = command-IsSaid members c some h is
 
 -- what a line of this first word and these words adds
-addition-again : (members : List Name) (body : List Line) (keyword : Keyword) (rest : List ℕ) → addition_in members body (spelled keyword rest) ≡ addition_of members body keyword (Some rest)
-addition-again members body keyword rest =
-    ap (λ p. known_addition members body (keyword_of p.0) p.1) (cut_word-spelled keyword rest)
-    ∙ ap (λ k. known_addition members body k (Some rest)) (keyword_of-word_of keyword)
+addition-again : (base : Option ℕ) (members : List Name) (body : List Line) (keyword : Keyword) (rest : List ℕ) → addition_in base members body (spelled keyword rest) ≡ addition_of base members body keyword (Some rest)
+addition-again base members body keyword rest =
+    ap (λ p. known_addition base members body (keyword_of p.0) p.1) (cut_word-spelled keyword rest)
+    ∙ ap (λ k. known_addition base members body k (Some rest)) (keyword_of-word_of keyword)
 
-line-again : (s : ScriptText) (line : Line) → 0 < length s.head.members → AreDifferent s.head.members → IsLine s.head.members line → with_line s (line_text s.head.members line) ≡ Ok (record s { body = s.body ++ line ∷ [] })
-line-again s line some h is =
-    let said = line-IsSaid s.head.members line some h is in
-    ap (with_line s) said.text
-    ∙ ap (λ r. on_ok r (λ added. Ok (with_addition s added))) (addition-again s.head.members s.body said.keyword said.words ∙ said.in_body s.body)
+line-again : (d : DraftText) (line : Line) → 0 < length d.members → AreDifferent d.members → IsLine d.members line → with_line d (line_text d.members line) ≡ Ok (record d { body = d.body ++ line ∷ [] })
+line-again d line some h is =
+    let said = line-IsSaid d.members line some h is in
+    ap (with_line d) said.text
+    ∙ ap (λ r. on_ok r (λ added. Ok (with_addition d added))) (addition-again d.base d.members d.body said.keyword said.words ∙ said.in_body d.base d.body)
 
 -- no option stands in a name
 no_option : (v : List ℕ) → first_at 32 v ≡ None → has_option v ≡ false
@@ -204,25 +293,45 @@ new-again members name small absent =
     ∙ ap (λ o. named_member members [] o None) (name_of-name_bytes name)
     ∙ ap (declared_once name []) absent
 
--- a script of members alone
-start : Name → List Name → ScriptText
-start cluster members = record { head = record { cluster = cluster; members = members }; body = [] }
+-- a base is read again
+in_range : (n : ℕ) → 1 ≤ n → n ≤ 2 ^ 40 → (nat_le 1 n && nat_le n (2 ^ 40)) ≡ true
+in_range n least most = grind (arith, nat_tests)
 
-member_line-again : (cluster name : Name) (members : List Name) → length members < 16 → place_of members name ≡ None → with_line (start cluster members) (member_line_text name) ≡ Ok (start cluster (members ++ name ∷ []))
+pub base-fits : (n : ℕ) → n ≤ 2 ^ 40 → n < 2 ^ 64
+base-fits n most = omega arith
+
+next_base-again : (n : ℕ) → 1 ≤ n → n ≤ 2 ^ 40 → next_base None [] (Some (decimal n)) ≡ Ok n
+next_base-again n least most =
+    ap (λ p. on_ok (base_in p.0) (λ k. on_ok (base_end None [] p.1) (λ _. Ok k))) (cut_word-alone (decimal n) (first_at-decimal 32 n (omega arith) (base-fits n most)))
+    ∙ ap (λ r. on_ok (on_ok r ranged_base) (λ k. on_ok (base_end None [] None) (λ _. Ok k))) (number_in-again n (base-fits n most))
+    ∙ ap (λ t. on_ok (cond t (Ok n) (Err faults.BadNumber)) (λ k. on_ok (base_end None [] None) (λ _. Ok k))) (in_range n least most)
+
+-- a head alone
+start : Name → Option ℕ → List Name → DraftText
+start cluster base members = record { cluster = cluster; base = base; members = members; body = [] }
+
+member_line-again : (cluster name : Name) (base : Option ℕ) (members : List Name) → length members < 16 → place_of members name ≡ None → with_line (start cluster base members) (member_line_text name) ≡ Ok (start cluster base (members ++ name ∷ []))
 unfolding start
-member_line-again cluster name members small absent =
-    ap (λ r. on_ok r (λ added. Ok (with_addition (start cluster members) added)))
-    (addition-again members [] words.Member (name_bytes name)
+member_line-again cluster name base members small absent =
+    ap (λ r. on_ok r (λ added. Ok (with_addition (start cluster base members) added)))
+    (addition-again base members [] words.Member (name_bytes name)
     ∙ ap (λ r. on_ok r (λ name. Ok (additions.Member name))) (new-again members name small absent))
 
--- lines that are read one after the other
-Chain : Option ScriptText → List (List ℕ) → Option ScriptText → Type 0
-Chain o [] p = o ≡ p
-Chain o (line ∷ lines) p = (m : Option ScriptText) × (after_counted o line ≡ Ok m) × Chain m lines p
+base_line-again : (cluster : Name) (n : ℕ) (members : List Name) → 1 ≤ n → n ≤ 2 ^ 40 → with_line (start cluster None members) (base_text n) ≡ Ok (start cluster (Some n) members)
+unfolding start
+base_line-again cluster n members least most =
+    ap (λ r. on_ok r (λ added. Ok (with_addition (start cluster None members) added)))
+    (addition-again None members [] words.Base (decimal n)
+    ∙ ap (λ r. on_ok r (λ n. Ok (additions.Base n))) (next_base-again n least most))
 
-chain-append : (o m p : Option ScriptText) (front back : List (List ℕ)) → Chain o front m → Chain m back p → Chain o (front ++ back) p
+-- lines that are read one after the other
+Chain : Option DraftText → List (List ℕ) → Option DraftText → Type 0
+Chain o [] p = o ≡ p
+Chain o (line ∷ lines) p = (m : Option DraftText) × (after_counted o line ≡ Ok m) × Chain m lines p
+
+chain-append : (o m p : Option DraftText) (front back : List (List ℕ)) → Chain o front m → Chain m back p → Chain o (front ++ back) p
 unfolding Chain
-chain-append o m p [] back a b = subst (λ (x : Option ScriptText). Chain x back p) (sym a) b
+chain-append o m p [] back a b = subst (λ (x : Option DraftText). Chain x back p) (sym a) b
 chain-append o m p (line ∷ front) back a b = (a.0, a.1, chain-append a.0 m p front back a.2 b)
 
 slice_get-seam : {X : Type 0} (front : List X) (x : X) (back : List X) → slice_get (front ++ x ∷ back) (length front) ≡ Some x
@@ -242,26 +351,36 @@ new_name front name back (Some i) h e =
     let same : i ≡ length front = h i (length front) name (slice_get-front front (name ∷ back) i name at) (slice_get-seam front name back) in
     absurd (omega (arith, slice_get_within front i name at))
 
-members-again : (cluster : Name) (front back : List Name) → AreDifferent (front ++ back) → length (front ++ back) ≤ 16 → Chain (Some (start cluster front)) (map member_line_text back) (Some (start cluster (front ++ back)))
+members-again : (cluster : Name) (base : Option ℕ) (front back : List Name) → AreDifferent (front ++ back) → length (front ++ back) ≤ 16 → Chain (Some (start cluster base front)) (member_lines back) (Some (start cluster base (front ++ back)))
 unfolding Chain
-members-again cluster front [] h small = ap (λ m. Some (start cluster m)) (sym (append-nil front))
-members-again cluster front (name ∷ back) h small =
+members-again cluster base front [] h small = ap (λ m. Some (start cluster base m)) (sym (append-nil front))
+members-again cluster base front (name ∷ back) h small =
     let next : (front ++ name ∷ []) ++ back ≡ front ++ name ∷ back = append_assoc front (name ∷ []) back in
     let fits : length front < 16 = omega (arith, length-append front (name ∷ back)) in (
-      Some (start cluster (front ++ name ∷ [])),
-      ap (λ r. on_ok r (λ t. Ok (Some t))) (member_line-again cluster name front fits (new_name front name back (place_of front name) h refl)),
-      subst (λ (m : List Name). Chain (Some (start cluster (front ++ name ∷ []))) (map member_line_text back) (Some (start cluster m))) next
-          (members-again cluster (front ++ name ∷ []) back (rw next h) (rw next small)),
+      Some (start cluster base (front ++ name ∷ [])),
+      ap (λ r. on_ok r (λ t. Ok (Some t))) (member_line-again cluster name base front fits (new_name front name back (place_of front name) h refl)),
+      subst (λ (m : List Name). Chain (Some (start cluster base (front ++ name ∷ []))) (member_lines back) (Some (start cluster base m))) next
+          (members-again cluster base (front ++ name ∷ []) back (rw next h) (rw next small)),
     )
 
-body-again : (head : HeadText) (front back : List Line) → IsHead head → AllAreLines head.members back → Chain (Some (record { head = head; body = front })) (body_lines head.members back) (Some (record { head = head; body = front ++ back }))
+-- the base's line, where there is one
+base-again : (cluster : Name) (said : Option ℕ) (members : List Name) → 1 ≤ base_or_default said → base_or_default said ≤ 2 ^ 40 → Chain (Some (start cluster None members)) (base_lines said) (Some (start cluster said members))
 unfolding Chain
-body-again head front [] h is = ap (λ (b : List Line). Some (record { head = head; body = b })) (sym (append-nil front))
-body-again head front (line ∷ back) h is = (
-  Some (record { head = head; body = front ++ line ∷ [] }),
-  ap (λ r. on_ok r (λ t. Ok (Some t))) (line-again (record { head = head; body = front }) line h.some h.different is.0),
-  subst (λ (b : List Line). Chain (Some (record { head = head; body = front ++ line ∷ [] })) (body_lines head.members back) (Some (record { head = head; body = b }))) (append_assoc front (line ∷ []) back)
-      (body-again head (front ++ line ∷ []) back h is.1),
+base-again cluster None members least most = refl
+base-again cluster (Some n) members least most = (
+  Some (start cluster (Some n) members),
+  ap (λ r. on_ok r (λ t. Ok (Some t))) (base_line-again cluster n members least most),
+  refl,
+)
+
+body-again : (d : DraftText) (front back : List Line) → 0 < length d.members → AreDifferent d.members → AllAreLines d.members back → Chain (Some (record d { body = front })) (body_lines d.members back) (Some (record d { body = front ++ back }))
+unfolding Chain
+body-again d front [] some h is = ap (λ (b : List Line). Some (record d { body = b })) (sym (append-nil front))
+body-again d front (line ∷ back) some h is = (
+  Some (record d { body = front ++ line ∷ [] }),
+  ap (λ r. on_ok r (λ t. Ok (Some t))) (line-again (record d { body = front }) line some h is.0),
+  subst (λ (b : List Line). Chain (Some (record d { body = front ++ line ∷ [] })) (body_lines d.members back) (Some (record d { body = b }))) (append_assoc front (line ∷ []) back)
+      (body-again d (front ++ line ∷ []) back some h is.1),
 )
 
 first-again : (cluster : Name) → first_line (cluster_text cluster) ≡ Ok cluster
@@ -271,27 +390,48 @@ first-again cluster =
     ∙ ap (λ p. cluster_named (name_of p.0) p.1) (cut_word-alone (name_bytes cluster) (first_at-name cluster))
     ∙ ap (λ o. cluster_named o None) (name_of-name_bytes cluster)
 
-all-again : (s : ScriptText) → IsScript s → Chain None (lines_of s) (Some s)
+-- names before others are different, and no more than all
+front-AreDifferent : (front back : List Name) → AreDifferent (front ++ back) → AreDifferent front
+front-AreDifferent front back h i j name p q = h i j name (slice_get-front front back i name p) (slice_get-front front back j name q)
+
+-- a head's lines, whose base stands behind these members
+head-again : (cluster : Name) (before : List Name) (said : Option ℕ) (behind : List Name) → AreDifferent (before ++ behind) → length (before ++ behind) ≤ 16 → 1 ≤ base_or_default said → base_or_default said ≤ 2 ^ 40
+    → Chain None (head_with_base cluster before said behind) (Some (start cluster said (before ++ behind)))
 unfolding Chain start
-all-again s h = (
-  Some (start s.head.cluster []),
-  ap (λ r. on_ok r (λ name. Ok (Some (begun name)))) (first-again s.head.cluster),
-  chain-append (Some (start s.head.cluster [])) (Some (start s.head.cluster s.head.members)) (Some s) (map member_line_text s.head.members) (body_lines s.head.members s.body)
-      (members-again s.head.cluster [] s.head.members h.head.different h.head.few)
-      (body-again s.head [] s.body h.head h.body),
+head-again cluster before said behind h small least most = (
+  Some (start cluster None []),
+  ap (λ r. on_ok r (λ name. Ok (Some (begun name)))) (first-again cluster),
+  chain-append (Some (start cluster None [])) (Some (start cluster None before)) (Some (start cluster said (before ++ behind))) (member_lines before) (base_lines said ++ member_lines behind)
+      (members-again cluster None [] before (front-AreDifferent before behind h) (omega (arith, length-append before behind)))
+      (chain-append (Some (start cluster None before)) (Some (start cluster said before)) (Some (start cluster said (before ++ behind))) (base_lines said) (member_lines behind)
+          (base-again cluster said before least most)
+          (members-again cluster said before behind h small)),
 )
+
+-- what the lines of a script say, where they say this base
+draft : ScriptText → Option ℕ → DraftText
+draft s said = record { cluster = s.head.cluster; base = said; members = s.head.members; body = s.body }
+
+all-again : (s : ScriptText) (head : List (List ℕ)) (says : IsHeadLines s.head head) → IsScript s → Chain None (head ++ body_lines s.head.members s.body) (Some (draft s says.said))
+unfolding start draft
+all-again s head says h =
+    chain-append None (Some (start s.head.cluster says.said s.head.members)) (Some (draft s says.said)) head (body_lines s.head.members s.body)
+    (subst (λ (ls : List (List ℕ)). Chain None ls (Some (start s.head.cluster says.said s.head.members))) (sym says.order)
+    (subst (λ (m : List Name). Chain None (head_with_base s.head.cluster says.before says.said says.behind) (Some (start s.head.cluster says.said m))) says.members
+    (head-again s.head.cluster says.before says.said says.behind (rw says.members h.head.different) (rw says.members h.head.few) (rw says.base h.head.base_least) (rw says.base h.head.base_most))))
+    (body-again (draft s says.said) [] s.body h.head.some h.head.different h.body)
 
 -- lines among empty lines and comments
 short-true : (line : List ℕ) → length line ≤ 8192 → nat_le (length line) 8192 ≡ true
 short-true line h = grind (arith, nat_tests)
 
-in-form : (o : Option ScriptText) (line : List ℕ) → IsInForm line → after_line o line ≡ after_text o line
+in-form : (o : Option DraftText) (line : List ℕ) → IsInForm line → after_line o line ≡ after_text o line
 in-form o line h =
     ap (λ t. cond t (cond (nat_le (length line) 8192) (after_text o line) (Err faults.TooLong)) (Err faults.NotUtf8)) h.text
     ∙ ap (λ t. cond t (after_text o line) (Err faults.TooLong)) (short-true line h.short)
 
-lines-step : (number : ℕ) (o p : Option ScriptText) (line : List ℕ) (rest : List (List ℕ)) (t : Bool) → is_skipped line ≡ t → IsInForm line
-    → ((m : Option ScriptText) → Chain m (counted_lines rest) p → after_lines (number + 1) m rest ≡ Ok p)
+lines-step : (number : ℕ) (o p : Option DraftText) (line : List ℕ) (rest : List (List ℕ)) (t : Bool) → is_skipped line ≡ t → IsInForm line
+    → ((m : Option DraftText) → Chain m (counted_lines rest) p → after_lines (number + 1) m rest ≡ Ok p)
     → Chain o (cond t (counted_lines rest) (line ∷ counted_lines rest)) p → after_lines number o (line ∷ rest) ≡ Ok p
 unfolding Chain
 lines-step number o p line rest true is form step chain =
@@ -301,7 +441,7 @@ lines-step number o p line rest false is form step chain =
     ap (λ r. on_ok (at_line number r) (λ t. after_lines (number + 1) t rest)) (in-form o line form ∙ ap (λ t. cond t (Ok o) (after_counted o line)) is ∙ chain.1)
     ∙ step chain.0 chain.2
 
-lines-again : (number : ℕ) (o p : Option ScriptText) (lines : List (List ℕ)) → AllInForm lines → Chain o (counted_lines lines) p → after_lines number o lines ≡ Ok p
+lines-again : (number : ℕ) (o p : Option DraftText) (lines : List (List ℕ)) → AllInForm lines → Chain o (counted_lines lines) p → after_lines number o lines ≡ Ok p
 unfolding Chain
 lines-again number o p [] form chain = ap Ok chain
 lines-again number o p (line ∷ rest) form chain =
@@ -311,8 +451,15 @@ with_some-again : (s : ScriptText) (members : List Name) → 0 < length members 
 with_some-again s [] h = absurd (omega arith)
 with_some-again s (m ∷ members) h = refl
 
+finished-again : (s : ScriptText) (said : Option ℕ) → 0 < length s.head.members → base_or_default said ≡ s.head.base → finished (Some (draft s said)) ≡ Ok s
+unfolding draft
+finished-again s said some base =
+    with_some-again (script_so_far (draft s said)) s.head.members some
+    ∙ ap (λ b. Ok (record { head = record { cluster = s.head.cluster; base = b; members = s.head.members }; body = s.body })) base
+
 pub spelled-is-read : (bytes : List ℕ) (text : ScriptText) → IsScript text → Spells bytes text → script_of bytes ≡ Ok text
 spelled-is-read bytes text h spells =
-    ap (λ r. on_ok r (λ s. at_line (length (lines_in bytes) + 1) (finished s)))
-    (lines-again 1 None (Some text) (lines_in bytes) spells.form (subst (λ (ls : List (List ℕ)). Chain None ls (Some text)) (sym spells.lines) (all-again text h)))
-    ∙ ap (at_line (length (lines_in bytes) + 1)) (with_some-again text text.head.members h.head.some)
+    let d : Option DraftText = Some (draft text spells.says.said) in
+    ap (λ r. on_ok r (λ d. at_line (length (lines_in bytes) + 1) (finished d)))
+    (lines-again 1 None d (lines_in bytes) spells.form (subst (λ (ls : List (List ℕ)). Chain None ls d) (sym spells.lines) (all-again text spells.head spells.says h)))
+    ∙ ap (at_line (length (lines_in bytes) + 1)) (finished-again text spells.says.said h.head.some spells.says.base)

@@ -7,6 +7,7 @@ use Rattle.pat_base.specs.declared.member_id.MemberId.{MemberId}
 use Rattle.cluster_script.specs.Faults.{on_ok, both}
 use Rattle.cluster_script.specs.Members.{member_named}
 use Rattle.cluster_script.specs.Numbers.{number}
+use Rattle.cluster_script.specs.Ranges.{commit_size_of, delay_of}
 use Rattle.cluster_script.specs.Words.{cut_word}
 use Rattle.cluster_script.specs.declared.fault.Fault.{Fault}
 use Rattle.cluster_script.specs.declared.fault.Fault.TheVariants as faults
@@ -16,8 +17,12 @@ use Rattle.cluster_script.specs.declared.line.End.{End}
 use Rattle.cluster_script.specs.declared.line.End.TheVariants as ends
 use Rattle.cluster_script.specs.declared.line.Command.{Command}
 use Rattle.cluster_script.specs.declared.line.Command.TheVariants as commands
+use Rattle.cluster_script.specs.declared.line.Transition.{Transition}
+use Rattle.cluster_script.specs.declared.line.Transition.TheVariants as transitions
 use Rattle.cluster_script.specs.declared.line.Line.{Line}
 use Rattle.cluster_script.specs.declared.line.Line.TheVariants as lines
+use Rattle.cluster_script.specs.declared.ranges.CommitSize.{CommitSize}
+use Rattle.cluster_script.specs.declared.ranges.Delay.{Delay}
 
 abbrev pub some_or : {A : Type 0} → Fault → Option A → Result A Fault
 some_or fault None = Err fault
@@ -30,6 +35,18 @@ number_in word = some_or faults.BadNumber (number word)
 -- 'on' or 'off'
 abbrev pub switch_in : List ℕ → Result Bool Fault
 switch_in word = if bytes_eq word (codes "on") then Ok true else if bytes_eq word (codes "off") then Ok false else Err faults.BadOption
+
+-- 'stop' or 'start'
+abbrev pub transition_in : List ℕ → Result Transition Fault
+transition_in word = if bytes_eq word (codes "stop") then Ok transitions.Stop else if bytes_eq word (codes "start") then Ok transitions.Start else Err faults.BadOption
+
+-- a number in the range of commits
+abbrev pub commit_size_in : List ℕ → Result CommitSize Fault
+commit_size_in word = on_ok (number_in word) (λ n. some_or faults.BadNumber (commit_size_of n))
+
+-- a number in the range of delays
+abbrev pub delay_in : List ℕ → Result Delay Fault
+delay_in word = on_ok (number_in word) (λ n. some_or faults.BadNumber (delay_of n))
 
 abbrev pub declared_member : List Name → Option Name → Result MemberId Fault
 declared_member members None = Err faults.BadName
@@ -48,6 +65,11 @@ abbrev pub missing_word : List Name → Fault
 missing_word [] = faults.NoMember
 missing_word (member ∷ members) = faults.WordCount
 
+-- a word is missing behind what the words before it say
+abbrev pub missing_behind : {A : Type 0} → List Name → Result A Fault → Fault
+missing_behind members (Ok x) = missing_word members
+missing_behind members (Err fault) = fault
+
 -- a body line ends where its words end
 abbrev pub line_end : List Name → Option (List ℕ) → Result (Unit {0}) Fault
 line_end [] rest = Err faults.NoMember
@@ -62,6 +84,26 @@ abbrev pub one_word : {A : Type 0} → List Name → (List ℕ → Result A Faul
 one_word members read None = Err (missing_word members)
 one_word members read (Some words) = last_word members (read (cut_word words).0) (cut_word words).1
 
+-- the last word, read so, behind what the words before it say
+abbrev pub word_behind : {A B : Type 0} → List Name → Result A Fault → (List ℕ → Result B Fault) → Option (List ℕ) → Result (A × B) Fault
+word_behind members before read None = Err (missing_behind members before)
+word_behind members before read (Some words) = last_word members (both before (read (cut_word words).0)) (cut_word words).1
+
+-- two words, each read so
+abbrev pub two_words : {A B : Type 0} → List Name → (List ℕ → Result A Fault) → (List ℕ → Result B Fault) → Option (List ℕ) → Result (A × B) Fault
+two_words members first second None = Err (missing_word members)
+two_words members first second (Some words) = word_behind members (first (cut_word words).0) second (cut_word words).1
+
+-- the last two words, each read so, behind what the words before them say
+abbrev pub words_behind : {A B C : Type 0} → List Name → Result A Fault → (List ℕ → Result B Fault) → (List ℕ → Result C Fault) → Option (List ℕ) → Result ((A × B) × C) Fault
+words_behind members before read last None = Err (missing_behind members before)
+words_behind members before read last (Some words) = word_behind members (both before (read (cut_word words).0)) last (cut_word words).1
+
+-- three words, each read so
+abbrev pub three_words : {A B C : Type 0} → List Name → (List ℕ → Result A Fault) → (List ℕ → Result B Fault) → (List ℕ → Result C Fault) → Option (List ℕ) → Result ((A × B) × C) Fault
+three_words members first second third None = Err (missing_word members)
+three_words members first second third (Some words) = words_behind members (first (cut_word words).0) second third (cut_word words).1
+
 abbrev pub same_member : MemberId → MemberId → Bool
 same_member first second = first.number == second.number
 
@@ -74,14 +116,21 @@ same_end (ends.Member first) (ends.Member second) = same_member first second
 abbrev pub apart : End × End → Result (End × End) Fault
 apart link = if same_end link.0 link.1 then Err faults.SameEnds else Ok link
 
-abbrev pub second_end : List Name → Result End Fault → Option (List ℕ) → Result (End × End) Fault
-second_end members first None = on_ok first (λ _. Err (missing_word members))
-second_end members first (Some words) = on_ok (last_word members (both first (end_in members (cut_word words).0)) (cut_word words).1) apart
-
 -- the two ends of a link
 abbrev pub two_ends : List Name → Option (List ℕ) → Result (End × End) Fault
-two_ends members None = Err (missing_word members)
-two_ends members (Some words) = second_end members (end_in members (cut_word words).0) (cut_word words).1
+two_ends members rest = on_ok (two_words members (end_in members) (end_in members) rest) apart
+
+-- a member and how long its commit is
+abbrev pub commit_in : List Name → Option (List ℕ) → Result Command Fault
+commit_in members rest = on_ok (two_words members (member_in members) commit_size_in rest) (λ said. Ok (commands.Commit said.0 said.1))
+
+-- a member and a number
+abbrev pub stream_in : List Name → Option (List ℕ) → Result Command Fault
+stream_in members rest = on_ok (two_words members (member_in members) number_in rest) (λ said. Ok (commands.Stream said.0 said.1))
+
+-- a member, what is delayed, and by how long
+abbrev pub slow_in : List Name → Option (List ℕ) → Result Command Fault
+slow_in members rest = on_ok (three_words members (member_in members) transition_in delay_in rest) (λ said. Ok (commands.Slow said.0.0 said.0.1 said.1))
 
 abbrev pub command : Command → Result Line Fault
 command c = Ok (lines.Command c)
@@ -97,6 +146,13 @@ line_of_words members words.Hold rest = on_ok (one_word members (member_in membe
 line_of_words members words.Resume rest = on_ok (one_word members (member_in members) rest) (λ member. command (commands.Resume member))
 line_of_words members words.Kill rest = on_ok (one_word members (member_in members) rest) (λ member. command (commands.Kill member))
 line_of_words members words.Restart rest = on_ok (one_word members (member_in members) rest) (λ member. command (commands.Restart member))
+line_of_words members words.Promote rest = on_ok (one_word members (member_in members) rest) (λ member. command (commands.Promote member))
+line_of_words members words.Crash rest = on_ok (one_word members (member_in members) rest) (λ member. command (commands.Crash member))
+line_of_words members words.Freeze rest = on_ok (one_word members (member_in members) rest) (λ member. command (commands.Freeze member))
+line_of_words members words.Thaw rest = on_ok (one_word members (member_in members) rest) (λ member. command (commands.Thaw member))
+line_of_words members words.Commit rest = on_ok (commit_in members rest) command
+line_of_words members words.Stream rest = on_ok (stream_in members rest) command
+line_of_words members words.Slow rest = on_ok (slow_in members rest) command
 line_of_words members words.Cut rest = on_ok (two_ends members rest) (λ link. command (commands.Cut link.0 link.1))
 line_of_words members words.Join rest = on_ok (two_ends members rest) (λ link. command (commands.Join link.0 link.1))
 line_of_words members words.Trace rest = on_ok (one_word members switch_in rest) (λ on. command (commands.Trace on))

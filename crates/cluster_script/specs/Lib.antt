@@ -6,6 +6,7 @@ pub mod Lines
 pub mod Members
 pub mod Numbers
 pub mod Options
+pub mod Ranges
 pub mod Reading
 pub mod Script
 pub mod Steps

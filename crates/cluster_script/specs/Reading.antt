@@ -1,11 +1,12 @@
 -- The script that bytes are, or the first line with a fault and its first fault.
-use Rattle.std.specs.Prelude.{ℕ, ◌≡◌, ◌+◌, ◌<◌, nat_le, ◌==◌, Bool, false, ◌&&◌, ◌||◌, if◌then◌else◌, List, [], ◌∷◌, ◌++◌, Option, Some, None, Result, Ok, Err, codes, length}
+use Rattle.std.specs.Prelude.{ℕ, ◌≡◌, ◌+◌, ◌^◌, ◌<◌, nat_le, ◌==◌, Bool, false, ◌&&◌, ◌||◌, if◌then◌else◌, List, [], ◌∷◌, ◌++◌, Option, Some, None, Result, Ok, Err, codes, length}
 use Rattle.std.specs.List.{starts_with, list_any}
 use Rattle.std.specs.Str.{is_utf8}
 use Rattle.std.specs.Prelude.{nat_eq}
 use Rattle.pat_base.specs.Name.{name_of}
 use Rattle.pat_base.specs.declared.name.Name.{Name}
-use Rattle.cluster_script.specs.Arguments.{line_of_words}
+use Rattle.cluster_script.specs.Arguments.{number_in, line_of_words}
+use Rattle.cluster_script.specs.Draft.{DraftText, script_so_far}
 use Rattle.cluster_script.specs.Faults.{on_ok}
 use Rattle.cluster_script.specs.Lines.{lines_in, is_skipped}
 use Rattle.cluster_script.specs.Members.{place_of}
@@ -62,6 +63,33 @@ new_member members body (Some words) = if has_option words then Err faults.NotBu
 abbrev pub next_member : List Name → List Line → Option (List ℕ) → Result Name Fault
 next_member members body rest = if nat_le 16 (length members) then Err faults.BadWord else new_member members body rest
 
+-- how many bytes a log may begin with: 1 to 2 ^ 40
+abbrev pub ranged_base : ℕ → Result ℕ Fault
+ranged_base n = if nat_le 1 n && nat_le n (2 ^ 40) then Ok n else Err faults.BadNumber
+
+abbrev pub base_in : List ℕ → Result ℕ Fault
+base_in word = on_ok (number_in word) ranged_base
+
+-- a line of the head stands before the body, and ends where its words end
+abbrev pub head_end : List Line → Option (List ℕ) → Result (Unit {0}) Fault
+head_end [] None = Ok tt
+head_end [] (Some words) = Err faults.WordCount
+head_end (line ∷ body) rest = Err faults.HeadLate
+
+-- a base is said but once
+abbrev pub base_end : Option ℕ → List Line → Option (List ℕ) → Result (Unit {0}) Fault
+base_end (Some said) body rest = Err faults.Duplicate
+base_end None body rest = head_end body rest
+
+abbrev pub base_missing : Option ℕ → List Line → Fault
+base_missing (Some said) body = faults.Duplicate
+base_missing None body = in_head body faults.WordCount
+
+-- a line 'base', behind the base that is said already
+abbrev pub next_base : Option ℕ → List Line → Option (List ℕ) → Result ℕ Fault
+next_base said body None = Err (base_missing said body)
+next_base said body (Some words) = on_ok (base_in (cut_word words).0) (λ n. on_ok (base_end said body (cut_word words).1) (λ _. Ok n))
+
 abbrev pub named_twice : Option Name → Fault
 named_twice None = faults.BadName
 named_twice (Some name) = faults.Duplicate
@@ -72,35 +100,44 @@ second_cluster None = faults.Duplicate
 second_cluster (Some words) = named_twice (name_of (cut_word words).0)
 
 -- what a line of this first word adds, from the words behind it
-abbrev pub addition_of : List Name → List Line → Keyword → Option (List ℕ) → Result Addition Fault
-addition_of members body words.Cluster rest = Err (second_cluster rest)
-addition_of members body words.Member rest = on_ok (next_member members body rest) (λ name. Ok (additions.Member name))
-addition_of members body keyword rest = on_ok (line_of_words members keyword rest) (λ line. Ok (additions.Body line))
+abbrev pub addition_of : Option ℕ → List Name → List Line → Keyword → Option (List ℕ) → Result Addition Fault
+addition_of base members body words.Cluster rest = Err (second_cluster rest)
+addition_of base members body words.Base rest = on_ok (next_base base body rest) (λ n. Ok (additions.Base n))
+addition_of base members body words.Member rest = on_ok (next_member members body rest) (λ name. Ok (additions.Member name))
+addition_of base members body keyword rest = on_ok (line_of_words members keyword rest) (λ line. Ok (additions.Body line))
 
-abbrev pub known_addition : List Name → List Line → Option Keyword → Option (List ℕ) → Result Addition Fault
-known_addition members body None rest = Err faults.BadWord
-known_addition members body (Some keyword) rest = addition_of members body keyword rest
+abbrev pub known_addition : Option ℕ → List Name → List Line → Option Keyword → Option (List ℕ) → Result Addition Fault
+known_addition base members body None rest = Err faults.BadWord
+known_addition base members body (Some keyword) rest = addition_of base members body keyword rest
 
 -- what a line adds
-abbrev pub addition_in : List Name → List Line → List ℕ → Result Addition Fault
-addition_in members body line = known_addition members body (keyword_of (cut_word line).0) (cut_word line).1
+abbrev pub addition_in : Option ℕ → List Name → List Line → List ℕ → Result Addition Fault
+addition_in base members body line = known_addition base members body (keyword_of (cut_word line).0) (cut_word line).1
+
+-- the base behind what is added
+abbrev pub base_after : Option ℕ → Addition → Option ℕ
+base_after base (additions.Base n) = Some n
+base_after base (additions.Member name) = base
+base_after base (additions.Body line) = base
 
 -- the members behind what is added
 abbrev pub members_after : List Name → Addition → List Name
 members_after members (additions.Member name) = members ++ name ∷ []
+members_after members (additions.Base n) = members
 members_after members (additions.Body line) = members
 
 -- the body behind what is added
 abbrev pub body_after : List Line → Addition → List Line
 body_after body (additions.Member name) = body
+body_after body (additions.Base n) = body
 body_after body (additions.Body line) = body ++ line ∷ []
 
--- the script with one more line
-abbrev pub with_addition : ScriptText → Addition → ScriptText
-with_addition s added = record { head = record s.head { members = members_after s.head.members added }; body = body_after s.body added }
+-- what the lines say with one more
+abbrev pub with_addition : DraftText → Addition → DraftText
+with_addition d added = record { cluster = d.cluster; base = base_after d.base added; members = members_after d.members added; body = body_after d.body added }
 
-abbrev pub with_line : ScriptText → List ℕ → Result ScriptText Fault
-with_line s line = on_ok (addition_in s.head.members s.body line) (λ added. Ok (with_addition s added))
+abbrev pub with_line : DraftText → List ℕ → Result DraftText Fault
+with_line d line = on_ok (addition_in d.base d.members d.body line) (λ added. Ok (with_addition d added))
 
 abbrev pub alone : Name → Option (List ℕ) → Result Name Fault
 alone name None = Ok name
@@ -123,24 +160,25 @@ begun_by _ rest = Err faults.NoCluster
 abbrev pub first_line : List ℕ → Result Name Fault
 first_line line = begun_by (keyword_of (cut_word line).0) (cut_word line).1
 
--- a script of its first line alone
-abbrev pub begun : Name → ScriptText
-begun name = record { head = record { cluster = name; members = [] }; body = [] }
+-- what the first line alone says
+abbrev pub begun : Name → DraftText
+begun name = record { cluster = name; base = None; members = []; body = [] }
 
 -- a line that counts, behind those before it
-abbrev pub after_counted : Option ScriptText → List ℕ → Result (Option ScriptText) Fault
+abbrev pub after_counted : Option DraftText → List ℕ → Result (Option DraftText) Fault
 after_counted None line = on_ok (first_line line) (λ name. Ok (Some (begun name)))
-after_counted (Some s) line = on_ok (with_line s line) (λ t. Ok (Some t))
+after_counted (Some d) line = on_ok (with_line d line) (λ e. Ok (Some e))
 
-abbrev pub after_text : Option ScriptText → List ℕ → Result (Option ScriptText) Fault
-after_text s line = if is_skipped line then Ok s else after_counted s line
+abbrev pub after_text : Option DraftText → List ℕ → Result (Option DraftText) Fault
+after_text d line = if is_skipped line then Ok d else after_counted d line
 
-abbrev pub after_line : Option ScriptText → List ℕ → Result (Option ScriptText) Fault
-after_line s line = if is_utf8 line then (if nat_le (length line) 8192 then after_text s line else Err faults.TooLong) else Err faults.NotUtf8
+abbrev pub after_line : Option DraftText → List ℕ → Result (Option DraftText) Fault
+after_line d line = if is_utf8 line then (if nat_le (length line) 8192 then after_text d line else Err faults.TooLong) else Err faults.NotUtf8
 
 -- a member that a line adds is one of at most 16, and no other has its name
 abbrev pub IsNew : List Name → Addition → Type 0
 IsNew members (additions.Member name) = (length members < 16) × (place_of members name ≡ None)
+IsNew members (additions.Base n) = Unit {0}
 IsNew members (additions.Body line) = Unit {0}
 
 -- a fault and its line
@@ -149,21 +187,21 @@ at_line number (Ok x) = Ok x
 at_line number (Err fault) = Err (number, fault)
 
 -- what lines say behind those before them, of which the first has this number
-abbrev pub after_lines : ℕ → Option ScriptText → List (List ℕ) → Result (Option ScriptText) (ℕ × Fault)
-after_lines number s [] = Ok s
-after_lines number s (line ∷ lines) = on_ok (at_line number (after_line s line)) (λ t. after_lines (number + 1) t lines)
+abbrev pub after_lines : ℕ → Option DraftText → List (List ℕ) → Result (Option DraftText) (ℕ × Fault)
+after_lines number d [] = Ok d
+after_lines number d (line ∷ lines) = on_ok (at_line number (after_line d line)) (λ e. after_lines (number + 1) e lines)
 
 abbrev pub with_some : ScriptText → List Name → Result ScriptText Fault
 with_some s [] = Err faults.NoMember
 with_some s (member ∷ members) = Ok s
 
 -- a script has a cluster and a member
-abbrev pub finished : Option ScriptText → Result ScriptText Fault
+abbrev pub finished : Option DraftText → Result ScriptText Fault
 finished None = Err faults.NoCluster
-finished (Some s) = with_some s s.head.members
+finished (Some d) = with_some (script_so_far d) d.members
 
 abbrev pub script_of_lines : List (List ℕ) → Result ScriptText (ℕ × Fault)
-script_of_lines lines = on_ok (after_lines 1 None lines) (λ s. at_line (length lines + 1) (finished s))
+script_of_lines lines = on_ok (after_lines 1 None lines) (λ d. at_line (length lines + 1) (finished d))
 
 -- the script that the bytes are, or the first line with a fault and its first fault
 abbrev pub script_of : List ℕ → Result ScriptText (ℕ × Fault)

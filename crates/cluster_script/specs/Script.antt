@@ -1,5 +1,5 @@
 -- What a script says, and how it is spelled.
-use Rattle.std.specs.Prelude.{ℕ, ◌≡◌, ◌≢◌, ◌≤◌, ◌<◌, ◌^◌, Bool, true, false, List, [], ◌∷◌, ◌++◌, Option, Some, None, codes, length, map, slice_get}
+use Rattle.std.specs.Prelude.{ℕ, ◌≡◌, ◌≢◌, ◌≤◌, ◌<◌, ◌^◌, ◌==◌, Bool, true, false, if◌then◌else◌, List, [], ◌∷◌, ◌++◌, Option, Some, None, codes, length, map, slice_get}
 use Rattle.std.specs.Fmt.{decimal}
 use Rattle.std.specs.Str.{is_utf8}
 use Rattle.pat_base.specs.Name.{name_bytes}
@@ -12,12 +12,15 @@ use Rattle.cluster_script.specs.declared.line.End.{End}
 use Rattle.cluster_script.specs.declared.line.End.TheVariants as ends
 use Rattle.cluster_script.specs.declared.line.Command.{Command}
 use Rattle.cluster_script.specs.declared.line.Command.TheVariants as commands
+use Rattle.cluster_script.specs.declared.line.Transition.{Transition}
+use Rattle.cluster_script.specs.declared.line.Transition.TheVariants as transitions
 use Rattle.cluster_script.specs.declared.line.Line.{Line}
 use Rattle.cluster_script.specs.declared.line.Line.TheVariants as lines
 
--- the head of a script: the cluster's name, and the members in order
+-- the head of a script: the cluster's name, the bytes of data that each server's log begins with, and the members in order
 pub record HeadText : Type 0 where
   pub cluster : Name
+  pub base : ℕ
   pub members : List Name
 
 -- a script: its head, and the lines of its body
@@ -42,6 +45,10 @@ abbrev pub switch_text : Bool → List ℕ
 switch_text true = codes "on"
 switch_text false = codes "off"
 
+abbrev pub transition_text : Transition → List ℕ
+transition_text transitions.Stop = codes "stop"
+transition_text transitions.Start = codes "start"
+
 -- two words, with one blank between them
 abbrev pub two_texts : List ℕ → List ℕ → List ℕ
 two_texts first second = first ++ (32 ∷ second)
@@ -53,6 +60,9 @@ cluster_text name = spelled words.Cluster (name_bytes name)
 abbrev pub member_line_text : Name → List ℕ
 member_line_text name = spelled words.Member (name_bytes name)
 
+abbrev pub base_text : ℕ → List ℕ
+base_text base = spelled words.Base (decimal base)
+
 abbrev pub command_text : List Name → Command → List ℕ
 command_text members (commands.Turn member) = spelled words.Turn (member_text members member)
 command_text members (commands.Deliver n) = spelled words.Deliver (decimal n)
@@ -61,6 +71,13 @@ command_text members (commands.Hold member) = spelled words.Hold (member_text me
 command_text members (commands.Resume member) = spelled words.Resume (member_text members member)
 command_text members (commands.Kill member) = spelled words.Kill (member_text members member)
 command_text members (commands.Restart member) = spelled words.Restart (member_text members member)
+command_text members (commands.Promote member) = spelled words.Promote (member_text members member)
+command_text members (commands.Crash member) = spelled words.Crash (member_text members member)
+command_text members (commands.Commit member size) = spelled words.Commit (two_texts (member_text members member) (decimal size.bytes))
+command_text members (commands.Stream member n) = spelled words.Stream (two_texts (member_text members member) (decimal n))
+command_text members (commands.Freeze member) = spelled words.Freeze (member_text members member)
+command_text members (commands.Thaw member) = spelled words.Thaw (member_text members member)
+command_text members (commands.Slow member transition delay) = spelled words.Slow (two_texts (member_text members member) (two_texts (transition_text transition) (decimal delay.ticks)))
 command_text members (commands.Cut first second) = spelled words.Cut (two_texts (end_text members first) (end_text members second))
 command_text members (commands.Join first second) = spelled words.Join (two_texts (end_text members first) (end_text members second))
 command_text members (commands.Trace on) = spelled words.Trace (switch_text on)
@@ -74,9 +91,44 @@ line_text members (lines.Command command) = command_text members command
 abbrev pub spelling_of_line : HeadText → Line → List ℕ
 spelling_of_line head line = line_text head.members line ++ 10 ∷ []
 
--- all lines of a script, in order
+-- the lines of members, in order
+abbrev pub member_lines : List Name → List (List ℕ)
+member_lines members = map member_line_text members
+
+-- the base of a script that says none: five files of 16 MiB
+abbrev pub default_base : ℕ
+default_base = 83886080
+
+-- the base that is said, or the default
+abbrev pub base_or_default : Option ℕ → ℕ
+base_or_default None = default_base
+base_or_default (Some base) = base
+
+-- the line 'base', where a base is said
+abbrev pub base_lines : Option ℕ → List (List ℕ)
+base_lines None = []
+base_lines (Some base) = base_text base ∷ []
+
+-- a base that has to be said: any but the default
+abbrev pub base_to_say : ℕ → Option ℕ
+base_to_say base = if base == default_base then None else Some base
+
+-- a cluster's line, then members' lines with at most one line 'base' before, between or behind them
+abbrev pub head_with_base : Name → List Name → Option ℕ → List Name → List (List ℕ)
+head_with_base cluster before said behind = cluster_text cluster ∷ (member_lines before ++ (base_lines said ++ member_lines behind))
+
+-- lines that say a head: its members in order, and its base unless that is the default
+pub record IsHeadLines (head : HeadText) (lines : List (List ℕ)) : Type 0 where
+  pub before : List Name
+  pub said : Option ℕ
+  pub behind : List Name
+  pub members : before ++ behind ≡ head.members
+  pub base : base_or_default said ≡ head.base
+  pub order : lines ≡ head_with_base head.cluster before said behind
+
+-- all lines of a script, in order: those of its head say the base first, and only where it isn't the default
 abbrev pub head_lines : HeadText → List (List ℕ)
-head_lines head = cluster_text head.cluster ∷ map member_line_text head.members
+head_lines head = head_with_base head.cluster [] (base_to_say head.base) head.members
 
 abbrev pub body_lines : List Name → List Line → List (List ℕ)
 body_lines members body = map (line_text members) body
@@ -97,13 +149,17 @@ abbrev pub AllInForm : List (List ℕ) → Type 0
 AllInForm [] = Unit {0}
 AllInForm (line ∷ lines) = IsInForm line × AllInForm lines
 
--- bytes that spell a script: behind its empty lines and comments are its lines; the last may lack its line feed
+-- bytes that spell a script: behind its empty lines and comments are lines that say its head, and then those of its body; the last may lack its line feed
 pub record Spells (bytes : List ℕ) (s : ScriptText) : Type 0 where
   pub form : AllInForm (lines_in bytes)
-  pub lines : counted_lines (lines_in bytes) ≡ lines_of s
+  pub head : List (List ℕ)
+  pub says : IsHeadLines s.head head
+  pub lines : counted_lines (lines_in bytes) ≡ head ++ body_lines s.head.members s.body
 
 -- a head that a script may have
 pub record IsHead (head : HeadText) : Type 0 where
+  pub base_least : 1 ≤ head.base
+  pub base_most : head.base ≤ 2 ^ 40
   pub some : 0 < length head.members
   pub few : length head.members ≤ 16
   pub different : (i j : ℕ) (name : Name) → slice_get head.members i ≡ Some name → slice_get head.members j ≡ Some name → i ≡ j
@@ -132,6 +188,13 @@ IsCommand members (commands.Hold member) = IsMember members member
 IsCommand members (commands.Resume member) = IsMember members member
 IsCommand members (commands.Kill member) = IsMember members member
 IsCommand members (commands.Restart member) = IsMember members member
+IsCommand members (commands.Promote member) = IsMember members member
+IsCommand members (commands.Crash member) = IsMember members member
+IsCommand members (commands.Commit member size) = IsMember members member
+IsCommand members (commands.Stream member n) = IsMember members member × (n < 2 ^ 64)
+IsCommand members (commands.Freeze member) = IsMember members member
+IsCommand members (commands.Thaw member) = IsMember members member
+IsCommand members (commands.Slow member transition delay) = IsMember members member
 IsCommand members (commands.Cut first second) = IsLink members first second
 IsCommand members (commands.Join first second) = IsLink members first second
 IsCommand members (commands.Trace on) = Unit {0}

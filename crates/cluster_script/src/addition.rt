@@ -6,5 +6,6 @@ use pat_base::Name;
 #[derive(Clone, Copy, Debug, PartialEq, Eq)]
 pub enum Addition {
     Member(Name),
+    Base(u64),
     Body(Line),
 }

@@ -3,17 +3,18 @@ ghost use Rattle.std.specs.Prelude.{ℕ, ◌≡◌, ◌≤◌, List, length, map
 ghost use Rattle.std.specs.Option.{option_copied};
 ghost use Rattle.indexmap.specs.IndexMap.{keys};
 ghost use Rattle.cluster_script.specs.Faults.{both};
-ghost use Rattle.cluster_script.specs.Arguments.{number_in, switch_in, member_in, end_in, missing_word, line_end, one_word, same_end, apart, second_end, two_ends, line_of_words};
+ghost use Rattle.cluster_script.specs.Arguments.{number_in, switch_in, transition_in, commit_size_in, delay_in, member_in, end_in, missing_word, missing_behind, line_end, last_word, one_word, word_behind, words_behind, same_end, two_ends, commit_in, stream_in, slow_in, line_of_words};
 
 use crate::fault::earlier;
 use crate::keyword::Keyword;
 use crate::members::{Members, member_named};
 use crate::numbers::number;
 use crate::words::cut_word;
-use crate::{Command, End, Fault, Line};
+use crate::{Command, CommitSize, Delay, End, Fault, Line, Transition};
 use pat_base::{MemberId, Name};
 
-fn number_in(word: &[u8]) -> Result<u64, Fault>
+/// A number.
+pub fn number_in(word: &[u8]) -> Result<u64, Fault>
     ensures { result ≡ number_in word.now }
 {
     match number(word) {
@@ -31,6 +32,38 @@ fn switch_in(word: &[u8]) -> Result<bool, Fault>
         Ok(false)
     } else {
         Err(Fault::BadOption)
+    }
+}
+
+fn transition_in(word: &[u8]) -> Result<Transition, Fault>
+    ensures { result ≡ transition_in word.now }
+{
+    if word == b"stop".as_slice() {
+        Ok(Transition::Stop)
+    } else if word == b"start".as_slice() {
+        Ok(Transition::Start)
+    } else {
+        Err(Fault::BadOption)
+    }
+}
+
+fn commit_size_in(word: &[u8]) -> Result<CommitSize, Fault>
+    ensures { result ≡ commit_size_in word.now }
+{
+    let n = number_in(word)?;
+    match CommitSize::new(n) {
+        None => Err(Fault::BadNumber),
+        Some(size) => Ok(size),
+    }
+}
+
+fn delay_in(word: &[u8]) -> Result<Delay, Fault>
+    ensures { result ≡ delay_in word.now }
+{
+    let n = number_in(word)?;
+    match Delay::new(n) {
+        None => Err(Fault::BadNumber),
+        Some(delay) => Ok(delay),
     }
 }
 
@@ -67,6 +100,16 @@ fn missing_word(members: &Members) -> Fault
         Fault::NoMember
     } else {
         Fault::WordCount
+    }
+}
+
+/// The fault of a line whose words end behind one that says so.
+fn missing_behind<A: Drop>(members: &Members, before: Result<A, Fault>) -> Fault
+    ensures { result ≡ missing_behind (keys members.now) before }
+{
+    match before {
+        Ok(_) => missing_word(members),
+        Err(fault) => fault,
     }
 }
 
@@ -130,7 +173,10 @@ fn same_end(first: End, second: End) -> bool
     }
 }
 
-fn both(first: Result<End, Fault>, second: Result<End, Fault>) -> Result<(End, End), Fault>
+fn both<A: Drop, B: Drop>(
+    first: Result<A, Fault>,
+    second: Result<B, Fault>,
+) -> Result<(A, B), Fault>
     ensures { result ≡ both first second }
 {
     match (first, second) {
@@ -141,26 +187,89 @@ fn both(first: Result<End, Fault>, second: Result<End, Fault>) -> Result<(End, E
     }
 }
 
-fn second_end(
+/// Two things that are both wanted, behind which the line ends.
+fn last_both<A: Drop, B: Drop>(
     members: &Members,
-    first: Result<End, Fault>,
+    first: Result<A, Fault>,
+    second: Result<B, Fault>,
+    rest: Option<&[u8]>,
+) -> Result<(A, B), Fault>
+    ensures { result ≡ last_word (keys members.now) (both first second) (option_copied rest.entry) }
+{
+    let pair = both(first, second)?;
+    line_end(members, rest)?;
+    Ok(pair)
+}
+
+fn end_behind(
+    members: &Members,
+    before: Result<End, Fault>,
     rest: Option<&[u8]>,
 ) -> Result<(End, End), Fault>
     requires { length (keys members.now) ≤ 16 }
-    ensures { result ≡ second_end (keys members.now) first (option_copied rest.entry) }
+    ensures { result ≡ word_behind (keys members.now) before (end_in (keys members.now)) (option_copied rest.entry) }
 {
     let Some(words) = rest else {
-        first?;
-        return Err(missing_word(members));
+        return Err(missing_behind(members, before));
     };
     let (word, rest) = cut_word(words);
-    let (first, second) = both(first, end_in(members, word))?;
-    line_end(members, rest)?;
-    if same_end(first, second) {
-        Err(Fault::SameEnds)
-    } else {
-        Ok((first, second))
-    }
+    last_both(members, before, end_in(members, word), rest)
+}
+
+fn size_behind(
+    members: &Members,
+    before: Result<MemberId, Fault>,
+    rest: Option<&[u8]>,
+) -> Result<(MemberId, CommitSize), Fault>
+    ensures { result ≡ word_behind (keys members.now) before commit_size_in (option_copied rest.entry) }
+{
+    let Some(words) = rest else {
+        return Err(missing_behind(members, before));
+    };
+    let (word, rest) = cut_word(words);
+    last_both(members, before, commit_size_in(word), rest)
+}
+
+fn number_behind(
+    members: &Members,
+    before: Result<MemberId, Fault>,
+    rest: Option<&[u8]>,
+) -> Result<(MemberId, u64), Fault>
+    ensures { result ≡ word_behind (keys members.now) before number_in (option_copied rest.entry) }
+{
+    let Some(words) = rest else {
+        return Err(missing_behind(members, before));
+    };
+    let (word, rest) = cut_word(words);
+    last_both(members, before, number_in(word), rest)
+}
+
+fn delay_behind(
+    members: &Members,
+    before: Result<(MemberId, Transition), Fault>,
+    rest: Option<&[u8]>,
+) -> Result<((MemberId, Transition), Delay), Fault>
+    ensures { result ≡ word_behind (keys members.now) before delay_in (option_copied rest.entry) }
+{
+    let Some(words) = rest else {
+        return Err(missing_behind(members, before));
+    };
+    let (word, rest) = cut_word(words);
+    last_both(members, before, delay_in(word), rest)
+}
+
+fn transition_behind(
+    members: &Members,
+    before: Result<MemberId, Fault>,
+    rest: Option<&[u8]>,
+) -> Result<((MemberId, Transition), Delay), Fault>
+    ensures { result ≡ words_behind (keys members.now) before transition_in delay_in (option_copied rest.entry) }
+{
+    let Some(words) = rest else {
+        return Err(missing_behind(members, before));
+    };
+    let (word, rest) = cut_word(words);
+    delay_behind(members, both(before, transition_in(word)), rest)
 }
 
 fn two_ends(members: &Members, rest: Option<&[u8]>) -> Result<(End, End), Fault>
@@ -171,7 +280,48 @@ fn two_ends(members: &Members, rest: Option<&[u8]>) -> Result<(End, End), Fault>
         return Err(missing_word(members));
     };
     let (word, rest) = cut_word(words);
-    second_end(members, end_in(members, word), rest)
+    let (first, second) = end_behind(members, end_in(members, word), rest)?;
+    if same_end(first, second) {
+        Err(Fault::SameEnds)
+    } else {
+        Ok((first, second))
+    }
+}
+
+fn commit_in(members: &Members, rest: Option<&[u8]>) -> Result<Command, Fault>
+    requires { length (keys members.now) ≤ 16 }
+    ensures { result ≡ commit_in (keys members.now) (option_copied rest.entry) }
+{
+    let Some(words) = rest else {
+        return Err(missing_word(members));
+    };
+    let (word, rest) = cut_word(words);
+    let (member, size) = size_behind(members, member_in(members, word), rest)?;
+    Ok(Command::Commit(member, size))
+}
+
+fn stream_in(members: &Members, rest: Option<&[u8]>) -> Result<Command, Fault>
+    requires { length (keys members.now) ≤ 16 }
+    ensures { result ≡ stream_in (keys members.now) (option_copied rest.entry) }
+{
+    let Some(words) = rest else {
+        return Err(missing_word(members));
+    };
+    let (word, rest) = cut_word(words);
+    let (member, n) = number_behind(members, member_in(members, word), rest)?;
+    Ok(Command::Stream(member, n))
+}
+
+fn slow_in(members: &Members, rest: Option<&[u8]>) -> Result<Command, Fault>
+    requires { length (keys members.now) ≤ 16 }
+    ensures { result ≡ slow_in (keys members.now) (option_copied rest.entry) }
+{
+    let Some(words) = rest else {
+        return Err(missing_word(members));
+    };
+    let (word, rest) = cut_word(words);
+    let ((member, transition), delay) = transition_behind(members, member_in(members, word), rest)?;
+    Ok(Command::Slow(member, transition, delay))
 }
 
 /// The line of the body with this first word, and these words behind it.
@@ -193,6 +343,13 @@ pub fn line_of_words(
         Keyword::Resume => Command::Resume(one_member(members, rest)?),
         Keyword::Kill => Command::Kill(one_member(members, rest)?),
         Keyword::Restart => Command::Restart(one_member(members, rest)?),
+        Keyword::Promote => Command::Promote(one_member(members, rest)?),
+        Keyword::Crash => Command::Crash(one_member(members, rest)?),
+        Keyword::Freeze => Command::Freeze(one_member(members, rest)?),
+        Keyword::Thaw => Command::Thaw(one_member(members, rest)?),
+        Keyword::Commit => commit_in(members, rest)?,
+        Keyword::Stream => stream_in(members, rest)?,
+        Keyword::Slow => slow_in(members, rest)?,
         Keyword::Cut => {
             let (first, second) = two_ends(members, rest)?;
             Command::Cut(first, second)

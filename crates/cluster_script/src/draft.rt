@@ -2,12 +2,13 @@
 ghost use Rattle.std.specs.Prelude.{ℕ, ◌≡◌, ◌<◌, ◌≤◌, ◌+◌, ◌++◌, ◌∷◌, ◌^◌, List, [], length, map, Option, None, Some, Ok, IfOk, OnOk, OnErr, IfErr, IfSome};
 ghost use Rattle.std.specs.Option.{option_copied};
 ghost use Rattle.indexmap.specs.IndexMap.{keys};
-ghost use Rattle.cluster_script.specs.Script.{ScriptText, IsScript};
-ghost use Rattle.cluster_script.specs.Reading.{Gives, IsNew, addition_of, addition_in, members_after, body_after, after_counted, after_line, after_lines, at_line, finished};
+ghost use Rattle.cluster_script.specs.Script.{ScriptText, IsScript, base_or_default};
+ghost use Rattle.cluster_script.specs.Reading.{Gives, IsNew, addition_of, addition_in, base_after, members_after, body_after, after_counted, after_line, after_lines, at_line, finished};
 
 use crate::addition::Addition;
 use crate::arguments::line_of_words;
-use crate::head_lines::{first_line, next_member, second_cluster};
+use crate::head::DEFAULT_BASE;
+use crate::head_lines::{first_line, next_base, next_member, second_cluster};
 use crate::keyword::Keyword;
 use crate::lines::{is_skipped, is_text};
 use crate::members::Members;
@@ -25,6 +26,7 @@ const LONGEST_LINE: usize = 8_192;
 #[derive(Drop)]
 pub struct Draft {
     cluster: Option<Name>,
+    base: Option<u64>,
     members: Members,
     body: Vec<Line>,
 }
@@ -32,59 +34,72 @@ pub struct Draft {
 impl Model for Draft {
     ghost use Rattle.std.specs.Prelude.{Option};
     ghost use Rattle.indexmap.specs.IndexMap.{keys};
-    ghost use Rattle.cluster_script.specs.Script.{ScriptText};
-    ghost use Rattle.cluster_script.specs.Draft.{IsDraft, draft_of};
+    ghost use Rattle.cluster_script.specs.Draft.{DraftText, IsDraft, draft_of};
 
-    ghost Value = { Option ScriptText };
+    ghost Value = { Option DraftText };
 
-    ghost view = { λ d. draft_of d.cluster (keys d.members) d.body.items };
+    ghost view = { λ d. draft_of d.cluster d.base (keys d.members) d.body.items };
 
-    ghost invariant = { λ d. IsDraft d.cluster (keys d.members) d.body.items };
+    ghost invariant = { λ d. IsDraft d.cluster d.base (keys d.members) d.body.items };
 }
 
 /// What a line of this first word adds, from the words behind it. The one place where first words are told apart, but for
 /// those of lines of the body.
 fn addition_of(
+    base: Option<u64>,
     members: &Members,
     body: &[Line],
     keyword: Keyword,
     rest: Option<&[u8]>,
 ) -> Result<Addition, Fault>
     requires { length (keys members.now) ≤ 16 }
-    ensures value { result ≡ addition_of (keys members.now) body.now keyword (option_copied rest.entry) }
+    ensures value { result ≡ addition_of base (keys members.now) body.now keyword (option_copied rest.entry) }
     ensures new { IfOk result (IsNew (keys members.now)) }
 {
     match keyword {
         Keyword::Cluster => Err(second_cluster(rest)),
+        Keyword::Base => Ok(Addition::Base(next_base(base, body, rest)?)),
         Keyword::Member => Ok(Addition::Member(next_member(members, body, rest)?)),
         _ => Ok(Addition::Body(line_of_words(members, keyword, rest)?)),
     }
 }
 
 /// What a line adds.
-fn addition_in(members: &Members, body: &[Line], line: &[u8]) -> Result<Addition, Fault>
+fn addition_in(
+    base: Option<u64>,
+    members: &Members,
+    body: &[Line],
+    line: &[u8],
+) -> Result<Addition, Fault>
     requires { length (keys members.now) ≤ 16 }
-    ensures value { result ≡ addition_in (keys members.now) body.now line.now }
+    ensures value { result ≡ addition_in base (keys members.now) body.now line.now }
     ensures new { IfOk result (IsNew (keys members.now)) }
 {
     let (word, rest) = cut_word(line);
     match keyword_of(word) {
         None => Err(Fault::BadWord),
-        Some(keyword) => addition_of(members, body, keyword, rest),
+        Some(keyword) => addition_of(base, members, body, keyword, rest),
     }
 }
 
-fn apply(members: &mut Members, body: &mut Vec<Line>, added: Addition) -> Result<(), ScriptFault>
+fn apply(
+    base: &mut Option<u64>,
+    members: &mut Members,
+    body: &mut Vec<Line>,
+    added: Addition,
+) -> Result<(), ScriptFault>
     requires { IsNew (keys members.old) added }
+    ensures base { OnOk result (base.new ≡ base_after base.old added) }
     ensures members { OnOk result (keys members.new ≡ members_after (keys members.old) added) }
     ensures body { OnOk result (body.new.items ≡ body_after body.old.items added) }
     ensures memory { IfErr result (λ e. e ≡ ScriptFault.Memory) }
-    ensures same { OnErr result ((keys members.new ≡ keys members.old) × (body.new.items ≡ body.old.items)) }
+    ensures same { OnErr result ((base.new ≡ base.old) × (keys members.new ≡ keys members.old) × (body.new.items ≡ body.old.items)) }
 {
     match added {
         Addition::Member(name) => {
             members.insert(name, MemberOptions {})?;
         }
+        Addition::Base(n) => *base = Some(n),
         Addition::Body(line) => body.push(line)?,
     }
     Ok(())
@@ -100,6 +115,16 @@ fn located<T: Drop>(line: u64, outcome: Result<T, Fault>) -> Result<T, ScriptFau
     }
 }
 
+/// The base that is said, or the default.
+fn base_or_default(said: Option<u64>) -> u64
+    ensures { result ≡ base_or_default said }
+{
+    match said {
+        None => DEFAULT_BASE,
+        Some(base) => base,
+    }
+}
+
 impl Draft {
     /// A draft of no line.
     pub fn new(alloc: Global) -> Draft
@@ -107,6 +132,7 @@ impl Draft {
     {
         Draft {
             cluster: None,
+            base: None,
             members: IndexMap::new(alloc),
             body: Vec::new(alloc),
         }
@@ -119,8 +145,11 @@ impl Draft {
             self.cluster = Some(located(number, first_line(line))?);
             return Ok(());
         }
-        let added = located(number, addition_in(&self.members, &self.body, line))?;
-        apply(&mut self.members, &mut self.body, added)
+        let added = located(
+            number,
+            addition_in(self.base, &self.members, &self.body, line),
+        )?;
+        apply(&mut self.base, &mut self.members, &mut self.body, added)
     }
 
     fn add_line(&mut self, number: u64, line: &[u8]) -> Result<(), ScriptFault>
@@ -161,6 +190,7 @@ impl Draft {
     {
         let Draft {
             cluster,
+            base,
             members,
             body,
         } = self;
@@ -176,6 +206,7 @@ impl Draft {
                 fault: Fault::NoMember,
             });
         }
-        Ok(Script::new(Head::new(cluster, members), body))
+        let head = Head::new(cluster, base_or_default(base), members);
+        Ok(Script::new(head, body))
     }
 }

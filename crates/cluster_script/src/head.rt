@@ -1,5 +1,5 @@
 //! The head of a script.
-ghost use Rattle.std.specs.Prelude.{ℕ, ◌≡◌, ◌≤◌, ◌<◌, ◌↔◌, length, slice_get, IsNone};
+ghost use Rattle.std.specs.Prelude.{ℕ, ◌≡◌, ◌≤◌, ◌<◌, ◌^◌, ◌↔◌, length, slice_get, IsNone};
 
 use indexmap::IndexMap;
 use pat_base::Name;
@@ -9,10 +9,14 @@ use std::marker::Model;
 #[derive(Clone, Copy, Debug, PartialEq, Eq)]
 pub struct MemberOptions {}
 
-/// The head of a script: the name of its cluster, and its 1 to 16 members, in the order of their lines.
+/// The base of a script that says none: five files of 16 MiB.
+pub(crate) const DEFAULT_BASE: u64 = 83_886_080;
+
+/// The head of a script: the name of its cluster, its base, and its 1 to 16 members, in the order of their lines.
 #[derive(Drop)]
 pub struct Head {
     cluster: Name,
+    base: u64,
     members: IndexMap<Name, MemberOptions>,
 }
 
@@ -22,22 +26,26 @@ impl Model for Head {
 
     ghost Value = { HeadText };
 
-    ghost view = { λ h. record { cluster = h.cluster; members = keys h.members } };
+    ghost view = { λ h. record { cluster = h.cluster; base = h.base; members = keys h.members } };
 
-    ghost invariant = { λ h. IsHead (record { cluster = h.cluster; members = keys h.members }) };
+    ghost invariant = { λ h. IsHead (record { cluster = h.cluster; base = h.base; members = keys h.members }) };
 }
 
 impl Head {
-    ghost use Rattle.std.specs.Prelude.{ℕ, ◌≡◌, ◌≤◌, ◌<◌, ◌↔◌, length, slice_get, IsNone};
+    ghost use Rattle.std.specs.Prelude.{ℕ, ◌≡◌, ◌≤◌, ◌<◌, ◌^◌, ◌↔◌, length, slice_get, IsNone};
     ghost use Rattle.indexmap.specs.IndexMap.{keys};
     ghost use Rattle.cluster_script.specs.Script.{HeadText, IsHead};
 
-    /// The head of this cluster with these members.
-    pub(crate) fn new(cluster: Name, members: IndexMap<Name, MemberOptions>) -> Head
-        requires { IsHead (record { cluster = cluster; members = keys members }) }
-        ensures { result ≡ record { cluster = cluster; members = keys members } }
+    /// The head of this cluster with this base and these members.
+    pub(crate) fn new(cluster: Name, base: u64, members: IndexMap<Name, MemberOptions>) -> Head
+        requires { IsHead (record { cluster = cluster; base = base; members = keys members }) }
+        ensures { result ≡ record { cluster = cluster; base = base; members = keys members } }
     {
-        Head { cluster, members }
+        Head {
+            cluster,
+            base,
+            members,
+        }
     }
 
     /// The name of the cluster.
@@ -45,6 +53,15 @@ impl Head {
         ensures { result ≡ self.now.cluster }
     {
         self.cluster
+    }
+
+    /// The base: how many bytes of data each server's log begins with, 1 to 2^40. Where no line says it, 83,886,080.
+    pub fn base(&self) -> u64
+        ensures value { result ≡ self.now.base }
+        ensures some { 1 ≤ result }
+        ensures most { result ≤ 2 ^ 40 }
+    {
+        self.base
     }
 
     /// How many members there are, 1 to 16.

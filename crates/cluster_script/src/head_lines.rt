@@ -1,10 +1,11 @@
 //! The lines of a script's head.
-ghost use Rattle.std.specs.Prelude.{ℕ, ◌≡◌, ◌<◌, ◌≤◌, List, length, None, IfOk};
+ghost use Rattle.std.specs.Prelude.{ℕ, ◌≡◌, ◌<◌, ◌≤◌, ◌^◌, List, length, None, IfOk};
 ghost use Rattle.std.specs.Option.{option_copied};
 ghost use Rattle.indexmap.specs.IndexMap.{keys};
 ghost use Rattle.cluster_script.specs.Members.{place_of};
-ghost use Rattle.cluster_script.specs.Reading.{begins_option, has_option, in_head, declared_once, new_member, next_member, second_cluster, cluster_of, first_line};
+ghost use Rattle.cluster_script.specs.Reading.{begins_option, has_option, in_head, declared_once, new_member, next_member, base_in, head_end, base_end, base_missing, next_base, second_cluster, cluster_of, first_line};
 
+use crate::arguments::number_in;
 use crate::keyword::Keyword;
 use crate::members::{Members, place_of};
 use crate::words::{cut_word, keyword_of};
@@ -13,6 +14,9 @@ use pat_base::Name;
 
 /// The most members that a script may have.
 const MEMBERS: usize = 16;
+
+/// The greatest base of a script, in bytes.
+const GREATEST_BASE: u64 = 1_099_511_627_776;
 
 /// Whether an option of a member stands right here.
 fn begins_option(bytes: &[u8]) -> bool
@@ -94,6 +98,61 @@ pub fn next_member(members: &Members, body: &[Line], rest: Option<&[u8]>) -> Res
         return Err(Fault::BadWord);
     }
     new_member(members, body, rest)
+}
+
+fn base_in(word: &[u8]) -> Result<u64, Fault>
+    ensures { result ≡ base_in word.now }
+{
+    let n = number_in(word)?;
+    if n == 0 || n > GREATEST_BASE {
+        Err(Fault::BadNumber)
+    } else {
+        Ok(n)
+    }
+}
+
+/// A line of the head stands before the body, and ends where its words end.
+fn head_end(body: &[Line], rest: Option<&[u8]>) -> Result<(), Fault>
+    ensures { result ≡ head_end body.now (option_copied rest.entry) }
+{
+    if !body.is_empty() {
+        return Err(Fault::HeadLate);
+    }
+    match rest {
+        None => Ok(()),
+        Some(_) => Err(Fault::WordCount),
+    }
+}
+
+fn base_end(said: Option<u64>, body: &[Line], rest: Option<&[u8]>) -> Result<(), Fault>
+    ensures { result ≡ base_end said body.now (option_copied rest.entry) }
+{
+    match said {
+        Some(_) => Err(Fault::Duplicate),
+        None => head_end(body, rest),
+    }
+}
+
+fn base_missing(said: Option<u64>, body: &[Line]) -> Fault
+    ensures { result ≡ base_missing said body.now }
+{
+    match said {
+        Some(_) => Fault::Duplicate,
+        None => in_head(body, Fault::WordCount),
+    }
+}
+
+/// The base, from the words of its line, behind the base that is said already.
+pub fn next_base(said: Option<u64>, body: &[Line], rest: Option<&[u8]>) -> Result<u64, Fault>
+    ensures { result ≡ next_base said body.now (option_copied rest.entry) }
+{
+    let Some(words) = rest else {
+        return Err(base_missing(said, body));
+    };
+    let (word, rest) = cut_word(words);
+    let n = base_in(word)?;
+    base_end(said, body, rest)?;
+    Ok(n)
 }
 
 /// Which fault a second line `cluster` has.

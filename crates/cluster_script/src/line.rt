@@ -1,4 +1,5 @@
 //! What a script tells the run to do.
+use crate::{CommitSize, Delay};
 use pat_base::MemberId;
 
 /// One end of a link: a member, or the key store.
@@ -6,6 +7,13 @@ use pat_base::MemberId;
 pub enum End {
     Store,
     Member(MemberId),
+}
+
+/// What a line `slow` delays: the stop or the start of a server.
+#[derive(Clone, Copy, Debug, PartialEq, Eq)]
+pub enum Transition {
+    Stop,
+    Start,
 }
 
 /// What a line of a script's body asks for by itself. Ticks are of 100 ms, and messages are numbered from 1 in order of sending.
@@ -25,6 +33,20 @@ pub enum Command {
     Kill(MemberId),
     /// `restart M`: the agent of this member is started again.
     Restart(MemberId),
+    /// `promote M`: the server of this member is promoted by its operator.
+    Promote(MemberId),
+    /// `crash M`: the server of this member crashes.
+    Crash(MemberId),
+    /// `commit M BYTES`: a client commits so many bytes at the server of this member.
+    Commit(MemberId, CommitSize),
+    /// `stream M N`: the server of this member receives at most N entries of the log.
+    Stream(MemberId, u64),
+    /// `freeze M`: from here on `run` streams nothing to the server of this member.
+    Freeze(MemberId),
+    /// `thaw M`: from here on `run` streams to the server of this member again.
+    Thaw(MemberId),
+    /// `slow M stop N`, `slow M start N`: from here on a stop or a start of the server of this member takes N ticks.
+    Slow(MemberId, Transition, Delay),
     /// `cut X Y`: the link between two ends, which differ, carries nothing.
     Cut(End, End),
     /// `join X Y`: the link between two ends, which differ, carries messages again.

@@ -1,6 +1,7 @@
 //! Scripts that are read, and the first fault of bytes that are none.
 use super::read;
-use crate::{Command, End, Fault, Line, ScriptFault};
+use crate::{Command, CommitSize, Delay, End, Fault, Line, ScriptFault, Transition};
+use pat_base::MemberId;
 use std::alloc::Global;
 use std::test::Fail;
 
@@ -91,9 +92,67 @@ fn lines_that_are_read(rt: HostRuntime) -> Result<(), Fail> {
 }
 
 #[test]
+fn lines_of_servers_say_what_they_say(rt: HostRuntime) -> Result<(), Fail> {
+    let alloc = rt.alloc();
+    let a = MemberId::new(0).ok_or("none")?;
+    let b = MemberId::new(1).ok_or("none")?;
+    let least = CommitSize::new(1).ok_or("none")?;
+    let most = CommitSize::new(1_073_741_824).ok_or("none")?;
+    let at_once = Delay::new(0).ok_or("none")?;
+    let longest = Delay::new(100_000).ok_or("none")?;
+    let cases: [(&[u8], Command); 10] = [
+        (b"promote a", Command::Promote(a)),
+        (b"crash b", Command::Crash(b)),
+        (b"freeze a", Command::Freeze(a)),
+        (b"thaw b", Command::Thaw(b)),
+        (b"commit a 1", Command::Commit(a, least)),
+        (b"commit b 1073741824", Command::Commit(b, most)),
+        (b"stream a 0", Command::Stream(a, 0)),
+        (
+            b"stream b 18446744073709551615",
+            Command::Stream(b, 18_446_744_073_709_551_615),
+        ),
+        (
+            b"slow a stop 0",
+            Command::Slow(a, Transition::Stop, at_once),
+        ),
+        (
+            b"slow b start 100000",
+            Command::Slow(b, Transition::Start, longest),
+        ),
+    ];
+    for (line, command) in cases {
+        let script = read(alloc, &with_body(alloc, line, 1)?).map_err(|_| "none")?;
+        assert_eq!(rt; *script.get(0).ok_or("none")?, Line::Command(command));
+    }
+    Ok(())
+}
+
+#[test]
+fn a_base_stands_anywhere_in_the_head(rt: HostRuntime) -> Result<(), Fail> {
+    let alloc = rt.alloc();
+    let cases: [(&[u8], u64); 5] = [
+        (HEAD, 83_886_080),
+        (b"cluster c\nbase 1\nmember a\nmember b", 1),
+        (
+            b"cluster c\nmember a\n\nbase 1099511627776\nmember b\ntick 1",
+            1_099_511_627_776,
+        ),
+        (b"cluster c\nmember a\nmember b\nbase 7\ntick 1", 7),
+        (b"cluster c\nbase 83886080\nmember a\nmember b", 83_886_080),
+    ];
+    for (bytes, base) in cases {
+        let script = read(alloc, bytes).map_err(|_| "none")?;
+        assert_eq!(rt; script.head().base(), base);
+        assert_eq!(rt; script.head().member_count(), 2);
+    }
+    Ok(())
+}
+
+#[test]
 fn whole_inputs_with_a_fault(rt: HostRuntime) -> Result<(), Fail> {
     let alloc = rt.alloc();
-    let inputs: [(&[u8], u64, Fault); 16] = [
+    let inputs: [(&[u8], u64, Fault); 22] = [
         (b"", 1, Fault::NoCluster),
         (b"\n# none\n", 3, Fault::NoCluster),
         (b"# none", 2, Fault::NoCluster),
@@ -109,6 +168,20 @@ fn whole_inputs_with_a_fault(rt: HostRuntime) -> Result<(), Fail> {
         (b"cluster a\nhold\n", 2, Fault::NoMember),
         (b"cluster a\ntick x\n", 2, Fault::BadNumber),
         (b"cluster a\nhold b\n", 2, Fault::UnknownName),
+        (b"cluster a\ncommit\n", 2, Fault::NoMember),
+        (b"cluster a\nslow b stop 5\n", 2, Fault::UnknownName),
+        (b"cluster a\nbase 5\n", 3, Fault::NoMember),
+        (b"base 5\ncluster a\n", 1, Fault::NoCluster),
+        (
+            b"cluster a\nbase 5\nmember a\ntick 1\nbase 5\n",
+            5,
+            Fault::Duplicate,
+        ),
+        (
+            b"cluster a\nbase 5\nmember a\ntick 1\nbase\n",
+            5,
+            Fault::Duplicate,
+        ),
         (SEVENTEEN, 18, Fault::BadWord),
     ];
     for (bytes, line, fault) in inputs {
@@ -162,7 +235,15 @@ fn lines_with_a_fault(rt: HostRuntime) -> Result<(), Fail> {
     for (line, fault) in lines {
         assert!(rt; has_fault(alloc, &with_body(alloc, line, 1)?, 4, fault));
     }
-    let late: [(&[u8], Fault); 4] = [
+    let late: [(&[u8], Fault); 12] = [
+        (b"base 5\nbase 5", Fault::Duplicate),
+        (b"base 5\nbase", Fault::Duplicate),
+        (b"base 5\nbase 5 6", Fault::Duplicate),
+        (b"base 5\nbase x", Fault::BadNumber),
+        (b"tick 1\nbase x", Fault::BadNumber),
+        (b"tick 1\nbase 5", Fault::HeadLate),
+        (b"tick 1\nbase 5 6", Fault::HeadLate),
+        (b"tick 1\nbase", Fault::HeadLate),
         (b"tick 1\nmember c", Fault::HeadLate),
         (b"tick 1\nmember", Fault::HeadLate),
         (b"tick 1\nmember a", Fault::Duplicate),
@@ -175,18 +256,56 @@ fn lines_with_a_fault(rt: HostRuntime) -> Result<(), Fail> {
 }
 
 #[test]
+fn lines_of_servers_with_a_fault(rt: HostRuntime) -> Result<(), Fail> {
+    let alloc = rt.alloc();
+    let lines: [(&[u8], Fault); 35] = [
+        (b"base x", Fault::BadNumber),
+        (b"base 0", Fault::BadNumber),
+        (b"base 1099511627777", Fault::BadNumber),
+        (b"base 05", Fault::BadNumber),
+        (b"base", Fault::WordCount),
+        (b"base 5 6", Fault::WordCount),
+        (b"commit A x", Fault::BadName),
+        (b"commit zz x", Fault::BadNumber),
+        (b"commit a 0", Fault::BadNumber),
+        (b"commit a 1073741825", Fault::BadNumber),
+        (b"commit zz 5", Fault::UnknownName),
+        (b"commit zz", Fault::UnknownName),
+        (b"commit a", Fault::WordCount),
+        (b"commit a 5 6", Fault::WordCount),
+        (b"commit", Fault::WordCount),
+        (b"stream a x", Fault::BadNumber),
+        (b"stream a 18446744073709551616", Fault::BadNumber),
+        (b"stream zz 0", Fault::UnknownName),
+        (b"stream a", Fault::WordCount),
+        (b"stream a 0 0", Fault::WordCount),
+        (b"slow A halt x", Fault::BadName),
+        (b"slow a halt x", Fault::BadNumber),
+        (b"slow a stop 100001", Fault::BadNumber),
+        (b"slow a halt 5", Fault::BadOption),
+        (b"slow zz halt 5", Fault::BadOption),
+        (b"slow a halt", Fault::BadOption),
+        (b"slow zz stop 5", Fault::UnknownName),
+        (b"slow zz", Fault::UnknownName),
+        (b"slow a stop", Fault::WordCount),
+        (b"slow a stop 5 6", Fault::WordCount),
+        (b"slow a", Fault::WordCount),
+        (b"slow", Fault::WordCount),
+        (b"promote zz", Fault::UnknownName),
+        (b"crash a b", Fault::WordCount),
+        (b"thaw", Fault::WordCount),
+    ];
+    for (line, fault) in lines {
+        assert!(rt; has_fault(alloc, &with_body(alloc, line, 1)?, 4, fault));
+    }
+    Ok(())
+}
+
+#[test]
 fn lines_that_are_still_to_be_built(rt: HostRuntime) -> Result<(), Fail> {
     let alloc = rt.alloc();
-    let lines: [&[u8]; 19] = [
+    let lines: [&[u8]; 11] = [
         b"config {}",
-        b"base 1",
-        b"crash a",
-        b"promote a",
-        b"commit a 1",
-        b"stream a 1",
-        b"freeze a",
-        b"thaw",
-        b"slow a stop 1",
         b"rest a GET /",
         b"ctl list",
         b"member c host=h",
