@@ -1,8 +1,7 @@
 -- The servers of a book, by the number of their member.
-use Rattle.std.specs.Prelude.{ℕ, if◌then◌else◌, false, true, List, Option, Some, None, map, take, drop, slice_get}
+use Rattle.std.specs.Prelude.{ℕ, if◌then◌else◌, true, List, Option, Some, None, map, take, drop, slice_get}
 use Rattle.pat_base.specs.declared.server_state.State.{State}
 use Rattle.pat_base.specs.declared.server_state.State.TheVariants as states
-use Rattle.pat_base.specs.declared.ticks.Ticks.{Ticks}
 use Rattle.pg_model.specs.Facts.{ServerFacts, none_confirmed, entries_of, is_down}
 use Rattle.pg_model.specs.Replication.{appended, confirming, following, received_from}
 use Rattle.pg_model.specs.Running.{crashed, delayed, promoted, replica_started, started, stopped}

@@ -31,8 +31,8 @@ use Rattle.lease_law.specs.Past.{Past, members_if, query_of, extended_by, leader
 use Rattle.lease_law.proofs.Tools.{some-is, none-some, le-from, gt-from}
 use Rattle.lease_law.specs.Stores.{leader_value, leader_held, failsafe_held, IsLeased, IsEndless, IsSpannedTxn, IsSpanned, IsSameStore}
 
-pub same-first : (names : List Name) → IsSameStore first_past (start_of names)
-same-first names = record { clock = refl; revision = refl; leader = refl; failsafe = refl; kept = kept_first default_settings; leased = tt; endless = tt; present = λ key e. absurd (none-some key e) }
+pub same-first : (names : List Name) (base : ℕ) → IsSameStore first_past (start_of names base)
+same-first names base = record { clock = refl; revision = refl; leader = refl; failsafe = refl; kept = kept_first default_settings; leased = tt; endless = tt; present = λ key e. absurd (none-some key e) }
 
 lt-from : (m n : ℕ) → nat_lt m n ≡ true → m < n
 lt-from m n e = grind (arith, nat_tests)

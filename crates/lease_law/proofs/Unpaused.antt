@@ -37,8 +37,8 @@ use Rattle.event_book.specs.Facts.{Facts, after, start_of}
 use Rattle.lease_law.specs.Premises.{IsUnpaused, IsHandsOffKind}
 use Rattle.lease_law.specs.Pauses.{IsUnpausedHeld, IsUnpausedIn, AreUnpaused, NobodyPauses}
 
-pub pauses-first : (names : List Name) → NobodyPauses (start_of names)
-pauses-first names = record { store = refl; flight = tt; kept = kept_first default_settings }
+pub pauses-first : (names : List Name) (base : ℕ) → NobodyPauses (start_of names base)
+pauses-first names base = record { store = refl; flight = tt; kept = kept_first default_settings }
 
 unpaused-if : (b : Bool) (o : Option Held) → IsUnpausedHeld o → IsUnpausedHeld (cond b o None)
 unpaused-if true o is = is
