@@ -14,13 +14,13 @@ use Rattle.pat_world.proofs.Rooms.{HasRoom-fewer}
 use Rattle.pat_world.proofs.Starting.{start-room}
 
 -- no script within the limits brings a counter to its end
-pub has-room : (s : ScriptText) (world : Cluster) → (total_ticks s.body ≤ 1000000) × (length s.body ≤ 100000) → world ≡ cluster_of s.head.members → HasRoomFor world (total_ticks s.body + length s.body)
+pub has-room : (s : ScriptText) (world : Cluster) → (total_ticks s.body ≤ 1000000) × (length s.body ≤ 100000) → world ≡ cluster_of s.head → HasRoomFor world (total_ticks s.body + length s.body)
 has-room s world few start = rw start (record {
-  room = HasRoom-fewer (cluster_of s.head.members) (2 ^ 59) (16777216 * (total_ticks s.body + length s.body)) (omega (arith, few.0, few.1)) (start-room s.head.members);
+  room = HasRoom-fewer (cluster_of s.head) (2 ^ 59) (16777216 * (total_ticks s.body + length s.body)) (omega (arith, few.0, few.1)) (start-room s.head);
 })
 
 -- the world and the clock at the end are those of the book
-pub text-is : (s : ScriptText) (world new : Cluster) (clock : ℕ) → world ≡ cluster_of s.head.members → new ≡ moved_all world (run_from world (steps_of s.body)) → clock ≡ new.book.clock
+pub text-is : (s : ScriptText) (world new : Cluster) (clock : ℕ) → world ≡ cluster_of s.head → new ≡ moved_all world (run_from world (steps_of s.body)) → clock ≡ new.book.clock
     → printed_from world false (steps_of s.body) ++ summary_at clock ≡ output_of s
 text-is s world new clock start state moment =
     ap (λ n. printed_from world false (steps_of s.body) ++ summary_at n) (moment ∙ ap (λ f. f.book.clock) state)

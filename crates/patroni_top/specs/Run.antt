@@ -17,7 +17,7 @@ use Rattle.pat_world.specs.Next.{next_events, run_from}
 
 -- the book of a script: what happens from its head on, step by step
 abbrev pub run_of : ScriptText → List Event
-run_of script = run_from (cluster_of script.head.members) (steps_of script.body)
+run_of script = run_from (cluster_of script.head) (steps_of script.body)
 
 abbrev pub traced_by : Bool → Command → Bool
 traced_by trace (commands.Trace on) = on
@@ -42,7 +42,7 @@ printed_from cluster trace (step ∷ more) =
 -- the printed run of a script: its lines, those of messages only while they are traced, and then the summary
 abbrev pub output_of : ScriptText → List ℕ
 output_of script =
-    let start = cluster_of script.head.members in
+    let start = cluster_of script.head in
     printed_from start false (steps_of script.body) ++ summary_at (moved_all start (run_of script)).book.clock
 
 abbrev pub output_or_none : Option Limit → Result ScriptText (ℕ × Fault) → List ℕ

@@ -161,6 +161,20 @@ impl Server {
         self.was_primary
     }
 
+    /// How long its later stops take.
+    pub fn stop_delay(&self) -> Ticks
+        ensures { result ≡ self.now.stop_delay }
+    {
+        self.stop_delay
+    }
+
+    /// How long its later starts take.
+    pub fn start_delay(&self) -> Ticks
+        ensures { result ≡ self.now.start_delay }
+    {
+        self.start_delay
+    }
+
     /// Whose confirmation its commits wait for.
     pub fn required(&self) -> Required
         ensures { result ≡ self.now.required }
