@@ -8,10 +8,8 @@ use Rattle.std.specs.Option.{unwrap_or}
 use Rattle.std.proofs.Math.ListN.{length-map}
 use Rattle.pat_base.specs.declared.server_state.State.{State}
 use Rattle.pat_base.specs.declared.server_state.State.TheVariants as states
-use Rattle.pat_base.specs.declared.server_id.ServerId.{ServerId}
 use Rattle.pat_base.specs.declared.ticks.Ticks.{Ticks}
 use Rattle.pat_base.specs.ServerState.{writes, live}
-use Rattle.pg_model.specs.declared.waiting.Waiting.{Waiting}
 use Rattle.pg_model.specs.Facts.{ServerFacts, is_down, none_confirmed}
 use Rattle.pg_model.specs.Running.{completed, crashed_state, later, replica_started, started, stopped}
 use Rattle.pg_model.specs.Servers.{quietly_ticked, with_server}
@@ -33,34 +31,10 @@ use Rattle.event_book.specs.Facts.{Facts, after, after_all}
 use Rattle.event_book.specs.Functions.{put_at}
 use Rattle.event_book.specs.Logs.{log_received, log_copied, logs_in, logs_by, logs_at, logs_after}
 use Rattle.event_book.specs.Required.{required_in, required_at, required_after, confirmed_in, confirmed_at, confirmed_after}
-use Rattle.event_book.specs.Servers.{begun_in, starts_as_replica, servers_by, received_by, copied_by, servers_logged, servers_replicated, servers_watched, servers_after}
+use Rattle.event_book.specs.Servers.{begun_in, servers_by, received_by, copied_by, servers_logged, servers_replicated, servers_watched, servers_after}
 use Rattle.event_book.specs.Writers.{writes_now, writes_in, writes_by, writes_by_server, writes_by_watchdog, writes_after}
+use Rattle.event_book.proofs.Parts.{ticked-kept, others-kept, watched-kept, logged-kept, replicated-kept}
 use Rattle.event_book.proofs.Changed.{changed-one, kept-one, kept-each, same-if, length-one}
-
--- a part of a server that no start and no stop changes
-module _ {B : Type 0} (f : ServerFacts → B) (free : (s : ServerFacts) (state : State) (upstream : Option ServerId) (primary : Bool) (waiting : List Waiting)
-    → f (record s { state = state; upstream = upstream; was_primary = primary; waiting = waiting }) ≡ f s) where
-  started-free : (primary : Bool) (s : ServerFacts) → f (started primary s) ≡ f s
-  started-free false s = free s states.Replica s.upstream s.was_primary s.waiting
-  started-free true s = free s states.Primary s.upstream true s.waiting
-
-  completed-free : (now : Ticks) (state : State) (s : ServerFacts) → f (completed now state s) ≡ f s
-  completed-free now (states.Starting primary at) s = same-if f (nat_le at.0 now.0) (started primary s) s (f s) (started-free primary s) refl
-  completed-free now (states.Stopping primary at) s = same-if f (nat_le at.0 now.0) (stopped s) s (f s) (free s states.Stopped s.upstream s.was_primary []) refl
-  completed-free now _ s = refl
-
-  ticked-free : (now : Ticks) (s : ServerFacts) → f (quietly_ticked now s) ≡ f s
-  ticked-free now s = same-if f (live s.state) s (completed now s.state s) (f s) refl (completed-free now s.state s)
-
-  replica-free : (now : ℕ) (s : ServerFacts) → f (starts_as_replica now s) ≡ f s
-  replica-free now s =
-      let at : Ticks = record { 0 = now } in
-      let told : ServerFacts = record s { upstream = None; was_primary = false } in
-      let ready : Ticks = later at s.start_delay in
-      same-if f (is_down s.state) (replica_started at None s) s (f s)
-      (same-if f (s.start_delay.0 == 0) (started false told) (record told { state = states.Starting false ready }) (f s)
-      (free s states.Replica None false s.waiting) (free s (states.Starting false ready) None false s.waiting))
-      refl
 
 -- the logs
 
@@ -70,15 +44,7 @@ log-begun _ s = refl
 
 logs-by-server : (now : ℕ) (known : List ServerFacts) (happening : ServerEvent) → logs_in (servers_by now known happening) ≡ logs_in known
 logs-by-server now known (servers.Began server timeline) = kept-one (λ s. s.log) known _ _ (λ s. log-begun s.state s)
-logs-by-server now known (servers.Ended server) = kept-one (λ s. s.log) known _ _ (λ s. refl)
-logs-by-server now known (servers.Crashed server) = kept-one (λ s. s.log) known _ _ (λ s. refl)
-logs-by-server now known (servers.Promoted server) = refl
-logs-by-server now known (servers.StartsAsReplica server) = kept-one (λ s. s.log) known _ _ (replica-free (λ s. s.log) (λ s state upstream primary waiting. refl) now)
-logs-by-server now known (servers.Follows server upstream) = kept-one (λ s. s.log) known _ _ (λ s. refl)
-logs-by-server now known (servers.Diverged server upstream at) = kept-one (λ s. s.log) known _ _ (λ s. refl)
-logs-by-server now known (servers.Frozen server) = refl
-logs-by-server now known (servers.Thawed server) = refl
-logs-by-server now known (servers.Slowed server stop start) = kept-one (λ s. s.log) known _ _ (λ s. refl)
+logs-by-server now known happening = others-kept (λ s. s.log) (λ s t log required confirmed. log) now known happening tt
 
 logs-received : (known : List ServerFacts) (number count : ℕ) (found : Option ServerFacts)
     → logs_in (received_by known number count found) ≡ log_received (logs_in known) number count (option_map (λ s. s.log) found)
@@ -101,21 +67,13 @@ logs-logged known (logs.Copied server from) =
     ∙ ap (λ o. log_copied (logs_in known) server.id.number o) (sym (slice_get-map (λ s. s.log) known from.id.number))
 logs-logged known (logs.Wiped server) = changed-one (λ s. s.log) known server.id.number _ _ (λ s. refl)
 
-logs-replicated : (known : List ServerFacts) (happening : ReplicationEvent) → logs_in (servers_replicated known happening) ≡ logs_in known
-logs-replicated known (replications.RequiredSet server required names) = kept-one (λ s. s.log) known _ _ (λ s. refl)
-logs-replicated known (replications.Confirmed server by end) = kept-one (λ s. s.log) known _ _ (λ s. refl)
-logs-replicated known (replications.Acknowledged server commit) = kept-one (λ s. s.log) known _ _ (λ s. refl)
-
-logs-watched : (known : List ServerFacts) (happening : WatchdogEvent) → logs_in (servers_watched known happening) ≡ logs_in known
-logs-watched known (watchdogs.Reset member) = kept-one (λ s. s.log) known _ _ (λ s. refl)
-logs-watched known _ = refl
-
+-- one event
 pub logs-of : (now : ℕ) (known : List ServerFacts) (kind : Kind) → logs_in (servers_after now known kind) ≡ logs_at (logs_in known) kind
-logs-of now known kinds.Tick = kept-each (λ s. s.log) _ (ticked-free (λ s. s.log) (λ s state upstream primary waiting. refl) _) known
+logs-of now known kinds.Tick = ticked-kept (λ s. s.log) (λ s t log required confirmed. log) (record { 0 = now }) known
 logs-of now known (kinds.Server happening) = logs-by-server now known happening
 logs-of now known (kinds.Log happening) = logs-logged known happening
-logs-of now known (kinds.Replication happening) = logs-replicated known happening
-logs-of now known (kinds.Watchdog happening) = logs-watched known happening
+logs-of now known (kinds.Replication happening) = replicated-kept (λ s. s.log) (λ s t state log. log) known happening
+logs-of now known (kinds.Watchdog happening) = watched-kept (λ s. s.log) (λ s t log required confirmed. log) known happening
 logs-of now known _ = refl
 
 pub logs-told : (facts : Facts) (book : List Event) → logs_in (after_all facts book).servers ≡ logs_after (logs_in facts.servers) book
@@ -131,30 +89,7 @@ required-begun _ s = refl
 
 required-by-server : (now : ℕ) (known : List ServerFacts) (happening : ServerEvent) → required_in (servers_by now known happening) ≡ required_in known
 required-by-server now known (servers.Began server timeline) = kept-one (λ s. s.required) known _ _ (λ s. required-begun s.state s)
-required-by-server now known (servers.Ended server) = kept-one (λ s. s.required) known _ _ (λ s. refl)
-required-by-server now known (servers.Crashed server) = kept-one (λ s. s.required) known _ _ (λ s. refl)
-required-by-server now known (servers.Promoted server) = refl
-required-by-server now known (servers.StartsAsReplica server) = kept-one (λ s. s.required) known _ _ (replica-free (λ s. s.required) (λ s state upstream primary waiting. refl) now)
-required-by-server now known (servers.Follows server upstream) = kept-one (λ s. s.required) known _ _ (λ s. refl)
-required-by-server now known (servers.Diverged server upstream at) = kept-one (λ s. s.required) known _ _ (λ s. refl)
-required-by-server now known (servers.Frozen server) = refl
-required-by-server now known (servers.Thawed server) = refl
-required-by-server now known (servers.Slowed server stop start) = kept-one (λ s. s.required) known _ _ (λ s. refl)
-
-required-received : (known : List ServerFacts) (number count : ℕ) (found : Option ServerFacts) → required_in (received_by known number count found) ≡ required_in known
-required-received known number count None = refl
-required-received known number count (Some upstream) = kept-one (λ s. s.required) known _ _ (λ s. refl)
-
-required-copied : (known : List ServerFacts) (number : ℕ) (found : Option ServerFacts) → required_in (copied_by known number found) ≡ required_in known
-required-copied known number None = refl
-required-copied known number (Some source) = kept-one (λ s. s.required) known _ _ (λ s. refl)
-
-required-logged : (known : List ServerFacts) (happening : LogEvent) → required_in (servers_logged known happening) ≡ required_in known
-required-logged known (logs.Appended server entry) = kept-one (λ s. s.required) known _ _ (λ s. refl)
-required-logged known (logs.Received server from count) = required-received known server.id.number count (slice_get known from.id.number)
-required-logged known (logs.Rewound server from kept at) = kept-one (λ s. s.required) known _ _ (λ s. refl)
-required-logged known (logs.Copied server from) = required-copied known server.id.number (slice_get known from.id.number)
-required-logged known (logs.Wiped server) = kept-one (λ s. s.required) known _ _ (λ s. refl)
+required-by-server now known happening = others-kept (λ s. s.required) (λ s t log required confirmed. required) now known happening tt
 
 required-replicated : (known : List ServerFacts) (happening : ReplicationEvent)
     → required_in (servers_replicated known happening) ≡ required_at (required_in known) (kinds.Replication happening)
@@ -162,16 +97,12 @@ required-replicated known (replications.RequiredSet server required names) = cha
 required-replicated known (replications.Confirmed server by end) = kept-one (λ s. s.required) known _ _ (λ s. refl)
 required-replicated known (replications.Acknowledged server commit) = kept-one (λ s. s.required) known _ _ (λ s. refl)
 
-required-watched : (known : List ServerFacts) (happening : WatchdogEvent) → required_in (servers_watched known happening) ≡ required_in known
-required-watched known (watchdogs.Reset member) = kept-one (λ s. s.required) known _ _ (λ s. refl)
-required-watched known _ = refl
-
 pub required-of : (now : ℕ) (known : List ServerFacts) (kind : Kind) → required_in (servers_after now known kind) ≡ required_at (required_in known) kind
-required-of now known kinds.Tick = kept-each (λ s. s.required) _ (ticked-free (λ s. s.required) (λ s state upstream primary waiting. refl) _) known
+required-of now known kinds.Tick = ticked-kept (λ s. s.required) (λ s t log required confirmed. required) (record { 0 = now }) known
 required-of now known (kinds.Server happening) = required-by-server now known happening
-required-of now known (kinds.Log happening) = required-logged known happening
+required-of now known (kinds.Log happening) = logged-kept (λ s. s.required) (λ s t state required confirmed. required) known happening
 required-of now known (kinds.Replication happening) = required-replicated known happening
-required-of now known (kinds.Watchdog happening) = required-watched known happening
+required-of now known (kinds.Watchdog happening) = watched-kept (λ s. s.required) (λ s t log required confirmed. required) known happening
 required-of now known _ = refl
 
 pub required-told : (facts : Facts) (book : List Event) → required_in (after_all facts book).servers ≡ required_after (required_in facts.servers) book
@@ -188,30 +119,7 @@ confirmed-begun _ s = refl
 confirmed-by-server : (now : ℕ) (known : List ServerFacts) (happening : ServerEvent)
     → confirmed_in (servers_by now known happening) ≡ confirmed_at (confirmed_in known) (kinds.Server happening)
 confirmed-by-server now known (servers.Began server timeline) = changed-one (λ s. s.confirmed) known server.id.number _ _ (λ s. confirmed-begun s.state s)
-confirmed-by-server now known (servers.Ended server) = kept-one (λ s. s.confirmed) known _ _ (λ s. refl)
-confirmed-by-server now known (servers.Crashed server) = kept-one (λ s. s.confirmed) known _ _ (λ s. refl)
-confirmed-by-server now known (servers.Promoted server) = refl
-confirmed-by-server now known (servers.StartsAsReplica server) = kept-one (λ s. s.confirmed) known _ _ (replica-free (λ s. s.confirmed) (λ s state upstream primary waiting. refl) now)
-confirmed-by-server now known (servers.Follows server upstream) = kept-one (λ s. s.confirmed) known _ _ (λ s. refl)
-confirmed-by-server now known (servers.Diverged server upstream at) = kept-one (λ s. s.confirmed) known _ _ (λ s. refl)
-confirmed-by-server now known (servers.Frozen server) = refl
-confirmed-by-server now known (servers.Thawed server) = refl
-confirmed-by-server now known (servers.Slowed server stop start) = kept-one (λ s. s.confirmed) known _ _ (λ s. refl)
-
-confirmed-received : (known : List ServerFacts) (number count : ℕ) (found : Option ServerFacts) → confirmed_in (received_by known number count found) ≡ confirmed_in known
-confirmed-received known number count None = refl
-confirmed-received known number count (Some upstream) = kept-one (λ s. s.confirmed) known _ _ (λ s. refl)
-
-confirmed-copied : (known : List ServerFacts) (number : ℕ) (found : Option ServerFacts) → confirmed_in (copied_by known number found) ≡ confirmed_in known
-confirmed-copied known number None = refl
-confirmed-copied known number (Some source) = kept-one (λ s. s.confirmed) known _ _ (λ s. refl)
-
-confirmed-logged : (known : List ServerFacts) (happening : LogEvent) → confirmed_in (servers_logged known happening) ≡ confirmed_in known
-confirmed-logged known (logs.Appended server entry) = kept-one (λ s. s.confirmed) known _ _ (λ s. refl)
-confirmed-logged known (logs.Received server from count) = confirmed-received known server.id.number count (slice_get known from.id.number)
-confirmed-logged known (logs.Rewound server from kept at) = kept-one (λ s. s.confirmed) known _ _ (λ s. refl)
-confirmed-logged known (logs.Copied server from) = confirmed-copied known server.id.number (slice_get known from.id.number)
-confirmed-logged known (logs.Wiped server) = kept-one (λ s. s.confirmed) known _ _ (λ s. refl)
+confirmed-by-server now known happening = others-kept (λ s. s.confirmed) (λ s t log required confirmed. confirmed) now known happening tt
 
 confirmed-replicated : (known : List ServerFacts) (happening : ReplicationEvent)
     → confirmed_in (servers_replicated known happening) ≡ confirmed_at (confirmed_in known) (kinds.Replication happening)
@@ -219,16 +127,12 @@ confirmed-replicated known (replications.RequiredSet server required names) = ke
 confirmed-replicated known (replications.Confirmed server by end) = changed-one (λ s. s.confirmed) known server.id.number _ _ (λ s. refl)
 confirmed-replicated known (replications.Acknowledged server commit) = kept-one (λ s. s.confirmed) known _ _ (λ s. refl)
 
-confirmed-watched : (known : List ServerFacts) (happening : WatchdogEvent) → confirmed_in (servers_watched known happening) ≡ confirmed_in known
-confirmed-watched known (watchdogs.Reset member) = kept-one (λ s. s.confirmed) known _ _ (λ s. refl)
-confirmed-watched known _ = refl
-
 pub confirmed-of : (now : ℕ) (known : List ServerFacts) (kind : Kind) → confirmed_in (servers_after now known kind) ≡ confirmed_at (confirmed_in known) kind
-confirmed-of now known kinds.Tick = kept-each (λ s. s.confirmed) _ (ticked-free (λ s. s.confirmed) (λ s state upstream primary waiting. refl) _) known
+confirmed-of now known kinds.Tick = ticked-kept (λ s. s.confirmed) (λ s t log required confirmed. confirmed) (record { 0 = now }) known
 confirmed-of now known (kinds.Server happening) = confirmed-by-server now known happening
-confirmed-of now known (kinds.Log happening) = confirmed-logged known happening
+confirmed-of now known (kinds.Log happening) = logged-kept (λ s. s.confirmed) (λ s t state required confirmed. confirmed) known happening
 confirmed-of now known (kinds.Replication happening) = confirmed-replicated known happening
-confirmed-of now known (kinds.Watchdog happening) = confirmed-watched known happening
+confirmed-of now known (kinds.Watchdog happening) = watched-kept (λ s. s.confirmed) (λ s t log required confirmed. confirmed) known happening
 confirmed-of now known _ = refl
 
 pub confirmed-told : (facts : Facts) (book : List Event) → confirmed_in (after_all facts book).servers ≡ confirmed_after (confirmed_in facts.servers) book
@@ -254,50 +158,24 @@ acknowledged-told facts (event ∷ events) =
     ∙ ap (λ told. told ++ acknowledged_in events) (acknowledged-of facts.acknowledged event.kind)
     ∙ append_assoc facts.acknowledged (acknowledged_by event.kind) (acknowledged_in events)
 
--- how many there are
+-- how many there are: events change servers, and neither add any nor take any away
+
+abbrev seen-as-one : ServerFacts → Bool
+seen-as-one s = true
+
+length-kept : (before known : List ServerFacts) → map seen-as-one known ≡ map seen-as-one before → length known ≡ length before
+length-kept before known same = sym (length-map known seen-as-one) ∙ ap (λ xs. length xs) same ∙ length-map before seen-as-one
 
 count-by : (now : ℕ) (known : List ServerFacts) (happening : ServerEvent) → length (servers_by now known happening) ≡ length known
 count-by now known (servers.Began server timeline) = length-one known _ _
-count-by now known (servers.Ended server) = length-one known _ _
-count-by now known (servers.Crashed server) = length-one known _ _
-count-by now known (servers.Promoted server) = refl
-count-by now known (servers.StartsAsReplica server) = length-one known _ _
-count-by now known (servers.Follows server upstream) = length-one known _ _
-count-by now known (servers.Diverged server upstream at) = length-one known _ _
-count-by now known (servers.Frozen server) = refl
-count-by now known (servers.Thawed server) = refl
-count-by now known (servers.Slowed server stop start) = length-one known _ _
-
-count-received : (known : List ServerFacts) (number count : ℕ) (found : Option ServerFacts) → length (received_by known number count found) ≡ length known
-count-received known number count None = refl
-count-received known number count (Some upstream) = length-one known _ _
-
-count-copied : (known : List ServerFacts) (number : ℕ) (found : Option ServerFacts) → length (copied_by known number found) ≡ length known
-count-copied known number None = refl
-count-copied known number (Some source) = length-one known _ _
-
-count-logged : (known : List ServerFacts) (happening : LogEvent) → length (servers_logged known happening) ≡ length known
-count-logged known (logs.Appended server entry) = length-one known _ _
-count-logged known (logs.Received server from count) = count-received known server.id.number count (slice_get known from.id.number)
-count-logged known (logs.Rewound server from kept at) = length-one known _ _
-count-logged known (logs.Copied server from) = count-copied known server.id.number (slice_get known from.id.number)
-count-logged known (logs.Wiped server) = length-one known _ _
-
-count-replicated : (known : List ServerFacts) (happening : ReplicationEvent) → length (servers_replicated known happening) ≡ length known
-count-replicated known (replications.RequiredSet server required names) = length-one known _ _
-count-replicated known (replications.Confirmed server by end) = length-one known _ _
-count-replicated known (replications.Acknowledged server commit) = length-one known _ _
-
-count-watched : (known : List ServerFacts) (happening : WatchdogEvent) → length (servers_watched known happening) ≡ length known
-count-watched known (watchdogs.Reset member) = length-one known _ _
-count-watched known _ = refl
+count-by now known happening = length-kept known (servers_by now known happening) (others-kept seen-as-one (λ s t log required confirmed. refl) now known happening tt)
 
 pub count-of : (now : ℕ) (known : List ServerFacts) (kind : Kind) → length (servers_after now known kind) ≡ length known
 count-of now known kinds.Tick = length-map known _
 count-of now known (kinds.Server happening) = count-by now known happening
-count-of now known (kinds.Log happening) = count-logged known happening
-count-of now known (kinds.Replication happening) = count-replicated known happening
-count-of now known (kinds.Watchdog happening) = count-watched known happening
+count-of now known (kinds.Log happening) = length-kept known (servers_logged known happening) (logged-kept seen-as-one (λ s t state required confirmed. refl) known happening)
+count-of now known (kinds.Replication happening) = length-kept known (servers_replicated known happening) (replicated-kept seen-as-one (λ s t state log. refl) known happening)
+count-of now known (kinds.Watchdog happening) = length-kept known (servers_watched known happening) (watched-kept seen-as-one (λ s t log required confirmed. refl) known happening)
 count-of now known _ = refl
 
 pub count-told : (facts : Facts) (book : List Event) → length (after_all facts book).servers ≡ length facts.servers
@@ -389,26 +267,6 @@ writes-by-server now known (servers.Frozen server) n small = refl
 writes-by-server now known (servers.Thawed server) n small = refl
 writes-by-server now known (servers.Slowed server stop start) n small = writes-one known _ n _ (λ s. refl)
 
-writes-received : (known : List ServerFacts) (number count n : ℕ) (found : Option ServerFacts) → writes_in (received_by known number count found) n ≡ writes_in known n
-writes-received known number count n None = refl
-writes-received known number count n (Some upstream) = writes-one known _ n _ (λ s. refl)
-
-writes-copied : (known : List ServerFacts) (number n : ℕ) (found : Option ServerFacts) → writes_in (copied_by known number found) n ≡ writes_in known n
-writes-copied known number n None = refl
-writes-copied known number n (Some source) = writes-one known _ n _ (λ s. refl)
-
-writes-logged : (known : List ServerFacts) (happening : LogEvent) (n : ℕ) → writes_in (servers_logged known happening) n ≡ writes_in known n
-writes-logged known (logs.Appended server entry) n = writes-one known _ n _ (λ s. refl)
-writes-logged known (logs.Received server from count) n = writes-received known server.id.number count n (slice_get known from.id.number)
-writes-logged known (logs.Rewound server from kept at) n = writes-one known _ n _ (λ s. refl)
-writes-logged known (logs.Copied server from) n = writes-copied known server.id.number n (slice_get known from.id.number)
-writes-logged known (logs.Wiped server) n = writes-one known _ n _ (λ s. refl)
-
-writes-replicated : (known : List ServerFacts) (happening : ReplicationEvent) (n : ℕ) → writes_in (servers_replicated known happening) n ≡ writes_in known n
-writes-replicated known (replications.RequiredSet server required names) n = writes-one known _ n _ (λ s. refl)
-writes-replicated known (replications.Confirmed server by end) n = writes-one known _ n _ (λ s. refl)
-writes-replicated known (replications.Acknowledged server commit) n = writes-one known _ n _ (λ s. refl)
-
 writes-watched : (known : List ServerFacts) (happening : WatchdogEvent) (n : ℕ) → n < length known
     → writes_in (servers_watched known happening) n ≡ writes_by_watchdog (writes_in known) happening n
 writes-watched known (watchdogs.Reset member) n small = writes-put known _ n _ false small (λ s. writes-crashed s.state)
@@ -416,10 +274,13 @@ writes-watched known _ n small = refl
 
 pub writes-of : (now : ℕ) (known : List ServerFacts) (kind : Kind) (n : ℕ) → n < length known → writes_in (servers_after now known kind) n ≡ writes_by (writes_in known) kind n
 writes-of now known kinds.Tick n small =
-    writes-kept known _ n (kept-each (λ s. writes s.state) (quietly_ticked (record { 0 = now })) (λ s. writes-completed (record { 0 = now }) s.state s refl) known)
+    let at : Ticks = record { 0 = now } in
+    writes-kept known _ n (kept-each (λ s. writes s.state) (quietly_ticked at) (λ s. writes-completed at s.state s refl) known)
 writes-of now known (kinds.Server happening) n small = writes-by-server now known happening n small
-writes-of now known (kinds.Log happening) n small = writes-logged known happening n
-writes-of now known (kinds.Replication happening) n small = writes-replicated known happening n
+writes-of now known (kinds.Log happening) n small =
+    writes-kept known (servers_logged known happening) n (logged-kept (λ s. writes s.state) (λ s t state required confirmed. ap writes state) known happening)
+writes-of now known (kinds.Replication happening) n small =
+    writes-kept known (servers_replicated known happening) n (replicated-kept (λ s. writes s.state) (λ s t state log. ap writes state) known happening)
 writes-of now known (kinds.Watchdog happening) n small = writes-watched known happening n small
 writes-of now known _ n small = refl
 
