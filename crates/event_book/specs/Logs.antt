@@ -1,8 +1,8 @@
 -- The logs of servers, from the book alone.
-use Rattle.std.specs.Prelude.{ℕ, List, [], ◌∷◌, ◌++◌, Option, Some, None, slice_get, take}
+use Rattle.std.specs.Prelude.{ℕ, List, [], ◌∷◌, ◌++◌, Option, Some, None, map, slice_get, take}
 use Rattle.wal_model.specs.declared.entry.Entry.{Entry}
 use Rattle.wal_model.specs.Log.{received}
-use Rattle.pg_model.specs.Facts.{entries_of}
+use Rattle.pg_model.specs.Facts.{ServerFacts, entries_of}
 use Rattle.event_book.specs.declared.event.Event.{Event}
 use Rattle.event_book.specs.declared.event.Kind.{Kind}
 use Rattle.event_book.specs.declared.event.Kind.TheVariants as kinds
@@ -13,6 +13,10 @@ use Rattle.event_book.specs.Agents.{changed_by}
 -- logs by the numbers of their servers; a server that was wiped has none
 abbrev pub Logs : Type 0
 Logs = List (Option (List Entry))
+
+-- the logs of these servers
+abbrev pub logs_in : List ServerFacts → Logs
+logs_in servers = map (λ s. s.log) servers
 
 abbrev pub log_received : Logs → ℕ → ℕ → Option (Option (List Entry)) → Logs
 log_received known number count None = known

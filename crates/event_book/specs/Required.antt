@@ -1,14 +1,22 @@
 -- Whose confirmation the commits of servers wait for, and what was confirmed, from the book alone.
-use Rattle.std.specs.Prelude.{List, [], ◌∷◌, Option, Some, slice_set}
+use Rattle.std.specs.Prelude.{List, [], ◌∷◌, Option, Some, map, slice_set}
 use Rattle.pat_base.specs.declared.lsn.Lsn.{Lsn}
 use Rattle.pat_base.specs.declared.server_state.Required.{Required}
-use Rattle.pg_model.specs.Facts.{none_confirmed}
+use Rattle.pg_model.specs.Facts.{ServerFacts, none_confirmed}
 use Rattle.event_book.specs.declared.event.Event.{Event}
 use Rattle.event_book.specs.declared.event.Kind.{Kind}
 use Rattle.event_book.specs.declared.event.Kind.TheVariants as kinds
 use Rattle.event_book.specs.declared.event.ReplicationEvent.TheVariants as replications
 use Rattle.event_book.specs.declared.event.ServerEvent.TheVariants as servers
 use Rattle.event_book.specs.Agents.{changed_by}
+
+-- the required lists of these servers
+abbrev pub required_in : List ServerFacts → List Required
+required_in servers = map (λ s. s.required) servers
+
+-- and what was confirmed to them
+abbrev pub confirmed_in : List ServerFacts → List (List (Option Lsn))
+confirmed_in servers = map (λ s. s.confirmed) servers
 
 -- the required lists after an event, by the numbers of their servers
 abbrev pub required_at : List Required → Kind → List Required

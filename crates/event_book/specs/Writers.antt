@@ -1,5 +1,7 @@
 -- Who accepts writes, from the book alone.
-use Rattle.std.specs.Prelude.{ℕ, ◌≡◌, Bool, true, false, List, [], ◌∷◌}
+use Rattle.std.specs.Prelude.{ℕ, ◌≡◌, Bool, true, false, List, [], ◌∷◌, Option, Some, None, slice_get}
+use Rattle.pat_base.specs.ServerState.{writes}
+use Rattle.pg_model.specs.Facts.{ServerFacts}
 use Rattle.event_book.specs.declared.event.Event.{Event}
 use Rattle.event_book.specs.declared.event.Kind.{Kind}
 use Rattle.event_book.specs.declared.event.Kind.TheVariants as kinds
@@ -8,6 +10,14 @@ use Rattle.event_book.specs.declared.event.ServerEvent.TheVariants as servers
 use Rattle.event_book.specs.declared.event.WatchdogEvent.{WatchdogEvent}
 use Rattle.event_book.specs.declared.event.WatchdogEvent.TheVariants as watchdogs
 use Rattle.event_book.specs.Functions.{put_at}
+
+abbrev pub writes_now : Option ServerFacts → Bool
+writes_now None = false
+writes_now (Some s) = writes s.state
+
+-- which of these servers accept writes, by their states
+abbrev pub writes_in : List ServerFacts → ℕ → Bool
+writes_in servers n = writes_now (slice_get servers n)
 
 -- which servers accept writes after what happens to one; a server has the number of its member
 abbrev pub writes_by_server : (ℕ → Bool) → ServerEvent → ℕ → Bool

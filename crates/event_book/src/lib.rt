@@ -3,6 +3,7 @@
 
 mod agent_state;
 mod event;
+mod laws;
 mod link;
 mod listing;
 mod member;
@@ -21,6 +22,7 @@ pub use event::{
     AgentEvent, Event, Kind, LinkEvent, LogEvent, MessageEvent, Note, ReplicationEvent,
     ServerEvent, StoreEvent, WatchdogEvent,
 };
+pub use laws::servers_are_told;
 pub use link::{Link, LinkEnd};
 pub use member::{Member, ServerOf};
 pub use message::{Body, Message};

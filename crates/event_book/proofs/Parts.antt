@@ -1,0 +1,86 @@
+-- Parts of servers that events of some concerns leave as they were.
+use Rattle.std.proofs.Common.{ℕ, ◌≡◌, ◌==◌, nat_le, true, false, List, map, slice_get, Option, Some, None, refl}
+use Rattle.pat_base.specs.declared.server_state.State.{State}
+use Rattle.pat_base.specs.declared.server_state.State.TheVariants as states
+use Rattle.pat_base.specs.declared.ticks.Ticks.{Ticks}
+use Rattle.pat_base.specs.ServerState.{live}
+use Rattle.pg_model.specs.Facts.{ServerFacts, is_down}
+use Rattle.pg_model.specs.Running.{completed, crashed, delayed, later, replica_started, started, stopped}
+use Rattle.pg_model.specs.Replication.{following}
+use Rattle.pg_model.specs.Servers.{quietly_ticked}
+use Rattle.event_book.specs.declared.event.LogEvent.{LogEvent}
+use Rattle.event_book.specs.declared.event.LogEvent.TheVariants as logs
+use Rattle.event_book.specs.declared.event.ReplicationEvent.{ReplicationEvent}
+use Rattle.event_book.specs.declared.event.ReplicationEvent.TheVariants as replications
+use Rattle.event_book.specs.declared.event.ServerEvent.{ServerEvent}
+use Rattle.event_book.specs.declared.event.ServerEvent.TheVariants as servers
+use Rattle.event_book.specs.declared.event.WatchdogEvent.{WatchdogEvent}
+use Rattle.event_book.specs.declared.event.WatchdogEvent.TheVariants as watchdogs
+use Rattle.event_book.specs.Servers.{starts_as_replica, servers_by, received_by, copied_by, servers_logged, servers_replicated, servers_watched}
+use Rattle.event_book.specs.Writers.{BeginsServer}
+use Rattle.event_book.proofs.Changed.{kept-one, kept-each, same-if}
+
+-- what only the log, the required list and what was confirmed determine stays where a server starts, stops or crashes, and where it
+-- follows another one
+module _ {B : Type 0} (f : ServerFacts → B)
+    (reads : (s t : ServerFacts) → s.log ≡ t.log → s.required ≡ t.required → s.confirmed ≡ t.confirmed → f s ≡ f t) where
+  completed-kept : (now : Ticks) (state : State) (s : ServerFacts) → f (completed now state s) ≡ f s
+  completed-kept now (states.Starting true at) s = same-if f (nat_le at.0 now.0) (started true s) s (f s) (reads _ _ refl refl refl) refl
+  completed-kept now (states.Starting false at) s = same-if f (nat_le at.0 now.0) (started false s) s (f s) (reads _ _ refl refl refl) refl
+  completed-kept now (states.Stopping primary at) s = same-if f (nat_le at.0 now.0) (stopped s) s (f s) (reads _ _ refl refl refl) refl
+  completed-kept now _ s = refl
+
+  pub ticked-kept : (now : Ticks) (known : List ServerFacts) → map f (map (quietly_ticked now) known) ≡ map f known
+  ticked-kept now known =
+      kept-each f (quietly_ticked now) (λ s. same-if f (live s.state) s (completed now s.state s) (f s) refl (completed-kept now s.state s)) known
+
+  replica-kept : (now : ℕ) (s : ServerFacts) → f (starts_as_replica now s) ≡ f s
+  replica-kept now s =
+      let at : Ticks = record { 0 = now } in
+      let told : ServerFacts = record s { upstream = None; was_primary = false } in
+      let waits : ServerFacts = record told { state = states.Starting false (later at s.start_delay) } in
+      same-if f (is_down s.state) (replica_started at None s) s (f s)
+      (same-if f (s.start_delay.0 == 0) (started false told) waits (f s) (reads (started false told) s refl refl refl) (reads waits s refl refl refl))
+      refl
+
+  pub others-kept : (now : ℕ) (known : List ServerFacts) (happening : ServerEvent) → BeginsServer (λ number. ⊥) happening
+      → map f (servers_by now known happening) ≡ map f known
+  others-kept now known (servers.Began server timeline) none = absurd none
+  others-kept now known (servers.Ended server) none = kept-one f known _ _ (λ s. reads (stopped s) s refl refl refl)
+  others-kept now known (servers.Crashed server) none = kept-one f known _ _ (λ s. reads (crashed s) s refl refl refl)
+  others-kept now known (servers.Promoted server) none = refl
+  others-kept now known (servers.StartsAsReplica server) none = kept-one f known _ _ (replica-kept now)
+  others-kept now known (servers.Follows server upstream) none = kept-one f known _ _ (λ s. reads (following upstream.id s) s refl refl refl)
+  others-kept now known (servers.Diverged server upstream at) none = kept-one f known _ _ (λ s. reads (record s { diverged = true }) s refl refl refl)
+  others-kept now known (servers.Frozen server) none = refl
+  others-kept now known (servers.Thawed server) none = refl
+  others-kept now known (servers.Slowed server stop start) none = kept-one f known _ _ (λ s. reads (delayed stop start s) s refl refl refl)
+
+  pub watched-kept : (known : List ServerFacts) (happening : WatchdogEvent) → map f (servers_watched known happening) ≡ map f known
+  watched-kept known (watchdogs.Reset member) = kept-one f known _ _ (λ s. reads (crashed s) s refl refl refl)
+  watched-kept known _ = refl
+
+-- what only the state, the required list and what was confirmed determine stays where a log changes
+module _ {B : Type 0} (f : ServerFacts → B)
+    (reads : (s t : ServerFacts) → s.state ≡ t.state → s.required ≡ t.required → s.confirmed ≡ t.confirmed → f s ≡ f t) where
+  received-kept : (known : List ServerFacts) (number count : ℕ) (found : Option ServerFacts) → map f (received_by known number count found) ≡ map f known
+  received-kept known number count None = refl
+  received-kept known number count (Some upstream) = kept-one f known _ _ (λ s. reads _ s refl refl refl)
+
+  copied-kept : (known : List ServerFacts) (number : ℕ) (found : Option ServerFacts) → map f (copied_by known number found) ≡ map f known
+  copied-kept known number None = refl
+  copied-kept known number (Some source) = kept-one f known _ _ (λ s. reads _ s refl refl refl)
+
+  pub logged-kept : (known : List ServerFacts) (happening : LogEvent) → map f (servers_logged known happening) ≡ map f known
+  logged-kept known (logs.Appended server entry) = kept-one f known _ _ (λ s. reads _ s refl refl refl)
+  logged-kept known (logs.Received server from count) = received-kept known server.id.number count (slice_get known from.id.number)
+  logged-kept known (logs.Rewound server from kept at) = kept-one f known _ _ (λ s. reads _ s refl refl refl)
+  logged-kept known (logs.Copied server from) = copied-kept known server.id.number (slice_get known from.id.number)
+  logged-kept known (logs.Wiped server) = kept-one f known _ _ (λ s. reads _ s refl refl refl)
+
+-- what only the state and the log determine stays where replication becomes or stays synchronous
+module _ {B : Type 0} (f : ServerFacts → B) (reads : (s t : ServerFacts) → s.state ≡ t.state → s.log ≡ t.log → f s ≡ f t) where
+  pub replicated-kept : (known : List ServerFacts) (happening : ReplicationEvent) → map f (servers_replicated known happening) ≡ map f known
+  replicated-kept known (replications.RequiredSet server required names) = kept-one f known _ _ (λ s. reads _ s refl refl)
+  replicated-kept known (replications.Confirmed server by end) = kept-one f known _ _ (λ s. reads _ s refl refl)
+  replicated-kept known (replications.Acknowledged server commit) = kept-one f known _ _ (λ s. reads _ s refl refl)

@@ -1,0 +1,317 @@
+-- What a book leaves of the servers, by what the book alone says.
+use Rattle.std.proofs.Common.{ℕ, ◌≡◌, ◌≢◌, ◌<◌, ◌==◌, ◌++◌, nat_le, Bool, true, false, cond, List, [], ◌∷◌, length, get_or, map, slice_get, Option, Some, None, option_map, refl, ◌∙◌, ap, sym, subst, append_assoc, append-nil, arith}
+use Rattle.std.proofs.lemmas.Option.{none-some, slice_get-get_or, slice_get-map, unwrap_or-slice_get}
+use Rattle.std.proofs.lemmas.Bool.Decides.{nat_tests}
+use Rattle.std.proofs.lemmas.Grind.{get_or-set_at}
+use Rattle.std.proofs.lemmas.List.{get_or-set_other}
+use Rattle.std.specs.Option.{unwrap_or}
+use Rattle.std.proofs.Math.ListN.{length-map}
+use Rattle.pat_base.specs.declared.server_state.State.{State}
+use Rattle.pat_base.specs.declared.server_state.State.TheVariants as states
+use Rattle.pat_base.specs.declared.ticks.Ticks.{Ticks}
+use Rattle.pat_base.specs.ServerState.{writes, live}
+use Rattle.pg_model.specs.Facts.{ServerFacts, is_down, none_confirmed}
+use Rattle.pg_model.specs.Running.{completed, crashed_state, later, replica_started, started, stopped}
+use Rattle.pg_model.specs.Servers.{quietly_ticked, with_server}
+use Rattle.event_book.specs.declared.event.Event.{Event}
+use Rattle.event_book.specs.declared.event.Kind.{Kind}
+use Rattle.event_book.specs.declared.event.Kind.TheVariants as kinds
+use Rattle.event_book.specs.declared.event.LogEvent.{LogEvent}
+use Rattle.event_book.specs.declared.event.LogEvent.TheVariants as logs
+use Rattle.event_book.specs.declared.event.ReplicationEvent.{ReplicationEvent}
+use Rattle.event_book.specs.declared.event.ReplicationEvent.TheVariants as replications
+use Rattle.event_book.specs.declared.event.ServerEvent.{ServerEvent}
+use Rattle.event_book.specs.declared.event.ServerEvent.TheVariants as servers
+use Rattle.event_book.specs.declared.event.WatchdogEvent.{WatchdogEvent}
+use Rattle.event_book.specs.declared.event.WatchdogEvent.TheVariants as watchdogs
+use Rattle.event_book.specs.Acknowledged.{acknowledged_after, acknowledged_by, acknowledged_in}
+use Rattle.event_book.specs.Agents.{changed_at}
+use Rattle.event_book.specs.Clock.{now_after}
+use Rattle.event_book.specs.Facts.{Facts, after, after_all}
+use Rattle.event_book.specs.Functions.{put_at}
+use Rattle.event_book.specs.Logs.{log_received, log_copied, logs_in, logs_by, logs_at, logs_after}
+use Rattle.event_book.specs.Required.{required_in, required_at, required_after, confirmed_in, confirmed_at, confirmed_after}
+use Rattle.event_book.specs.Servers.{begun_in, servers_by, received_by, copied_by, servers_logged, servers_replicated, servers_watched, servers_after}
+use Rattle.event_book.specs.Writers.{writes_now, writes_in, writes_by, writes_by_server, writes_by_watchdog, writes_after}
+use Rattle.event_book.proofs.Parts.{ticked-kept, others-kept, watched-kept, logged-kept, replicated-kept}
+use Rattle.event_book.proofs.Changed.{changed-one, kept-one, kept-each, same-if, length-one}
+
+-- the logs
+
+log-begun : (state : State) (s : ServerFacts) → (begun_in state s).log ≡ s.log
+log-begun states.Replica s = refl
+log-begun _ s = refl
+
+logs-by-server : (now : ℕ) (known : List ServerFacts) (happening : ServerEvent) → logs_in (servers_by now known happening) ≡ logs_in known
+logs-by-server now known (servers.Began server timeline) = kept-one (λ s. s.log) known _ _ (λ s. log-begun s.state s)
+logs-by-server now known happening = others-kept (λ s. s.log) (λ s t log required confirmed. log) now known happening tt
+
+logs-received : (known : List ServerFacts) (number count : ℕ) (found : Option ServerFacts)
+    → logs_in (received_by known number count found) ≡ log_received (logs_in known) number count (option_map (λ s. s.log) found)
+logs-received known number count None = refl
+logs-received known number count (Some upstream) = changed-one (λ s. s.log) known number _ _ (λ s. refl)
+
+logs-copied : (known : List ServerFacts) (number : ℕ) (found : Option ServerFacts)
+    → logs_in (copied_by known number found) ≡ log_copied (logs_in known) number (option_map (λ s. s.log) found)
+logs-copied known number None = refl
+logs-copied known number (Some source) = changed-one (λ s. s.log) known number _ _ (λ s. refl)
+
+logs-logged : (known : List ServerFacts) (happening : LogEvent) → logs_in (servers_logged known happening) ≡ logs_by (logs_in known) happening
+logs-logged known (logs.Appended server entry) = changed-one (λ s. s.log) known server.id.number _ _ (λ s. refl)
+logs-logged known (logs.Received server from count) =
+    logs-received known server.id.number count (slice_get known from.id.number)
+    ∙ ap (λ o. log_received (logs_in known) server.id.number count o) (sym (slice_get-map (λ s. s.log) known from.id.number))
+logs-logged known (logs.Rewound server from kept at) = changed-one (λ s. s.log) known server.id.number _ _ (λ s. refl)
+logs-logged known (logs.Copied server from) =
+    logs-copied known server.id.number (slice_get known from.id.number)
+    ∙ ap (λ o. log_copied (logs_in known) server.id.number o) (sym (slice_get-map (λ s. s.log) known from.id.number))
+logs-logged known (logs.Wiped server) = changed-one (λ s. s.log) known server.id.number _ _ (λ s. refl)
+
+-- one event
+pub logs-of : (now : ℕ) (known : List ServerFacts) (kind : Kind) → logs_in (servers_after now known kind) ≡ logs_at (logs_in known) kind
+logs-of now known kinds.Tick = ticked-kept (λ s. s.log) (λ s t log required confirmed. log) (record { 0 = now }) known
+logs-of now known (kinds.Server happening) = logs-by-server now known happening
+logs-of now known (kinds.Log happening) = logs-logged known happening
+logs-of now known (kinds.Replication happening) = replicated-kept (λ s. s.log) (λ s t state log. log) known happening
+logs-of now known (kinds.Watchdog happening) = watched-kept (λ s. s.log) (λ s t log required confirmed. log) known happening
+logs-of now known _ = refl
+
+pub logs-told : (facts : Facts) (book : List Event) → logs_in (after_all facts book).servers ≡ logs_after (logs_in facts.servers) book
+logs-told facts [] = refl
+logs-told facts (event ∷ events) =
+    logs-told (after facts event.kind) events ∙ ap (λ known. logs_after known events) (logs-of (now_after facts.clock event.kind) facts.servers event.kind)
+
+-- whose confirmation their commits wait for
+
+required-begun : (state : State) (s : ServerFacts) → (begun_in state s).required ≡ s.required
+required-begun states.Replica s = refl
+required-begun _ s = refl
+
+required-by-server : (now : ℕ) (known : List ServerFacts) (happening : ServerEvent) → required_in (servers_by now known happening) ≡ required_in known
+required-by-server now known (servers.Began server timeline) = kept-one (λ s. s.required) known _ _ (λ s. required-begun s.state s)
+required-by-server now known happening = others-kept (λ s. s.required) (λ s t log required confirmed. required) now known happening tt
+
+required-replicated : (known : List ServerFacts) (happening : ReplicationEvent)
+    → required_in (servers_replicated known happening) ≡ required_at (required_in known) (kinds.Replication happening)
+required-replicated known (replications.RequiredSet server required names) = changed-one (λ s. s.required) known server.id.number _ _ (λ s. refl)
+required-replicated known (replications.Confirmed server by end) = kept-one (λ s. s.required) known _ _ (λ s. refl)
+required-replicated known (replications.Acknowledged server commit) = kept-one (λ s. s.required) known _ _ (λ s. refl)
+
+pub required-of : (now : ℕ) (known : List ServerFacts) (kind : Kind) → required_in (servers_after now known kind) ≡ required_at (required_in known) kind
+required-of now known kinds.Tick = ticked-kept (λ s. s.required) (λ s t log required confirmed. required) (record { 0 = now }) known
+required-of now known (kinds.Server happening) = required-by-server now known happening
+required-of now known (kinds.Log happening) = logged-kept (λ s. s.required) (λ s t state required confirmed. required) known happening
+required-of now known (kinds.Replication happening) = required-replicated known happening
+required-of now known (kinds.Watchdog happening) = watched-kept (λ s. s.required) (λ s t log required confirmed. required) known happening
+required-of now known _ = refl
+
+pub required-told : (facts : Facts) (book : List Event) → required_in (after_all facts book).servers ≡ required_after (required_in facts.servers) book
+required-told facts [] = refl
+required-told facts (event ∷ events) =
+    required-told (after facts event.kind) events ∙ ap (λ known. required_after known events) (required-of (now_after facts.clock event.kind) facts.servers event.kind)
+
+-- what was confirmed to them
+
+confirmed-begun : (state : State) (s : ServerFacts) → (begun_in state s).confirmed ≡ none_confirmed
+confirmed-begun states.Replica s = refl
+confirmed-begun _ s = refl
+
+confirmed-by-server : (now : ℕ) (known : List ServerFacts) (happening : ServerEvent)
+    → confirmed_in (servers_by now known happening) ≡ confirmed_at (confirmed_in known) (kinds.Server happening)
+confirmed-by-server now known (servers.Began server timeline) = changed-one (λ s. s.confirmed) known server.id.number _ _ (λ s. confirmed-begun s.state s)
+confirmed-by-server now known happening = others-kept (λ s. s.confirmed) (λ s t log required confirmed. confirmed) now known happening tt
+
+confirmed-replicated : (known : List ServerFacts) (happening : ReplicationEvent)
+    → confirmed_in (servers_replicated known happening) ≡ confirmed_at (confirmed_in known) (kinds.Replication happening)
+confirmed-replicated known (replications.RequiredSet server required names) = kept-one (λ s. s.confirmed) known _ _ (λ s. refl)
+confirmed-replicated known (replications.Confirmed server by end) = changed-one (λ s. s.confirmed) known server.id.number _ _ (λ s. refl)
+confirmed-replicated known (replications.Acknowledged server commit) = kept-one (λ s. s.confirmed) known _ _ (λ s. refl)
+
+pub confirmed-of : (now : ℕ) (known : List ServerFacts) (kind : Kind) → confirmed_in (servers_after now known kind) ≡ confirmed_at (confirmed_in known) kind
+confirmed-of now known kinds.Tick = ticked-kept (λ s. s.confirmed) (λ s t log required confirmed. confirmed) (record { 0 = now }) known
+confirmed-of now known (kinds.Server happening) = confirmed-by-server now known happening
+confirmed-of now known (kinds.Log happening) = logged-kept (λ s. s.confirmed) (λ s t state required confirmed. confirmed) known happening
+confirmed-of now known (kinds.Replication happening) = confirmed-replicated known happening
+confirmed-of now known (kinds.Watchdog happening) = watched-kept (λ s. s.confirmed) (λ s t log required confirmed. confirmed) known happening
+confirmed-of now known _ = refl
+
+pub confirmed-told : (facts : Facts) (book : List Event) → confirmed_in (after_all facts book).servers ≡ confirmed_after (confirmed_in facts.servers) book
+confirmed-told facts [] = refl
+confirmed-told facts (event ∷ events) =
+    confirmed-told (after facts event.kind) events ∙ ap (λ known. confirmed_after known events) (confirmed-of (now_after facts.clock event.kind) facts.servers event.kind)
+
+-- the commits that were acknowledged
+
+acknowledged-replicated : (told : List ℕ) (happening : ReplicationEvent)
+    → acknowledged_after told (kinds.Replication happening) ≡ told ++ acknowledged_by (kinds.Replication happening)
+acknowledged-replicated told (replications.Acknowledged server commit) = refl
+acknowledged-replicated told _ = sym (append-nil told)
+
+pub acknowledged-of : (told : List ℕ) (kind : Kind) → acknowledged_after told kind ≡ told ++ acknowledged_by kind
+acknowledged-of told (kinds.Replication happening) = acknowledged-replicated told happening
+acknowledged-of told _ = sym (append-nil told)
+
+pub acknowledged-told : (facts : Facts) (book : List Event) → (after_all facts book).acknowledged ≡ facts.acknowledged ++ acknowledged_in book
+acknowledged-told facts [] = sym (append-nil facts.acknowledged)
+acknowledged-told facts (event ∷ events) =
+    acknowledged-told (after facts event.kind) events
+    ∙ ap (λ told. told ++ acknowledged_in events) (acknowledged-of facts.acknowledged event.kind)
+    ∙ append_assoc facts.acknowledged (acknowledged_by event.kind) (acknowledged_in events)
+
+-- how many there are: events change servers, and neither add any nor take any away
+
+abbrev seen-as-one : ServerFacts → Bool
+seen-as-one s = true
+
+length-kept : (before known : List ServerFacts) → map seen-as-one known ≡ map seen-as-one before → length known ≡ length before
+length-kept before known same = sym (length-map known seen-as-one) ∙ ap (λ xs. length xs) same ∙ length-map before seen-as-one
+
+count-by : (now : ℕ) (known : List ServerFacts) (happening : ServerEvent) → length (servers_by now known happening) ≡ length known
+count-by now known (servers.Began server timeline) = length-one known _ _
+count-by now known happening = length-kept known (servers_by now known happening) (others-kept seen-as-one (λ s t log required confirmed. refl) now known happening tt)
+
+pub count-of : (now : ℕ) (known : List ServerFacts) (kind : Kind) → length (servers_after now known kind) ≡ length known
+count-of now known kinds.Tick = length-map known _
+count-of now known (kinds.Server happening) = count-by now known happening
+count-of now known (kinds.Log happening) = length-kept known (servers_logged known happening) (logged-kept seen-as-one (λ s t state required confirmed. refl) known happening)
+count-of now known (kinds.Replication happening) = length-kept known (servers_replicated known happening) (replicated-kept seen-as-one (λ s t state log. refl) known happening)
+count-of now known (kinds.Watchdog happening) = length-kept known (servers_watched known happening) (watched-kept seen-as-one (λ s t log required confirmed. refl) known happening)
+count-of now known _ = refl
+
+pub count-told : (facts : Facts) (book : List Event) → length (after_all facts book).servers ≡ length facts.servers
+count-told facts [] = refl
+count-told facts (event ∷ events) = count-told (after facts event.kind) events ∙ count-of (now_after facts.clock event.kind) facts.servers event.kind
+
+-- which of them accept writes
+
+writes-unwrapped : (found : Option ServerFacts) → writes_now found ≡ unwrap_or (option_map (λ s. writes s.state) found) false
+writes-unwrapped None = refl
+writes-unwrapped (Some s) = refl
+
+writes-at : (known : List ServerFacts) (n : ℕ) → writes_in known n ≡ get_or (map (λ s. writes s.state) known) n false
+writes-at known n =
+    writes-unwrapped (slice_get known n)
+    ∙ ap (λ o. unwrap_or o false) (sym (slice_get-map (λ s. writes s.state) known n))
+    ∙ unwrap_or-slice_get (map (λ s. writes s.state) known) n false
+
+writes-kept : (before known : List ServerFacts) (n : ℕ) → map (λ s. writes s.state) known ≡ map (λ s. writes s.state) before → writes_in known n ≡ writes_in before n
+writes-kept before known n same = writes-at known n ∙ ap (λ xs. get_or xs n false) same ∙ sym (writes-at before n)
+
+is-from : (n k : ℕ) → (n == k) ≡ true → n ≡ k
+is-from n k e = grind (arith, nat_tests)
+
+other-from : (n k : ℕ) → (n == k) ≡ false → n ≢ k
+other-from n k e = grind (arith, nat_tests)
+
+put-found : (xs : List Bool) (k n : ℕ) (value : Bool) (found : Option Bool) (same : Bool)
+    → slice_get xs k ≡ found → (n == k) ≡ same → n < length xs
+    → get_or (changed_at xs k (λ before. value) found) n false ≡ cond same value (get_or xs n false)
+put-found xs k n value None true is e small =
+    absurd (none-some (get_or xs k false) (sym is ∙ slice_get-get_or xs k false (subst (λ m. m < length xs) (is-from n k e) small)))
+put-found xs k n value None false is e small = refl
+put-found xs k n value (Some b) true is e small = get_or-set_at xs k n value false (is-from n k e) (subst (λ m. m < length xs) (is-from n k e) small)
+put-found xs k n value (Some b) false is e small = get_or-set_other xs k n value false (other-from n k e)
+
+-- one server changes so that it accepts writes, or doesn't
+writes-put : (known : List ServerFacts) (k n : ℕ) (change : ServerFacts → ServerFacts) (value : Bool)
+    → n < length known → ((s : ServerFacts) → writes (change s).state ≡ value)
+    → writes_in (with_server known k change) n ≡ put_at (writes_in known) k value n
+writes-put known k n change value small same =
+    let flags : List Bool = map (λ s. writes s.state) known in
+    let few : n < length flags = rw (length-map known (λ s. writes s.state)) small in
+    writes-at (with_server known k change) n
+    ∙ ap (λ xs. get_or xs n false) (changed-one (λ s. writes s.state) known k change (λ before. value) same)
+    ∙ put-found flags k n value (slice_get flags k) (n == k) refl refl few
+    ∙ ap (λ b. cond (n == k) value b) (sym (writes-at known n))
+
+writes-one : (known : List ServerFacts) (k n : ℕ) (change : ServerFacts → ServerFacts)
+    → ((s : ServerFacts) → writes (change s).state ≡ writes s.state) → writes_in (with_server known k change) n ≡ writes_in known n
+writes-one known k n change same = writes-kept known (with_server known k change) n (kept-one (λ s. writes s.state) known k change same)
+
+writes-completed : (now : Ticks) (state : State) (s : ServerFacts) → s.state ≡ state → writes (cond (live state) s (completed now state s)).state ≡ writes s.state
+writes-completed now (states.Starting true at) s is = refl
+writes-completed now (states.Starting false at) s is = same-if (λ s. writes s.state) (nat_le at.0 now.0) (started false s) s (writes s.state) (sym (ap writes is)) refl
+writes-completed now (states.Stopping true at) s is = refl
+writes-completed now (states.Stopping false at) s is = same-if (λ s. writes s.state) (nat_le at.0 now.0) (stopped s) s (writes s.state) (sym (ap writes is)) refl
+writes-completed now _ s is = refl
+
+writes-starts : (now : Ticks) (s : ServerFacts) → writes (replica_started now None s).state ≡ false
+writes-starts now s =
+    let told : ServerFacts = record s { upstream = None; was_primary = false } in
+    same-if (λ s. writes s.state) (s.start_delay.0 == 0) (started false told) (record told { state = states.Starting false (later now s.start_delay) }) false refl refl
+
+writes-down : (now : ℕ) (state : State) (s : ServerFacts) → s.state ≡ state
+    → writes (cond (is_down state) (replica_started (record { 0 = now }) None s) s).state ≡ writes s.state
+writes-down now states.Stopped s is = writes-starts (record { 0 = now }) s ∙ sym (ap writes is)
+writes-down now states.Crashed s is = writes-starts (record { 0 = now }) s ∙ sym (ap writes is)
+writes-down now _ s is = refl
+
+writes-begun : (state : State) (s : ServerFacts) → writes (begun_in state s).state ≡ true
+writes-begun states.Replica s = refl
+writes-begun _ s = refl
+
+writes-crashed : (state : State) → writes (crashed_state state) ≡ false
+writes-crashed states.Creating = refl
+writes-crashed _ = refl
+
+writes-by-server : (now : ℕ) (known : List ServerFacts) (happening : ServerEvent) (n : ℕ) → n < length known
+    → writes_in (servers_by now known happening) n ≡ writes_by_server (writes_in known) happening n
+writes-by-server now known (servers.Began server timeline) n small = writes-put known _ n _ true small (λ s. writes-begun s.state s)
+writes-by-server now known (servers.Ended server) n small = writes-put known _ n _ false small (λ s. refl)
+writes-by-server now known (servers.Crashed server) n small = writes-put known _ n _ false small (λ s. writes-crashed s.state)
+writes-by-server now known (servers.Promoted server) n small = refl
+writes-by-server now known (servers.StartsAsReplica server) n small = writes-one known _ n _ (λ s. writes-down now s.state s refl)
+writes-by-server now known (servers.Follows server upstream) n small = writes-one known _ n _ (λ s. refl)
+writes-by-server now known (servers.Diverged server upstream at) n small = writes-one known _ n _ (λ s. refl)
+writes-by-server now known (servers.Frozen server) n small = refl
+writes-by-server now known (servers.Thawed server) n small = refl
+writes-by-server now known (servers.Slowed server stop start) n small = writes-one known _ n _ (λ s. refl)
+
+writes-watched : (known : List ServerFacts) (happening : WatchdogEvent) (n : ℕ) → n < length known
+    → writes_in (servers_watched known happening) n ≡ writes_by_watchdog (writes_in known) happening n
+writes-watched known (watchdogs.Reset member) n small = writes-put known _ n _ false small (λ s. writes-crashed s.state)
+writes-watched known _ n small = refl
+
+pub writes-of : (now : ℕ) (known : List ServerFacts) (kind : Kind) (n : ℕ) → n < length known → writes_in (servers_after now known kind) n ≡ writes_by (writes_in known) kind n
+writes-of now known kinds.Tick n small =
+    let at : Ticks = record { 0 = now } in
+    writes-kept known _ n (kept-each (λ s. writes s.state) (quietly_ticked at) (λ s. writes-completed at s.state s refl) known)
+writes-of now known (kinds.Server happening) n small = writes-by-server now known happening n small
+writes-of now known (kinds.Log happening) n small =
+    writes-kept known (servers_logged known happening) n (logged-kept (λ s. writes s.state) (λ s t state required confirmed. ap writes state) known happening)
+writes-of now known (kinds.Replication happening) n small =
+    writes-kept known (servers_replicated known happening) n (replicated-kept (λ s. writes s.state) (λ s t state log. ap writes state) known happening)
+writes-of now known (kinds.Watchdog happening) n small = writes-watched known happening n small
+writes-of now known _ n small = refl
+
+-- whether one server accepts writes depends on nothing that was said of another
+put-same : (f g : ℕ → Bool) (k n : ℕ) (value : Bool) → f n ≡ g n → put_at f k value n ≡ put_at g k value n
+put-same f g k n value same = ap (λ b. cond (n == k) value b) same
+
+writes-same-server : (f g : ℕ → Bool) (happening : ServerEvent) (n : ℕ) → f n ≡ g n → writes_by_server f happening n ≡ writes_by_server g happening n
+writes-same-server f g (servers.Began server timeline) n same = put-same f g _ n true same
+writes-same-server f g (servers.Ended server) n same = put-same f g _ n false same
+writes-same-server f g (servers.Crashed server) n same = put-same f g _ n false same
+writes-same-server f g _ n same = same
+
+writes-same-watchdog : (f g : ℕ → Bool) (happening : WatchdogEvent) (n : ℕ) → f n ≡ g n → writes_by_watchdog f happening n ≡ writes_by_watchdog g happening n
+writes-same-watchdog f g (watchdogs.Reset member) n same = put-same f g _ n false same
+writes-same-watchdog f g _ n same = same
+
+writes-same-kind : (f g : ℕ → Bool) (kind : Kind) (n : ℕ) → f n ≡ g n → writes_by f kind n ≡ writes_by g kind n
+writes-same-kind f g (kinds.Server happening) n same = writes-same-server f g happening n same
+writes-same-kind f g (kinds.Watchdog happening) n same = writes-same-watchdog f g happening n same
+writes-same-kind f g _ n same = same
+
+pub writes-same : (f g : ℕ → Bool) (book : List Event) (n : ℕ) → f n ≡ g n → writes_after f book n ≡ writes_after g book n
+writes-same f g [] n same = same
+writes-same f g (event ∷ events) n same = writes-same (writes_by f event.kind) (writes_by g event.kind) events n (writes-same-kind f g event.kind n same)
+
+pub writers-told : (facts : Facts) (book : List Event) (n : ℕ) → n < length facts.servers → writes_in (after_all facts book).servers n ≡ writes_after (writes_in facts.servers) book n
+writers-told facts [] n small = refl
+writers-told facts (event ∷ events) n small =
+    let now : ℕ = now_after facts.clock event.kind in
+    let known : List ServerFacts = servers_after now facts.servers event.kind in
+    let few : n < length known = rw (count-of now facts.servers event.kind) small in
+    writers-told (after facts event.kind) events n few
+    ∙ writes-same (writes_in known) (writes_by (writes_in facts.servers) event.kind) events n (writes-of now facts.servers event.kind n small)
