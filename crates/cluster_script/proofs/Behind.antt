@@ -1,5 +1,5 @@
 -- What a function answers of the last words of a line.
-use Rattle.std.proofs.Common.{◌≡◌, ℕ, List, Option, Some, Result, refl, ◌∙◌, ap, sym}
+use Rattle.std.proofs.Common.{◌≡◌, ℕ, List, Option, Some, Result, ◌∙◌, ap, sym}
 use Rattle.pat_base.specs.declared.name.Name.{Name}
 use Rattle.cluster_script.specs.Arguments.{last_word, word_behind, words_behind}
 use Rattle.cluster_script.specs.Faults.{both}

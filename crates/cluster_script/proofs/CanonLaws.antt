@@ -14,7 +14,7 @@ use Rattle.pat_base.specs.declared.name.Name.{Name}
 use Rattle.pat_base.specs.declared.member_id.MemberId.{MemberId}
 use Rattle.cluster_script.specs.Lines.{ended, lines_in, is_skipped, counted_lines}
 use Rattle.cluster_script.specs.Reading.{script_of}
-use Rattle.cluster_script.specs.Script.{ScriptText, IsScript, IsCommand, IsLine, AllAreLines, text_of_name, member_text, end_text, switch_text, transition_text, two_texts, command_text, member_line_text, base_text, line_text, member_lines, default_base, base_or_default, base_lines, base_to_say, head_lines, body_lines, lines_of, spelling_of, AllInForm, Spells}
+use Rattle.cluster_script.specs.Script.{ScriptText, IsScript, IsCommand, IsLine, AllAreLines, text_of_name, member_text, end_text, switch_text, transition_text, two_texts, command_text, member_line_text, line_text, member_lines, default_base, base_or_default, base_lines, base_to_say, head_lines, body_lines, lines_of, spelling_of, AllInForm, Spells}
 use Rattle.cluster_script.specs.Words.{spelled, word_of}
 use Rattle.cluster_script.specs.declared.keyword.Keyword.{Keyword}
 use Rattle.cluster_script.specs.declared.keyword.Keyword.TheVariants as words
@@ -26,8 +26,6 @@ use Rattle.cluster_script.specs.declared.line.Line.{Line}
 use Rattle.cluster_script.specs.declared.line.Line.TheVariants as lines
 use Rattle.cluster_script.specs.declared.line.Transition.{Transition}
 use Rattle.cluster_script.specs.declared.line.Transition.TheVariants as transitions
-use Rattle.cluster_script.specs.declared.ranges.CommitSize.{CommitSize}
-use Rattle.cluster_script.specs.declared.ranges.Delay.{Delay}
 use Rattle.cluster_script.proofs.SpellLaws.{size-fits, delay-fits, base-fits, spelled-is-read}
 use Rattle.cluster_script.proofs.WordLaws.{spelled-counts}
 
@@ -163,7 +161,7 @@ member_number-IsPlain members m n fits =
 delay-IsPlain : (members : List Name) (m : MemberId) (transition : Transition) (n : ℕ) → n < 2 ^ 64 → IsPlain (two_texts (member_text members m) (two_texts (transition_text transition) (decimal n))) 100
 delay-IsPlain members m transition n fits =
     let behind : IsPlain (two_texts (transition_text transition) (decimal n)) (5 + (20 + 1)) =
-        IsPlain-append (transition_text transition) (32 ∷ decimal n) 5 (20 + 1) (transition-IsPlain transition) (blank-IsPlain (decimal n) 20 (decimal-IsPlain n fits))
+    IsPlain-append (transition_text transition) (32 ∷ decimal n) 5 (20 + 1) (transition-IsPlain transition) (blank-IsPlain (decimal n) 20 (decimal-IsPlain n fits))
     in
     IsPlain-most (two_texts (member_text members m) (two_texts (transition_text transition) (decimal n))) (32 + ((5 + (20 + 1)) + 1)) 100 (omega arith)
     (IsPlain-append (member_text members m) (32 ∷ two_texts (transition_text transition) (decimal n)) 32 ((5 + (20 + 1)) + 1) (some_name-IsPlain (slice_get members m.number)) (blank-IsPlain (two_texts (transition_text transition) (decimal n)) (5 + (20 + 1)) behind))

@@ -1,5 +1,5 @@
 -- What is read as a script is one, and is spelled so.
-use Rattle.std.proofs.Common.{◌≡◌, ℕ, ◌+◌, ◌^◌, ◌≤◌, ◌<◌, ◌&&◌, nat_le, Bool, true, false, cond, List, [], ◌∷◌, ◌++◌, length, map, Option, Some, None, Ok, Err, refl, ◌∙◌, ap, sym, subst, arith, append_assoc, append-nil, length-append}
+use Rattle.std.proofs.Common.{◌≡◌, ℕ, ◌+◌, ◌^◌, ◌≤◌, ◌<◌, ◌&&◌, nat_le, Bool, true, false, cond, List, [], ◌∷◌, ◌++◌, length, Option, Some, None, Ok, Err, refl, ◌∙◌, ap, sym, subst, arith, append_assoc, append-nil, length-append}
 use Rattle.std.specs.Fmt.{decimal}
 use Rattle.std.specs.Str.{is_utf8}
 use Rattle.std.proofs.lemmas.Bool.Decides.{nat_tests}
@@ -199,7 +199,7 @@ record SayDraft (d : DraftText) (ls : List (List ℕ)) : Type 0 where
   pub no_base : d.base ≡ None → behind ≡ []
   pub lines : ls ≡ head_with_base d.cluster before d.base behind ++ body_lines d.members d.body
 
--- one more line was taken
+-- lines that say a draft, and what holds of it
 record Adds (d : DraftText) (ls : List (List ℕ)) : Type 0 where
   pub says : SayDraft d ls
   pub begun : IsBegun d
@@ -247,8 +247,8 @@ member-lines cluster name (Some n) members ls h = record {
   no_base = λ e. absurd (none_is n (sym e));
   lines = ap (λ t. t ++ member_line_text name ∷ []) h.lines
       ∙ ap (λ t. cluster_text cluster ∷ t)
-          (push-behind (member_lines h.before) (base_text n ∷ []) (member_lines h.behind) (member_line_text name)
-          ∙ ap (λ t. (member_lines h.before ++ (base_text n ∷ t)) ++ []) (sym (map-append member_line_text h.behind (name ∷ []))));
+      (push-behind (member_lines h.before) (base_text n ∷ []) (member_lines h.behind) (member_line_text name)
+      ∙ ap (λ t. (member_lines h.before ++ (base_text n ∷ t)) ++ []) (sym (map-append member_line_text h.behind (name ∷ []))));
 }
 
 base-lines : (cluster : Name) (n : ℕ) (members : List Name) (ls : List (List ℕ)) → SayDraft (start cluster None members) ls → SayDraft (start cluster (Some n) members) (ls ++ base_text n ∷ [])
@@ -380,7 +380,7 @@ lines-Adds number o p ls (line ∷ rest) h e =
     let a = line-read o q.0 ls line h (at_line-Ok number (after_line o line) q.0 q.1) in
     let b = lines-Adds (number + 1) q.0 p (ls ++ cond (is_skipped line) [] (line ∷ [])) rest a.1 q.2 in
     let all : (ls ++ cond (is_skipped line) [] (line ∷ [])) ++ counted_lines rest ≡ ls ++ cond (is_skipped line) (counted_lines rest) (line ∷ counted_lines rest) =
-        append_assoc ls (cond (is_skipped line) [] (line ∷ [])) (counted_lines rest) ∙ ap (λ t. ls ++ t) (counted (is_skipped line) line (counted_lines rest))
+    append_assoc ls (cond (is_skipped line) [] (line ∷ [])) (counted_lines rest) ∙ ap (λ t. ls ++ t) (counted (is_skipped line) line (counted_lines rest))
     in
     ((a.0, b.0), subst (AddsIfAny p) all b.1)
 

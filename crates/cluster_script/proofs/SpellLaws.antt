@@ -1,5 +1,5 @@
 -- What is spelled as a script is read as it.
-use Rattle.std.proofs.Common.{◌≡◌, ◌≢◌, ℕ, ◌+◌, ◌^◌, ◌≤◌, ◌<◌, ◌&&◌, ◌==◌, nat_le, nat_lt, Bool, true, false, cond, List, [], ◌∷◌, ◌++◌, length, map, slice_get, Option, Some, None, Result, Ok, Err, codes, refl, ◌∙◌, ap, sym, subst, zero, suc, arith, append_assoc, append-nil, length-append}
+use Rattle.std.proofs.Common.{◌≡◌, ◌≢◌, ℕ, ◌+◌, ◌^◌, ◌≤◌, ◌<◌, ◌&&◌, ◌==◌, nat_le, nat_lt, Bool, true, false, cond, List, [], ◌∷◌, ◌++◌, length, slice_get, Option, Some, None, Result, Ok, Err, codes, refl, ◌∙◌, ap, sym, subst, zero, suc, arith, append_assoc, append-nil, length-append}
 use Rattle.std.specs.Fmt.{decimal}
 use Rattle.std.specs.List.{list_all}
 use Rattle.std.specs.Str.{bytes_eq}
@@ -404,8 +404,8 @@ head-again cluster before said behind h small least most = (
   chain-append (Some (start cluster None [])) (Some (start cluster None before)) (Some (start cluster said (before ++ behind))) (member_lines before) (base_lines said ++ member_lines behind)
       (members-again cluster None [] before (front-AreDifferent before behind h) (omega (arith, length-append before behind)))
       (chain-append (Some (start cluster None before)) (Some (start cluster said before)) (Some (start cluster said (before ++ behind))) (base_lines said) (member_lines behind)
-          (base-again cluster said before least most)
-          (members-again cluster said before behind h small)),
+      (base-again cluster said before least most)
+      (members-again cluster said before behind h small)),
 )
 
 -- what the lines of a script say, where they say this base
