@@ -6,9 +6,10 @@ pub mod Rest
 pub mod Rooms
 pub mod Seats
 pub mod Sending
+pub mod ServerRooms
+pub mod Settling
 pub mod Standing
 pub mod Starting
-pub mod Settling
 pub mod Staying
 pub mod Taking
 pub mod TurnRooms

@@ -4,6 +4,7 @@ use Rattle.std.specs.Prelude.{slice_get}
 use Rattle.std.proofs.lemmas.Option.{slice_get_within, get_or_from_slice_get}
 use Rattle.std.proofs.lemmas.List.Elements.{All-set}
 use Rattle.lease_store.specs.Keys.{Keys}
+use Rattle.pg_model.specs.Facts.{ServerFacts}
 use Rattle.event_book.specs.declared.agent_state.AgentState.{AgentState}
 use Rattle.event_book.specs.declared.event.Kind.{Kind}
 use Rattle.event_book.specs.declared.event.Kind.TheVariants as kinds
@@ -23,14 +24,8 @@ use Rattle.event_book.specs.Keys.{keys_at}
 use Rattle.pat_world.specs.declared.phase.Phase.{Phase}
 use Rattle.pat_world.specs.Cluster.{Cluster, moved, phases_after, phases_by, phases_told, phases_heard, phases_reached}
 use Rattle.pat_world.specs.Room.{HasRoom, PhaseHasRoom}
+use Rattle.pat_world.proofs.ServerRooms.{All-at, All-weaker, CountsCommit, CountsLog, HasTimeline, commits-more, servers-room}
 use Rattle.pat_world.proofs.TurnRooms.{woken-room, heard-room, fresh-room, PhaseHasRoom-fewer}
-
--- what holds of each element holds of one
-pub All-at : (X : Type 0) (P : X → Type 0) (xs : List X) (n : ℕ) (x : X) → All P xs → slice_get xs n ≡ Some x → P x
-All-at X P xs n x all is = subst P (get_or_from_slice_get xs n x x is) (all n x (slice_get_within xs n x is))
-
-pub All-weaker : (X : Type 0) (P Q : X → Type 0) (xs : List X) → ((x : X) → P x → Q x) → All P xs → All Q xs
-All-weaker X P Q xs so all k d h = so _ (all k d h)
 
 changed-all_at : (X : Type 0) (P Q : X → Type 0) (xs : List X) (n : ℕ) (change : X → X) (found : Option X) → slice_get xs n ≡ found → All P xs → ((x : X) → P x → Q x)
     → ((x : X) → slice_get xs n ≡ Some x → P x → Q (change x)) → All Q (changed_at xs n change found)
@@ -53,6 +48,7 @@ CountsAgent states _ = Unit {0}
 abbrev pub Counts : Cluster → Kind → Type 0
 Counts cluster (kinds.Message happening) = CountsMessage cluster.book.sent happening
 Counts cluster (kinds.Agent happening) = CountsAgent cluster.book.agents happening
+Counts cluster (kinds.Log happening) = CountsLog cluster.book.commits happening
 Counts cluster _ = Unit {0}
 
 now-more : (now : ℕ) (kind : Kind) → (now_after now kind ≤ now + 1) × (now ≤ now_after now kind)
@@ -170,6 +166,18 @@ phases-room now events flight phases (kinds.Agent happening) all = phases-room_b
 phases-room now events flight phases (kinds.Link happening) all = fewer now now events phases (omega arith) all
 phases-room now events flight phases (kinds.Note note) all = fewer now now events phases (omega arith) all
 
+commit-counts : (cluster : Cluster) (kind : Kind) → Counts cluster kind → CountsCommit cluster.book.commits kind
+commit-counts cluster kinds.Tick counts = tt
+commit-counts cluster (kinds.Message happening) counts = tt
+commit-counts cluster (kinds.Store happening) counts = tt
+commit-counts cluster (kinds.Watchdog happening) counts = tt
+commit-counts cluster (kinds.Server happening) counts = tt
+commit-counts cluster (kinds.Log happening) counts = counts
+commit-counts cluster (kinds.Replication happening) counts = tt
+commit-counts cluster (kinds.Agent happening) counts = tt
+commit-counts cluster (kinds.Link happening) counts = tt
+commit-counts cluster (kinds.Note note) counts = tt
+
 -- one more event takes the room of one
 pub HasRoom-moved : (cluster : Cluster) (kind : Kind) (events : ℕ) → Counts cluster kind → HasRoom cluster (1 + events) → HasRoom (moved cluster kind) events
 HasRoom-moved cluster kind events counts room = record {
@@ -178,6 +186,8 @@ HasRoom-moved cluster kind events counts room = record {
   sent = omega (arith, room.sent, sent-more cluster kind counts);
   runs = runs-room cluster events kind counts room.runs;
   phases = phases-room cluster.book.clock events cluster.book.flight cluster.phases kind room.phases;
+  timelines = servers-room (now_after cluster.book.clock kind) events cluster.book.servers kind room.timelines;
+  commits = omega (arith, room.commits, commits-more cluster.book.commits kind (commit-counts cluster kind counts));
 }
 
 -- fewer events have room too
@@ -188,4 +198,6 @@ HasRoom-fewer cluster more fewer h room = record {
   sent = omega (arith, room.sent);
   runs = All-weaker AgentState (HasRun more) (HasRun fewer) cluster.book.agents (λ state has. omega (arith, has, h)) room.runs;
   phases = All-weaker Phase (PhaseHasRoom cluster.book.clock more) (PhaseHasRoom cluster.book.clock fewer) cluster.phases (λ phase has. record { sequence = omega (arith, has.sequence, h); turn = has.turn }) room.phases;
+  timelines = All-weaker ServerFacts (HasTimeline more) (HasTimeline fewer) cluster.book.servers (λ s has. omega (arith, has, h)) room.timelines;
+  commits = omega (arith, room.commits);
 }

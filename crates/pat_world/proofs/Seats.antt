@@ -11,7 +11,7 @@ use Rattle.pat_world.specs.declared.phase.Seat.{Seat}
 use Rattle.pat_world.specs.Cluster.{Cluster}
 use Rattle.pat_world.specs.Next.{seat_of, seat_if, seat_at}
 use Rattle.pat_world.specs.Room.{HasRoom, PhaseHasRoom}
-use Rattle.pat_world.proofs.Rooms.{All-at}
+use Rattle.pat_world.proofs.ServerRooms.{All-at}
 
 -- a seat has what stands at its member's number
 pub record IsSeat (member : Member) (state : Option AgentState) (phase : Option Phase) (seat : Seat) : Type 0 where

@@ -1,5 +1,5 @@
 -- The world before the first step.
-use Rattle.std.proofs.Common.{◌≡◌, ℕ, ◌+◌, ◌-◌, ◌≤◌, ◌<◌, List, [], ◌∷◌, ◌++◌, length, drop, get_or, Option, Some, None, arith, append_assoc, refl, ◌∙◌, ap, sym, zero, suc, All, ◌^◌}
+use Rattle.std.proofs.Common.{◌≡◌, ℕ, ◌+◌, ◌-◌, ◌≤◌, ◌<◌, List, [], ◌∷◌, ◌++◌, length, drop, get_or, Option, Some, None, arith, append_assoc, refl, ◌∙◌, ap, sym, zero, suc, All, ◌^◌, replicate}
 use Rattle.std.specs.Prelude.{slice_get}
 use Rattle.std.proofs.lemmas.List.{drop_more}
 use Rattle.std.proofs.lemmas.List.Elements.{All-nil, All-cons}
@@ -7,6 +7,8 @@ use Rattle.std.proofs.lemmas.Option.{slice_get_within, slice_get-get_or}
 use Rattle.pat_base.specs.declared.member_id.MemberId.{MemberId}
 use Rattle.pat_base.specs.declared.name.Name.{Name}
 use Rattle.pat_base.specs.MemberId.{member_of}
+use Rattle.pg_model.specs.Facts.{fresh}
+use Rattle.cluster_script.specs.Script.{HeadText}
 use Rattle.event_book.specs.declared.member.Member.{Member}
 use Rattle.event_book.specs.declared.agent_state.AgentState.{AgentState}
 use Rattle.event_book.specs.Agents.{first_agents, running_in}
@@ -15,6 +17,7 @@ use Rattle.pat_world.specs.declared.phase.Phase.{Phase}
 use Rattle.pat_world.specs.Cluster.{cluster_of, first_phases}
 use Rattle.pat_world.specs.Room.{HasRoom, PhaseHasRoom}
 use Rattle.pat_world.specs.Turns.{fresh_phase}
+use Rattle.pat_world.proofs.ServerRooms.{HasTimeline}
 
 -- the list from a place on, where something is at that place
 pub drop-get : (X : Type 0) (xs : List X) (i : ℕ) (x : X) → slice_get xs i ≡ Some x → drop i xs ≡ x ∷ drop (i + 1) xs
@@ -62,9 +65,21 @@ first-stand : (place count : ℕ) → All (PhaseHasRoom 0 (2 ^ 59)) (first_phase
 first-stand place zero = All-nil (PhaseHasRoom 0 (2 ^ 59))
 first-stand place (suc count) = All-cons (PhaseHasRoom 0 (2 ^ 59)) (fresh_phase (place + 1)) (first_phases (place + 1) count) (record { sequence = omega arith; turn = omega arith }) (first-stand (place + 1) count)
 
+first-timeline : (base count : ℕ) → All (HasTimeline (2 ^ 59)) (replicate count (fresh base))
+first-timeline base zero = All-nil (HasTimeline (2 ^ 59))
+first-timeline base (suc count) = All-cons (HasTimeline (2 ^ 59)) (fresh base) (replicate count (fresh base)) (omega arith) (first-timeline base count)
+
 -- there is ample room before the first event
-pub start-room : (names : List Name) → HasRoom (cluster_of names) (2 ^ 59)
-start-room names = record { clock = omega arith; revision = omega arith; sent = omega arith; runs = first-run (length names); phases = first-stand 0 (length names) }
+pub start-room : (head : HeadText) → HasRoom (cluster_of head) (2 ^ 59)
+start-room head = record {
+  clock = omega arith;
+  revision = omega arith;
+  sent = omega arith;
+  runs = first-run (length head.members);
+  phases = first-stand 0 (length head.members);
+  timelines = first-timeline head.base (length head.members);
+  commits = omega arith;
+}
 
 put-short : (id : Option MemberId) (name : Name) (members : List Member) → length (put_first id name members) ≤ suc (length members)
 put-short None name members = omega arith

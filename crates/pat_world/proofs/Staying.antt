@@ -1,18 +1,22 @@
 -- Events of other concerns.
-use Rattle.std.proofs.Common.{ℕ, ◌≡◌, ◌≢◌, List, refl}
+use Rattle.std.proofs.Common.{ℕ, ◌≡◌, ◌≢◌, Bool, List, refl}
 use Rattle.lease_store.specs.Keys.{Keys}
+use Rattle.pg_model.specs.Facts.{ServerFacts}
 use Rattle.event_book.specs.declared.agent_state.AgentState.{AgentState}
 use Rattle.event_book.specs.declared.event.Kind.{Kind}
 use Rattle.event_book.specs.declared.event.Kind.TheVariants as kinds
 use Rattle.event_book.specs.declared.link.Link.{Link}
+use Rattle.event_book.specs.Acknowledged.{acknowledged_after, commits_after}
 use Rattle.event_book.specs.Agents.{agents_after}
 use Rattle.event_book.specs.Clock.{now_after}
 use Rattle.event_book.specs.Flight.{Flight, flight_at, sent_after}
+use Rattle.event_book.specs.Frozen.{frozen_after}
 use Rattle.event_book.specs.Keys.{keys_at}
 use Rattle.event_book.specs.Links.{cuts_after}
+use Rattle.event_book.specs.Servers.{servers_after}
 use Rattle.pat_world.specs.declared.phase.Phase.{Phase}
 use Rattle.pat_world.specs.Cluster.{phases_after}
-use Rattle.pat_world.specs.Concerns.{concern_of, Time, Messages, Store, Agents, Links}
+use Rattle.pat_world.specs.Concerns.{concern_of, Time, Messages, Store, Watchdogs, Servers, Logs, Replication, Agents, Links}
 
 pub clock-stays : (now : ℕ) (kind : Kind) → concern_of kind ≢ Time → now_after now kind ≡ now
 clock-stays now kinds.Tick other = absurd (other refl)
@@ -97,3 +101,51 @@ numbers-stay last (kinds.Replication happening) other = refl
 numbers-stay last (kinds.Agent happening) other = refl
 numbers-stay last (kinds.Link happening) other = refl
 numbers-stay last (kinds.Note note) other = refl
+
+pub servers-stay : (now : ℕ) (known : List ServerFacts) (kind : Kind) → concern_of kind ≢ Time → concern_of kind ≢ Servers → concern_of kind ≢ Logs → concern_of kind ≢ Replication → concern_of kind ≢ Watchdogs → servers_after now known kind ≡ known
+servers-stay now known kinds.Tick time servers logs replication watchdogs = absurd (time refl)
+servers-stay now known (kinds.Message happening) time servers logs replication watchdogs = refl
+servers-stay now known (kinds.Store happening) time servers logs replication watchdogs = refl
+servers-stay now known (kinds.Watchdog happening) time servers logs replication watchdogs = absurd (watchdogs refl)
+servers-stay now known (kinds.Server happening) time servers logs replication watchdogs = absurd (servers refl)
+servers-stay now known (kinds.Log happening) time servers logs replication watchdogs = absurd (logs refl)
+servers-stay now known (kinds.Replication happening) time servers logs replication watchdogs = absurd (replication refl)
+servers-stay now known (kinds.Agent happening) time servers logs replication watchdogs = refl
+servers-stay now known (kinds.Link happening) time servers logs replication watchdogs = refl
+servers-stay now known (kinds.Note note) time servers logs replication watchdogs = refl
+
+pub frozen-stay : (frozen : List Bool) (kind : Kind) → concern_of kind ≢ Servers → frozen_after frozen kind ≡ frozen
+frozen-stay frozen kinds.Tick other = refl
+frozen-stay frozen (kinds.Message happening) other = refl
+frozen-stay frozen (kinds.Store happening) other = refl
+frozen-stay frozen (kinds.Watchdog happening) other = refl
+frozen-stay frozen (kinds.Server happening) other = absurd (other refl)
+frozen-stay frozen (kinds.Log happening) other = refl
+frozen-stay frozen (kinds.Replication happening) other = refl
+frozen-stay frozen (kinds.Agent happening) other = refl
+frozen-stay frozen (kinds.Link happening) other = refl
+frozen-stay frozen (kinds.Note note) other = refl
+
+pub commits-stay : (last : ℕ) (kind : Kind) → concern_of kind ≢ Logs → commits_after last kind ≡ last
+commits-stay last kinds.Tick other = refl
+commits-stay last (kinds.Message happening) other = refl
+commits-stay last (kinds.Store happening) other = refl
+commits-stay last (kinds.Watchdog happening) other = refl
+commits-stay last (kinds.Server happening) other = refl
+commits-stay last (kinds.Log happening) other = absurd (other refl)
+commits-stay last (kinds.Replication happening) other = refl
+commits-stay last (kinds.Agent happening) other = refl
+commits-stay last (kinds.Link happening) other = refl
+commits-stay last (kinds.Note note) other = refl
+
+pub acknowledged-stay : (told : List ℕ) (kind : Kind) → concern_of kind ≢ Replication → acknowledged_after told kind ≡ told
+acknowledged-stay told kinds.Tick other = refl
+acknowledged-stay told (kinds.Message happening) other = refl
+acknowledged-stay told (kinds.Store happening) other = refl
+acknowledged-stay told (kinds.Watchdog happening) other = refl
+acknowledged-stay told (kinds.Server happening) other = refl
+acknowledged-stay told (kinds.Log happening) other = refl
+acknowledged-stay told (kinds.Replication happening) other = absurd (other refl)
+acknowledged-stay told (kinds.Agent happening) other = refl
+acknowledged-stay told (kinds.Link happening) other = refl
+acknowledged-stay told (kinds.Note note) other = refl

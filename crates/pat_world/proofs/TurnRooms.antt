@@ -43,13 +43,13 @@ woken-room now events phase room = turned-if now events (rested now phase) (has_
 pub fresh-room : (now events : ℕ) (phase : Phase) → PhaseHasRoom now (1 + events) phase → PhaseHasRoom now events (fresh_phase (now + 1))
 fresh-room now events phase room = record { sequence = omega (arith, room.sequence); turn = omega arith }
 
-led_by-if : (now events : ℕ) (revision : ℕ) (phase : Phase) (mine : Bool) → Keeps now events phase (if mine then renewing revision phase else following phase)
-led_by-if now events revision phase true room = record { sequence = omega (arith, room.sequence); turn = room.turn }
-led_by-if now events revision phase false room = record { sequence = omega (arith, room.sequence); turn = room.turn }
+led_by-if : (now events : ℕ) (revision : ℕ) (holder : MemberId) (phase : Phase) (mine : Bool) → Keeps now events phase (if mine then renewing revision phase else following holder phase)
+led_by-if now events revision holder phase true room = record { sequence = omega (arith, room.sequence); turn = room.turn }
+led_by-if now events revision holder phase false room = record { sequence = omega (arith, room.sequence); turn = room.turn }
 
 keeps-led_by : (now events : ℕ) (me : MemberId) (revision : ℕ) (holder : Option MemberId) (phase : Phase) → Keeps now events phase (led_by me revision holder phase)
 keeps-led_by now events me revision None phase room = keeps-idle now events phase room
-keeps-led_by now events me revision (Some holder) phase room = led_by-if now events revision phase _ room
+keeps-led_by now events me revision (Some holder) phase room = led_by-if now events revision holder phase _ room
 
 keeps-led : (now events : ℕ) (me : MemberId) (leader : Option Held) (phase : Phase) → Keeps now events phase (led now me leader phase)
 keeps-led now events me None phase room = record { sequence = omega (arith, room.sequence); turn = room.turn }

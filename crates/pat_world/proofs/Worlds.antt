@@ -18,7 +18,19 @@ use Rattle.pat_world.proofs.Deciding.{arrived}
 -- what the fields of a world stand for
 abbrev pub seen : Inside → Cluster
 seen w = record {
-  book = record { clock = w.clock.0; keys = w.store; members = w.members.items; agents = w.agents.items; cuts = w.cuts.items; flight = w.flight; sent = w.sent };
+  book = record {
+    clock = w.clock.0;
+    keys = w.store;
+    members = w.members.items;
+    agents = w.agents.items;
+    cuts = w.cuts.items;
+    flight = w.flight;
+    sent = w.sent;
+    servers = w.servers;
+    frozen = w.frozen.items;
+    commits = w.commits;
+    acknowledged = w.acknowledged.items;
+  };
   phases = w.phases.items;
 }
 

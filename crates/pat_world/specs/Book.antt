@@ -1,6 +1,10 @@
 -- Which books a world stands for.
 use Rattle.std.specs.Prelude.{ℕ, ◌≡◌, ◌<◌, ◌++◌, List, length}
 use Rattle.event_book.specs.declared.event.Event.{Event}
+use Rattle.event_book.specs.Acknowledged.{acknowledged_in}
+use Rattle.event_book.specs.Logs.{logs_in, logs_after}
+use Rattle.event_book.specs.Required.{required_in, required_after, confirmed_in, confirmed_after}
+use Rattle.event_book.specs.Writers.{writes_in, writes_after}
 use Rattle.cluster_script.specs.declared.line.Step.{Step}
 use Rattle.pat_world.specs.Cluster.{Cluster, moved_all}
 use Rattle.pat_world.specs.Next.{next_events}
@@ -19,6 +23,15 @@ pub record StandsFor (start : Cluster) (book : List Event) (world : Cluster) : T
   pub links : world.book.cuts ≡ (left_by start book).book.cuts
   pub messages : world.book.flight ≡ (left_by start book).book.flight
   pub numbers : world.book.sent ≡ (left_by start book).book.sent
+  pub servers : world.book.servers ≡ (left_by start book).book.servers
+  pub frozen : world.book.frozen ≡ (left_by start book).book.frozen
+  pub commits : world.book.commits ≡ (left_by start book).book.commits
+  -- what the book alone says of servers and commits is so of those that the world keeps
+  pub logs : logs_in world.book.servers ≡ logs_after (logs_in start.book.servers) book
+  pub writers : (n : ℕ) → n < length start.book.servers → writes_in world.book.servers n ≡ writes_after (writes_in start.book.servers) book n
+  pub required : required_in world.book.servers ≡ required_after (required_in start.book.servers) book
+  pub confirmed : confirmed_in world.book.servers ≡ confirmed_after (confirmed_in start.book.servers) book
+  pub acknowledged : world.book.acknowledged ≡ start.book.acknowledged ++ acknowledged_in book
 
 -- the events that a step adds to a book
 abbrev pub next_of : Cluster → List Event → Step → List Event

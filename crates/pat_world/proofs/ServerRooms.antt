@@ -1,0 +1,191 @@
+-- Timelines of servers, and commits, each of which an event counts up by one at most.
+use Rattle.std.proofs.Common.{◌≡◌, ℕ, ◌+◌, ◌^◌, ◌≤◌, ◌<◌, nat_le, ◌==◌, Bool, true, false, List, [], All, Option, Some, None, map, arith, refl, subst}
+use Rattle.std.specs.Prelude.{slice_get, if◌then◌else◌}
+use Rattle.std.proofs.lemmas.List.Elements.{All-map, All-set}
+use Rattle.std.proofs.lemmas.Option.{slice_get_within, get_or_from_slice_get}
+use Rattle.pat_base.specs.declared.server_state.State.{State}
+use Rattle.pat_base.specs.declared.server_state.State.TheVariants as states
+use Rattle.pat_base.specs.declared.ticks.Ticks.{Ticks}
+use Rattle.pat_base.specs.ServerState.{live}
+use Rattle.pg_model.specs.Facts.{ServerFacts, is_down}
+use Rattle.pg_model.specs.Replication.{received_from}
+use Rattle.pg_model.specs.Running.{completed, replica_started, started, starting, ticked}
+use Rattle.pg_model.specs.Servers.{quietly_ticked, with_server, with_server_at}
+use Rattle.event_book.specs.declared.event.Kind.{Kind}
+use Rattle.event_book.specs.declared.event.Kind.TheVariants as kinds
+use Rattle.event_book.specs.declared.event.LogEvent.{LogEvent}
+use Rattle.event_book.specs.declared.event.LogEvent.TheVariants as logs
+use Rattle.event_book.specs.declared.event.ReplicationEvent.{ReplicationEvent}
+use Rattle.event_book.specs.declared.event.ReplicationEvent.TheVariants as replications
+use Rattle.event_book.specs.declared.event.ServerEvent.{ServerEvent}
+use Rattle.event_book.specs.declared.event.ServerEvent.TheVariants as servers
+use Rattle.event_book.specs.declared.event.WatchdogEvent.{WatchdogEvent}
+use Rattle.event_book.specs.declared.event.WatchdogEvent.TheVariants as watchdogs
+use Rattle.event_book.specs.Acknowledged.{commits_after}
+use Rattle.event_book.specs.Servers.{begun_in, copied_by, received_by, servers_after, servers_by, servers_logged, servers_replicated, servers_watched, starts_as_replica}
+
+-- what holds of each element holds of one
+pub All-at : (X : Type 0) (P : X → Type 0) (xs : List X) (n : ℕ) (x : X) → All P xs → slice_get xs n ≡ Some x → P x
+All-at X P xs n x all is = subst P (get_or_from_slice_get xs n x x is) (all n x (slice_get_within xs n x is))
+
+pub All-weaker : (X : Type 0) (P Q : X → Type 0) (xs : List X) → ((x : X) → P x → Q x) → All P xs → All Q xs
+All-weaker X P Q xs so all k d h = so _ (all k d h)
+
+with-all_at : (P Q : ServerFacts → Type 0) (servers : List ServerFacts) (place : ℕ) (change : ServerFacts → ServerFacts) (found : Option ServerFacts) → slice_get servers place ≡ found → All P servers
+    → ((s : ServerFacts) → P s → Q s) → ((s : ServerFacts) → P s → Q (change s)) → All Q (with_server_at servers place change found)
+with-all_at P Q servers place change None is all weaker at = All-weaker ServerFacts P Q servers weaker all
+with-all_at P Q servers place change (Some s) is all weaker at = All-set Q servers place (change s) (at s (All-at ServerFacts P servers place s all is)) (All-weaker ServerFacts P Q servers weaker all)
+
+-- what holds of each server holds with one changed
+pub with-all : (P Q : ServerFacts → Type 0) (servers : List ServerFacts) (place : ℕ) (change : ServerFacts → ServerFacts) → All P servers
+    → ((s : ServerFacts) → P s → Q s) → ((s : ServerFacts) → P s → Q (change s)) → All Q (with_server servers place change)
+with-all P Q servers place change all weaker at = with-all_at P Q servers place change (slice_get servers place) refl all weaker at
+
+map-all : (P Q : ServerFacts → Type 0) (change : ServerFacts → ServerFacts) (servers : List ServerFacts) → All P servers → ((s : ServerFacts) → P s → Q (change s)) → All Q (map change servers)
+map-all P Q change servers all at = All-map Q change servers (All-weaker ServerFacts P (λ s. Q (change s)) servers at all)
+
+abbrev pub HasTimeline : ℕ → ServerFacts → Type 0
+HasTimeline events s = s.timeline + events < 2 ^ 60
+
+-- a timeline has room for so many more
+timeline-fewer : (events : ℕ) (s : ServerFacts) → HasTimeline (1 + events) s → HasTimeline events s
+timeline-fewer events s room = omega (arith, room)
+
+timeline-as : (events : ℕ) (s t : ServerFacts) → t.timeline ≡ s.timeline → HasTimeline (1 + events) s → HasTimeline events t
+timeline-as events s t same room = omega (arith, room, same)
+
+begun-timeline : (state : State) (s : ServerFacts) → (begun_in state s).timeline ≤ s.timeline + 1
+begun-timeline states.Replica s = omega arith
+begun-timeline states.Creating s = omega arith
+begun-timeline states.Stopped s = omega arith
+begun-timeline (states.Starting as_primary at) s = omega arith
+begun-timeline states.Primary s = omega arith
+begun-timeline (states.Stopping was_primary at) s = omega arith
+begun-timeline states.Crashed s = omega arith
+
+started-timeline : (as_primary : Bool) (s : ServerFacts) → (started as_primary s).timeline ≡ s.timeline
+started-timeline true s = refl
+started-timeline false s = refl
+
+starting-if : (as_primary : Bool) (now : Ticks) (s : ServerFacts) (at_once : Bool) → (if at_once then started as_primary s else record s { state = states.Starting as_primary (record { 0 = now.0 + s.start_delay.0 }) }).timeline ≡ s.timeline
+starting-if as_primary now s true = started-timeline as_primary s
+starting-if as_primary now s false = refl
+
+starts-if : (now : ℕ) (s : ServerFacts) (down : Bool) → (if down then replica_started (record { 0 = now }) None s else s).timeline ≡ s.timeline
+starts-if now s true = starting-if false (record { 0 = now }) (record s { upstream = None; was_primary = false }) (s.start_delay.0 == 0)
+starts-if now s false = refl
+
+completed-if : (as_primary : Bool) (s : ServerFacts) (due : Bool) → (if due then started as_primary s else s).timeline ≡ s.timeline
+completed-if as_primary s true = started-timeline as_primary s
+completed-if as_primary s false = refl
+
+stopped-if : (s : ServerFacts) (due : Bool) → (if due then record s { state = states.Stopped; waiting = [] } else s).timeline ≡ s.timeline
+stopped-if s true = refl
+stopped-if s false = refl
+
+completed-timeline : (now : Ticks) (state : State) (s : ServerFacts) → (completed now state s).timeline ≡ s.timeline
+completed-timeline now states.Replica s = refl
+completed-timeline now states.Creating s = refl
+completed-timeline now states.Stopped s = refl
+completed-timeline now (states.Starting as_primary at) s = completed-if as_primary s (nat_le at.0 now.0)
+completed-timeline now states.Primary s = refl
+completed-timeline now (states.Stopping was_primary at) s = stopped-if s (nat_le at.0 now.0)
+completed-timeline now states.Crashed s = refl
+
+quiet-if : (now : Ticks) (s : ServerFacts) (is_live : Bool) → (if is_live then s else ticked now s).timeline ≡ s.timeline
+quiet-if now s true = refl
+quiet-if now s false = completed-timeline now s.state s
+
+abbrev Roomy : ℕ → List ServerFacts → Type 0
+Roomy events known = All (HasTimeline events) known
+
+with-same : (events : ℕ) (known : List ServerFacts) (place : ℕ) (change : ServerFacts → ServerFacts) → ((s : ServerFacts) → (change s).timeline ≡ s.timeline) → Roomy (1 + events) known → Roomy events (with_server known place change)
+with-same events known place change same all =
+    with-all (HasTimeline (1 + events)) (HasTimeline events) known place change all (timeline-fewer events) (λ s room. timeline-as events s (change s) (same s) room)
+
+fewer : (events : ℕ) (known : List ServerFacts) → Roomy (1 + events) known → Roomy events known
+fewer events known all = All-weaker ServerFacts (HasTimeline (1 + events)) (HasTimeline events) known (timeline-fewer events) all
+
+room-by : (now events : ℕ) (known : List ServerFacts) (happening : ServerEvent) → Roomy (1 + events) known → Roomy events (servers_by now known happening)
+room-by now events known (servers.Began server timeline) all =
+    with-all (HasTimeline (1 + events)) (HasTimeline events) known server.id.number (λ s. begun_in s.state s) all (timeline-fewer events) (λ s room. omega (arith, room, begun-timeline s.state s))
+room-by now events known (servers.Ended server) all = with-same events known server.id.number _ (λ s. refl) all
+room-by now events known (servers.Crashed server) all = with-same events known server.id.number _ (λ s. refl) all
+room-by now events known (servers.Promoted server) all = fewer events known all
+room-by now events known (servers.StartsAsReplica server) all = with-same events known server.id.number (starts_as_replica now) (λ s. starts-if now s (is_down s.state)) all
+room-by now events known (servers.Follows server upstream) all = with-same events known server.id.number _ (λ s. refl) all
+room-by now events known (servers.Diverged server upstream at) all = with-same events known server.id.number _ (λ s. refl) all
+room-by now events known (servers.Frozen server) all = fewer events known all
+room-by now events known (servers.Thawed server) all = fewer events known all
+room-by now events known (servers.Slowed server stop start) all = with-same events known server.id.number _ (λ s. refl) all
+
+room-received : (events : ℕ) (known : List ServerFacts) (number from count : ℕ) (found : Option ServerFacts) → slice_get known from ≡ found → Roomy (1 + events) known → Roomy events (received_by known number count found)
+room-received events known number from count None is all = fewer events known all
+room-received events known number from count (Some upstream) is all =
+    let roomy = All-at ServerFacts (HasTimeline (1 + events)) known from upstream all is in
+    with-all (HasTimeline (1 + events)) (HasTimeline events) known number (λ s. received_from count s upstream) all (timeline-fewer events) (λ s room. omega (arith, roomy))
+
+room-copied : (events : ℕ) (known : List ServerFacts) (number : ℕ) (found : Option ServerFacts) → Roomy (1 + events) known → Roomy events (copied_by known number found)
+room-copied events known number None all = fewer events known all
+room-copied events known number (Some source) all = with-same events known number _ (λ s. refl) all
+
+room-logged : (events : ℕ) (known : List ServerFacts) (happening : LogEvent) → Roomy (1 + events) known → Roomy events (servers_logged known happening)
+room-logged events known (logs.Appended server entry) all = with-same events known server.id.number _ (λ s. refl) all
+room-logged events known (logs.Received server from count) all = room-received events known server.id.number from.id.number count (slice_get known from.id.number) refl all
+room-logged events known (logs.Rewound server from kept at) all = with-same events known server.id.number _ (λ s. refl) all
+room-logged events known (logs.Copied server from) all = room-copied events known server.id.number (slice_get known from.id.number) all
+room-logged events known (logs.Wiped server) all = with-same events known server.id.number _ (λ s. refl) all
+
+room-replicated : (events : ℕ) (known : List ServerFacts) (happening : ReplicationEvent) → Roomy (1 + events) known → Roomy events (servers_replicated known happening)
+room-replicated events known (replications.RequiredSet server required names) all = with-same events known server.id.number _ (λ s. refl) all
+room-replicated events known (replications.Confirmed server by end) all = with-same events known server.id.number _ (λ s. refl) all
+room-replicated events known (replications.Acknowledged server commit) all = with-same events known server.id.number _ (λ s. refl) all
+
+room-watched : (events : ℕ) (known : List ServerFacts) (happening : WatchdogEvent) → Roomy (1 + events) known → Roomy events (servers_watched known happening)
+room-watched events known (watchdogs.Armed member until answer) all = fewer events known all
+room-watched events known (watchdogs.Fed member until basis) all = fewer events known all
+room-watched events known (watchdogs.Disarmed member) all = fewer events known all
+room-watched events known (watchdogs.Reset member) all = with-same events known member.id.number _ (λ s. refl) all
+room-watched events known (watchdogs.HoldTaken member until from run sequence) all = fewer events known all
+
+-- one more event takes the room of one timeline
+pub servers-room : (now events : ℕ) (known : List ServerFacts) (kind : Kind) → All (HasTimeline (1 + events)) known → All (HasTimeline events) (servers_after now known kind)
+servers-room now events known kinds.Tick all =
+    map-all (HasTimeline (1 + events)) (HasTimeline events) (quietly_ticked (record { 0 = now })) known all (λ s room. timeline-as events s (quietly_ticked (record { 0 = now }) s) (quiet-if (record { 0 = now }) s (live s.state)) room)
+servers-room now events known (kinds.Message happening) all = fewer events known all
+servers-room now events known (kinds.Store happening) all = fewer events known all
+servers-room now events known (kinds.Watchdog happening) all = room-watched events known happening all
+servers-room now events known (kinds.Server happening) all = room-by now events known happening all
+servers-room now events known (kinds.Log happening) all = room-logged events known happening all
+servers-room now events known (kinds.Replication happening) all = room-replicated events known happening all
+servers-room now events known (kinds.Agent happening) all = fewer events known all
+servers-room now events known (kinds.Link happening) all = fewer events known all
+servers-room now events known (kinds.Note note) all = fewer events known all
+
+-- a commit has the next number
+abbrev pub CountsLog : ℕ → LogEvent → Type 0
+CountsLog last (logs.Appended server entry) = entry.serial ≤ last + 1
+CountsLog last _ = Unit {0}
+
+log-more : (last : ℕ) (happening : LogEvent) → CountsLog last happening → commits_after last (kinds.Log happening) ≤ last + 1
+log-more last (logs.Appended server entry) counts = counts
+log-more last (logs.Received server from count) counts = omega arith
+log-more last (logs.Rewound server from kept at) counts = omega arith
+log-more last (logs.Copied server from) counts = omega arith
+log-more last (logs.Wiped server) counts = omega arith
+
+abbrev pub CountsCommit : ℕ → Kind → Type 0
+CountsCommit last (kinds.Log happening) = CountsLog last happening
+CountsCommit last _ = Unit {0}
+
+pub commits-more : (last : ℕ) (kind : Kind) → CountsCommit last kind → commits_after last kind ≤ last + 1
+commits-more last kinds.Tick counts = omega arith
+commits-more last (kinds.Message happening) counts = omega arith
+commits-more last (kinds.Store happening) counts = omega arith
+commits-more last (kinds.Watchdog happening) counts = omega arith
+commits-more last (kinds.Server happening) counts = omega arith
+commits-more last (kinds.Log happening) counts = log-more last happening counts
+commits-more last (kinds.Replication happening) counts = omega arith
+commits-more last (kinds.Agent happening) counts = omega arith
+commits-more last (kinds.Link happening) counts = omega arith
+commits-more last (kinds.Note note) counts = omega arith
