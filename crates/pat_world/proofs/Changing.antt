@@ -90,9 +90,9 @@ start-took cluster place seat states phases tick had has there ended states_is p
     (Took-one cluster (with_agents cluster states phases) had has kind (next-run cluster seat (stands-at cluster place seat there).state_is) state (has_is ∙ ap (λ es. had ++ es) (stamped-is cluster tick kind at))))
 
 -- what a command comes to, of the command as it was read
-pub commanded : (cluster after : Cluster) (had has : List Event) (read command : Command) (cost : ℕ) → read ≡ command → Took cluster after had has (command_events cluster command) cost → cost ≤ 4 → Took cluster after had has (command_events cluster read) 4
+pub commanded : (cluster after : Cluster) (had has : List Event) (read command : Command) (cost : ℕ) → read ≡ command → Took cluster after had has (command_events cluster command) cost → cost ≤ 5 → Took cluster after had has (command_events cluster read) 5
 commanded cluster after had has read command cost is took enough =
-    subst (λ (d : Command). Took cluster after had has (command_events cluster d) 4) (sym is) (Took-weaker cluster after had has (command_events cluster command) cost 4 took enough)
+    subst (λ (d : Command). Took cluster after had has (command_events cluster d) 5) (sym is) (Took-weaker cluster after had has (command_events cluster command) cost 5 took enough)
 
 pub agent-kinds-took : (cluster after : Cluster) (had has : List Event) (found happening : Option AgentEvent) → found ≡ happening → Took cluster after had has (all_happen cluster (agent_kinds found)) 1 → Took cluster after had has (all_happen cluster (agent_kinds happening)) 1
 agent-kinds-took cluster after had has found happening is took = subst (λ (o : Option AgentEvent). Took cluster after had has (all_happen cluster (agent_kinds o)) 1) is took

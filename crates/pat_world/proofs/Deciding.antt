@@ -48,10 +48,10 @@ decides-is cluster after number by message txn decision had has from is took =
     (subst (λ (e : LinkEnd). Took cluster after had has (decides cluster number message txn decision e) 3) (sym from) took)
 
 comes-is : (cluster after : Cluster) (number : ℕ) (message : InFlightFacts) (to : LinkEnd) (had has : List Event) → in_flight cluster.book.flight number ≡ Some message → message.message.to ≡ to
-    → Took cluster after had has (comes_to cluster number message to) 4 → Took cluster after had has (comes_found cluster number (in_flight cluster.book.flight number)) 4
+    → Took cluster after had has (comes_to cluster number message to) 5 → Took cluster after had has (comes_found cluster number (in_flight cluster.book.flight number)) 5
 comes-is cluster after number message to had has is receiver took =
-    subst (λ (o : Option InFlightFacts). Took cluster after had has (comes_found cluster number o) 4) (sym is)
-    (subst (λ (e : LinkEnd). Took cluster after had has (comes_to cluster number message e) 4) (sym receiver) took)
+    subst (λ (o : Option InFlightFacts). Took cluster after had has (comes_found cluster number o) 5) (sym is)
+    (subst (λ (e : LinkEnd). Took cluster after had has (comes_to cluster number message e) 5) (sym receiver) took)
 
 pub granted-took : (cluster granting after : Cluster) (number : ℕ) (by : Member) (message : Message) (txn : Txn) (tick : Ticks) (had mid has : List Event)
     → message.from ≡ link_ends.Member by → tick.0 ≡ cluster.book.clock → decision_on cluster.book.keys cluster.book.clock txn ≡ Grant
@@ -80,28 +80,28 @@ arrived cluster number message is = rw is refl
 pub stored-took : (cluster stored after : Cluster) (number : ℕ) (message : InFlightFacts) (tick : Ticks) (had mid has : List Event)
     → in_flight cluster.book.flight number ≡ Some message → message.message.to ≡ link_ends.Store → tick.0 ≡ cluster.book.clock → stored ≡ moved cluster (kinds.Message (Delivered number))
     → mid ≡ had ++ record { tick = tick; kind = kinds.Message (Delivered number) } ∷ [] → Took stored after mid has (answers stored number message.message) 3
-    → Took cluster after had has (comes_found cluster number (in_flight cluster.book.flight number)) 4
+    → Took cluster after had has (comes_found cluster number (in_flight cluster.book.flight number)) 5
 stored-took cluster stored after number message tick had mid has is to at state mid_is rest =
     comes-is cluster after number message link_ends.Store had has is to
-    (Took-after cluster stored after had mid has tick (kinds.Message (Delivered number)) (λ later. answers later number message.message) 3 4 tt at state mid_is rest (omega arith))
+    (Took-after cluster stored after had mid has tick (kinds.Message (Delivered number)) (λ later. answers later number message.message) 3 5 tt at state mid_is rest (omega arith))
 
 pub heard-took : (cluster hearing after : Cluster) (number : ℕ) (message : InFlightFacts) (member : Member) (tick : Ticks) (had mid has : List Event)
     → in_flight cluster.book.flight number ≡ Some message → message.message.to ≡ link_ends.Member member → tick.0 ≡ cluster.book.clock → hearing ≡ moved cluster (kinds.Message (Delivered number))
-    → mid ≡ had ++ record { tick = tick; kind = kinds.Message (Delivered number) } ∷ [] → Took hearing after mid has (reacts hearing member (listened cluster.book.clock cluster.phases message member)) 2
-    → Took cluster after had has (comes_found cluster number (in_flight cluster.book.flight number)) 4
+    → mid ≡ had ++ record { tick = tick; kind = kinds.Message (Delivered number) } ∷ [] → Took hearing after mid has (reacts hearing member (listened cluster.book.clock cluster.phases message member)) 4
+    → Took cluster after had has (comes_found cluster number (in_flight cluster.book.flight number)) 5
 heard-took cluster hearing after number message member tick had mid has is to at state mid_is rest =
     comes-is cluster after number message (link_ends.Member member) had has is to
-    (Took-after cluster hearing after had mid has tick (kinds.Message (Delivered number)) (λ later. reacts later member (listened cluster.book.clock cluster.phases message member)) 2 4 tt at state mid_is rest (omega arith))
+    (Took-after cluster hearing after had mid has tick (kinds.Message (Delivered number)) (λ later. reacts later member (listened cluster.book.clock cluster.phases message member)) 4 5 tt at state mid_is rest (omega arith))
 
 -- the event of a grant, with what was copied into it
 pub granted-event : (tick : Ticks) (number : ℕ) (by : Member) (copy txn : Txn) (names : List Name) → copy ≡ txn → names ≡ []
     → ◌≡◌ {A = List Event} ((record { tick = tick; kind = kinds.Store (stores.Granted number by copy names) }) ∷ []) ((record { tick = tick; kind = kinds.Store (stores.Granted number by txn []) }) ∷ [])
 granted-event tick number by copy txn names same none = rw (same, none) refl
 
-pub nothing-took : (cluster after : Cluster) (number : ℕ) (had : List Event) → in_flight cluster.book.flight number ≡ None → after ≡ cluster → Took cluster after had had (comes_found cluster number (in_flight cluster.book.flight number)) 4
+pub nothing-took : (cluster after : Cluster) (number : ℕ) (had : List Event) → in_flight cluster.book.flight number ≡ None → after ≡ cluster → Took cluster after had had (comes_found cluster number (in_flight cluster.book.flight number)) 5
 nothing-took cluster after number had is same =
-    subst (λ (o : Option InFlightFacts). Took cluster after had had (comes_found cluster number o) 4) (sym is)
-    (subst (λ (a : Cluster). Took cluster a had had [] 4) (sym same) (Took-nothing cluster had 4))
+    subst (λ (o : Option InFlightFacts). Took cluster after had had (comes_found cluster number o) 5) (sym is)
+    (subst (λ (a : Cluster). Took cluster a had had [] 5) (sym same) (Took-nothing cluster had 5))
 
 pub asks-nothing : (cluster : Cluster) (member : Member) (sequence : ℕ) (asks : Option Body) (body : Body) (had : List Event) → asks ≡ Some body → slice_get cluster.book.agents member.id.number ≡ None
     → Took cluster cluster had had (asked cluster member sequence asks) 2

@@ -7,6 +7,7 @@ pub mod Rooms
 pub mod Seats
 pub mod Sending
 pub mod ServerRooms
+pub mod Serving
 pub mod Settling
 pub mod Standing
 pub mod Starting

@@ -85,7 +85,7 @@ rounds-next cluster at had has h is grew =
 
 -- a round in which nothing happened is the last
 pub rounds-done : (start cluster next : Cluster) (had has longer whole : List Event) (at cost left : ℕ) → Left start cluster had has whole (rounds cluster (40 - at)) cost left → at < 40
-    → Took cluster next has longer (round cluster) 262192 → length longer ≡ length has → Took start next had longer whole cost
+    → Took cluster next has longer (round cluster) 327760 → length longer ≡ length has → Took start next had longer whole cost
 rounds-done start cluster next had has longer whole at cost left l h took same =
     let none = empty-of (round cluster) (omega (arith, ap length took.event, length-append has (round cluster), same)) in
     let last : rounds cluster (40 - at) ≡ [] = rounds-last cluster (40 - at) (40 - (at + 1)) (omega (arith, h)) none.0 in
@@ -102,17 +102,17 @@ rounds-end cluster at h = rounds-none cluster (40 - at) (omega (arith, h))
 
 -- the agents are woken, and then the messages move; only some of those in flight need be looked at
 pub round-took : (cluster woken after : Cluster) (had mid has : List Event) (count : ℕ) (numbers : List ℕ) → count ≡ length cluster.book.members → count ≤ 16
-    → Took cluster woken had mid (wakes cluster 0 count) (3 * count) → all_move woken (keys_of woken.book.flight) ≡ all_move woken numbers → length numbers ≤ 65536
-    → Took woken after mid has (all_move woken numbers) (4 * length numbers) → Took cluster after had has (round cluster) 262192
+    → Took cluster woken had mid (wakes cluster 0 count) (5 * count) → all_move woken (keys_of woken.book.flight) ≡ all_move woken numbers → length numbers ≤ 65536
+    → Took woken after mid has (all_move woken numbers) (5 * length numbers) → Took cluster after had has (round cluster) 327760
 round-took cluster woken after had mid has count numbers all few one same short two =
-    Took-then cluster woken after had mid has (wakes cluster 0 (length cluster.book.members)) (λ later. all_move later (keys_of later.book.flight)) (3 * count) (4 * length numbers) 262192
-    (subst (λ (n : ℕ). Took cluster woken had mid (wakes cluster 0 n) (3 * count)) all one)
-    (subst (λ (es : List Event). Took woken after mid has es (4 * length numbers)) (sym same) two) (omega (arith, few, short))
+    Took-then cluster woken after had mid has (wakes cluster 0 (length cluster.book.members)) (λ later. all_move later (keys_of later.book.flight)) (5 * count) (5 * length numbers) 327760
+    (subst (λ (n : ℕ). Took cluster woken had mid (wakes cluster 0 n) (5 * count)) all one)
+    (subst (λ (es : List Event). Took woken after mid has es (5 * length numbers)) (sym same) two) (omega (arith, few, short))
 
 -- after the wakes there is room for all that moves
-pub moves-room : (cluster woken : Cluster) (had mid : List Event) (count moving : ℕ) → HasRoom cluster 262192 → count ≤ 16 → moving ≤ 65536 → Took cluster woken had mid (wakes cluster 0 count) (3 * count) → HasRoom woken (4 * moving)
+pub moves-room : (cluster woken : Cluster) (had mid : List Event) (count moving : ℕ) → HasRoom cluster 327760 → count ≤ 16 → moving ≤ 65536 → Took cluster woken had mid (wakes cluster 0 count) (5 * count) → HasRoom woken (5 * moving)
 moves-room cluster woken had mid count moving room few short took =
-    took.room (4 * moving) (HasRoom-fewer cluster 262192 (3 * count + 4 * moving) (omega (arith, few, short)) room)
+    took.room (5 * moving) (HasRoom-fewer cluster 327760 (5 * count + 5 * moving) (omega (arith, few, short)) room)
 
 -- what happens in a step, of the step as it was read
 pub stepped : (cluster after : Cluster) (had has : List Event) (read step : Step) (cost : ℕ) → read ≡ step → Took cluster after had has (next_events cluster step) cost → cost ≤ 16777216 → Took cluster after had has (next_events cluster read) 16777216
@@ -120,7 +120,7 @@ stepped cluster after had has read step cost is took enough =
     subst (λ (s : Step). Took cluster after had has (next_events cluster s) 16777216) (sym is) (Took-weaker cluster after had has (next_events cluster step) cost 16777216 took enough)
 
 -- after a round in which nothing happened the next would be such a round too
-pub round-still : (cluster next : Cluster) (has longer : List Event) → Took cluster next has longer (round cluster) 262192 → length longer ≡ length has → (next ≡ cluster) × (round next ≡ [])
+pub round-still : (cluster next : Cluster) (has longer : List Event) → Took cluster next has longer (round cluster) 327760 → length longer ≡ length has → (next ≡ cluster) × (round next ≡ [])
 round-still cluster next has longer took same =
     let none = empty-of (round cluster) (omega (arith, ap length took.event, length-append has (round cluster), same)) in
     let state : next ≡ cluster = took.state ∙ ap (moved_all cluster) none.1 in

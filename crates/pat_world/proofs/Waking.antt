@@ -14,9 +14,9 @@ use Rattle.pat_world.proofs.Deciding.{Took-after}
 -- an agent that is ready is woken, and sends what its reaction asks
 pub wake-took : (cluster rousing after : Cluster) (place : ℕ) (seat : Seat) (tick : Ticks) (had mid has : List Event) → seat_at cluster place ≡ Some seat → is_ready cluster.book.clock seat ≡ true → tick.0 ≡ cluster.book.clock
     → rousing ≡ moved cluster (kinds.Agent (Woken seat.member)) → mid ≡ had ++ record { tick = tick; kind = kinds.Agent (Woken seat.member) } ∷ []
-    → Took rousing after mid has (reacts rousing seat.member (roused cluster.book.clock cluster.phases seat.member)) 2
-    → Took cluster after had has (wake_at cluster place) 3
+    → Took rousing after mid has (reacts rousing seat.member (roused cluster.book.clock cluster.phases seat.member)) 4
+    → Took cluster after had has (wake_at cluster place) 5
 wake-took cluster rousing after place seat tick had mid has there ready at state mid_is rest =
-    subst (λ (o : Option Seat). Took cluster after had has (wake cluster o) 3) (sym there)
-    (subst (λ (b : Bool). Took cluster after had has (if b then woken_at cluster seat.member else []) 3) (sym ready)
-    (Took-after cluster rousing after had mid has tick (kinds.Agent (Woken seat.member)) (λ later. reacts later seat.member (roused cluster.book.clock cluster.phases seat.member)) 2 3 tt at state mid_is rest (omega arith)))
+    subst (λ (o : Option Seat). Took cluster after had has (wake cluster o) 5) (sym there)
+    (subst (λ (b : Bool). Took cluster after had has (if b then woken_at cluster seat.member else []) 5) (sym ready)
+    (Took-after cluster rousing after had mid has tick (kinds.Agent (Woken seat.member)) (λ later. reacts later seat.member (roused cluster.book.clock cluster.phases seat.member)) 4 5 tt at state mid_is rest (omega arith)))

@@ -5,4 +5,4 @@ use Rattle.pat_world.proofs.world.World.all_move.Given as goal
 
 -- the messages from this place on are still to move
 abbrev pub invariant-loop-number : goal.invariant-loop-number
-invariant-loop-number l = Left l.fn.self l.self l.fn.events.items l.events.items (all_move l.fn.self l.numbers) (all_move l.self (drop l.number-index l.numbers)) (4 * length l.numbers) (4 * length (drop l.number-index l.numbers))
+invariant-loop-number l = Left l.fn.self l.self l.fn.events.items l.events.items (all_move l.fn.self l.numbers) (all_move l.self (drop l.number-index l.numbers)) (5 * length l.numbers) (5 * length (drop l.number-index l.numbers))

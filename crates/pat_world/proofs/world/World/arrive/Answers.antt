@@ -52,7 +52,7 @@ pub returns-in_default : goal.returns-in_default
 returns-in_default c =
     let before = seen c.self.inside in
     let state = ap (λ (f : Flight). landing before f before.phases) c.in_default.ensures.absent in
-    subst (λ (b : Cluster). Took b (landing before c.land.new.self before.phases) c.args.events.now.items c.args.events.now.items (comes_found b c.args.number (in_flight b.book.flight c.args.number)) 4) c.self.view_is
+    subst (λ (b : Cluster). Took b (landing before c.land.new.self before.phases) c.args.events.now.items c.args.events.now.items (comes_found b c.args.number (in_flight b.book.flight c.args.number)) 5) c.self.view_is
     (nothing-took before _ c.args.number c.args.events.now.items (sym c.land.ensures.message ∙ c.in_default.is) state)
 
 pub returns-in-Store : goal.returns-in-Store
@@ -63,7 +63,7 @@ returns-in-Store c =
     let to : carried.message.to ≡ link_ends.Store = ap (λ m. m.message.to) (sym c.carried.view_is) ∙ c.in-Store.is in
     let state = hearing-is before c.args.number carried link_ends.Store c.land.new.self before.phases c.land.ensures.flight refl to found in
     on_ok_weaker c.answer.result
-    (λ took. subst (λ (b : Cluster). Took b c.answer.new.self c.args.events.now.items c.answer.new.events.items (comes_found b c.args.number (in_flight b.book.flight c.args.number)) 4) c.self.view_is
+    (λ took. subst (λ (b : Cluster). Took b c.answer.new.self c.args.events.now.items c.answer.new.events.items (comes_found b c.args.number (in_flight b.book.flight c.args.number)) 5) c.self.view_is
     (stored-took before (landing before c.land.new.self before.phases) c.answer.new.self c.args.number carried c.self.inside.clock c.args.events.now.items c.note.new.events.items c.answer.new.events.items
     found to refl state c.in_ok-note-in-Store.ensures
     (subst (λ (m : Message). Took (landing before c.land.new.self before.phases) c.answer.new.self c.note.new.events.items c.answer.new.events.items (answers (landing before c.land.new.self before.phases) c.args.number m) 3)
@@ -76,8 +76,8 @@ listen-reaction-requires-clause-clock c = omega (arith, c.requires.clock, ap (λ
 pub listen-reaction-requires-clause-room : goal.listen-reaction-requires-clause-room
 listen-reaction-requires-clause-room c =
     let before = seen c.self.inside in
-    let room : HasRoom before 4 = subst (λ (b : Cluster). HasRoom b 4) (sym c.self.view_is) c.requires in
-    rw c.deref_mut.ensures.value (HasRoom-fewer before 4 1 (omega arith) room).phases
+    let room : HasRoom before 5 = subst (λ (b : Cluster). HasRoom b 5) (sym c.self.view_is) c.requires in
+    rw c.deref_mut.ensures.value (HasRoom-fewer before 5 1 (omega arith) room).phases
 
 pub react-requires-clause-room : goal.react-requires-clause-room
 react-requires-clause-room c =
@@ -91,8 +91,8 @@ react-requires-clause-room c =
     let long = ap length c.listen-reaction.ensures.phases ∙ length-changed Phase c.deref_mut.result.now member _ ∙ c.deref_mut.ensures.len in
     let phases = with_items_is c.self.inside.phases c.listen-reaction.new.phases long ∙ heard_so in
     let state = hearing-is before c.args.number carried (link_ends.Member member) c.land.new.self _ c.land.ensures.flight phases to found in
-    let room : HasRoom before 4 = subst (λ (b : Cluster). HasRoom b 4) (sym c.self.view_is) c.requires in
-    subst (λ (b : Cluster). HasRoom b 2) (sym state) (HasRoom-moved before (kinds.Message (Delivered c.args.number)) 2 tt (HasRoom-fewer before 4 3 (omega arith) room))
+    let room : HasRoom before 5 = subst (λ (b : Cluster). HasRoom b 5) (sym c.self.view_is) c.requires in
+    subst (λ (b : Cluster). HasRoom b 4) (sym state) (HasRoom-moved before (kinds.Message (Delivered c.args.number)) 4 tt room)
 
 pub returns : goal.returns
 returns c =
@@ -110,8 +110,8 @@ returns c =
     let reaction = listened-is before.book.clock _ before.phases member _ carried _ c.listen-reaction.ensures.reaction old refl in
     let hearing = landing before c.land.new.self stand in
     on_ok_weaker c.react.result
-    (λ took. subst (λ (b : Cluster). Took b c.react.new.self c.args.events.now.items c.react.new.events.items (comes_found b c.args.number (in_flight b.book.flight c.args.number)) 4) c.self.view_is
+    (λ took. subst (λ (b : Cluster). Took b c.react.new.self c.args.events.now.items c.react.new.events.items (comes_found b c.args.number (in_flight b.book.flight c.args.number)) 5) c.self.view_is
     (heard-took before hearing c.react.new.self c.args.number carried member c.self.inside.clock c.args.events.now.items c.note-in-Member.new.events.items c.react.new.events.items
     found to refl state c.in_ok-note-in-Member.ensures
-    (subst (λ (r : Option Reaction). Took hearing c.react.new.self c.note-in-Member.new.events.items c.react.new.events.items (reacts hearing member r) 2) reaction took)))
+    (subst (λ (r : Option Reaction). Took hearing c.react.new.self c.note-in-Member.new.events.items c.react.new.events.items (reacts hearing member r) 4) reaction took)))
     c.react.ensures

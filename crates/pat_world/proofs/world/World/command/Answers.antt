@@ -5,7 +5,7 @@ use Rattle.pat_world.proofs.Changing.{commanded, agent-kinds-took}
 use Rattle.pat_world.proofs.world.World.command.Goals as goal
 
 pub returns-in-Turn : goal.returns-in-Turn
-returns-in-Turn c = on_ok_weaker c.wake.result (λ took. commanded _ _ _ _ _ _ 3 c.in-Turn.is took (omega arith)) c.wake.ensures
+returns-in-Turn c = on_ok_weaker c.wake.result (λ took. commanded _ _ _ _ _ _ 5 c.in-Turn.is took (omega arith)) c.wake.ensures
 
 pub returns-in-Hold : goal.returns-in-Hold
 returns-in-Hold c =

@@ -7,7 +7,7 @@ use Rattle.pat_world.proofs.Rest.{Left-room, Left-more, Left-end, rounds-next, r
 use Rattle.pat_world.proofs.world.World.rounds.Goals as goal
 
 pub round-requires : goal.round-requires
-round-requires c = Left-room _ _ _ _ _ _ _ _ 262192 c.loop-done.invariant c.requires (omega (arith, c.loop-done-test.true))
+round-requires c = Left-room _ _ _ _ _ _ _ _ 327760 c.loop-done.invariant c.requires (omega (arith, c.loop-done-test.true))
 
 pub settle-requires-clause-still : goal.settle-requires-clause-still
 settle-requires-clause-still c = (round-still _ _ _ _ c.in_ok-round.ensures (omega (arith, c.len.ensures, c.len-before.ensures, c.if-len-before.true))).1
@@ -19,12 +19,12 @@ settle-requires-clause-room c =
 
 pub returns-then-len-before : goal.returns-then-len-before
 returns-then-len-before c =
-    subst (λ (b : Cluster). Took c.args.self.now b c.args.events.now.items c.round.new.events.items (rounds c.args.self.now most_rounds) 10487680) (sym c.settle.ensures)
+    subst (λ (b : Cluster). Took c.args.self.now b c.args.events.now.items c.round.new.events.items (rounds c.args.self.now most_rounds) 13110400) (sym c.settle.ensures)
     (rounds-done _ _ _ _ _ _ _ c.loop-done.done _ _ c.loop-done.invariant c.loop-done-test.true c.in_ok-round.ensures (omega (arith, c.len.ensures, c.len-before.ensures, c.if-len-before.true)))
 
 pub loop-done-preserved : goal.loop-done-preserved
 loop-done-preserved c =
-    Left-more _ _ _ _ _ _ _ (round c.loop-done.self) (λ later. rounds later (40 - (c.loop-done.done + 1))) _ _ _ 262192 _
+    Left-more _ _ _ _ _ _ _ (round c.loop-done.self) (λ later. rounds later (40 - (c.loop-done.done + 1))) _ _ _ 327760 _
     c.loop-done.invariant
     (rounds-next c.loop-done.self c.loop-done.done _ _ c.loop-done-test.true (c.in_ok-round.ensures).event (λ same. c.if-len-before.false (omega (arith, same, c.len.ensures, c.len-before.ensures))))
     c.in_ok-round.ensures (omega (arith, c.loop-done-test.true))

@@ -5,4 +5,4 @@ use Rattle.pat_world.proofs.world.World.rounds.Given as goal
 
 -- so many rounds may still follow
 abbrev pub invariant-loop-done : goal.invariant-loop-done
-invariant-loop-done l = Left l.fn.self l.self l.fn.events.items l.events.items (rounds l.fn.self most_rounds) (rounds l.self (40 - l.done)) 10487680 (262192 * (40 - l.done))
+invariant-loop-done l = Left l.fn.self l.self l.fn.events.items l.events.items (rounds l.fn.self most_rounds) (rounds l.self (40 - l.done)) 13110400 (327760 * (40 - l.done))

@@ -21,4 +21,4 @@ pub returns-in-Tick : goal.returns-in-Tick
 returns-in-Tick c = on_ok_weaker c.tick-in-Tick.result (λ took. stepped _ _ _ _ _ steps.Tick 1 c.in-Tick.is took (omega arith)) c.tick-in-Tick.ensures
 
 pub returns-in-Command : goal.returns-in-Command
-returns-in-Command c = on_ok_weaker c.command.result (λ took. stepped _ _ _ _ _ (steps.Command c.in-Command.command) 4 c.in-Command.is took (omega arith)) c.command.ensures
+returns-in-Command c = on_ok_weaker c.command.result (λ took. stepped _ _ _ _ _ (steps.Command c.in-Command.command) 5 c.in-Command.is took (omega arith)) c.command.ensures

@@ -21,8 +21,8 @@ use Rattle.pat_world.proofs.world.World.wake.Goals as goal
 pub rouse-reaction-requires-clause-room : goal.rouse-reaction-requires-clause-room
 rouse-reaction-requires-clause-room c =
     let before = seen c.self.inside in
-    let room : HasRoom before 3 = subst (λ (b : Cluster). HasRoom b 3) (sym c.self.view_is) c.requires in
-    rw c.deref_mut.ensures.value (HasRoom-fewer before 3 1 (omega arith) room).phases
+    let room : HasRoom before 5 = subst (λ (b : Cluster). HasRoom b 5) (sym c.self.view_is) c.requires in
+    rw c.deref_mut.ensures.value (HasRoom-fewer before 5 1 (omega arith) room).phases
 
 pub react-requires-clause-room : goal.react-requires-clause-room
 react-requires-clause-room c =
@@ -32,8 +32,8 @@ react-requires-clause-room c =
     let phases = with_items_is c.self.inside.phases c.rouse-reaction.new.phases long ∙ c.rouse-reaction.ensures.phases
     ∙ ap (λ (p : List Phase). changed p agent (λ phase. (woken before.book.clock phase).phase)) c.deref_mut.ensures.value in
     let state = ap (λ (p : List Phase). let a : Cluster = record { book = before.book; phases = p } in a) phases in
-    let room : HasRoom before 3 = subst (λ (b : Cluster). HasRoom b 3) (sym c.self.view_is) c.requires in
-    subst (λ (b : Cluster). HasRoom b 2) (sym state) (HasRoom-moved before (kinds.Agent (Woken agent)) 2 tt room)
+    let room : HasRoom before 5 = subst (λ (b : Cluster). HasRoom b 5) (sym c.self.view_is) c.requires in
+    subst (λ (b : Cluster). HasRoom b 4) (sym state) (HasRoom-moved before (kinds.Agent (Woken agent)) 4 tt room)
 
 pub returns : goal.returns
 returns c =
@@ -49,8 +49,8 @@ returns c =
     let seat : seat_at before c.args.place ≡ Some c.in-Some.seat = sym (c.seat_at.ensures ∙ ap (λ (b : Cluster). seat_at b c.args.place) (sym c.self.view_is)) ∙ c.in-Some.is in
     let ready : is_ready before.book.clock c.in-Some.seat ≡ true = sym c.is_ready.ensures ∙ c.if-not-is_ready.false in
     on_ok_weaker c.react.result
-    (λ took. subst (λ (b : Cluster). Took b c.react.new.self c.args.events.now.items c.react.new.events.items (wake_at b c.args.place) 3) c.self.view_is
+    (λ took. subst (λ (b : Cluster). Took b c.react.new.self c.args.events.now.items c.react.new.events.items (wake_at b c.args.place) 5) c.self.view_is
     (wake-took before rousing c.react.new.self c.args.place c.in-Some.seat c.self.inside.clock c.args.events.now.items c.note.new.events.items c.react.new.events.items
     seat ready refl state c.in_ok-note.ensures
-    (subst (λ (r : Option Reaction). Took rousing c.react.new.self c.note.new.events.items c.react.new.events.items (reacts rousing agent r) 2) reaction took)))
+    (subst (λ (r : Option Reaction). Took rousing c.react.new.self c.note.new.events.items c.react.new.events.items (reacts rousing agent r) 4) reaction took)))
     c.react.ensures
