@@ -1,5 +1,5 @@
 //! The servers of a cluster.
-ghost use Rattle.std.specs.Prelude.{ℕ, ◌≡◌, ◌≤◌, ◌<◌, ◌^◌, ◌↔◌, [], length, map, replicate, Option, Some, slice_get, ◌≢◌, false, IsTrue, IfSome, IfOk, OnOk, OnErr, option_map, option_copied, option_and_then};
+ghost use Rattle.std.specs.Prelude.{ℕ, ◌≡◌, ◌≤◌, ◌<◌, ◌^◌, ◌==◌, ◌||◌, ◌↔◌, [], length, map, replicate, Option, Some, slice_get, ◌≢◌, false, IsTrue, IfSome, IfOk, OnOk, OnErr, option_map, option_copied, option_and_then};
 ghost use Rattle.std.specs.Option.{ForSome};
 ghost use Rattle.pg_model.specs.Facts.{ServerFacts, fresh, is_replica, is_down};
 ghost use Rattle.pg_model.specs.Running.{promoted, replica_started, crashed, delayed};
@@ -230,7 +230,7 @@ fn standbys(alloc: Global, count: usize, base: u64) -> Result<Vec<Server>, Alloc
     ensures { IfOk result (λ servers. servers.items ≡ replicate count (fresh base)) }
 {
     let mut servers = Vec::with_capacity(alloc, count)?;
-    for _place in 0..count {
+    for _made in 0..count {
         servers.push(Server::new(alloc, base)?)?;
     }
     Ok(servers)
@@ -238,8 +238,7 @@ fn standbys(alloc: Global, count: usize, base: u64) -> Result<Vec<Server>, Alloc
 
 /// Completes each start and each stop whose moment has come, but for those of primaries.
 fn tick_all(servers: &mut [Server], now: Ticks)
-    ensures after { map seen servers.new ≡ map (quietly_ticked now) (map seen servers.old) }
-    ensures standing { map standing_of servers.new ≡ map standing_of servers.old }
+    ensures { servers.new ≡ map (quietly_ticked now) servers.old }
 {
     for place in 0..servers.len() {
         tick_one(&mut servers[place], now);
@@ -271,10 +270,16 @@ fn forget(in_step: &mut [bool], servers: &[Server], place: usize)
     ensures { Forgets in_step.old in_step.new (map standing_of servers.now) place }
 {
     for k in 0..in_step.len() {
-        if k == place || follows(&servers[k], place) {
-            in_step[k] = false;
-        }
+        let concerned = is_concerned(k, &servers[k], place);
+        in_step[k] &= !concerned;
     }
+}
+
+/// Whether the server at a place is the one at another place, or follows that one.
+fn is_concerned(k: usize, server: &Server, place: usize) -> bool
+    ensures { result ≡ ((k == place) || is_place place (number_of server.now.upstream)) }
+{
+    k == place || follows(server, place)
 }
 
 /// Appends a commit, and answers its entry. `None` exactly where the server doesn't accept writes, or its log would end
