@@ -4,3 +4,4 @@ pub mod News
 pub mod Pairs
 pub mod Rounds
 pub mod Sights
+pub mod Streams
