@@ -4,7 +4,7 @@ use Rattle.std.specs.Prelude.{slice_get, slice_set, IfSome}
 use Rattle.std.specs.Option.{option_map}
 use Rattle.std.proofs.lemmas.Bool.Decides.{nat_tests}
 use Rattle.std.proofs.lemmas.Bool.{cases_eq}
-use Rattle.std.proofs.lemmas.List.{map-set}
+use Rattle.std.proofs.lemmas.List.{map-set, length-map}
 use Rattle.std.proofs.lemmas.Option.{slice_get-map, slice_get_within, slice_get_past, get_or_from_slice_get}
 use Rattle.std.proofs.Math.Seq.{map-set_same}
 use Rattle.wal_model.specs.declared.entry.Entry.{Entry}
@@ -26,7 +26,7 @@ got-set_other (x ∷ xs) zero (suc k) y h = refl
 got-set_other (x ∷ xs) (suc i) zero y h = refl
 got-set_other (x ∷ xs) (suc i) (suc k) y h = got-set_other xs i k y (λ e. h (ap suc e))
 
-same-some : {X : Type 0} (x y : X) → Some x ≡ Some y → x ≡ y
+pub same-some : {X : Type 0} (x y : X) → Some x ≡ Some y → x ≡ y
 same-some x y e = cc
 
 -- a server, as others see it
@@ -77,14 +77,14 @@ behind-trans s t u p q = record {
   history = p.history ∙ q.history;
 }
 
-standing-at : (xs : List ServerFacts) (place : ℕ) (x : ServerFacts) → slice_get xs place ≡ Some x → slice_get (map standing_of xs) place ≡ Some (standing_of x)
+pub standing-at : (xs : List ServerFacts) (place : ℕ) (x : ServerFacts) → slice_get xs place ≡ Some x → slice_get (map standing_of xs) place ≡ Some (standing_of x)
 standing-at xs place x found = slice_get-map standing_of xs place ∙ ap (option_map standing_of) found
 
-and-first : (a b : Bool) → (a && b) ≡ true → a ≡ true
+pub and-first : (a b : Bool) → (a && b) ≡ true → a ≡ true
 and-first true b h = refl
 and-first false b h = h
 
-and-second : (a b : Bool) → (a && b) ≡ true → b ≡ true
+pub and-second : (a b : Bool) → (a && b) ≡ true → b ≡ true
 and-second true b h = h
 and-second false b h = absurd (clash h)
   where
@@ -97,6 +97,9 @@ with_number s number = record s { upstream = number }
 
 number-behind : (s : Standing) (number : Option ℕ) → IsBehind s (with_number s number)
 number-behind s number = record { log = record { rest = []; whole = sym (append-nil s.log) }; timeline = refl; history = refl }
+
+pub marks-length : (marks : List Bool) (xs : List ServerFacts) → MarksHold marks (map standing_of xs) → length xs ≡ length marks
+marks-length marks xs hold = sym (hold.one_each ∙ length-map xs standing_of)
 
 -- a server that follows one which has gone on
 still : (ss : List Standing) (place : ℕ) (s s' t : Standing) → slice_get ss place ≡ Some s → IsBehind s s' → IsInStep ss t → IsInStep (slice_set ss place s') t

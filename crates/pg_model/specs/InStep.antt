@@ -53,6 +53,11 @@ pub record Forgets (old new : List Bool) (servers : List Standing) (place : ℕ)
   pub own : slice_get new place ≡ Some true → ⊥
   pub followers : (k : ℕ) (s : Standing) → slice_get new k ≡ Some true → slice_get servers k ≡ Some s → is_place place s.upstream ≡ false
 
+-- where it is said, the marks at a place and of its followers are cleared, and then the one at the place is this
+abbrev pub Renews : Bool → Bool → List Bool → List Bool → List Standing → ℕ → Type 0
+Renews false mark old new servers place = new ≡ old
+Renews true mark old new servers place = (cleared : List Bool) × Forgets old cleared servers place × (new ≡ slice_set cleared place mark)
+
 -- a standby is this one after it heard of its upstream, with these news; it received exactly where so is said, and is
 -- behind the upstream then
 pub record Hears (s upstream : ServerFacts) (most : ℕ) (after : ServerFacts) (news : Option Streamed) (received : Bool) : Type 0 where

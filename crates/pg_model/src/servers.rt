@@ -1,10 +1,10 @@
 //! The servers of a cluster.
-ghost use Rattle.std.specs.Prelude.{ℕ, ◌≡◌, ◌≤◌, ◌<◌, ◌^◌, ◌↔◌, [], length, map, replicate, Option, Some, slice_get, ◌≢◌, false, IsTrue, IfSome, IfOk, OnOk, OnErr, option_map, option_copied, option_and_then};
+ghost use Rattle.std.specs.Prelude.{ℕ, ◌≡◌, ◌≤◌, ◌<◌, ◌^◌, ◌==◌, ◌||◌, ◌↔◌, [], length, map, replicate, Option, Some, slice_get, ◌≢◌, false, IsTrue, IfSome, IfOk, OnOk, OnErr, option_map, option_copied, option_and_then};
 ghost use Rattle.std.specs.Option.{ForSome};
 ghost use Rattle.pg_model.specs.Facts.{ServerFacts, fresh, is_replica, is_down};
 ghost use Rattle.pg_model.specs.Running.{promoted, replica_started, crashed, delayed};
 ghost use Rattle.pg_model.specs.Replication.{following, confirming, next_acknowledged, acknowledged};
-ghost use Rattle.pg_model.specs.InStep.{Forgets, HearsAt, AreInStep, standing_of, number_of, is_place};
+ghost use Rattle.pg_model.specs.InStep.{Forgets, Renews, HearsAt, AreInStep, standing_of, number_of, is_place};
 ghost use Rattle.pg_model.specs.Servers.{seen, with_server, requiring, quietly_ticked, entry_at, entry_for, after_entry, committed_at, news_at, streamed_at};
 
 use crate::server::Heard;
@@ -177,12 +177,16 @@ impl Servers {
             return Ok(None);
         }
         let is_upstream = follows(&self.servers[place], from);
-        let in_step = self.in_step[place] && is_upstream;
+        let in_step = self.in_step[place] & is_upstream;
         let heard = hear_between(&mut self.servers, place, from, most, in_step)?;
-        if heard.received && !in_step {
-            forget(&mut self.in_step, &self.servers, place);
-            self.in_step[place] = is_upstream;
-        }
+        let renewed = heard.received & !in_step;
+        renew(
+            &mut self.in_step,
+            &self.servers,
+            place,
+            is_upstream,
+            renewed,
+        );
         Ok(heard.news)
     }
 
@@ -230,7 +234,7 @@ fn standbys(alloc: Global, count: usize, base: u64) -> Result<Vec<Server>, Alloc
     ensures { IfOk result (λ servers. servers.items ≡ replicate count (fresh base)) }
 {
     let mut servers = Vec::with_capacity(alloc, count)?;
-    for _place in 0..count {
+    for _made in 0..count {
         servers.push(Server::new(alloc, base)?)?;
     }
     Ok(servers)
@@ -238,8 +242,7 @@ fn standbys(alloc: Global, count: usize, base: u64) -> Result<Vec<Server>, Alloc
 
 /// Completes each start and each stop whose moment has come, but for those of primaries.
 fn tick_all(servers: &mut [Server], now: Ticks)
-    ensures after { map seen servers.new ≡ map (quietly_ticked now) (map seen servers.old) }
-    ensures standing { map standing_of servers.new ≡ map standing_of servers.old }
+    ensures { servers.new ≡ map (quietly_ticked now) servers.old }
 {
     for place in 0..servers.len() {
         tick_one(&mut servers[place], now);
@@ -271,10 +274,30 @@ fn forget(in_step: &mut [bool], servers: &[Server], place: usize)
     ensures { Forgets in_step.old in_step.new (map standing_of servers.now) place }
 {
     for k in 0..in_step.len() {
-        if k == place || follows(&servers[k], place) {
-            in_step[k] = false;
-        }
+        let concerned = is_concerned(k, &servers[k], place);
+        in_step[k] &= !concerned;
     }
+}
+
+/// Where a standby received that wasn't in step, clears its mark and those of its followers, and sets its own one as
+/// told.
+fn renew(in_step: &mut [bool], servers: &[Server], place: usize, mark: bool, renewed: bool)
+    requires one_each { length in_step.old ≡ length servers.now }
+    requires within { place < length servers.now }
+    ensures { Renews renewed mark in_step.old in_step.new (map standing_of servers.now) place }
+{
+    if !renewed {
+        return;
+    }
+    forget(in_step, servers, place);
+    in_step[place] = mark;
+}
+
+/// Whether the server at a place is the one at another place, or follows that one.
+fn is_concerned(k: usize, server: &Server, place: usize) -> bool
+    ensures { result ≡ ((k == place) || is_place place (number_of server.now.upstream)) }
+{
+    k == place || follows(server, place)
 }
 
 /// Appends a commit, and answers its entry. `None` exactly where the server doesn't accept writes, or its log would end

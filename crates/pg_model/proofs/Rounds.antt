@@ -1,0 +1,117 @@
+-- Loops over the servers of a cluster.
+use Rattle.std.proofs.Common.{◌≡◌, ℕ, ◌+◌, ◌<◌, ◌==◌, ◌&&◌, ◌||◌, not, Bool, true, false, List, [], ◌∷◌, ◌++◌, length, map, replicate, zero, suc, get_or, set, take, drop, Some, ◌⊎◌, inl, inr, refl, sym, ap, ◌∙◌, arith, append_assoc, append-nil, length-take-le, length-set}
+use Rattle.std.specs.Prelude.{slice_get, slice_set}
+use Rattle.std.proofs.lemmas.Bool.{cases_eq}
+use Rattle.std.proofs.lemmas.Bool.Decides.{nat_tests}
+use Rattle.std.proofs.lemmas.List.{length-map, drop_more, map_more, get_or_at, set_at, take_all, drop_all}
+use Rattle.std.proofs.lemmas.Option.{slice_get_within}
+use Rattle.pat_base.specs.declared.ticks.Ticks.{Ticks}
+use Rattle.pg_model.specs.Facts.{ServerFacts, fresh}
+use Rattle.pg_model.specs.Servers.{seen, quietly_ticked}
+use Rattle.pg_model.specs.InStep.{Standing, standing_of, is_place, Forgets}
+use Rattle.pg_model.proofs.Clusters.{got-set_same, got-set_other, same-some, and-first, and-second}
+use Rattle.pg_model.proofs.Sights.{seen-quietly_ticked, standing-quietly_ticked}
+
+-- one more of them is changed
+pub changed-more : {X : Type 0} (f : X → X) (xs ys : List X) (place : ℕ) (x : X) → ys ≡ map f (take place xs) ++ drop place xs → place < length xs → x ≡ get_or ys place x → set ys place (f x) ≡ map f (take (place + 1) xs) ++ drop (place + 1) xs
+changed-more f xs ys place x so_far within read =
+    let y = get_or xs place x in
+    let front = map f (take place xs) in
+    let rest = drop (place + 1) xs in
+    let long : length front ≡ place = length-map (take place xs) f ∙ length-take-le place xs (omega arith) in
+    let is : ys ≡ front ++ y ∷ rest = so_far ∙ ap (λ t. front ++ t) (drop_more xs place x within) in
+    let same : x ≡ y = read ∙ ap (λ t. get_or t place x) is ∙ get_or_at front y rest x place long in
+    ap (λ t. set t place (f x)) is
+    ∙ set_at front y rest (f x) place long
+    ∙ ap (λ t. front ++ f t ∷ rest) same
+    ∙ sym (append_assoc front (f y ∷ []) rest)
+    ∙ ap (λ t. t ++ rest) (sym (map_more f xs place x within))
+
+-- all of them are
+pub changed-all : {X : Type 0} (f : X → X) (xs ys : List X) (place : ℕ) → ys ≡ map f (take place xs) ++ drop place xs → place ≡ length xs → ys ≡ map f xs
+changed-all f xs ys place so_far end =
+    so_far ∙ ap (λ t. map f t ++ drop place xs) (take_all place xs (omega arith)) ∙ ap (λ t. map f xs ++ t) (drop_all place xs (omega arith)) ∙ append-nil (map f xs)
+
+pub seen-ticked : (now : Ticks) (xs : List ServerFacts) → map seen (map (quietly_ticked now) xs) ≡ map (quietly_ticked now) (map seen xs)
+seen-ticked now [] = refl
+seen-ticked now (x ∷ xs) = ap (λ t. t ∷ map seen (map (quietly_ticked now) xs)) (seen-quietly_ticked now x) ∙ ap (λ t. quietly_ticked now (seen x) ∷ t) (seen-ticked now xs)
+
+pub standing-ticked : (now : Ticks) (xs : List ServerFacts) → map standing_of (map (quietly_ticked now) xs) ≡ map standing_of xs
+standing-ticked now [] = refl
+standing-ticked now (x ∷ xs) = ap (λ t. t ∷ map standing_of (map (quietly_ticked now) xs)) (standing-quietly_ticked now x) ∙ ap (λ t. standing_of x ∷ t) (standing-ticked now xs)
+
+pub seen-fresh : (count base : ℕ) → map seen (replicate count (fresh base)) ≡ replicate count (fresh base)
+seen-fresh zero base = refl
+seen-fresh (suc count) base = ap (λ t. fresh base ∷ t) (seen-fresh count base)
+
+-- the marks below a place are cleared where they have to be
+pub record ForgetsBelow (old new : List Bool) (servers : List Standing) (place end : ℕ) : Type 0 where
+  pub one_each : length new ≡ length old
+  pub kept : (k : ℕ) → slice_get new k ≡ Some true → slice_get old k ≡ Some true
+  pub own : place < end → slice_get new place ≡ Some true → ⊥
+  pub followers : (k : ℕ) (s : Standing) → k < end → slice_get new k ≡ Some true → slice_get servers k ≡ Some s → is_place place s.upstream ≡ false
+
+pub forgets-start : (marks : List Bool) (servers : List Standing) (place : ℕ) → ForgetsBelow marks marks servers place 0
+forgets-start marks servers place = record {
+  one_each = refl;
+  kept = λ k h. h;
+  own = λ h _. absurd (omega arith);
+  followers = λ k s h _ _. absurd (omega arith);
+}
+
+or-first : (a b : Bool) → (a || b) ≡ false → a ≡ false
+or-first true b h = h
+or-first false b h = refl
+
+or-second : (a b : Bool) → (a || b) ≡ false → b ≡ false
+or-second true b h = absurd (clash h)
+  where
+    clash : true ≡ false → ⊥
+    clash h = cc
+or-second false b h = h
+
+not-true : (b : Bool) → not b ≡ true → b ≡ false
+not-true true h = sym h
+not-true false h = refl
+
+not-own : (place : ℕ) → (place == place) ≡ false → ⊥
+not-own place h = grind (arith, nat_tests)
+
+pub forgets-more : (old new : List Bool) (servers : List Standing) (place end : ℕ) (b concerned : Bool) (s : Standing) → ForgetsBelow old new servers place end → slice_get new end ≡ Some b → slice_get servers end ≡ Some s → concerned ≡ ((end == place) || is_place place s.upstream) → ForgetsBelow old (slice_set new end (b && not concerned)) servers place (end + 1)
+forgets-more old new servers place end b concerned s below mark there is = record {
+  one_each = length-set new end (b && not concerned) ∙ below.one_each;
+  kept = λ k h. kept k h (cases_eq k end);
+  own = λ lt h. own lt h (cases_eq place end);
+  followers = λ k t lt h at. followers k t lt h at (cases_eq k end);
+}
+  where
+    set_here : slice_get (slice_set new end (b && not concerned)) end ≡ Some (b && not concerned)
+    set_here = got-set_same new end (b && not concerned) (slice_get_within new end b mark)
+    marked : slice_get (slice_set new end (b && not concerned)) end ≡ Some true → (b && not concerned) ≡ true
+    marked h = same-some (b && not concerned) true (sym set_here ∙ h)
+    apart : slice_get (slice_set new end (b && not concerned)) end ≡ Some true → ((end == place) || is_place place s.upstream) ≡ false
+    apart h = sym is ∙ not-true concerned (and-second b (not concerned) (marked h))
+    kept : (k : ℕ) → slice_get (slice_set new end (b && not concerned)) k ≡ Some true → (k ≡ end) ⊎ (k ≡ end → ⊥) → slice_get old k ≡ Some true
+    kept k h (inl e) =
+        let here : slice_get (slice_set new end (b && not concerned)) end ≡ Some true = ap (slice_get (slice_set new end (b && not concerned))) (sym e) ∙ h in
+        below.kept k (ap (slice_get new) e ∙ mark ∙ ap (λ t. Some t) (and-first b (not concerned) (marked here)))
+    kept k h (inr ne) = below.kept k (sym (got-set_other new end k (b && not concerned) ne) ∙ h)
+    own : place < end + 1 → slice_get (slice_set new end (b && not concerned)) place ≡ Some true → (place ≡ end) ⊎ (place ≡ end → ⊥) → ⊥
+    own lt h (inl e) =
+        let here : slice_get (slice_set new end (b && not concerned)) end ≡ Some true = ap (slice_get (slice_set new end (b && not concerned))) (sym e) ∙ h in
+        not-own place (ap (λ t. t == place) e ∙ or-first (end == place) (is_place place s.upstream) (apart here))
+    own lt h (inr ne) = below.own (omega arith) (sym (got-set_other new end place (b && not concerned) ne) ∙ h)
+    followers : (k : ℕ) (t : Standing) → k < end + 1 → slice_get (slice_set new end (b && not concerned)) k ≡ Some true → slice_get servers k ≡ Some t → (k ≡ end) ⊎ (k ≡ end → ⊥) → is_place place t.upstream ≡ false
+    followers k t lt h at (inl e) =
+        let here : slice_get (slice_set new end (b && not concerned)) end ≡ Some true = ap (slice_get (slice_set new end (b && not concerned))) (sym e) ∙ h in
+        let same : t ≡ s = same-some t s (sym at ∙ ap (slice_get servers) e ∙ there) in
+        ap (λ (u : Standing). is_place place u.upstream) same ∙ or-second (end == place) (is_place place s.upstream) (apart here)
+    followers k t lt h at (inr ne) = below.followers k t (omega arith) (sym (got-set_other new end k (b && not concerned) ne) ∙ h) at
+
+pub forgets-all : (old new : List Bool) (servers : List Standing) (place end : ℕ) → ForgetsBelow old new servers place end → end ≡ length old → Forgets old new servers place
+forgets-all old new servers place end below whole = record {
+  one_each = below.one_each;
+  kept = below.kept;
+  own = λ h. below.own (omega (arith, slice_get_within new place true h, below.one_each, whole)) h;
+  followers = λ k s h at. below.followers k s (omega (arith, slice_get_within new k true h, below.one_each, whole)) h at;
+}
