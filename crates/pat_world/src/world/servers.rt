@@ -30,8 +30,7 @@ impl World {
         let Some(timeline) = promoted_timeline(&self.servers, member) else {
             return Ok(());
         };
-        self.servers
-            .promote(member.id.number as usize, self.clock)?;
+        self.servers.promote(member.id.number as usize, self.clock)?;
         let server = ServerOf::of(member);
         note(
             events,
@@ -185,16 +184,12 @@ impl World {
         match follow_row_of(&self.servers, member, leader) {
             None => Ok(()),
             Some(FollowRow::Follow) => {
-                self.servers
-                    .follow(member.id.number as usize, upstream.id);
+                self.servers.follow(member.id.number as usize, upstream.id);
                 note(events, self.clock, Kind::Server(follows))
             }
             Some(FollowRow::Start) => {
-                self.servers.start_replica(
-                    member.id.number as usize,
-                    self.clock,
-                    Some(upstream.id),
-                );
+                self.servers
+                    .start_replica(member.id.number as usize, self.clock, Some(upstream.id));
                 note(
                     events,
                     self.clock,
