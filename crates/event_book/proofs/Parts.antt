@@ -78,7 +78,7 @@ module _ {B : Type 0} (f : ServerFacts → B)
   logged-kept known (logs.Copied server from) = copied-kept known server.id.number (slice_get known from.id.number)
   logged-kept known (logs.Wiped server) = kept-one f known _ _ (λ s. reads _ s refl refl refl)
 
--- what only the state and the log determine stays where replication becomes or stays synchronous
+-- what only the state and the log determine stays where a required list, what was confirmed, or what waits for acknowledgement changes
 module _ {B : Type 0} (f : ServerFacts → B) (reads : (s t : ServerFacts) → s.state ≡ t.state → s.log ≡ t.log → f s ≡ f t) where
   pub replicated-kept : (known : List ServerFacts) (happening : ReplicationEvent) → map f (servers_replicated known happening) ≡ map f known
   replicated-kept known (replications.RequiredSet server required names) = kept-one f known _ _ (λ s. reads _ s refl refl)

@@ -1,4 +1,4 @@
--- What a book leaves of the servers, by what the book alone says.
+-- What a book leaves of the servers, by what the book alone says. Of each part, a lemma '-of' says it of one event, and '-told' of a book.
 use Rattle.std.proofs.Common.{ℕ, ◌≡◌, ◌≢◌, ◌<◌, ◌==◌, ◌++◌, nat_le, Bool, true, false, cond, List, [], ◌∷◌, length, get_or, map, slice_get, Option, Some, None, option_map, refl, ◌∙◌, ap, sym, subst, append_assoc, append-nil, arith}
 use Rattle.std.proofs.lemmas.Option.{none-some, slice_get-get_or, slice_get-map, unwrap_or-slice_get}
 use Rattle.std.proofs.lemmas.Bool.Decides.{nat_tests}
@@ -67,7 +67,6 @@ logs-logged known (logs.Copied server from) =
     ∙ ap (λ o. log_copied (logs_in known) server.id.number o) (sym (slice_get-map (λ s. s.log) known from.id.number))
 logs-logged known (logs.Wiped server) = changed-one (λ s. s.log) known server.id.number _ _ (λ s. refl)
 
--- one event
 pub logs-of : (now : ℕ) (known : List ServerFacts) (kind : Kind) → logs_in (servers_after now known kind) ≡ logs_at (logs_in known) kind
 logs-of now known kinds.Tick = ticked-kept (λ s. s.log) (λ s t log required confirmed. log) (record { 0 = now }) known
 logs-of now known (kinds.Server happening) = logs-by-server now known happening
@@ -307,11 +306,11 @@ pub writes-same : (f g : ℕ → Bool) (book : List Event) (n : ℕ) → f n ≡
 writes-same f g [] n same = same
 writes-same f g (event ∷ events) n same = writes-same (writes_by f event.kind) (writes_by g event.kind) events n (writes-same-kind f g event.kind n same)
 
-pub writers-told : (facts : Facts) (book : List Event) (n : ℕ) → n < length facts.servers → writes_in (after_all facts book).servers n ≡ writes_after (writes_in facts.servers) book n
-writers-told facts [] n small = refl
-writers-told facts (event ∷ events) n small =
+pub writes-told : (facts : Facts) (book : List Event) (n : ℕ) → n < length facts.servers → writes_in (after_all facts book).servers n ≡ writes_after (writes_in facts.servers) book n
+writes-told facts [] n small = refl
+writes-told facts (event ∷ events) n small =
     let now : ℕ = now_after facts.clock event.kind in
     let known : List ServerFacts = servers_after now facts.servers event.kind in
     let few : n < length known = rw (count-of now facts.servers event.kind) small in
-    writers-told (after facts event.kind) events n few
+    writes-told (after facts event.kind) events n few
     ∙ writes-same (writes_in known) (writes_by (writes_in facts.servers) event.kind) events n (writes-of now facts.servers event.kind n small)
