@@ -7,7 +7,7 @@ use Rattle.event_book.specs.Facts.{Facts, after_all}
 use Rattle.event_book.specs.Logs.{logs_in}
 use Rattle.event_book.specs.Required.{required_in, confirmed_in}
 use Rattle.event_book.specs.Writers.{writes_in}
-use Rattle.event_book.proofs.Told.{logs-told, writers-told, required-told, confirmed-told, acknowledged-told}
+use Rattle.event_book.proofs.Told.{logs-told, writes-told, required-told, confirmed-told, acknowledged-told}
 use Rattle.cluster_script.specs.declared.line.Step.{Step}
 use Rattle.pat_world.specs.Book.{StandsFor, left_by, next_of}
 use Rattle.pat_world.specs.Cluster.{Cluster, moved, moved_all}
@@ -58,7 +58,7 @@ is-stands start book world is =
       frozen = ap (λ (w : Cluster). w.book.frozen) is;
       commits = ap (λ (w : Cluster). w.book.commits) is;
       logs = ap logs_in servers ∙ logs-told start.book book;
-      writers = λ n declared. ap (λ (known : List ServerFacts). writes_in known n) servers ∙ writers-told start.book book n declared;
+      writers = λ n declared. ap (λ (known : List ServerFacts). writes_in known n) servers ∙ writes-told start.book book n declared;
       required = ap required_in servers ∙ required-told start.book book;
       confirmed = ap confirmed_in servers ∙ confirmed-told start.book book;
       acknowledged = ap (λ (w : Cluster). w.book.acknowledged) is ∙ told-left start book;
