@@ -2,6 +2,7 @@ pub mod Changing
 pub mod Deciding
 pub mod Expiring
 pub mod Flights
+pub mod Reacting
 pub mod Rest
 pub mod Rooms
 pub mod Seats

@@ -5,7 +5,7 @@ use Rattle.std.proofs.lemmas.List.{drop_more, drop_all, length-drop}
 use Rattle.event_book.specs.declared.event.Event.{Event}
 use Rattle.cluster_script.specs.declared.line.Step.{Step}
 use Rattle.pat_world.specs.Cluster.{Cluster, moved_all}
-use Rattle.pat_world.specs.Next.{followed, wakes, wake_at, all_move, moves, round, rounds, is_empty, next_events}
+use Rattle.pat_world.specs.Next.{followed, wakes, wake_at, all_move, moves, round, rounds, most_rounds, is_empty, all_receive, scheduled, taken}
 use Rattle.pat_world.specs.Room.{HasRoom}
 use Rattle.pat_world.specs.Took.{Took}
 use Rattle.pat_world.proofs.Rooms.{HasRoom-fewer}
@@ -114,10 +114,21 @@ pub moves-room : (cluster woken : Cluster) (had mid : List Event) (count moving 
 moves-room cluster woken had mid count moving room few short took =
     took.room (5 * moving) (HasRoom-fewer cluster 327760 (5 * count + 5 * moving) (omega (arith, few, short)) room)
 
+-- standbys receive, and then come the rounds
+pub scheduled-took : (cluster received after : Cluster) (had mid has : List Event) (count : ℕ) → count ≡ length cluster.book.members → count ≤ 16
+    → Took cluster received had mid (all_receive cluster 0 count) (2 * count) → Took received after mid has (rounds received most_rounds) 13110400 → Took cluster after had has (scheduled cluster) 13110432
+scheduled-took cluster received after had mid has count all few one two =
+    Took-then cluster received after had mid has (all_receive cluster 0 (length cluster.book.members)) (λ later. rounds later most_rounds) (2 * count) 13110400 13110432
+    (subst (λ (n : ℕ). Took cluster received had mid (all_receive cluster 0 n) (2 * count)) all one) two (omega (arith, few))
+
+-- after what they receive there is room for the rounds
+pub rounds-room : (cluster received : Cluster) (had mid : List Event) (count : ℕ) → HasRoom cluster 13110432 → count ≤ 16 → Took cluster received had mid (all_receive cluster 0 count) (2 * count) → HasRoom received 13110400
+rounds-room cluster received had mid count room few took = took.room 13110400 (HasRoom-fewer cluster 13110432 (2 * count + 13110400) (omega (arith, few)) room)
+
 -- what happens in a step, of the step as it was read
-pub stepped : (cluster after : Cluster) (had has : List Event) (read step : Step) (cost : ℕ) → read ≡ step → Took cluster after had has (next_events cluster step) cost → cost ≤ 16777216 → Took cluster after had has (next_events cluster read) 16777216
+pub stepped : (cluster after : Cluster) (had has : List Event) (read step : Step) (cost : ℕ) → read ≡ step → Took cluster after had has (taken cluster step) cost → cost ≤ 16777216 → Took cluster after had has (taken cluster read) 16777216
 stepped cluster after had has read step cost is took enough =
-    subst (λ (s : Step). Took cluster after had has (next_events cluster s) 16777216) (sym is) (Took-weaker cluster after had has (next_events cluster step) cost 16777216 took enough)
+    subst (λ (s : Step). Took cluster after had has (taken cluster s) 16777216) (sym is) (Took-weaker cluster after had has (taken cluster step) cost 16777216 took enough)
 
 -- after a round in which nothing happened the next would be such a round too
 pub round-still : (cluster next : Cluster) (has longer : List Event) → Took cluster next has longer (round cluster) 327760 → length longer ≡ length has → (next ≡ cluster) × (round next ≡ [])

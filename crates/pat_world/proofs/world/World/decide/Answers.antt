@@ -1,4 +1,4 @@
-use Rattle.std.proofs.Common.{◌≡◌, ◌∙◌, ◌++◌, [], ◌∷◌, Bool, Err, refl, ap, sym, subst}
+use Rattle.std.proofs.Common.{◌≡◌, ◌∙◌, ◌++◌, [], ◌∷◌, Bool, Err, arith, refl, ap, sym, subst}
 use Rattle.std.proofs.lemmas.Result.{on_ok_weaker}
 use Rattle.lease_store.specs.declared.granted.Granted.{Granted}
 use Rattle.lease_store.specs.declared.txn.Txn.{Txn}
@@ -13,10 +13,28 @@ use Rattle.event_book.specs.declared.message.Body.TheVariants as bodies
 use Rattle.event_book.specs.declared.message.Message.{Message}
 use Rattle.pat_world.specs.Cluster.{Cluster}
 use Rattle.pat_world.specs.Next.{decides, sends, answer_to}
+use Rattle.pat_world.specs.Room.{HasRoom}
 use Rattle.pat_world.specs.Took.{Took}
 use Rattle.pat_world.proofs.Deciding.{granted-took, refused-took, granted-event}
+use Rattle.pat_world.proofs.Rooms.{HasRoom-fewer, HasRoom-moved}
 use Rattle.pat_world.proofs.Worlds.{seen}
 use Rattle.pat_world.proofs.world.World.decide.Goals as goal
+
+pub send-requires-clause-room : goal.send-requires-clause-room
+send-requires-clause-room c =
+    let before = seen c.self.inside in
+    let by = c.in-Member.by in
+    let written = c.in-Ok.ensures.written ∙ ap (λ (t : Txn). keys_after before.book.keys before.book.clock by.id t) c.in_ok-copy.ensures in
+    let state = ap (λ (keys : Keys). let g : Cluster = record { book = record before.book { keys = keys }; phases = before.phases } in g) written in
+    let room : HasRoom before 3 = subst (λ (b : Cluster). HasRoom b 3) (sym c.self.view_is) c.requires.room in
+    subst (λ (b : Cluster). HasRoom b 2) (sym state) (HasRoom-moved before (kinds.Store (stores.Granted c.args.number by c.args.txn.now [])) 2 tt room)
+
+pub send-requires-in-Err-Mismatch-clause-room : goal.send-requires-in-Err-Mismatch-clause-room
+send-requires-in-Err-Mismatch-clause-room c =
+    let before = seen c.self.inside in
+    let state = ap (λ (keys : Keys). let g : Cluster = record { book = record before.book { keys = keys }; phases = before.phases } in g) c.in-Err-Mismatch.ensures.err in
+    let room : HasRoom before 3 = subst (λ (b : Cluster). HasRoom b 3) (sym c.self.view_is) c.requires.room in
+    subst (λ (b : Cluster). HasRoom b 2) (sym state) (HasRoom-fewer before 3 2 (omega arith) room)
 
 pub returns-in_ok-note-in-Ok : goal.returns-in_ok-note-in-Ok
 returns-in_ok-note-in-Ok c =

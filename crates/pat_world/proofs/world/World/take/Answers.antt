@@ -1,21 +1,21 @@
 use Rattle.std.proofs.Common.{◌+◌, ◌*◌, arith}
 use Rattle.std.proofs.lemmas.Result.{on_ok_weaker}
 use Rattle.cluster_script.specs.declared.line.Step.TheVariants as steps
-use Rattle.pat_world.specs.Next.{ticks, rounds, most_rounds}
+use Rattle.pat_world.specs.Next.{ticks, scheduled}
 use Rattle.pat_world.proofs.Rooms.{HasRoom-fewer}
 use Rattle.pat_world.proofs.Rest.{stepped}
 use Rattle.pat_world.proofs.Taking.{Took-then}
 use Rattle.pat_world.proofs.world.World.take.Goals as goal
 
-pub rounds-requires : goal.rounds-requires
-rounds-requires c = (c.in_ok-tick-in-Scheduled.ensures).room 10487680 (HasRoom-fewer c.args.self.now (16777216 * 1) (1 + 10487680) (omega arith) (c.requires).room)
+pub scheduled-requires : goal.scheduled-requires
+scheduled-requires c = (c.in_ok-tick-in-Scheduled.ensures).room 13110432 (HasRoom-fewer c.args.self.now (16777216 * 1) (1 + 13110432) (omega arith) (c.requires).room)
 
 pub returns-in_ok-tick-in-Scheduled : goal.returns-in_ok-tick-in-Scheduled
 returns-in_ok-tick-in-Scheduled c =
-    on_ok_weaker c.rounds.result
+    on_ok_weaker c.scheduled.result
     (λ took. stepped _ _ _ _ _ steps.Scheduled 16777216 c.in-Scheduled.is
-    (Took-then c.args.self.now c.tick.new.self c.rounds.new.self _ _ _ (ticks c.args.self.now) (λ later. rounds later most_rounds) 1 10487680 16777216 c.in_ok-tick-in-Scheduled.ensures took (omega arith)) (omega arith))
-    c.rounds.ensures
+    (Took-then c.args.self.now c.tick.new.self c.scheduled.new.self _ _ _ (ticks c.args.self.now) scheduled 1 13110432 16777216 c.in_ok-tick-in-Scheduled.ensures took (omega arith)) (omega arith))
+    c.scheduled.ensures
 
 pub returns-in-Tick : goal.returns-in-Tick
 returns-in-Tick c = on_ok_weaker c.tick-in-Tick.result (λ took. stepped _ _ _ _ _ steps.Tick 1 c.in-Tick.is took (omega arith)) c.tick-in-Tick.ensures

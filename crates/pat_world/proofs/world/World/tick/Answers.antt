@@ -1,6 +1,6 @@
 use Rattle.std.proofs.Common.{◌∙◌, ◌+◌, ◌++◌, refl, ap, subst}
 use Rattle.std.proofs.lemmas.Result.{on_ok_weaker}
-use Rattle.lease_store.specs.Answers.{expired_keys}
+use Rattle.lease_store.specs.Answers.{expired_keys, keys_kept}
 use Rattle.pat_world.specs.Cluster.{Cluster}
 use Rattle.pat_world.specs.Next.{ticks, stamped, expiries_of, declared_member}
 use Rattle.pat_world.specs.Took.{Took}
@@ -11,8 +11,10 @@ use Rattle.pat_world.proofs.world.World.tick.Goals as goal
 pub returns : goal.returns
 returns c =
     let before = seen c.self.inside in
-    let after : Cluster = record { book = record before.book { clock = before.book.clock + 1; keys = c.drop_expired-holder.new.self }; phases = before.phases } in
-    let state = ap (λ keys. let a : Cluster = record { book = record before.book { clock = before.book.clock + 1; keys = keys }; phases = before.phases } in a) c.drop_expired-holder.ensures.state in
+    let after : Cluster = record { book = record before.book { clock = before.book.clock + 1; keys = c.drop_expired-holder.new.self; servers = c.tick.new.self }; phases = before.phases } in
+    let state =
+    ap (λ keys. let a : Cluster = record { book = record before.book { clock = before.book.clock + 1; keys = keys; servers = c.tick.new.self }; phases = before.phases } in a) c.drop_expired-holder.ensures.state
+    ∙ ap (λ servers. let a : Cluster = record { book = record before.book { clock = before.book.clock + 1; keys = keys_kept before.book.keys (before.book.clock + 1); servers = servers }; phases = before.phases } in a) c.tick.ensures in
     let holder = c.declared_member-holder.ensures ∙ ap (λ m. declared_member m c.drop_expired-holder.result) c.deref.ensures.value ∙ ap (declared_member before.book.members) c.drop_expired-holder.ensures.holder in
     let all = c.deref-2.ensures.value ∙ c.in_ok-expired.ensures in
     on_ok_weaker c.note_expiries.result
