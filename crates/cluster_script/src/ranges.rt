@@ -1,6 +1,9 @@
 //! Numbers with a range.
 ghost use Rattle.std.specs.Prelude.{◌≤◌, ◌^◌};
 
+/// The shortest commit, in bytes.
+const SHORTEST_COMMIT: u64 = 1;
+
 /// The longest commit, in bytes.
 const LONGEST_COMMIT: u64 = 1_073_741_824;
 
@@ -25,7 +28,7 @@ impl CommitSize {
         ensures value { IfSome result (λ size. size.bytes ≡ number) }
         ensures by_number { result ≡ commit_size_of number }
     {
-        if number == 0 || number > LONGEST_COMMIT {
+        if number < SHORTEST_COMMIT || number > LONGEST_COMMIT {
             None
         } else {
             Some(CommitSize { bytes: number })
