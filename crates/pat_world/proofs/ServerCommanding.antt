@@ -1,5 +1,5 @@
 -- What commands and leaders do at servers.
-use Rattle.std.proofs.Common.{◌≡◌, ℕ, ◌+◌, ◌^◌, ◌≤◌, ◌<◌, ◌==◌, ◌&&◌, nat_le, Bool, true, false, List, [], ◌∷◌, ◌++◌, Option, Some, None, IsTrue, arith, refl, ◌∙◌, ap, set-set, sym, subst, zero, suc}
+use Rattle.std.proofs.Common.{◌≡◌, ℕ, ◌+◌, ◌^◌, ◌<◌, ◌==◌, ◌&&◌, nat_le, Bool, true, false, List, [], ◌∷◌, ◌++◌, Option, Some, None, IsTrue, arith, refl, ◌∙◌, ap, set-set, sym, subst, zero, suc}
 use Rattle.std.specs.Prelude.{slice_get, slice_set, if◌then◌else◌, IfSome}
 use Rattle.std.proofs.lemmas.Option.{none-some, same_Some}
 use Rattle.pat_base.specs.declared.server_id.ServerId.{ServerId}
@@ -11,10 +11,9 @@ use Rattle.wal_model.specs.declared.entry.Entry.{Entry}
 use Rattle.wal_model.specs.Log.{end_of}
 use Rattle.pg_model.specs.Facts.{ServerFacts, entries_of, is_down, is_replica}
 use Rattle.pg_model.specs.Replication.{appended, entry_of, following}
-use Rattle.pg_model.specs.Running.{crashed, delayed, later, promoted, replica_started, started}
+use Rattle.pg_model.specs.Running.{crashed, delayed, later, promoted, replica_started}
 use Rattle.pg_model.specs.Servers.{committed_at, entry_at, entry_for, with_server, with_server_at}
 use Rattle.event_book.specs.declared.event.Event.{Event}
-use Rattle.event_book.specs.declared.event.Kind.{Kind}
 use Rattle.event_book.specs.declared.event.Kind.TheVariants as kinds
 use Rattle.event_book.specs.declared.event.LogEvent.TheVariants as logs
 use Rattle.event_book.specs.declared.event.ServerEvent.{ServerEvent}
