@@ -7,6 +7,7 @@ pub mod Rest
 pub mod Rooms
 pub mod Seats
 pub mod Sending
+pub mod ServerCommanding
 pub mod ServerRooms
 pub mod Serving
 pub mod Settling
