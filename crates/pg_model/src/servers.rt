@@ -183,7 +183,12 @@ impl Servers {
     /// for acknowledgement. `None` exactly where there is no server, it doesn't accept writes, or its log would end past
     /// 2^63 bytes; then all stay as they were. It fails only for want of memory, and then too. It costs constant time
     /// beside the log's growth.
-    pub fn commit(&mut self, place: usize, serial: u64, bytes: u64) -> Result<Option<Entry>, AllocError>
+    pub fn commit(
+        &mut self,
+        place: usize,
+        serial: u64,
+        bytes: u64,
+    ) -> Result<Option<Entry>, AllocError>
         ensures entry { IfOk result (λ entry. entry ≡ entry_for self.old place serial bytes) }
         ensures ok { OnOk result (self.new ≡ committed_at self.old place (entry_for self.old place serial bytes)) }
         ensures err { OnErr result (self.new ≡ self.old) }
@@ -202,7 +207,12 @@ impl Servers {
     /// upstream doesn't accept writes, a divergence was found before, or there is nothing to receive. It fails only for
     /// want of memory, and then all stay as they were. It costs the entries that move, and time in the number of
     /// servers; only a standby that isn't known to be in step is compared with the other server.
-    pub fn stream(&mut self, place: usize, from: usize, most: usize) -> Result<Option<Streamed>, AllocError>
+    pub fn stream(
+        &mut self,
+        place: usize,
+        from: usize,
+        most: usize,
+    ) -> Result<Option<Streamed>, AllocError>
         requires { IfSome (slice_get self.old place) (λ s. IsTrue (is_replica s.state)) }
         ensures news { IfOk result (λ news. news ≡ news_at self.old place from most) }
         ensures ok { OnOk result (self.new ≡ streamed_at self.old place from most) }

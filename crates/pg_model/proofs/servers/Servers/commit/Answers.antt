@@ -14,8 +14,8 @@ pub invariant_of-self-2 : goal.invariant_of-self-2
 invariant_of-self-2 c =
     let found : slice_get c.self.inside.servers.items c.args.place ≡ Some c.index_mut-server.result.now = slice_get_read c.self.inside.servers.items c.len.result c.args.place c.index_mut-server.result.now (search rules) (omega arith) c.index_mut-server.ensures.value in
     moved-at c.self.inside.in_step.items c.self.inside.servers.items c.args.place c.index_mut-server.result.now c.commit_entry.new.server false c.self.invariant found
-      (subst (λ s. IsBehind (standing_of c.index_mut-server.result.now) (standing_of s)) (sym c.in_ok-entry.ensures.ok) (behind-after_entry (entry_at (Some c.index_mut-server.result.now) c.args.serial c.args.bytes) c.index_mut-server.result.now))
-      (λ e. absurd (no e))
+    (subst (λ s. IsBehind (standing_of c.index_mut-server.result.now) (standing_of s)) (sym c.in_ok-entry.ensures.ok) (behind-after_entry (entry_at (Some c.index_mut-server.result.now) c.args.serial c.args.bytes) c.index_mut-server.result.now))
+    (λ e. absurd (no e))
 
 pub returns-clause-entry : goal.returns-clause-entry
 returns-clause-entry c =
