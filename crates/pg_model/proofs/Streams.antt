@@ -1,16 +1,15 @@
 -- A standby of a cluster that receives from another of its servers.
-use Rattle.std.proofs.Common.{◌≡◌, ℕ, ◌&&◌, Bool, true, false, not, IsTrue, List, [], ◌∷◌, ◌++◌, length, map, take, drop, Option, Some, None, refl, sym, ap, subst, ◌∙◌, append-nil}
+use Rattle.std.proofs.Common.{◌≡◌, ℕ, ◌&&◌, Bool, true, false, not, List, [], length, map, take, drop, Option, Some, None, refl, sym, ap, subst, ◌∙◌, append-nil}
 use Rattle.std.specs.Prelude.{slice_get, slice_set}
-use Rattle.std.specs.Option.{option_map}
-use Rattle.std.proofs.lemmas.List.{map-set, set-get_or}
+use Rattle.std.proofs.lemmas.List.{set-get_or}
 use Rattle.std.proofs.lemmas.Option.{slice_get_within, get_or_from_slice_get}
 use Rattle.std.proofs.Math.Seq.{map-set_same}
 use Rattle.pg_model.specs.declared.answers.Streamed.{Streamed}
 use Rattle.pg_model.specs.declared.answers.Streamed.TheVariants as streams
 use Rattle.pg_model.specs.Facts.{ServerFacts, entries_of}
-use Rattle.pg_model.specs.Replication.{stream_of, news_by, news_of, told, after_news}
-use Rattle.pg_model.specs.Servers.{seen, with_server, news_between, news_at, told_from, after_news_at, streamed_at}
-use Rattle.pg_model.specs.InStep.{Standing, standing_of, number_of, is_place, IsBehind, IsInStep, MarksHold, Forgets, Renews, Hears, HearsAt, AreInStep}
+use Rattle.pg_model.specs.Replication.{stream_of, news_by, told, after_news}
+use Rattle.pg_model.specs.Servers.{seen, news_between, news_at, told_from, after_news_at, streamed_at}
+use Rattle.pg_model.specs.InStep.{Standing, standing_of, number_of, is_place, IsBehind, IsInStep, MarksHold, Renews, Hears, HearsAt, AreInStep}
 use Rattle.pg_model.proofs.Clusters.{got-set_same, got-set_other, same-some, and-first, and-second, seen-at, changed, kept, standing-at, moved-at, marked, forgotten-at, is_place-number}
 
 -- a marked standby that follows a server is behind it

@@ -1,7 +1,7 @@
 use Rattle.std.proofs.Common.{◌≡◌, Some, false, true, arith, ap, rules, sym, subst, ◌∙◌}
 use Rattle.std.specs.Prelude.{slice_get}
 use Rattle.std.proofs.lemmas.Option.{slice_get_read}
-use Rattle.pg_model.specs.Servers.{seen, entry_at, after_entry}
+use Rattle.pg_model.specs.Servers.{entry_at}
 use Rattle.pg_model.specs.InStep.{standing_of, IsBehind}
 use Rattle.pg_model.proofs.Clusters.{committed, seen-at, moved-at}
 use Rattle.pg_model.proofs.Sights.{behind-after_entry}

@@ -1,4 +1,4 @@
-use Rattle.std.proofs.Common.{◌≡◌, length, Some, None, false, true, arith, ap, rules, sym, ◌∙◌}
+use Rattle.std.proofs.Common.{◌≡◌, length, Some, false, true, arith, ap, rules, sym, ◌∙◌}
 use Rattle.std.specs.Prelude.{slice_get}
 use Rattle.std.proofs.lemmas.Option.{slice_get_read}
 use Rattle.pg_model.specs.Running.{replica_started}

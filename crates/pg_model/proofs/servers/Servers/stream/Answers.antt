@@ -1,9 +1,8 @@
-use Rattle.std.proofs.Common.{◌≡◌, ◌&&◌, not, Some, map, length, arith, ap, rules, sym, subst, ◌∙◌, List, Bool}
+use Rattle.std.proofs.Common.{◌≡◌, ◌&&◌, not, Some, map, length, arith, ap, rules, sym, subst, ◌∙◌}
 use Rattle.std.specs.Prelude.{slice_get}
 use Rattle.std.specs.Vec.{with_items}
 use Rattle.std.proofs.lemmas.List.{with_items_is}
 use Rattle.std.proofs.lemmas.Option.{slice_get-get_or, slice_get_read}
-use Rattle.pg_model.specs.Facts.{ServerFacts}
 use Rattle.pg_model.specs.Servers.{seen}
 use Rattle.pg_model.specs.InStep.{standing_of, MarksHold, Renews, HearsAt, AreInStep}
 use Rattle.pg_model.proofs.Clusters.{marks-length}
