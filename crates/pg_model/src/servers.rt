@@ -197,9 +197,11 @@ impl Servers {
             return Ok(None);
         }
         let server = &mut self.servers[place];
-        let entry = commit_entry(server, serial, bytes)?;
+        let Some(entry) = commit_entry(server, serial, bytes)? else {
+            return Ok(None);
+        };
         self.in_step[place] = false;
-        Ok(entry)
+        Ok(Some(entry))
     }
 
     /// Lets the standby at a place receive from the server at another one at most so many entries, with the timeline and

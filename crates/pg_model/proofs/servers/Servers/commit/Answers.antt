@@ -20,7 +20,12 @@ invariant_of-self-2 c =
 pub returns-clause-entry : goal.returns-clause-entry
 returns-clause-entry c =
     let found : slice_get c.self.inside.servers.items c.args.place ≡ Some c.index_mut-server.result.now = slice_get_read c.self.inside.servers.items c.len.result c.args.place c.index_mut-server.result.now (search rules) (omega arith) c.index_mut-server.ensures.value in
-    c.in_ok-entry.ensures.entry ∙ sym (ap (λ s. entry_at s c.args.serial c.args.bytes) (seen-at _ _ _ _ c.self.view_is found))
+    sym c.in-Some.is ∙ c.in_ok-entry.ensures.entry ∙ sym (ap (λ s. entry_at s c.args.serial c.args.bytes) (seen-at _ _ _ _ c.self.view_is found))
+
+pub returns-in_default-clause-ok : goal.returns-in_default-clause-ok
+returns-in_default-clause-ok c =
+    let found : slice_get c.self.inside.servers.items c.args.place ≡ Some c.index_mut-server.result.now = slice_get_read c.self.inside.servers.items c.len.result c.args.place c.index_mut-server.result.now (search rules) (omega arith) c.index_mut-server.ensures.value in
+    committed _ _ _ c.index_mut-server.result.now _ c.args.serial c.args.bytes c.self.view_is found c.in_ok-entry.ensures.ok
 
 pub returns-clause-ok : goal.returns-clause-ok
 returns-clause-ok c =
