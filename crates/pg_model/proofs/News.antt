@@ -1,5 +1,5 @@
 -- What a standby gets from its upstream, and what it is then.
-use Rattle.std.proofs.Common.{◌≡◌, ℕ, ◌-◌, ◌==◌, ◌&&◌, Bool, true, false, cond, min, IsTrue, List, [], ◌∷◌, ◌++◌, length, take, drop, Option, Some, None, refl, sym, ap, subst, ◌∙◌, arith, append-nil, append_assoc, length-drop, take-append-drop}
+use Rattle.std.proofs.Common.{◌≡◌, ℕ, ◌-◌, ◌==◌, ◌&&◌, Bool, true, false, cond, min, List, [], ◌++◌, length, take, drop, Option, Some, None, refl, sym, ap, subst, ◌∙◌, arith, append-nil, append_assoc, length-drop, take-append-drop}
 use Rattle.std.specs.Prelude.{slice_get, IsSome}
 use Rattle.std.proofs.lemmas.Bool.Decides.{nat_tests}
 use Rattle.std.proofs.lemmas.List.{take_min, drop_at}
@@ -92,6 +92,7 @@ is_current-from s upstream timeline history = both (s.timeline == upstream.timel
   where
     number : (m n : ℕ) → m ≡ n → (m == n) ≡ true
     number m n e = grind (arith, nat_tests)
+
     both : (a b : Bool) → a ≡ true → b ≡ true → (a && b) ≡ true
     both a b p q = rw (p, q) refl
 
@@ -120,6 +121,7 @@ after-current s upstream mine from count most log current there p q counted logg
   where
     taken : log ≡ Some (received (entries_of s.log) (entries_of upstream.log) count)
     taken = logged ∙ ap (λ t. Some t) (received-count mine from most ∙ ap (received mine from) (sym counted) ∙ ap (λ t. received t from count) p ∙ ap (λ t. received (entries_of s.log) t count) q)
+
     by-test : (b : Bool) → (count == 0) ≡ b → received_from count s upstream ≡ after_news (cond b None (Some (streams.Received count))) s upstream
     by-test true e = ap (λ n. received_from n s upstream) (is-zero count e) ∙ received-nothing s upstream there current
     by-test false e = refl

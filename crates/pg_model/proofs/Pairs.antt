@@ -1,5 +1,5 @@
 -- Two servers of a cluster, in two parts of the list.
-use Rattle.std.proofs.Common.{◌≡◌, ℕ, ◌-◌, ◌<◌, Bool, List, [], ◌∷◌, ◌++◌, length, zero, suc, Option, Some, None, refl, sym, ap, subst, ◌∙◌, arith}
+use Rattle.std.proofs.Common.{◌≡◌, ℕ, ◌-◌, Bool, List, [], ◌∷◌, ◌++◌, length, zero, suc, Option, Some, None, refl, sym, ap, subst, ◌∙◌, arith}
 use Rattle.std.specs.Prelude.{slice_get, slice_set}
 use Rattle.std.proofs.lemmas.List.{set-append_left, set-append_right}
 use Rattle.std.proofs.lemmas.Option.{slice_get_within}
@@ -37,11 +37,11 @@ hears xs ys place from most s upstream s' news received at_place at_from is hear
 pub hears-low : (xs low high : List ServerFacts) (place from most : ℕ) (s upstream s' : ServerFacts) (news : Option Streamed) (received : Bool) → xs ≡ low ++ high → length low ≡ from → slice_get low place ≡ Some s → slice_get high 0 ≡ Some upstream → Hears s upstream most s' news received → HearsAt xs (slice_set low place s' ++ high) place from most news received
 hears-low xs low high place from most s upstream s' news received whole long at_place at_from heard =
     hears xs (slice_set low place s' ++ high) place from most s upstream s' news received (got-low xs low high place s whole at_place) (got-high xs low high from upstream whole long at_from)
-      (sym (ap (λ (t : List ServerFacts). slice_set t place s') whole ∙ set-append_left low high place s' (slice_get_within low place s at_place))) heard
+    (sym (ap (λ (t : List ServerFacts). slice_set t place s') whole ∙ set-append_left low high place s' (slice_get_within low place s at_place))) heard
 
 -- the standby begins the second part, and its upstream is in the first
 pub hears-high : (xs low high : List ServerFacts) (place from most : ℕ) (s upstream s' : ServerFacts) (news : Option Streamed) (received : Bool) → xs ≡ low ++ high → length low ≡ place → slice_get high 0 ≡ Some s → slice_get low from ≡ Some upstream → Hears s upstream most s' news received → HearsAt xs (low ++ slice_set high 0 s') place from most news received
 hears-high xs low high place from most s upstream s' news received whole long at_place at_from heard =
     let none : place - place ≡ 0 = omega arith in
     hears xs (low ++ slice_set high 0 s') place from most s upstream s' news received (got-high xs low high place s whole long at_place) (got-low xs low high from upstream whole at_from)
-      (sym (ap (λ (t : List ServerFacts). slice_set t place s') whole ∙ set-append_right low high place place s' long (omega arith) ∙ ap (λ k. low ++ slice_set high k s') none)) heard
+    (sym (ap (λ (t : List ServerFacts). slice_set t place s') whole ∙ set-append_right low high place place s' long (omega arith) ∙ ap (λ k. low ++ slice_set high k s') none)) heard

@@ -87,20 +87,25 @@ forgets-more old new servers place end b concerned s below mark there is = recor
   where
     set_here : slice_get (slice_set new end (b && not concerned)) end ≡ Some (b && not concerned)
     set_here = got-set_same new end (b && not concerned) (slice_get_within new end b mark)
+
     marked : slice_get (slice_set new end (b && not concerned)) end ≡ Some true → (b && not concerned) ≡ true
     marked h = same-some (b && not concerned) true (sym set_here ∙ h)
+
     apart : slice_get (slice_set new end (b && not concerned)) end ≡ Some true → ((end == place) || is_place place s.upstream) ≡ false
     apart h = sym is ∙ not-true concerned (and-second b (not concerned) (marked h))
+
     kept : (k : ℕ) → slice_get (slice_set new end (b && not concerned)) k ≡ Some true → (k ≡ end) ⊎ (k ≡ end → ⊥) → slice_get old k ≡ Some true
     kept k h (inl e) =
         let here : slice_get (slice_set new end (b && not concerned)) end ≡ Some true = ap (slice_get (slice_set new end (b && not concerned))) (sym e) ∙ h in
         below.kept k (ap (slice_get new) e ∙ mark ∙ ap (λ t. Some t) (and-first b (not concerned) (marked here)))
     kept k h (inr ne) = below.kept k (sym (got-set_other new end k (b && not concerned) ne) ∙ h)
+
     own : place < end + 1 → slice_get (slice_set new end (b && not concerned)) place ≡ Some true → (place ≡ end) ⊎ (place ≡ end → ⊥) → ⊥
     own lt h (inl e) =
         let here : slice_get (slice_set new end (b && not concerned)) end ≡ Some true = ap (slice_get (slice_set new end (b && not concerned))) (sym e) ∙ h in
         not-own place (ap (λ t. t == place) e ∙ or-first (end == place) (is_place place s.upstream) (apart here))
     own lt h (inr ne) = below.own (omega arith) (sym (got-set_other new end place (b && not concerned) ne) ∙ h)
+
     followers : (k : ℕ) (t : Standing) → k < end + 1 → slice_get (slice_set new end (b && not concerned)) k ≡ Some true → slice_get servers k ≡ Some t → (k ≡ end) ⊎ (k ≡ end → ⊥) → is_place place t.upstream ≡ false
     followers k t lt h at (inl e) =
         let here : slice_get (slice_set new end (b && not concerned)) end ≡ Some true = ap (slice_get (slice_set new end (b && not concerned))) (sym e) ∙ h in

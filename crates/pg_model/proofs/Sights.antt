@@ -1,5 +1,5 @@
 -- What others see of a server after a change, and where it stands.
-use Rattle.std.proofs.Common.{◌≡◌, ◌==◌, drop, Bool, true, false, cond, List, [], ◌∷◌, ◌++◌, Option, Some, None, refl, sym, ap, ◌∙◌, append-nil}
+use Rattle.std.proofs.Common.{◌≡◌, ◌==◌, drop, Bool, true, false, cond, [], ◌∷◌, Option, Some, None, refl, sym, ap, ◌∙◌, append-nil}
 use Rattle.std.specs.Prelude.{nat_le}
 use Rattle.pat_base.specs.declared.ticks.Ticks.{Ticks}
 use Rattle.pat_base.specs.declared.server_id.ServerId.{ServerId}
@@ -7,8 +7,8 @@ use Rattle.pat_base.specs.declared.server_state.State.{State}
 use Rattle.pat_base.specs.declared.server_state.State.TheVariants as states
 use Rattle.pat_base.specs.ServerState.{live}
 use Rattle.wal_model.specs.declared.entry.Entry.{Entry}
-use Rattle.pg_model.specs.Facts.{ServerFacts}
-use Rattle.pg_model.specs.Running.{later, started, stopped, starting, replica_started, completed, ticked}
+use Rattle.pg_model.specs.Facts.{ServerFacts, none_confirmed}
+use Rattle.pg_model.specs.Running.{later, started, stopped, starting, replica_started, primary_started, is_primary, stopping, completed, ticked}
 use Rattle.pg_model.specs.Replication.{may_acknowledge, acknowledged}
 use Rattle.pg_model.specs.Servers.{seen, quietly_ticked, after_entry}
 use Rattle.pg_model.specs.InStep.{Standing, standing_of, number_of, IsBehind}
@@ -63,6 +63,28 @@ standing-completed now states.Replica s = refl
 standing-completed now states.Primary s = refl
 standing-completed now (states.Stopping was_primary at) s = standing-cond (nat_le at.0 now.0) (stopped s) s _ refl refl
 standing-completed now states.Crashed s = refl
+
+pub seen-ticked : (now : Ticks) (s : ServerFacts) → seen (ticked now s) ≡ ticked now (seen s)
+seen-ticked now s = seen-completed now s.state s
+
+pub standing-ticked : (now : Ticks) (s : ServerFacts) → standing_of (ticked now s) ≡ standing_of s
+standing-ticked now s = standing-completed now s.state s
+
+pub seen-primary_started : (now : Ticks) (s : ServerFacts) → seen (primary_started now s) ≡ primary_started now (seen s)
+seen-primary_started now s =
+    let restarted : ServerFacts = record s { confirmed = none_confirmed } in
+    seen-cond (s.start_delay.0 == 0) (started true restarted) (record restarted { state = states.Starting true (later now s.start_delay) })
+
+pub standing-primary_started : (now : Ticks) (s : ServerFacts) → standing_of (primary_started now s) ≡ standing_of s
+standing-primary_started now s =
+    let restarted : ServerFacts = record s { confirmed = none_confirmed } in
+    standing-cond (s.start_delay.0 == 0) (started true restarted) (record restarted { state = states.Starting true (later now s.start_delay) }) _ refl refl
+
+pub seen-stopping : (now : Ticks) (s : ServerFacts) → seen (stopping now s) ≡ stopping now (seen s)
+seen-stopping now s = seen-cond (s.stop_delay.0 == 0) (stopped s) (record s { state = states.Stopping (is_primary s.state) (later now s.stop_delay) })
+
+pub standing-stopping : (now : Ticks) (s : ServerFacts) → standing_of (stopping now s) ≡ standing_of s
+standing-stopping now s = standing-cond (s.stop_delay.0 == 0) (stopped s) (record s { state = states.Stopping (is_primary s.state) (later now s.stop_delay) }) _ refl refl
 
 pub seen-quietly_ticked : (now : Ticks) (s : ServerFacts) → seen (quietly_ticked now s) ≡ quietly_ticked now (seen s)
 seen-quietly_ticked now s = seen-cond (live s.state) s (ticked now s) ∙ ap (cond (live s.state) (seen s)) (seen-completed now s.state s)

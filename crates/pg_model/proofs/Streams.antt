@@ -1,16 +1,15 @@
 -- A standby of a cluster that receives from another of its servers.
-use Rattle.std.proofs.Common.{◌≡◌, ℕ, ◌&&◌, Bool, true, false, not, IsTrue, List, [], ◌∷◌, ◌++◌, length, map, take, drop, Option, Some, None, refl, sym, ap, subst, ◌∙◌, append-nil}
+use Rattle.std.proofs.Common.{◌≡◌, ℕ, ◌&&◌, Bool, true, false, not, List, [], length, map, take, drop, Option, Some, None, refl, sym, ap, subst, ◌∙◌, append-nil}
 use Rattle.std.specs.Prelude.{slice_get, slice_set}
-use Rattle.std.specs.Option.{option_map}
-use Rattle.std.proofs.lemmas.List.{map-set, set-get_or}
+use Rattle.std.proofs.lemmas.List.{set-get_or}
 use Rattle.std.proofs.lemmas.Option.{slice_get_within, get_or_from_slice_get}
 use Rattle.std.proofs.Math.Seq.{map-set_same}
 use Rattle.pg_model.specs.declared.answers.Streamed.{Streamed}
 use Rattle.pg_model.specs.declared.answers.Streamed.TheVariants as streams
 use Rattle.pg_model.specs.Facts.{ServerFacts, entries_of}
-use Rattle.pg_model.specs.Replication.{stream_of, news_by, news_of, told, after_news}
-use Rattle.pg_model.specs.Servers.{seen, with_server, news_between, news_at, told_from, after_news_at, streamed_at}
-use Rattle.pg_model.specs.InStep.{Standing, standing_of, number_of, is_place, IsBehind, IsInStep, MarksHold, Forgets, Renews, Hears, HearsAt, AreInStep}
+use Rattle.pg_model.specs.Replication.{stream_of, news_by, told, after_news}
+use Rattle.pg_model.specs.Servers.{seen, news_between, news_at, told_from, after_news_at, streamed_at}
+use Rattle.pg_model.specs.InStep.{Standing, standing_of, number_of, is_place, IsBehind, IsInStep, MarksHold, Renews, Hears, HearsAt, AreInStep}
 use Rattle.pg_model.proofs.Clusters.{got-set_same, got-set_other, same-some, and-first, and-second, seen-at, changed, kept, standing-at, moved-at, marked, forgotten-at, is_place-number}
 
 -- a marked standby that follows a server is behind it
@@ -68,15 +67,15 @@ renewed marks marks' xs place from most s u s' b is_upstream true false news hol
     let cleared : MarksHold renews.0 (map standing_of (slice_set xs place s')) = forgotten-at marks renews.0 xs place s' hold renews.1 in
     let there : slice_get (map standing_of (slice_set xs place s')) place ≡ Some (standing_of s') = standing-at (slice_set xs place s') place s' (got-set_same xs place s' (slice_get_within xs place s found)) in
     subst (λ m. MarksHold m (map standing_of (slice_set xs place s'))) (sym renews.2) (marked renews.0 (map standing_of (slice_set xs place s')) place (standing_of s') is_upstream cleared there
-      (λ e. own-step xs place from s u s' apart found' (ap (λ (t : ServerFacts). t.upstream) heard.after_is ∙ upstream-after news s u) (is_place-number from (number_of s.upstream) (sym is ∙ e)) (heard.behind refl)))
+    (λ e. own-step xs place from s u s' apart found' (ap (λ (t : ServerFacts). t.upstream) heard.after_is ∙ upstream-after news s u) (is_place-number from (number_of s.upstream) (sym is ∙ e)) (heard.behind refl)))
 
 -- the marks hold again after a standby heard of its upstream
 pub marks-after : (marks marks' : List Bool) (xs ys : List ServerFacts) (place from most : ℕ) (s u : ServerFacts) (b is_upstream received : Bool) (news : Option Streamed) → MarksHold marks (map standing_of xs) → slice_get xs place ≡ Some s → slice_get xs from ≡ Some u → (from ≡ place → ⊥) → slice_get marks place ≡ Some b → is_upstream ≡ is_place from (number_of s.upstream) → HearsAt xs ys place from most news received → Renews (received && not (b && is_upstream)) is_upstream marks marks' (map standing_of ys) place → MarksHold marks' (map standing_of ys)
 marks-after marks marks' xs ys place from most s u b is_upstream received news hold found found' apart mark is hears renews =
     let heard = hears s u found found' in
     subst (λ (zs : List ServerFacts). MarksHold marks' (map standing_of zs)) (sym heard.1)
-      (renewed marks marks' xs place from most s u heard.0 b is_upstream received (b && is_upstream) news hold found found' apart mark is heard.2 refl
-        (subst (λ (zs : List ServerFacts). Renews (received && not (b && is_upstream)) is_upstream marks marks' (map standing_of zs) place) heard.1 renews))
+    (renewed marks marks' xs place from most s u heard.0 b is_upstream received (b && is_upstream) news hold found found' apart mark is heard.2 refl
+    (subst (λ (zs : List ServerFacts). Renews (received && not (b && is_upstream)) is_upstream marks marks' (map standing_of zs) place) heard.1 renews))
 
 news_by-seen : (answer : Streamed) (s u : ServerFacts) → news_by answer (seen s) (seen u) ≡ news_by answer s u
 news_by-seen streams.NotConnected s u = refl

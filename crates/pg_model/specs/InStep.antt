@@ -58,8 +58,8 @@ abbrev pub Renews : Bool → Bool → List Bool → List Bool → List Standing 
 Renews false mark old new servers place = new ≡ old
 Renews true mark old new servers place = (cleared : List Bool) × Forgets old cleared servers place × (new ≡ slice_set cleared place mark)
 
--- a standby is this one after it heard of its upstream, with these news; it received exactly where so is said, and is
--- behind the upstream then
+-- a standby is this one after it heard of its upstream, with these news; where it is told to have received, it is behind
+-- the upstream, and else it stands as before
 pub record Hears (s upstream : ServerFacts) (most : ℕ) (after : ServerFacts) (news : Option Streamed) (received : Bool) : Type 0 where
   pub news_are : news ≡ news_of s upstream most
   pub after_is : after ≡ after_news news s upstream

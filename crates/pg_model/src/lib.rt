@@ -8,7 +8,7 @@ mod servers;
 mod waiting;
 
 pub use answers::{CommitFault, InState, StreamFault, Streamed};
-pub use laws::required_is_met;
+pub use laws::{news_are_streamed, required_is_met};
 pub use server::Server;
 pub use servers::Servers;
 pub use waiting::Waiting;

@@ -13,9 +13,8 @@ ghost use Rattle.pg_model.specs.declared.answers.StreamFault.TheVariants as stre
 
 mod hearing;
 
-pub(crate) use hearing::Heard;
-
 use crate::{CommitFault, InState, StreamFault, Streamed, Waiting};
+pub(crate) use hearing::Heard;
 use pat_base::{Lsn, MemberId, MemberSet, Required, ServerId, State, Ticks};
 use std::alloc::{AllocError, Global};
 use std::collections::VecDeque;

@@ -1,8 +1,8 @@
 //! The servers of a cluster.
-ghost use Rattle.std.specs.Prelude.{ℕ, ◌≡◌, ◌≤◌, ◌<◌, ◌^◌, ◌==◌, ◌||◌, ◌↔◌, [], length, map, replicate, Option, Some, slice_get, ◌≢◌, false, IsTrue, IfSome, IfOk, OnOk, OnErr, option_map, option_copied, option_and_then};
+ghost use Rattle.std.specs.Prelude.{ℕ, ◌≡◌, ◌≤◌, ◌<◌, ◌^◌, ◌==◌, ◌&&◌, ◌||◌, ◌↔◌, [], length, map, replicate, Option, Some, slice_get, ◌≢◌, false, IsTrue, IfSome, IfOk, OnOk, OnErr, option_map, option_copied, option_and_then};
 ghost use Rattle.std.specs.Option.{ForSome};
-ghost use Rattle.pg_model.specs.Facts.{ServerFacts, fresh, is_replica, is_down};
-ghost use Rattle.pg_model.specs.Running.{promoted, replica_started, crashed, delayed};
+ghost use Rattle.pg_model.specs.Facts.{ServerFacts, fresh, is_replica, is_down, is_up};
+ghost use Rattle.pg_model.specs.Running.{promoted, replica_started, primary_started, stopping, crashed, ticked, delayed};
 ghost use Rattle.pg_model.specs.Replication.{following, confirming, next_acknowledged, acknowledged};
 ghost use Rattle.pg_model.specs.InStep.{Forgets, Renews, HearsAt, AreInStep, standing_of, number_of, is_place};
 ghost use Rattle.pg_model.specs.Servers.{seen, with_server, requiring, quietly_ticked, entry_at, entry_for, after_entry, committed_at, news_at, streamed_at};
@@ -17,9 +17,9 @@ use wal_model::Entry;
 /// The servers of a cluster, by the number of their member.
 ///
 /// It keeps for each server whether it is known to be in step: it follows one of these servers, that one's log begins
-/// with its own, and both are on one timeline with one history. A standby in step is never compared with its upstream:
-/// receiving costs the entries that move. Logs and histories are compared once after a promotion, a change of upstream
-/// or a divergence, and then until the standby is in step.
+/// with its own, and both are on one timeline with one history. A standby in step isn't compared with its upstream:
+/// receiving costs the entries that move. Logs and histories are compared after a promotion and after a change of
+/// upstream, until the standby received once; a log that diverged mostly shows that by its last entry alone.
 #[derive(Drop)]
 pub struct Servers {
     servers: Vec<Server>,
@@ -131,6 +131,42 @@ impl Servers {
         self.in_step[place] &= is_same;
     }
 
+    /// Starts the server at a place, if there is one there, as a primary again, on its timeline. The moment is at most
+    /// 2^62 ticks.
+    pub fn start_primary(&mut self, place: usize, now: Ticks)
+        requires moment { now.0 ≤ 2 ^ 62 }
+        requires down { IfSome (slice_get self.old place) (λ s. IsTrue (is_down s.state && s.was_primary)) }
+        ensures { self.new ≡ with_server self.old place (primary_started now) }
+    {
+        if place >= self.servers.len() {
+            return;
+        }
+        let server = &mut self.servers[place];
+        server.start_primary(now).unwrap();
+    }
+
+    /// Shuts down the server at a place, if there is one there. The moment is at most 2^62 ticks.
+    pub fn stop(&mut self, place: usize, now: Ticks)
+        requires moment { now.0 ≤ 2 ^ 62 }
+        requires up { IfSome (slice_get self.old place) (λ s. IsTrue (is_up s.state)) }
+        ensures { self.new ≡ with_server self.old place (stopping now) }
+    {
+        if place >= self.servers.len() {
+            return;
+        }
+        let server = &mut self.servers[place];
+        server.stop(now).unwrap();
+    }
+
+    /// Completes a start or a stop of the server at a place, if there is one there and its moment has come.
+    pub fn complete(&mut self, place: usize, now: Ticks)
+        ensures { self.new ≡ with_server self.old place (ticked now) }
+    {
+        if place < self.servers.len() {
+            self.servers[place].tick(now);
+        }
+    }
+
     /// Sets how long later stops and starts of the server at a place take, if there is one there, each only where it is
     /// given.
     pub fn set_delays(&mut self, place: usize, stop: Option<Ticks>, start: Option<Ticks>)
@@ -147,7 +183,12 @@ impl Servers {
     /// for acknowledgement. `None` exactly where there is no server, it doesn't accept writes, or its log would end past
     /// 2^63 bytes; then all stay as they were. It fails only for want of memory, and then too. It costs constant time
     /// beside the log's growth.
-    pub fn commit(&mut self, place: usize, serial: u64, bytes: u64) -> Result<Option<Entry>, AllocError>
+    pub fn commit(
+        &mut self,
+        place: usize,
+        serial: u64,
+        bytes: u64,
+    ) -> Result<Option<Entry>, AllocError>
         ensures entry { IfOk result (λ entry. entry ≡ entry_for self.old place serial bytes) }
         ensures ok { OnOk result (self.new ≡ committed_at self.old place (entry_for self.old place serial bytes)) }
         ensures err { OnErr result (self.new ≡ self.old) }
@@ -156,9 +197,11 @@ impl Servers {
             return Ok(None);
         }
         let server = &mut self.servers[place];
-        let entry = commit_entry(server, serial, bytes)?;
+        let Some(entry) = commit_entry(server, serial, bytes)? else {
+            return Ok(None);
+        };
         self.in_step[place] = false;
-        Ok(entry)
+        Ok(Some(entry))
     }
 
     /// Lets the standby at a place receive from the server at another one at most so many entries, with the timeline and
@@ -166,7 +209,12 @@ impl Servers {
     /// upstream doesn't accept writes, a divergence was found before, or there is nothing to receive. It fails only for
     /// want of memory, and then all stay as they were. It costs the entries that move, and time in the number of
     /// servers; only a standby that isn't known to be in step is compared with the other server.
-    pub fn stream(&mut self, place: usize, from: usize, most: usize) -> Result<Option<Streamed>, AllocError>
+    pub fn stream(
+        &mut self,
+        place: usize,
+        from: usize,
+        most: usize,
+    ) -> Result<Option<Streamed>, AllocError>
         requires { IfSome (slice_get self.old place) (λ s. IsTrue (is_replica s.state)) }
         ensures news { IfOk result (λ news. news ≡ news_at self.old place from most) }
         ensures ok { OnOk result (self.new ≡ streamed_at self.old place from most) }
@@ -220,7 +268,7 @@ impl Servers {
     }
 
     /// Completes each start and each stop whose moment has come, but for a start as a primary and the stop of one:
-    /// those are told by events of their own, and whoever tells of one completes it.
+    /// those are told by events of their own, and whoever tells of one calls `complete`.
     pub fn tick(&mut self, now: Ticks)
         ensures { self.new ≡ map (quietly_ticked now) self.old }
     {

@@ -1,5 +1,8 @@
 //! Worked runs of the calls of servers and of what lies below them.
-use crate::{CommitFault, InState, Server, Streamed};
+ghost use Rattle.std.specs.Prelude.{◌<◌, ◌^◌, IsTrue, IfSome, slice_get};
+ghost use Rattle.pg_model.specs.Facts.{is_replica, is_down};
+
+use crate::{CommitFault, InState, Server, Servers, Streamed};
 use pat_base::{
     Lsn, MemberId, MemberSet, Name, NotLsn, NotSize, Required, ServerId, Size, State, Ticks,
 };
@@ -354,4 +357,243 @@ fn bring_up_again(server: &mut Server) -> Result<(), InState> {
     promote(server)?;
     stop_wholly(server)?;
     start_primary(server, 16)
+}
+
+/// What is done to the servers of a cluster, each by its place.
+#[derive(Clone, Copy, Debug)]
+enum Act {
+    Promote(usize),
+    Follow(usize, u8),
+    Commit(usize, u64, u64),
+    /// The standby, the server that it receives from, and how many entries at most.
+    Stream(usize, usize, usize),
+    Confirm(usize, u8, u32),
+    Acknowledge(usize),
+    Crash(usize),
+    Restart(usize, u8),
+}
+
+/// What that answers.
+#[derive(Clone, Copy, Debug, PartialEq, Eq)]
+enum Answer {
+    Done,
+    /// Nothing changed.
+    Nothing,
+    Entry { timeline: u64 },
+    Received(usize),
+    Diverged(u64),
+    Acknowledged(u64),
+}
+
+/// A run of three servers, whose logs begin with 10 bytes.
+const RUN: [(Act, Answer); 38] = [
+    (Act::Commit(0, 9, 5), Answer::Nothing),
+    (Act::Follow(1, 0), Answer::Done),
+    (Act::Follow(2, 0), Answer::Done),
+    (Act::Stream(1, 0, 4), Answer::Nothing),
+    (Act::Promote(0), Answer::Done),
+    (Act::Promote(0), Answer::Nothing),
+    // The timeline alone is news, and told once.
+    (Act::Stream(1, 0, 4), Answer::Received(0)),
+    (Act::Stream(1, 0, 4), Answer::Nothing),
+    (Act::Commit(0, 1, 5), Answer::Entry { timeline: 2 }),
+    (Act::Commit(0, 2, 7), Answer::Entry { timeline: 2 }),
+    (Act::Commit(0, 3, 1), Answer::Entry { timeline: 2 }),
+    // At most so many entries.
+    (Act::Stream(1, 0, 2), Answer::Received(2)),
+    (Act::Stream(2, 0, 1), Answer::Received(1)),
+    (Act::Stream(2, 0, 0), Answer::Nothing),
+    (Act::Stream(1, 0, 2), Answer::Received(1)),
+    (Act::Stream(1, 0, 2), Answer::Nothing),
+    (Act::Stream(1, 1, 2), Answer::Nothing),
+    (Act::Stream(1, 7, 2), Answer::Nothing),
+    (Act::Stream(7, 0, 2), Answer::Nothing),
+    (Act::Stream(1, 2, 2), Answer::Nothing),
+    (Act::Acknowledge(0), Answer::Nothing),
+    (Act::Confirm(0, 1, 22), Answer::Done),
+    (Act::Acknowledge(0), Answer::Acknowledged(1)),
+    (Act::Acknowledge(0), Answer::Acknowledged(2)),
+    (Act::Acknowledge(0), Answer::Nothing),
+    // Another primary, at the end of its log: the old one's later entries are not in its log.
+    (Act::Promote(1), Answer::Done),
+    (Act::Commit(1, 4, 1), Answer::Entry { timeline: 3 }),
+    (Act::Commit(0, 5, 1), Answer::Entry { timeline: 2 }),
+    (Act::Stream(2, 0, 9), Answer::Received(3)),
+    (Act::Follow(2, 1), Answer::Done),
+    (Act::Stream(2, 1, 9), Answer::Diverged(23)),
+    (Act::Stream(2, 1, 9), Answer::Nothing),
+    // It is told again after a start.
+    (Act::Crash(2), Answer::Done),
+    (Act::Stream(2, 1, 9), Answer::Nothing),
+    (Act::Restart(2, 1), Answer::Done),
+    (Act::Stream(2, 1, 9), Answer::Diverged(23)),
+    (Act::Crash(7), Answer::Done),
+    (Act::Acknowledge(7), Answer::Nothing),
+];
+
+#[test]
+fn run_of_a_cluster(rt: HostRuntime) -> Result<(), Fail> {
+    let mut servers = cluster(rt.alloc())?;
+    for (step, (act, answer)) in RUN.iter().enumerate() {
+        let told = perform(&mut servers, *act)?;
+        assert_eq!(rt; told, *answer, "step {step}: {act:?}");
+    }
+    assert_eq!(rt; end_at(&servers, 0), Some(at(24)));
+    assert_eq!(rt; end_at(&servers, 1), Some(at(24)));
+    assert_eq!(rt; end_at(&servers, 2), Some(at(24)));
+    assert_eq!(rt; servers.len(), 3);
+    Ok(())
+}
+
+#[test]
+fn starts_of_a_cluster(rt: HostRuntime) -> Result<(), Fail> {
+    let mut servers = cluster(rt.alloc())?;
+    wait(&mut servers, 2, 5);
+    perform(&mut servers, Act::Crash(2))?;
+    perform(&mut servers, Act::Restart(2, 0))?;
+    tick_all(&mut servers, 24);
+    assert_eq!(rt;
+        state_at(&servers, 2),
+        Some(State::Starting {
+            as_primary: false,
+            at: Ticks(25)
+        })
+    );
+    tick_all(&mut servers, 25);
+    assert_eq!(rt; state_at(&servers, 2), Some(State::Replica));
+    Ok(())
+}
+
+fn cluster(alloc: Global) -> Result<Servers, AllocError> {
+    let mut servers = Servers::new(alloc, 3, 10)?;
+    servers.set_required(0, Required::AnyOne);
+    Ok(servers)
+}
+
+fn wait(servers: &mut Servers, place: usize, start: u32) {
+    servers.set_delays(place, None, Some(Ticks(u64::from(start))));
+}
+
+fn tick_all(servers: &mut Servers, now: u32) {
+    servers.tick(Ticks(u64::from(now)));
+}
+
+fn state_at(servers: &Servers, place: usize) -> Option<State> {
+    servers.get(place).map(|server| server.state())
+}
+
+fn end_at(servers: &Servers, place: usize) -> Option<Lsn> {
+    servers.get(place).and_then(end)
+}
+
+fn perform(servers: &mut Servers, act: Act) -> Result<Answer, AllocError> {
+    match act {
+        Act::Promote(place) => promote_at(servers, place),
+        Act::Follow(place, upstream) => Ok(follow_at(servers, place, upstream)),
+        Act::Commit(place, serial, bytes) => commit_at(servers, place, serial, bytes),
+        Act::Stream(place, from, most) => stream_at(servers, place, from, most),
+        Act::Confirm(place, by, end) => Ok(confirm_at(servers, place, by, end)),
+        Act::Acknowledge(place) => Ok(acknowledge_at(servers, place)),
+        Act::Crash(place) => Ok(crash_at(servers, place)),
+        Act::Restart(place, upstream) => Ok(restart_at(servers, place, upstream)),
+    }
+}
+
+/// Whether the server at a place, if there is one there, runs as a standby on a small timeline.
+fn is_standby(servers: &Servers, place: usize) -> bool
+    ensures promotable { IsTrue result → IfSome (slice_get servers.now place) (λ s. IsTrue (is_replica s.state) × (s.timeline < 2 ^ 60)) }
+    ensures replica { IsTrue result → IfSome (slice_get servers.now place) (λ s. IsTrue (is_replica s.state)) }
+{
+    match servers.get(place) {
+        Some(server) => server.state() == State::Replica && server.timeline() < 9,
+        None => true,
+    }
+}
+
+/// Whether the server at a place, if there is one there, is down.
+fn is_down_at(servers: &Servers, place: usize) -> bool
+    ensures { IsTrue result → IfSome (slice_get servers.now place) (λ s. IsTrue (is_down s.state)) }
+{
+    match servers.get(place) {
+        Some(server) => matches!(server.state(), State::Stopped | State::Crashed),
+        None => true,
+    }
+}
+
+fn promote_at(servers: &mut Servers, place: usize) -> Result<Answer, AllocError> {
+    if !is_standby(servers, place) {
+        return Ok(Answer::Nothing);
+    }
+    servers.promote(place, Ticks(0))?;
+    Ok(Answer::Done)
+}
+
+fn follow_at(servers: &mut Servers, place: usize, upstream: u8) -> Answer {
+    match ServerId::new(upstream) {
+        Some(upstream) if is_standby(servers, place) => {
+            servers.follow(place, upstream);
+            Answer::Done
+        }
+        _ => Answer::Nothing,
+    }
+}
+
+fn commit_at(
+    servers: &mut Servers,
+    place: usize,
+    serial: u64,
+    bytes: u64,
+) -> Result<Answer, AllocError> {
+    Ok(match servers.commit(place, serial, bytes)? {
+        Some(entry) => Answer::Entry {
+            timeline: entry.timeline,
+        },
+        None => Answer::Nothing,
+    })
+}
+
+fn stream_at(
+    servers: &mut Servers,
+    place: usize,
+    from: usize,
+    most: usize,
+) -> Result<Answer, AllocError> {
+    if !is_standby(servers, place) {
+        return Ok(Answer::Nothing);
+    }
+    Ok(match servers.stream(place, from, most)? {
+        Some(Streamed::Received(count)) => Answer::Received(count),
+        Some(Streamed::Diverged(position)) => Answer::Diverged(position.position),
+        _ => Answer::Nothing,
+    })
+}
+
+fn confirm_at(servers: &mut Servers, place: usize, by: u8, end: u32) -> Answer {
+    match MemberId::new(by) {
+        Some(by) => {
+            servers.confirm(place, by, at(end));
+            Answer::Done
+        }
+        None => Answer::Nothing,
+    }
+}
+
+fn acknowledge_at(servers: &mut Servers, place: usize) -> Answer {
+    match servers.next_acknowledged(place) {
+        Some(serial) => Answer::Acknowledged(serial),
+        None => Answer::Nothing,
+    }
+}
+
+fn crash_at(servers: &mut Servers, place: usize) -> Answer {
+    servers.crash(place);
+    Answer::Done
+}
+
+fn restart_at(servers: &mut Servers, place: usize, upstream: u8) -> Answer {
+    if !is_down_at(servers, place) {
+        return Answer::Nothing;
+    }
+    servers.start_replica(place, Ticks(20), ServerId::new(upstream));
+    Answer::Done
 }

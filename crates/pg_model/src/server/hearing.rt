@@ -88,9 +88,7 @@ impl Server {
             return None;
         }
         self.diverged = true;
-        Some(Streamed::Diverged(
-            wal(&self.log).fork(wal(&upstream.log)),
-        ))
+        Some(Streamed::Diverged(wal(&self.log).fork(wal(&upstream.log))))
     }
 
     /// Receives the next entries, at most so many, with the timeline and the history unless it has them, and answers
@@ -115,7 +113,13 @@ impl Server {
             let count = receive_entries(&mut self.log, from, most)?;
             return Ok(news_unless_empty(count));
         }
-        let count = receive(&mut self.log, &mut self.history, from, &upstream.history, most)?;
+        let count = receive(
+            &mut self.log,
+            &mut self.history,
+            from,
+            &upstream.history,
+            most,
+        )?;
         self.timeline = upstream.timeline;
         Ok(Some(Streamed::Received(count)))
     }

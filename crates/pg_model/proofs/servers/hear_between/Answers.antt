@@ -1,5 +1,5 @@
-use Rattle.std.proofs.Common.{◌≡◌, Some, get_or, arith, ap, rules, sym, subst, ◌∙◌}
-use Rattle.std.specs.Prelude.{slice_get, IsTrue}
+use Rattle.std.proofs.Common.{◌≡◌, Some, get_or, arith}
+use Rattle.std.specs.Prelude.{slice_get}
 use Rattle.std.proofs.lemmas.Option.{slice_get-get_or}
 use Rattle.std.proofs.lemmas.Result.{IfOk-weaker}
 use Rattle.pg_model.proofs.Pairs.{got-low, got-high, hears-low, hears-high}

@@ -1,4 +1,4 @@
-use Rattle.std.proofs.Common.{◌∙◌, rules, ◌≡◌, true}
+use Rattle.std.proofs.Common.{rules, ◌≡◌, true}
 use Rattle.wal_model.specs.Log.{is_prefix}
 use Rattle.wal_model.proofs.Entries.{is_prefix-to}
 use Rattle.pg_model.specs.Facts.{entries_of}

@@ -20,13 +20,13 @@ returns-then-current-clause-behind c =
     let mine = ap (λ (s : ServerFacts). entries_of s.log) c.self.view_is in
     let theirs = ap entries_of (c.wal-from.ensures ∙ ap (λ (s : ServerFacts). s.log) c.upstream.view_is) in
     behind-received c.args.self.now c.args.upstream.now (entries_of c.self.inside.log) c.wal-from.result.now c.args.most _ _ _ _ mine theirs c.in_ok-count.ensures.log c.requires.prefix
-      (ap (λ (s : ServerFacts). s.timeline) c.self.view_is ∙ current-timeline c.args.self.now c.args.upstream.now current)
-      (ap (λ (s : ServerFacts). s.history) c.self.view_is ∙ current-history c.args.self.now c.args.upstream.now current)
+    (ap (λ (s : ServerFacts). s.timeline) c.self.view_is ∙ current-timeline c.args.self.now c.args.upstream.now current)
+    (ap (λ (s : ServerFacts). s.history) c.self.view_is ∙ current-history c.args.self.now c.args.upstream.now current)
 
 pub returns-clause-behind : goal.returns-clause-behind
 returns-clause-behind c =
     let mine = ap (λ (s : ServerFacts). entries_of s.log) c.self.view_is in
     let theirs = ap entries_of (c.wal-from.ensures ∙ ap (λ (s : ServerFacts). s.log) c.upstream.view_is) in
     behind-received c.args.self.now c.args.upstream.now (entries_of c.self.inside.log) c.wal-from.result.now c.args.most _ _ _ _ mine theirs c.in_ok-count-2.ensures.log c.requires.prefix
-      (ap (λ (s : ServerFacts). s.timeline) c.upstream.view_is)
-      (ap (λ (points : Points). points.points) c.in_ok-count-2.ensures.history ∙ ap (λ (s : ServerFacts). s.history) c.upstream.view_is)
+    (ap (λ (s : ServerFacts). s.timeline) c.upstream.view_is)
+    (ap (λ (points : Points). points.points) c.in_ok-count-2.ensures.history ∙ ap (λ (s : ServerFacts). s.history) c.upstream.view_is)

@@ -1,4 +1,4 @@
-use Rattle.std.proofs.Common.{arith, ◌≡◌, ℕ, List, Some, ap, rules, sym, ◌∙◌}
+use Rattle.std.proofs.Common.{arith, ◌≡◌, Some, ap, rules, sym, ◌∙◌}
 use Rattle.std.specs.Prelude.{slice_get, option_and_then}
 use Rattle.std.proofs.lemmas.Option.{slice_get_read}
 use Rattle.pg_model.specs.Replication.{next_acknowledged}

@@ -1,4 +1,4 @@
-use Rattle.std.proofs.Common.{◌≡◌, Some, map, arith, ap, rules, sym, subst, ◌∙◌}
+use Rattle.std.proofs.Common.{◌≡◌, Some, map, arith, ap, rules, sym, subst}
 use Rattle.std.specs.Prelude.{slice_get, slice_set}
 use Rattle.std.specs.Vec.{with_items}
 use Rattle.std.proofs.lemmas.List.{with_items_is}
@@ -14,7 +14,7 @@ invariant_of-self-2 c =
     let forgets : Forgets c.self.inside.in_step.items c.forget.new.in_step (map standing_of (slice_set c.self.inside.servers.items c.args.place c.promote.new.self)) c.args.place = rw (c.deref_mut.ensures.value, c.deref.ensures.value) at c.forget.ensures in
     let items : (with_items c.self.inside.in_step c.forget.new.in_step).items ≡ c.forget.new.in_step = with_items_is c.self.inside.in_step c.forget.new.in_step (search rules) in
     subst (λ marks. MarksHold marks (map standing_of (slice_set c.self.inside.servers.items c.args.place c.promote.new.self))) (sym items)
-      (forgotten-at c.self.inside.in_step.items c.forget.new.in_step c.self.inside.servers.items c.args.place c.promote.new.self c.self.invariant forgets)
+    (forgotten-at c.self.inside.in_step.items c.forget.new.in_step c.self.inside.servers.items c.args.place c.promote.new.self c.self.invariant forgets)
 
 pub returns-clause-ok : goal.returns-clause-ok
 returns-clause-ok c =

@@ -1,4 +1,4 @@
-use Rattle.std.proofs.Common.{◌≡◌, length, Some, None, false, true, arith, ap, rules, sym, ◌∙◌}
+use Rattle.std.proofs.Common.{◌≡◌, length, Some, false, true, arith, ap, rules, sym, ◌∙◌}
 use Rattle.std.specs.Prelude.{slice_get}
 use Rattle.std.proofs.lemmas.Option.{slice_get_read}
 use Rattle.pg_model.specs.Running.{replica_started}
@@ -19,11 +19,11 @@ invariant_of-self c =
     let mark : slice_get c.self.inside.in_step.items c.args.place ≡ Some c.index_mut.result.now = slice_get_read c.self.inside.in_step.items c.len.result c.args.place c.index_mut.result.now (long ∙ marks-length _ _ c.self.invariant) (omega arith) c.index_mut.ensures.value in
     let after : c.start_replica.new.self ≡ replica_started c.args.now c.args.upstream c.index_mut-server.result.now = search rules in
     followed-at c.self.inside.in_step.items c.self.inside.servers.items c.args.place c.index_mut-server.result.now c.start_replica.new.self (number_of c.args.upstream) c.index_mut.result.now c.match-upstream.is_same c.self.invariant found mark
-      (ap standing_of after ∙ standing-replica_started c.args.now c.args.upstream c.index_mut-server.result.now)
-      (λ e. elim c.match-upstream.branch [
-        in-Some w ↦ is_place-number w.in-Some.upstream.number (number_of c.index_mut-server.result.now.upstream) (sym w.follows-is_same.ensures ∙ sym w.is_same-is ∙ e) ∙ ap number_of (sym w.in-Some.is)
+    (ap standing_of after ∙ standing-replica_started c.args.now c.args.upstream c.index_mut-server.result.now)
+    (λ e. elim c.match-upstream.branch [
+      | in-Some w ↦ is_place-number w.in-Some.upstream.number (number_of c.index_mut-server.result.now.upstream) (sym w.follows-is_same.ensures ∙ sym w.is_same-is ∙ e) ∙ ap number_of (sym w.in-Some.is)
       | in-None w ↦ absurd (no (sym w.is_same-is ∙ e))
-      ])
+    ])
 
 pub returns : goal.returns
 returns c =

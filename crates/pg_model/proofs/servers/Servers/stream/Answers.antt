@@ -1,9 +1,8 @@
-use Rattle.std.proofs.Common.{◌≡◌, ◌&&◌, not, Some, map, length, arith, ap, rules, sym, subst, ◌∙◌, List, Bool}
+use Rattle.std.proofs.Common.{◌≡◌, ◌&&◌, not, Some, map, length, arith, ap, rules, sym, subst, ◌∙◌}
 use Rattle.std.specs.Prelude.{slice_get}
 use Rattle.std.specs.Vec.{with_items}
 use Rattle.std.proofs.lemmas.List.{with_items_is}
 use Rattle.std.proofs.lemmas.Option.{slice_get-get_or, slice_get_read}
-use Rattle.pg_model.specs.Facts.{ServerFacts}
 use Rattle.pg_model.specs.Servers.{seen}
 use Rattle.pg_model.specs.InStep.{standing_of, MarksHold, Renews, HearsAt, AreInStep}
 use Rattle.pg_model.proofs.Clusters.{marks-length}
@@ -16,7 +15,7 @@ hear_between-requires-clause-in_step c = λ h.
     let found : slice_get c.self.inside.servers.items c.args.place ≡ Some c.index.result.now = slice_get_read c.self.inside.servers.items c.len-count.result c.args.place c.index.result.now long (omega arith) c.index.ensures in
     let mark : slice_get c.self.inside.in_step.items c.args.place ≡ Some c.index-2.result.now = slice_get_read c.self.inside.in_step.items c.len-count.result c.args.place c.index-2.result.now (long ∙ marks-length _ _ c.self.invariant) (omega arith) c.index-2.ensures in
     subst (λ servers. AreInStep servers c.args.place c.args.from) (sym c.deref_mut.ensures.value)
-      (in-step-pair c.self.inside.in_step.items c.self.inside.servers.items c.args.place c.args.from c.index.result.now c.index-2.result.now c.follows-is_upstream.result c.self.invariant found mark c.follows-is_upstream.ensures h)
+    (in-step-pair c.self.inside.in_step.items c.self.inside.servers.items c.args.place c.args.from c.index.result.now c.index-2.result.now c.follows-is_upstream.result c.self.invariant found mark c.follows-is_upstream.ensures h)
 
 pub invariant_of-self-2 : goal.invariant_of-self-2
 invariant_of-self-2 c =
@@ -30,8 +29,8 @@ invariant_of-self-2 c =
     let all = c.deref.ensures.value ∙ servers in
     let renews : Renews (c.in_ok-heard.heard.received && not (c.index-2.result.now && c.follows-is_upstream.result)) c.follows-is_upstream.result c.self.inside.in_step.items c.renew.new.in_step (map standing_of c.hear_between.new.servers) c.args.place = rw (c.deref_mut-2.ensures.value, all) at c.renew.ensures in
     subst (λ items. MarksHold items (map standing_of (with_items c.self.inside.servers c.hear_between.new.servers).items)) (sym marks)
-      (subst (λ items. MarksHold c.renew.new.in_step (map standing_of items)) (sym servers)
-        (marks-after c.self.inside.in_step.items c.renew.new.in_step c.self.inside.servers.items c.hear_between.new.servers c.args.place c.args.from c.args.most c.index.result.now _ c.index-2.result.now c.follows-is_upstream.result c.in_ok-heard.heard.received c.in_ok-heard.heard.news c.self.invariant found found_from (λ e. c.if-place-from.false (sym e)) mark c.follows-is_upstream.ensures hears renews))
+    (subst (λ items. MarksHold c.renew.new.in_step (map standing_of items)) (sym servers)
+    (marks-after c.self.inside.in_step.items c.renew.new.in_step c.self.inside.servers.items c.hear_between.new.servers c.args.place c.args.from c.args.most c.index.result.now _ c.index-2.result.now c.follows-is_upstream.result c.in_ok-heard.heard.received c.in_ok-heard.heard.news c.self.invariant found found_from (λ e. c.if-place-from.false (sym e)) mark c.follows-is_upstream.ensures hears renews))
 
 pub returns-clause-news : goal.returns-clause-news
 returns-clause-news c =

@@ -1,9 +1,8 @@
-use Rattle.std.proofs.Common.{◌≡◌, map, ap, sym, subst, ◌∙◌, rules, List}
+use Rattle.std.proofs.Common.{◌≡◌, map, ap, sym, subst, ◌∙◌, rules}
 use Rattle.std.specs.Vec.{with_items}
 use Rattle.std.proofs.lemmas.List.{with_items_is}
-use Rattle.pg_model.specs.Facts.{ServerFacts}
 use Rattle.pg_model.specs.Servers.{seen, quietly_ticked}
-use Rattle.pg_model.specs.InStep.{Standing, standing_of, MarksHold}
+use Rattle.pg_model.specs.InStep.{standing_of, MarksHold}
 use Rattle.pg_model.proofs.Rounds.{seen-ticked, standing-ticked}
 use Rattle.pg_model.proofs.servers.Servers.tick.Goals as goal
 
