@@ -1,5 +1,5 @@
 -- What standbys receive and confirm, one event at a time.
-use Rattle.std.proofs.Common.{◌≡◌, ℕ, suc, ◌+◌, ◌-◌, ◌<◌, ◌≤◌, ◌==◌, ◌&&◌, Bool, true, false, List, [], ◌∷◌, ◌++◌, Option, Some, None, arith, refl, ◌∙◌, ap, sym, subst}
+use Rattle.std.proofs.Common.{◌≡◌, ℕ, suc, ◌+◌, ◌-◌, ◌<◌, ◌≤◌, ◌==◌, ◌&&◌, Bool, true, false, List, [], ◌∷◌, ◌++◌, length, get_or, zero, Option, Some, None, arith, refl, ◌∙◌, ap, sym, subst}
 use Rattle.std.specs.Prelude.{slice_get, if◌then◌else◌}
 use Rattle.pat_base.specs.declared.lsn.Lsn.{Lsn}
 use Rattle.pat_base.specs.declared.ticks.Ticks.{Ticks}
@@ -19,7 +19,7 @@ use Rattle.event_book.specs.declared.member.ServerOf.{ServerOf}
 use Rattle.event_book.specs.Members.{server_of}
 use Rattle.event_book.specs.Servers.{received_by}
 use Rattle.pat_world.specs.Cluster.{Cluster, moved}
-use Rattle.pat_world.specs.Next.{all_happen, all_receive, confirms, followed, receives, receives_at}
+use Rattle.pat_world.specs.Next.{all_happen, all_receive, confirms, followed, receives, receives_all, receives_at, receives_unless}
 use Rattle.pat_world.specs.Room.{HasRoom}
 use Rattle.pat_world.specs.Streaming.{confirm_kinds, unconfirmed_end}
 use Rattle.pat_world.specs.Took.{Took}
@@ -166,3 +166,15 @@ receive-none cluster place n e = rw e refl
 
 pub receive-end : (cluster : Cluster) (place count : ℕ) → count ≤ place → all_receive cluster place (count - place) ≡ []
 receive-end cluster place count h = receive-none cluster place (count - place) (omega arith)
+
+-- what the server of the member at a place receives, where that is frozen or not
+pub receives-as : (cluster after : Cluster) (place : ℕ) (member : Member) (frozen : Option Bool) (had has : List Event) → slice_get cluster.book.members place ≡ Some member → slice_get cluster.book.frozen member.id.number ≡ frozen
+    → Took cluster after had has (receives_unless cluster member frozen) 2 → Took cluster after had has (receives_at cluster place) 2
+receives-as cluster after place member frozen had has there is took =
+    subst (λ (o : Option Member). Took cluster after had has (receives_all cluster o) 2) (sym there)
+    (subst (λ (o : Option Bool). Took cluster after had has (receives_unless cluster member o) 2) (sym is) took)
+
+pub got-at : (xs : List Bool) (n : ℕ) (x : Bool) → n < length xs → x ≡ get_or xs n x → slice_get xs n ≡ Some x
+got-at [] n x h is = absurd (omega (arith, h))
+got-at (y ∷ xs) zero x h is = ap Some (sym is)
+got-at (y ∷ xs) (suc n) x h is = got-at xs n x (omega (arith, h)) is
