@@ -14,6 +14,7 @@ pub mod Settling
 pub mod Standing
 pub mod Starting
 pub mod Staying
+pub mod Streams
 pub mod Taking
 pub mod TurnRooms
 pub mod Waking

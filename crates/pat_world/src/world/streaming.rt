@@ -31,9 +31,13 @@ impl World {
         let Some(member) = self.member(place) else {
             return Ok(());
         };
-        match self.frozen.get(member.id.number as usize) {
-            None | Some(true) => Ok(()),
-            Some(false) => self.receive(Some(member), u64::MAX, events),
+        let Some(frozen) = self.frozen.get(member.id.number as usize) else {
+            return Ok(());
+        };
+        if *frozen {
+            Ok(())
+        } else {
+            self.receive(Some(member), u64::MAX, events)
         }
     }
 

@@ -1,0 +1,180 @@
+-- What standbys receive and confirm, one event at a time.
+use Rattle.std.proofs.Common.{◌≡◌, ℕ, suc, ◌+◌, ◌-◌, ◌<◌, ◌≤◌, ◌==◌, ◌&&◌, Bool, true, false, List, [], ◌∷◌, ◌++◌, length, get_or, zero, Option, Some, None, arith, refl, ◌∙◌, ap, sym, subst}
+use Rattle.std.specs.Prelude.{slice_get, if◌then◌else◌}
+use Rattle.pat_base.specs.declared.lsn.Lsn.{Lsn}
+use Rattle.pat_base.specs.declared.ticks.Ticks.{Ticks}
+use Rattle.pg_model.specs.declared.answers.Streamed.{Streamed}
+use Rattle.pg_model.specs.declared.answers.Streamed.TheVariants as streams
+use Rattle.pg_model.specs.Facts.{ServerFacts}
+use Rattle.pg_model.specs.Replication.{confirming, is_current, news_by, stream_of}
+use Rattle.pg_model.specs.Servers.{after_news_at, news_at, news_between, streamed_at, told_from, with_server}
+use Rattle.event_book.specs.declared.event.Event.{Event}
+use Rattle.event_book.specs.declared.event.Kind.{Kind}
+use Rattle.event_book.specs.declared.event.Kind.TheVariants as kinds
+use Rattle.event_book.specs.declared.event.LogEvent.TheVariants as logs
+use Rattle.event_book.specs.declared.event.ReplicationEvent.TheVariants as replications
+use Rattle.event_book.specs.declared.event.ServerEvent.TheVariants as servers
+use Rattle.event_book.specs.declared.member.Member.{Member}
+use Rattle.event_book.specs.declared.member.ServerOf.{ServerOf}
+use Rattle.event_book.specs.Members.{server_of}
+use Rattle.event_book.specs.Servers.{received_by}
+use Rattle.pat_world.specs.Cluster.{Cluster, moved}
+use Rattle.pat_world.specs.Next.{all_happen, all_receive, confirms, followed, receives, receives_all, receives_at, receives_unless}
+use Rattle.pat_world.specs.Room.{HasRoom}
+use Rattle.pat_world.specs.Streaming.{confirm_kinds, unconfirmed_end}
+use Rattle.pat_world.specs.Took.{Took}
+use Rattle.pat_world.proofs.Deciding.{Took-after}
+use Rattle.pat_world.proofs.Rooms.{HasRoom-moved}
+use Rattle.pat_world.proofs.Serving.{serving-moved, serving-took}
+use Rattle.pat_world.proofs.Taking.{Took-weaker}
+
+-- a cluster with other servers
+abbrev pub with_servers : Cluster → List ServerFacts → Cluster
+with_servers cluster servers = record { book = record cluster.book { servers = servers }; phases = cluster.phases }
+
+abbrev confirmed : ServerOf → Member → Lsn → Kind
+confirmed server member end = kinds.Replication (replications.Confirmed server member end)
+
+-- a standby confirmed the end of its log
+pub confirm-took : (cluster : Cluster) (member from : Member) (end : Lsn) (server : ServerOf) (known : List ServerFacts) (tick : Ticks) (had has : List Event)
+    → unconfirmed_end member (slice_get cluster.book.servers member.id.number) (slice_get cluster.book.servers from.id.number) ≡ Some end → server ≡ server_of from
+    → known ≡ with_server cluster.book.servers from.id.number (confirming member.id end) → tick.0 ≡ cluster.book.clock → has ≡ had ++ record { tick = tick; kind = confirmed server member end } ∷ []
+    → Took cluster (with_servers cluster known) had has (confirms cluster member from) 1
+confirm-took cluster member from end server known tick had has is of_is told at has_is =
+    subst (λ (o : Option Lsn). Took cluster (with_servers cluster known) had has (all_happen cluster (confirm_kinds member from o)) 1) (sym is)
+    (serving-took cluster (with_servers cluster known) (confirmed (server_of from) member end) tick had has tt tt (ap (with_servers cluster) told) at
+    (has_is ∙ ap (λ (s : ServerOf). had ++ record { tick = tick; kind = confirmed s member end } ∷ []) of_is))
+
+-- there was nothing new, and the standby confirms
+pub quiet-took : (cluster after : Cluster) (member from : Member) (most : ℕ) (known : List ServerFacts) (had has : List Event) → news_at cluster.book.servers member.id.number from.id.number most ≡ None
+    → known ≡ streamed_at cluster.book.servers member.id.number from.id.number most → Took (with_servers cluster known) after had has (confirms (with_servers cluster known) member from) 1
+    → Took cluster after had has (receives cluster member from (news_at cluster.book.servers member.id.number from.id.number most)) 2
+quiet-took cluster after member from most known had has none state took =
+    let same : known ≡ cluster.book.servers = state ∙ ap (after_news_at cluster.book.servers member.id.number from.id.number) none in
+    let confirming : Took cluster after had has (confirms cluster member from) 1 = subst (λ (s : List ServerFacts). Took (with_servers cluster s) after had has (confirms (with_servers cluster s) member from) 1) same took in
+    subst (λ (o : Option Streamed). Took cluster after had has (receives cluster member from o) 2) (sym none) (Took-weaker cluster after had has (confirms cluster member from) 1 2 confirming (omega arith))
+
+unless-connected : (nothing : Bool) (answer : Streamed) → (answer ≡ streams.NotConnected → ⊥) → (if nothing then None else Some answer) ≡ Some streams.NotConnected → ⊥
+unless-connected true answer other is = clash is
+  where
+    clash : ◌≡◌ {A = Option Streamed} None (Some streams.NotConnected) → ⊥
+    clash is = cc
+unless-connected false answer other is = other (inner is)
+  where
+    inner : Some answer ≡ Some streams.NotConnected → answer ≡ streams.NotConnected
+    inner is = cc
+
+connected-by : (answer : Streamed) (s upstream : ServerFacts) → news_by answer s upstream ≡ Some streams.NotConnected → ⊥
+connected-by streams.NotConnected s upstream is = clash is
+  where
+    clash : ◌≡◌ {A = Option Streamed} None (Some streams.NotConnected) → ⊥
+    clash is = cc
+connected-by (streams.Diverged at) s upstream is = unless-connected s.diverged (streams.Diverged at) (λ e. clash e) is
+  where
+    clash : streams.Diverged at ≡ streams.NotConnected → ⊥
+    clash e = cc
+connected-by (streams.Received count) s upstream is = unless-connected ((count == 0) && is_current s upstream) (streams.Received count) (λ e. clash e) is
+  where
+    clash : streams.Received count ≡ streams.NotConnected → ⊥
+    clash e = cc
+
+connected-between : (found upstream : Option ServerFacts) (most : ℕ) → news_between found upstream most ≡ Some streams.NotConnected → ⊥
+connected-between None upstream most is = clash is
+  where
+    clash : ◌≡◌ {A = Option Streamed} None (Some streams.NotConnected) → ⊥
+    clash is = cc
+connected-between (Some s) None most is = clash is
+  where
+    clash : ◌≡◌ {A = Option Streamed} None (Some streams.NotConnected) → ⊥
+    clash is = cc
+connected-between (Some s) (Some upstream) most is = connected-by (stream_of s upstream most) s upstream is
+
+-- that a standby isn't connected is no news
+pub connected : (known : List ServerFacts) (place from most : ℕ) → news_at known place from most ≡ Some streams.NotConnected → ⊥
+connected known place from most is = connected-between (slice_get known place) (slice_get known from) most is
+
+diverges-from : (known : List ServerFacts) (place most : ℕ) (at : Lsn) (found upstream : Option ServerFacts) → news_between found upstream most ≡ Some (streams.Diverged at)
+    → told_from known place (streams.Diverged at) upstream ≡ with_server known place (λ s. record s { diverged = true })
+diverges-from known place most at None None is = absurd (clash is)
+  where
+    clash : ◌≡◌ {A = Option Streamed} None (Some (streams.Diverged at)) → ⊥
+    clash is = cc
+diverges-from known place most at (Some s) None is = absurd (clash is)
+  where
+    clash : ◌≡◌ {A = Option Streamed} None (Some (streams.Diverged at)) → ⊥
+    clash is = cc
+diverges-from known place most at found (Some upstream) is = refl
+
+-- the log of a standby diverged
+pub diverged-took : (cluster : Cluster) (member from : Member) (most : ℕ) (at : Lsn) (server upstream : ServerOf) (known : List ServerFacts) (tick : Ticks) (had has : List Event)
+    → news_at cluster.book.servers member.id.number from.id.number most ≡ Some (streams.Diverged at) → known ≡ streamed_at cluster.book.servers member.id.number from.id.number most
+    → server ≡ server_of member → upstream ≡ server_of from → tick.0 ≡ cluster.book.clock → has ≡ had ++ record { tick = tick; kind = kinds.Server (servers.Diverged server upstream at) } ∷ []
+    → Took cluster (with_servers cluster known) had has (receives cluster member from (news_at cluster.book.servers member.id.number from.id.number most)) 2
+diverged-took cluster member from most at server upstream known tick had has news state server_is upstream_is moment has_is =
+    let place = member.id.number in
+    let told : known ≡ with_server cluster.book.servers place (λ s. record s { diverged = true }) = state ∙ ap (after_news_at cluster.book.servers place from.id.number) news
+      ∙ diverges-from cluster.book.servers place most at (slice_get cluster.book.servers place) (slice_get cluster.book.servers from.id.number) news in
+    let kind : Kind = kinds.Server (servers.Diverged (server_of member) (server_of from) at) in
+    let written : has ≡ had ++ record { tick = tick; kind = kind } ∷ [] = has_is
+      ∙ ap (λ (s : ServerOf). had ++ record { tick = tick; kind = kinds.Server (servers.Diverged s upstream at) } ∷ []) server_is
+      ∙ ap (λ (s : ServerOf). had ++ record { tick = tick; kind = kinds.Server (servers.Diverged (server_of member) s at) } ∷ []) upstream_is in
+    subst (λ (o : Option Streamed). Took cluster (with_servers cluster known) had has (receives cluster member from o) 2) (sym news)
+    (Took-weaker cluster (with_servers cluster known) had has _ 1 2 (serving-took cluster (with_servers cluster known) kind tick had has tt tt (ap (with_servers cluster) told) moment written) (omega arith))
+
+-- what a standby received, as an event
+abbrev pub receipt : Member → Member → ℕ → Kind
+receipt member from count = kinds.Log (logs.Received (server_of member) (server_of from) count)
+
+receives-by : (known : List ServerFacts) (place count : ℕ) (upstream : Option ServerFacts) → told_from known place (streams.Received count) upstream ≡ received_by known place count upstream
+receives-by known place count None = refl
+receives-by known place count (Some upstream) = refl
+
+-- a standby received what was new
+pub received-state : (cluster : Cluster) (member from : Member) (most count : ℕ) (known : List ServerFacts) → news_at cluster.book.servers member.id.number from.id.number most ≡ Some (streams.Received count)
+    → known ≡ streamed_at cluster.book.servers member.id.number from.id.number most → with_servers cluster known ≡ moved cluster (receipt member from count)
+received-state cluster member from most count known news state =
+    ap (with_servers cluster) (state ∙ ap (after_news_at cluster.book.servers member.id.number from.id.number) news ∙ receives-by cluster.book.servers member.id.number count (slice_get cluster.book.servers from.id.number))
+    ∙ sym (serving-moved cluster (receipt member from count) tt)
+
+pub received-room : (cluster : Cluster) (member from : Member) (most count : ℕ) (known : List ServerFacts) → news_at cluster.book.servers member.id.number from.id.number most ≡ Some (streams.Received count)
+    → known ≡ streamed_at cluster.book.servers member.id.number from.id.number most → HasRoom cluster 2 → HasRoom (with_servers cluster known) 1
+received-room cluster member from most count known news state room =
+    subst (λ (c : Cluster). HasRoom c 1) (sym (received-state cluster member from most count known news state)) (HasRoom-moved cluster (receipt member from count) 1 tt room)
+
+-- and confirms
+pub received-took : (cluster after : Cluster) (member from : Member) (most count : ℕ) (server upstream : ServerOf) (known : List ServerFacts) (tick : Ticks) (had mid has : List Event)
+    → news_at cluster.book.servers member.id.number from.id.number most ≡ Some (streams.Received count) → known ≡ streamed_at cluster.book.servers member.id.number from.id.number most
+    → server ≡ server_of member → upstream ≡ server_of from → tick.0 ≡ cluster.book.clock → mid ≡ had ++ record { tick = tick; kind = kinds.Log (logs.Received server upstream count) } ∷ []
+    → Took (with_servers cluster known) after mid has (confirms (with_servers cluster known) member from) 1
+    → Took cluster after had has (receives cluster member from (news_at cluster.book.servers member.id.number from.id.number most)) 2
+received-took cluster after member from most count server upstream known tick had mid has news state server_is upstream_is moment mid_is rest =
+    let written : mid ≡ had ++ record { tick = tick; kind = receipt member from count } ∷ [] = mid_is
+      ∙ ap (λ (s : ServerOf). had ++ record { tick = tick; kind = kinds.Log (logs.Received s upstream count) } ∷ []) server_is
+      ∙ ap (λ (s : ServerOf). had ++ record { tick = tick; kind = kinds.Log (logs.Received (server_of member) s count) } ∷ []) upstream_is in
+    subst (λ (o : Option Streamed). Took cluster after had has (receives cluster member from o) 2) (sym news)
+    (Took-after cluster (with_servers cluster known) after had mid has tick (receipt member from count) (λ later. confirms later member from) 1 2 tt moment
+    (received-state cluster member from most count known news state) written rest (omega arith))
+
+receive-one : (cluster : Cluster) (place n k : ℕ) → n ≡ suc k → all_receive cluster place n ≡ followed cluster (receives_at cluster place) (λ later. all_receive later (place + 1) k)
+receive-one cluster place n k e = rw e refl
+
+pub receive-next : (cluster : Cluster) (place count : ℕ) → place < count → all_receive cluster place (count - place) ≡ followed cluster (receives_at cluster place) (λ later. all_receive later (place + 1) (count - (place + 1)))
+receive-next cluster place count h = receive-one cluster place (count - place) (count - (place + 1)) (omega arith)
+
+receive-none : (cluster : Cluster) (place n : ℕ) → n ≡ 0 → all_receive cluster place n ≡ []
+receive-none cluster place n e = rw e refl
+
+pub receive-end : (cluster : Cluster) (place count : ℕ) → count ≤ place → all_receive cluster place (count - place) ≡ []
+receive-end cluster place count h = receive-none cluster place (count - place) (omega arith)
+
+-- what the server of the member at a place receives, where that is frozen or not
+pub receives-as : (cluster after : Cluster) (place : ℕ) (member : Member) (frozen : Option Bool) (had has : List Event) → slice_get cluster.book.members place ≡ Some member → slice_get cluster.book.frozen member.id.number ≡ frozen
+    → Took cluster after had has (receives_unless cluster member frozen) 2 → Took cluster after had has (receives_at cluster place) 2
+receives-as cluster after place member frozen had has there is took =
+    subst (λ (o : Option Member). Took cluster after had has (receives_all cluster o) 2) (sym there)
+    (subst (λ (o : Option Bool). Took cluster after had has (receives_unless cluster member o) 2) (sym is) took)
+
+pub got-at : (xs : List Bool) (n : ℕ) (x : Bool) → n < length xs → x ≡ get_or xs n x → slice_get xs n ≡ Some x
+got-at [] n x h is = absurd (omega (arith, h))
+got-at (y ∷ xs) zero x h is = ap Some (sym is)
+got-at (y ∷ xs) (suc n) x h is = got-at xs n x (omega (arith, h)) is
