@@ -165,8 +165,8 @@ impl World {
         requires { HasRoom self.old 13110432 }
         ensures { OnOk result (Took self.old self.new events.old.items events.new.items (scheduled self.old) 13110432) }
     {
-        let count = self.members.len();
-        self.all_receive(count, events)?;
+        let members = self.members.len();
+        self.all_receive(members, events)?;
         self.rounds(events)
     }
 

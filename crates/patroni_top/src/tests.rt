@@ -7,8 +7,9 @@ use std::test::Fail;
 
 const KEY_PASSED_ON: &str = "cluster demo\nmember a\nmember b\nrun 50\nhold a\nrun 310\n";
 
-const KEY_PASSED_ON_PRINTED: [&str; 5] = [
+const KEY_PASSED_ON_PRINTED: [&str; 6] = [
     "1 a takes the leader key\n",
+    "2 b follows a\n",
     "50 a is held\n",
     "301 the leader key of a expires\n",
     "302 b takes the leader key\n",
@@ -32,6 +33,7 @@ const TICKS_AND_TURNS: [(&str, &str); 11] = [
          1 a takes the leader key\n\
          1 message 4 from store to a: granted\n\
          1 message 4 is delivered\n\
+         2 b follows a\n\
          end at 2\n",
     ),
     (
@@ -41,6 +43,7 @@ const TICKS_AND_TURNS: [(&str, &str); 11] = [
          2 message 5 is delivered\n\
          2 message 6 from store to b: snapshot\n\
          2 message 6 is delivered\n\
+         2 b follows a\n\
          2 message 7 from b to store: touch\n\
          2 message 7 is delivered\n\
          2 message 8 from store to b: granted\n\
@@ -50,6 +53,7 @@ const TICKS_AND_TURNS: [(&str, &str); 11] = [
     (
         "run 100\ntrace on\nrun 1\n",
         "1 a takes the leader key\n\
+         2 b follows a\n\
          101 message 9 from a to store: read\n\
          101 message 9 is delivered\n\
          101 message 10 from store to a: snapshot\n\
@@ -293,10 +297,14 @@ const AGENTS_AND_LINKS: [(&str, &str); 7] = [
 
 /// What comes of leases and deadlines: the body of a script, and its printed run.
 const LEASES: [(&str, &str); 11] = [
-    ("run 350\n", "1 a takes the leader key\nend at 350\n"),
+    (
+        "run 350\n",
+        "1 a takes the leader key\n2 b follows a\nend at 350\n",
+    ),
     (
         "run 150\nhold a\nrun 300\n",
         "1 a takes the leader key\n\
+         2 b follows a\n\
          150 a is held\n\
          401 the leader key of a expires\n\
          402 b takes the leader key\n\
@@ -305,22 +313,26 @@ const LEASES: [(&str, &str); 11] = [
     (
         "run 50\ncut a store\ncut store a\nrun 310\njoin store a\nrun 100\n",
         "1 a takes the leader key\n\
+         2 b follows a\n\
          50 a and store are cut\n\
          301 the leader key of a expires\n\
          302 b takes the leader key\n\
          360 store and a are joined\n\
+         401 a follows b\n\
          end at 460\n",
     ),
     // A renewal that comes late: still in time, after the expiry, and after another's create.
     (
         "run 100\ntick 1\nturn a\ndeliver 9\ndeliver 10\ntick 199\ndeliver 11\ntick 300\n",
         "1 a takes the leader key\n\
+         2 b follows a\n\
          600 the leader key of a expires\n\
          end at 600\n",
     ),
     (
         "run 100\ntick 1\nturn a\ndeliver 9\ndeliver 10\ntick 200\ndeliver 11\n",
         "1 a takes the leader key\n\
+         2 b follows a\n\
          301 the leader key of a expires\n\
          301 the renewal of a is refused, leader is absent\n\
          end at 301\n",
@@ -328,6 +340,7 @@ const LEASES: [(&str, &str); 11] = [
     (
         "run 100\ntick 1\nturn a\ndeliver 9\ndeliver 10\ntick 200\nturn b\ndeliver 12\ndeliver 13\ndeliver 14\ndeliver 11\n",
         "1 a takes the leader key\n\
+         2 b follows a\n\
          301 the leader key of a expires\n\
          301 b takes the leader key\n\
          301 the renewal of a is refused, leader has revision 4\n\
@@ -367,10 +380,173 @@ const LEASES: [(&str, &str); 11] = [
     (
         "run 100\ntick 1\nturn a\ndeliver 9\ntick 50\ndeliver 10\ntrace on\ntick 49\nturn a\ntick 1\nturn a\n",
         "1 a takes the leader key\n\
+         2 b follows a\n\
          201 message 12 from a to store: read\n\
          end at 201\n",
     ),
 ];
+
+/// A server that its operator promotes: it accepts writes, and its standby doesn't.
+const PROMOTED_BY_HAND: [(&str, &str); 1] = [(
+    "run 5\npromote a\ncommit a 100\ncommit b 1\nrun 1\n",
+    "1 a takes the leader key\n\
+     2 b follows a\n\
+     5 a is promoted by its operator\n\
+     5 a accepts writes on timeline 2\n\
+     5 commit 1 of 100 bytes on a\n\
+     5 commit 1 is acknowledged\n\
+     5 b refuses a commit\n\
+     end at 6\n",
+)];
+
+/// What comes of servers: the body of a script, and its printed run.
+const SERVERS: [(&str, &str); 11] = [
+    (
+        "promote a\npromote a\n",
+        "0 a is promoted by its operator\n\
+         0 a accepts writes on timeline 2\n\
+         end at 0\n",
+    ),
+    (
+        "crash a\ncrash a\npromote a\ncommit a 1\n",
+        "0 a crashed\n0 a refuses a commit\nend at 0\n",
+    ),
+    (
+        "freeze a\nfreeze a\nthaw a\nthaw a\n",
+        "0 a is frozen\n0 a is thawed\nend at 0\n",
+    ),
+    // A refused commit takes no number.
+    (
+        "commit a 5\npromote a\ncommit a 1073741824\n",
+        "0 a refuses a commit\n\
+         0 a is promoted by its operator\n\
+         0 a accepts writes on timeline 2\n\
+         0 commit 1 of 1073741824 bytes on a\n\
+         0 commit 1 is acknowledged\n\
+         end at 0\n",
+    ),
+    // Which timeline a standby is promoted to tells what it received: all in a tick, nothing over a cut link or while it
+    // is frozen, but what a line streams.
+    (
+        "run 2\npromote a\nrun 1\npromote b\n",
+        "1 a takes the leader key\n\
+         2 b follows a\n\
+         2 a is promoted by its operator\n\
+         2 a accepts writes on timeline 2\n\
+         3 b is promoted by its operator\n\
+         3 b accepts writes on timeline 3\n\
+         end at 3\n",
+    ),
+    (
+        "run 2\npromote a\ncut b a\nrun 1\nstream b 9\npromote b\n",
+        "1 a takes the leader key\n\
+         2 b follows a\n\
+         2 a is promoted by its operator\n\
+         2 a accepts writes on timeline 2\n\
+         2 b and a are cut\n\
+         3 b is promoted by its operator\n\
+         3 b accepts writes on timeline 2\n\
+         end at 3\n",
+    ),
+    (
+        "run 2\npromote a\nfreeze b\nrun 1\npromote b\n",
+        "1 a takes the leader key\n\
+         2 b follows a\n\
+         2 a is promoted by its operator\n\
+         2 a accepts writes on timeline 2\n\
+         2 b is frozen\n\
+         3 b is promoted by its operator\n\
+         3 b accepts writes on timeline 2\n\
+         end at 3\n",
+    ),
+    (
+        "run 2\npromote a\nfreeze b\nstream b 0\npromote b\n",
+        "1 a takes the leader key\n\
+         2 b follows a\n\
+         2 a is promoted by its operator\n\
+         2 a accepts writes on timeline 2\n\
+         2 b is frozen\n\
+         2 b is promoted by its operator\n\
+         2 b accepts writes on timeline 3\n\
+         end at 2\n",
+    ),
+    // A crashed standby starts again under its leader, at once or after its delay.
+    (
+        "run 2\nslow b start 5\ncrash b\nrun 104\npromote b\nrun 1\npromote b\n",
+        "1 a takes the leader key\n\
+         2 b follows a\n\
+         2 b crashed\n\
+         102 b starts as a replica\n\
+         102 b follows a\n\
+         107 b is promoted by its operator\n\
+         107 b accepts writes on timeline 2\n\
+         end at 107\n",
+    ),
+    // A log that its upstream's doesn't begin with diverges where the two part, and receives nothing then.
+    (
+        "run 2\nfreeze b\npromote a\ncommit a 100\npromote b\ncommit b 50\ncrash b\nthaw b\nrun 102\nstream b 9\n",
+        "1 a takes the leader key\n\
+         2 b follows a\n\
+         2 b is frozen\n\
+         2 a is promoted by its operator\n\
+         2 a accepts writes on timeline 2\n\
+         2 commit 1 of 100 bytes on a\n\
+         2 commit 1 is acknowledged\n\
+         2 b is promoted by its operator\n\
+         2 b accepts writes on timeline 2\n\
+         2 commit 2 of 50 bytes on b\n\
+         2 commit 2 is acknowledged\n\
+         2 b crashed\n\
+         2 b is thawed\n\
+         102 b starts as a replica\n\
+         102 b follows a\n\
+         103 b diverges from a at 0/5000000\n\
+         end at 104\n",
+    ),
+    // What was received is a front of the upstream's log: 30 bytes of its first commit lie behind the data of 80 MiB.
+    (
+        "run 2\npromote a\ncommit a 30\ncommit a 40\nfreeze b\nstream b 1\npromote b\ncommit b 50\ncrash b\nrun 100\nstream b 9\n",
+        "1 a takes the leader key\n\
+         2 b follows a\n\
+         2 a is promoted by its operator\n\
+         2 a accepts writes on timeline 2\n\
+         2 commit 1 of 30 bytes on a\n\
+         2 commit 1 is acknowledged\n\
+         2 commit 2 of 40 bytes on a\n\
+         2 commit 2 is acknowledged\n\
+         2 b is frozen\n\
+         2 b is promoted by its operator\n\
+         2 b accepts writes on timeline 3\n\
+         2 commit 3 of 50 bytes on b\n\
+         2 commit 3 is acknowledged\n\
+         2 b crashed\n\
+         102 b starts as a replica\n\
+         102 b follows a\n\
+         102 b diverges from a at 0/500001E\n\
+         end at 102\n",
+    ),
+];
+
+/// Logs that begin with 100 bytes part there.
+const SMALL_LOGS: &str = "cluster demo\nmember a\nbase 100\nmember b\n\
+    run 2\nfreeze b\npromote a\ncommit a 1\npromote b\ncommit b 1\ncrash b\nrun 100\nstream b 1\n";
+
+const SMALL_LOGS_PRINTED: &str = "1 a takes the leader key\n\
+    2 b follows a\n\
+    2 b is frozen\n\
+    2 a is promoted by its operator\n\
+    2 a accepts writes on timeline 2\n\
+    2 commit 1 of 1 bytes on a\n\
+    2 commit 1 is acknowledged\n\
+    2 b is promoted by its operator\n\
+    2 b accepts writes on timeline 2\n\
+    2 commit 2 of 1 bytes on b\n\
+    2 commit 2 is acknowledged\n\
+    2 b crashed\n\
+    102 b starts as a replica\n\
+    102 b follows a\n\
+    102 b diverges from a at 0/64\n\
+    end at 102\n";
 
 const TWO_CREATES: [(&str, &str); 1] = [(
     "tick 2\nturn a\nturn b\ndeliver 1\ndeliver 2\ndeliver 3\ndeliver 4\ndeliver 5\ndeliver 6\n",
@@ -447,7 +623,7 @@ fn the_key_passed_on(rt: HostRuntime) -> Result<(), Fail> {
     assert_eq!(rt; ended.status, 0);
     assert_eq!(rt;
         ended.out.as_slice(),
-        first_lines(alloc, &KEY_PASSED_ON_PRINTED, 5)?.as_slice()
+        first_lines(alloc, &KEY_PASSED_ON_PRINTED, 6)?.as_slice()
     );
     assert_eq!(rt; ended.err.as_slice(), b"".as_slice());
     Ok(())
@@ -467,6 +643,24 @@ fn prints(rt: &impl Abort, alloc: Global, runs: &[(&str, &str)]) -> Result<(), F
 #[test]
 fn two_creates(rt: HostRuntime) -> Result<(), Fail> {
     prints(&rt, rt.alloc(), &TWO_CREATES)
+}
+
+#[test]
+fn promoted_by_hand(rt: HostRuntime) -> Result<(), Fail> {
+    prints(&rt, rt.alloc(), &PROMOTED_BY_HAND)
+}
+
+#[test]
+fn servers(rt: HostRuntime) -> Result<(), Fail> {
+    prints(&rt, rt.alloc(), &SERVERS)
+}
+
+#[test]
+fn small_logs(rt: HostRuntime) -> Result<(), Fail> {
+    let ended = run_in_memory(rt.alloc(), "run", SMALL_LOGS, NO_FAULTS)?;
+    assert_eq!(rt; ended.status, 0);
+    assert_eq!(rt; ended.out.as_slice(), SMALL_LOGS_PRINTED.as_bytes());
+    Ok(())
 }
 
 #[test]
@@ -519,7 +713,7 @@ fn refusals_of_the_first_form(rt: HostRuntime) -> Result<(), Fail> {
 #[test]
 fn a_fault_at_each_call(rt: HostRuntime) -> Result<(), Fail> {
     let alloc = rt.alloc();
-    for call in 1..=5u64 {
+    for call in 1..=6u64 {
         let ended = run_in_memory(
             alloc,
             "run",
@@ -673,10 +867,15 @@ fn sixteen_members(rt: HostRuntime) -> Result<(), Fail> {
         script.push_str(format!(in alloc; "member m{number}\n")?.as_str())?;
     }
     script.push_str("run 1000\n")?;
+    let leader = "a-name-of-thirty-two-bytes_0_9_x";
+    let mut wanted = format!(in alloc; "1 {leader} takes the leader key\n")?;
+    for number in 2..=16u64 {
+        wanted.push_str(format!(in alloc; "{number} m{number} follows {leader}\n")?.as_str())?;
+    }
+    wanted.push_str("end at 1000\n")?;
     let ended = run_in_memory(alloc, "run", script.as_str(), NO_FAULTS)?;
     assert_eq!(rt; ended.status, 0);
-    let wanted = b"1 a-name-of-thirty-two-bytes_0_9_x takes the leader key\nend at 1000\n";
-    assert_eq!(rt; ended.out.as_slice(), wanted.as_slice());
+    assert_eq!(rt; ended.out.as_slice(), wanted.as_bytes());
     Ok(())
 }
 

@@ -7,16 +7,16 @@ use Rattle.pat_world.proofs.world.World.scheduled.Goals as goal
 
 pub all_receive-requires : goal.all_receive-requires
 all_receive-requires c =
-    let few : c.len-count.result ≤ 16 = omega (arith, c.len-count.ensures, c.self.invariant.0) in
-    HasRoom-fewer c.args.self.now 13110432 (2 * c.len-count.result) (omega (arith, few)) c.requires
+    let few : c.len-members.result ≤ 16 = omega (arith, c.len-members.ensures, c.self.invariant.0) in
+    HasRoom-fewer c.args.self.now 13110432 (2 * c.len-members.result) (omega (arith, few)) c.requires
 
 pub rounds-requires : goal.rounds-requires
 rounds-requires c =
-    let few : c.len-count.result ≤ 16 = omega (arith, c.len-count.ensures, c.self.invariant.0) in
-    rounds-room c.args.self.now c.all_receive.new.self _ _ c.len-count.result c.requires few c.in_ok-all_receive.ensures
+    let few : c.len-members.result ≤ 16 = omega (arith, c.len-members.ensures, c.self.invariant.0) in
+    rounds-room c.args.self.now c.all_receive.new.self _ _ c.len-members.result c.requires few c.in_ok-all_receive.ensures
 
 pub returns : goal.returns
 returns c =
-    let few : c.len-count.result ≤ 16 = omega (arith, c.len-count.ensures, c.self.invariant.0) in
-    let all : c.len-count.result ≡ length c.args.self.now.book.members = omega (arith, c.len-count.ensures, ap (λ (b : Cluster). length b.book.members) c.self.view_is) in
-    on_ok_weaker c.rounds.result (λ took. scheduled-took c.args.self.now c.all_receive.new.self c.rounds.new.self _ _ _ c.len-count.result all few c.in_ok-all_receive.ensures took) c.rounds.ensures
+    let few : c.len-members.result ≤ 16 = omega (arith, c.len-members.ensures, c.self.invariant.0) in
+    let all : c.len-members.result ≡ length c.args.self.now.book.members = omega (arith, c.len-members.ensures, ap (λ (b : Cluster). length b.book.members) c.self.view_is) in
+    on_ok_weaker c.rounds.result (λ took. scheduled-took c.args.self.now c.all_receive.new.self c.rounds.new.self _ _ _ c.len-members.result all few c.in_ok-all_receive.ensures took) c.rounds.ensures
