@@ -1,3 +1,4 @@
+pub mod Acknowledgements
 pub mod Changing
 pub mod Deciding
 pub mod Expiring

@@ -1,5 +1,5 @@
 -- Commits whose clients are told that they are stored.
-use Rattle.std.specs.Prelude.{ℕ, ◌≡◌, if◌then◌else◌, Bool, false, List, [], ◌∷◌, All, Option, Some, None, map}
+use Rattle.std.specs.Prelude.{ℕ, ◌≡◌, if◌then◌else◌, Bool, false, List, [], ◌∷◌, All, Option, Some, None, map, slice_get}
 use Rattle.pat_base.specs.declared.lsn.Lsn.{Lsn}
 use Rattle.pat_base.specs.declared.server_state.Required.{Required}
 use Rattle.pat_base.specs.ServerState.{writes}
@@ -30,6 +30,10 @@ abbrev pub acknowledge_kinds : Member → Option ServerFacts → List Kind
 acknowledge_kinds member None = []
 acknowledge_kinds member (Some s) = map (acknowledgement member) (ready_commits s)
 
--- no commit is left that may be acknowledged
-abbrev pub AreAcknowledged : List ServerFacts → Type 0
-AreAcknowledged servers = All (λ s. may_acknowledge s ≡ false) servers
+abbrev pub IsDone : Option ServerFacts → Type 0
+IsDone None = Unit {0}
+IsDone (Some s) = may_acknowledge s ≡ false
+
+-- no commit is left that may be acknowledged at the server of a declared member
+abbrev pub AreAcknowledged : List Member → List ServerFacts → Type 0
+AreAcknowledged members servers = All (λ member. IsDone (slice_get servers member.id.number)) members

@@ -9,9 +9,10 @@ use event_book::{Event, Kind, Member, ReplicationEvent, ServerOf};
 use std::alloc::AllocError;
 
 impl World {
-    /// The commits of all servers are acknowledged as far as they may be, in script order.
+    /// The commits of all servers are acknowledged as far as they may be, in script order. Then none is left that may be.
     pub fn acknowledge_all(&mut self, events: &mut Vec<Event>) -> Result<(), AllocError>
-        ensures { OnOk result (Took self.old self.new events.old.items events.new.items (acknowledges self.old 0 (length self.old.book.members)) 0) }
+        ensures took { OnOk result (Took self.old self.new events.old.items events.new.items (acknowledges self.old 0 (length self.old.book.members)) 0) }
+        ensures done { OnOk result (AreAcknowledged self.new.book.members self.new.book.servers) }
     {
         let count = self.members.len();
         for place in 0..count {

@@ -1,0 +1,20 @@
+use Rattle.std.proofs.Common.{◌+◌, ◌≤◌, length, Some}
+use Rattle.std.specs.Prelude.{slice_get}
+use Rattle.pat_world.specs.Next.{acknowledges_for}
+use Rattle.pat_world.specs.Settled.{AreKeptBelow}
+use Rattle.pat_world.proofs.Acknowledgements.{waiting_at}
+use Rattle.pat_world.proofs.Rest.{Left}
+use Rattle.pat_world.proofs.Worlds.{seen}
+use Rattle.pat_world.proofs.world.World.acknowledge.Given as goal
+
+-- the commits that may be acknowledged now are still to be, and what a world keeps holds
+abbrev pub invariant-loop-commit : goal.invariant-loop-commit
+invariant-loop-commit l = record {
+  left : Left l.fn.self (seen l.self-inside) l.fn.events.items l.events.items (acknowledges_for l.fn.self (Some l.fn.member)) (acknowledges_for (seen l.self-inside) (Some l.fn.member)) 0 0;
+  members : length l.self-inside.members.items ≤ 16;
+  settled : l.self-inside.settled ≤ l.self-inside.sent + 1;
+  kept : AreKeptBelow l.self-inside.settled l.self-inside.flight l.self-inside.agents.items l.self-inside.cuts.items;
+}
+
+abbrev pub decreases-loop-commit : goal.decreases-loop-commit
+decreases-loop-commit l = waiting_at (slice_get l.self-inside.servers l.place)
