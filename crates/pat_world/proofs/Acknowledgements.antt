@@ -192,3 +192,123 @@ acknowledge-end start cluster member known had has whole left none known_is =
     let same : known ≡ cluster.book.servers = known_is ∙ none-left cluster.book.servers place (slice_get cluster.book.servers place) refl none in
     subst (λ (xs : List ServerFacts). Took start (telling cluster xs cluster.book.acknowledged) had has whole 0) (sym same)
     (Left-end start cluster had has whole _ 0 0 left (ap (all_happen cluster) (no-kinds member (slice_get cluster.book.servers place) none)))
+
+next-one : (cluster : Cluster) (place n k : ℕ) → n ≡ suc k → acknowledges cluster place n ≡ followed cluster (acknowledges_at cluster place) (λ later. acknowledges later (place + 1) k)
+next-one cluster place n k e = rw e refl
+
+pub acknowledges-next : (cluster : Cluster) (place count : ℕ) → place < count
+    → acknowledges cluster place (count - place) ≡ followed cluster (acknowledges_at cluster place) (λ later. acknowledges later (place + 1) (count - (place + 1)))
+acknowledges-next cluster place count h = next-one cluster place (count - place) (count - (place + 1)) (omega arith)
+
+next-none : (cluster : Cluster) (place n : ℕ) → n ≡ 0 → acknowledges cluster place n ≡ []
+next-none cluster place n e = rw e refl
+
+pub acknowledges-end : (cluster : Cluster) (place count : ℕ) → count ≤ place → acknowledges cluster place (count - place) ≡ []
+acknowledges-end cluster place count h = next-none cluster place (count - place) (omega arith)
+
+cons-met : (met : Bool) (serial commit : ℕ) (rest more : List ℕ) → (if met then serial ∷ rest else []) ≡ commit ∷ more → (met ≡ true) × (rest ≡ more)
+cons-met true serial commit rest more is = (refl, inner rest more serial commit is)
+  where
+    inner : (xs ys : List ℕ) (a b : ℕ) → a ∷ xs ≡ b ∷ ys → xs ≡ ys
+    inner xs ys a b e = cc
+cons-met false serial commit rest more is = absurd (no-element commit more is)
+
+cons-of : (can : Bool) (required : Required) (confirmed : List (Option Lsn)) (waiting : List Waiting) (commit : ℕ) (more : List ℕ) → (if can then confirmed_front required confirmed waiting else []) ≡ commit ∷ more
+    → ((can && first_is_met required confirmed waiting) ≡ true) × ((if can then confirmed_front required confirmed (drop 1 waiting) else []) ≡ more)
+cons-of false required confirmed waiting commit more is = absurd (no-element commit more is)
+cons-of true required confirmed [] commit more is = absurd (no-element commit more is)
+cons-of true required confirmed (first ∷ rest) commit more is = cons-met (is_met required first.end confirmed) first.serial commit (confirmed_front required confirmed rest) more is
+
+nothing-met : (met : Bool) (serial : ℕ) (rest : List ℕ) → (if met then serial ∷ rest else []) ≡ [] → met ≡ false
+nothing-met true serial rest is = absurd (no-element serial rest (sym is))
+nothing-met false serial rest is = refl
+
+nothing-of : (can : Bool) (required : Required) (confirmed : List (Option Lsn)) (waiting : List Waiting) → (if can then confirmed_front required confirmed waiting else []) ≡ [] → (can && first_is_met required confirmed waiting) ≡ false
+nothing-of false required confirmed waiting is = refl
+nothing-of true required confirmed [] is = refl
+nothing-of true required confirmed (first ∷ rest) is = nothing-met (is_met required first.end confirmed) first.serial (confirmed_front required confirmed rest) is
+
+-- no commit is left that may be acknowledged at the server of this number
+abbrev DoneAt : Cluster → ℕ → Type 0
+DoneAt cluster place = IsDone (slice_get cluster.book.servers place)
+
+-- a part of a step that leaves the members, and leaves done what is done
+record Keeps (before after : Cluster) : Type 0 where
+  members : after.book.members ≡ before.book.members
+  done : (place : ℕ) → DoneAt before place → DoneAt after place
+
+Keeps-then : (first second third : Cluster) → Keeps first second → Keeps second third → Keeps first third
+Keeps-then first second third one two = record { members = two.members ∙ one.members; done = λ place done. two.done place (one.done place done) }
+
+-- an acknowledgement concerns one server, which isn't done
+keeps-one : (cluster : Cluster) (member : Member) (commit : ℕ) (s : ServerFacts) → slice_get cluster.book.servers member.id.number ≡ Some s → may_acknowledge s ≡ true → Keeps cluster (moved cluster (acknowledgement member commit))
+keeps-one cluster member commit s there may = record { members = refl; done = λ place done. at place done (cases_eq place member.id.number) }
+  where
+    at : (place : ℕ) → DoneAt cluster place → (place ≡ member.id.number) ⊎ (place ≡ member.id.number → ⊥) → DoneAt (moved cluster (acknowledgement member commit)) place
+    at place done (inl e) =
+        let here : may_acknowledge s ≡ false = subst IsDone there (subst (λ (n : ℕ). DoneAt cluster n) e done) in
+        absurd (clash (sym here ∙ may))
+    at place done (inr other) =
+        subst IsDone (sym (ap (λ (o : Option ServerFacts). slice_get (with_server_at cluster.book.servers member.id.number one_told o) place) there ∙ got-set_other cluster.book.servers member.id.number place (one_told s) other)) done
+
+-- once all that may be acknowledged at a server are, it is done
+done-there : (cluster : Cluster) (member : Member) (s : ServerFacts) (commits : List ℕ) → slice_get cluster.book.servers member.id.number ≡ Some s → ready_commits s ≡ commits
+    → let after = moved_all cluster (all_happen cluster (map (acknowledgement member) commits)) in Keeps cluster after × DoneAt after member.id.number
+done-there cluster member s [] there none =
+    (record { members = refl; done = λ place done. done }, subst IsDone (sym there) (nothing-of (writes s.state) s.required s.confirmed s.waiting none))
+done-there cluster member s (commit ∷ more) there ready =
+    let next = cons-of (writes s.state) s.required s.confirmed s.waiting commit more ready in
+    let rest = done-there (moved cluster (acknowledgement member commit)) member (one_told s) more (got-with cluster.book.servers member.id.number s one_told there) next.1 in
+    (Keeps-then cluster (moved cluster (acknowledgement member commit)) _ (keeps-one cluster member commit s there next.0) rest.0, rest.1)
+
+done-for : (cluster : Cluster) (member : Member) (found : Option ServerFacts) → slice_get cluster.book.servers member.id.number ≡ found
+    → let after = moved_all cluster (all_happen cluster (acknowledge_kinds member found)) in Keeps cluster after × DoneAt after member.id.number
+done-for cluster member None there = (record { members = refl; done = λ place done. done }, subst IsDone (sym there) tt)
+done-for cluster member (Some s) there = done-there cluster member s (ready_commits s) there refl
+
+-- the server of the member at a place is done, if there is one
+abbrev DoneOf : Cluster → Option Member → Type 0
+DoneOf cluster None = Unit {0}
+DoneOf cluster (Some member) = DoneAt cluster member.id.number
+
+keeps-of : (before after : Cluster) (member : Option Member) → Keeps before after → DoneOf before member → DoneOf after member
+keeps-of before after None keeps done = done
+keeps-of before after (Some member) keeps done = keeps.done member.id.number done
+
+done-at : (cluster : Cluster) (member : Option Member) → let after = moved_all cluster (acknowledges_for cluster member) in Keeps cluster after × DoneOf after member
+done-at cluster None = (record { members = refl; done = λ place done. done }, tt)
+done-at cluster (Some member) = done-for cluster member (slice_get cluster.book.servers member.id.number) refl
+
+-- the servers of the first so many members are done
+abbrev DoneBelow : Cluster → List Member → ℕ → Type 0
+DoneBelow cluster members place = (k : ℕ) → k < place → DoneOf cluster (slice_get members k)
+
+done-from : (cluster : Cluster) (place count : ℕ) → DoneBelow cluster cluster.book.members place
+    → let after = moved_all cluster (acknowledges cluster place count) in (after.book.members ≡ cluster.book.members) × DoneBelow after cluster.book.members (place + count)
+done-from cluster place zero below = (refl, λ k h. below k (omega (arith, h)))
+done-from cluster place (suc count) below =
+    let next = moved_all cluster (acknowledges_at cluster place) in
+    let one = done-at cluster (slice_get cluster.book.members place) in
+    let below_next : DoneBelow next cluster.book.members (place + 1) = λ k h. one-more cluster next place k one.0 one.1 below (cases_eq k place) h in
+    let rest = done-from next (place + 1) count (subst (λ (ms : List Member). DoneBelow next ms (place + 1)) (sym one.0.members) below_next) in
+    let joined = moved_all-append cluster (acknowledges_at cluster place) (acknowledges next (place + 1) count) in
+    let end : Cluster = moved_all next (acknowledges next (place + 1) count) in
+    let ends : DoneBelow end cluster.book.members (place + suc count) = λ k h. subst (λ (ms : List Member). DoneOf end (slice_get ms k)) one.0.members (rest.1 k (omega (arith, h))) in
+    (ap (λ (c : Cluster). c.book.members) joined ∙ rest.0 ∙ one.0.members, subst (λ (c : Cluster). DoneBelow c cluster.book.members (place + suc count)) (sym joined) ends)
+  where
+    one-more : (before after : Cluster) (place k : ℕ) → Keeps before after → DoneOf after (slice_get before.book.members place) → DoneBelow before before.book.members place
+        → (k ≡ place) ⊎ (k ≡ place → ⊥) → k < place + 1 → DoneOf after (slice_get before.book.members k)
+    one-more before after place k keeps here below (inl e) h = subst (λ (n : ℕ). DoneOf after (slice_get before.book.members n)) (sym e) here
+    one-more before after place k keeps here below (inr other) h = keeps-of before after (slice_get before.book.members k) keeps (below k (omega (arith, h, other)))
+
+-- after that no commit is left that may be acknowledged
+pub acknowledges-all : (cluster : Cluster) → let after = moved_all cluster (acknowledges cluster 0 (length cluster.book.members)) in AreAcknowledged after.book.members after.book.servers
+acknowledges-all cluster =
+    let after = moved_all cluster (acknowledges cluster 0 (length cluster.book.members)) in
+    let all = done-from cluster 0 (length cluster.book.members) (λ k h. absurd (omega (arith, h))) in
+    subst (λ (ms : List Member). AreAcknowledged ms after.book.servers) (sym all.0)
+    (λ k d h. subst (DoneOf after) (slice_get-get_or cluster.book.members k d h) (all.1 k (omega (arith, h))))
+
+-- and so it is where a part of a step took this
+pub acknowledged-all : (before after : Cluster) (had has : List Event) (cost : ℕ) → Took before after had has (acknowledges before 0 (length before.book.members)) cost → AreAcknowledged after.book.members after.book.servers
+acknowledged-all before after had has cost took = subst (λ (c : Cluster). AreAcknowledged c.book.members c.book.servers) (sym took.state) (acknowledges-all before)

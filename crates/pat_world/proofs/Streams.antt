@@ -1,5 +1,5 @@
 -- What standbys receive and confirm, one event at a time.
-use Rattle.std.proofs.Common.{◌≡◌, ℕ, suc, ◌+◌, ◌-◌, ◌<◌, ◌≤◌, ◌==◌, ◌&&◌, Bool, true, false, List, [], ◌∷◌, ◌++◌, length, get_or, zero, Option, Some, None, arith, refl, ◌∙◌, ap, sym, subst}
+use Rattle.std.proofs.Common.{◌≡◌, ℕ, suc, ◌+◌, ◌-◌, ◌<◌, ◌≤◌, ◌==◌, ◌&&◌, Bool, true, false, List, [], ◌∷◌, ◌++◌, Option, Some, None, arith, refl, ◌∙◌, ap, sym, subst}
 use Rattle.std.specs.Prelude.{slice_get, if◌then◌else◌}
 use Rattle.pat_base.specs.declared.lsn.Lsn.{Lsn}
 use Rattle.pat_base.specs.declared.ticks.Ticks.{Ticks}
@@ -173,8 +173,3 @@ pub receives-as : (cluster after : Cluster) (place : ℕ) (member : Member) (fro
 receives-as cluster after place member frozen had has there is took =
     subst (λ (o : Option Member). Took cluster after had has (receives_all cluster o) 2) (sym there)
     (subst (λ (o : Option Bool). Took cluster after had has (receives_unless cluster member o) 2) (sym is) took)
-
-pub got-at : (xs : List Bool) (n : ℕ) (x : Bool) → n < length xs → x ≡ get_or xs n x → slice_get xs n ≡ Some x
-got-at [] n x h is = absurd (omega (arith, h))
-got-at (y ∷ xs) zero x h is = ap Some (sym is)
-got-at (y ∷ xs) (suc n) x h is = got-at xs n x (omega (arith, h)) is

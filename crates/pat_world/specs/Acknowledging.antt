@@ -30,6 +30,7 @@ abbrev pub acknowledge_kinds : Member → Option ServerFacts → List Kind
 acknowledge_kinds member None = []
 acknowledge_kinds member (Some s) = map (acknowledgement member) (ready_commits s)
 
+-- no commit of a server is left that may be acknowledged, if there is that server
 abbrev pub IsDone : Option ServerFacts → Type 0
 IsDone None = Unit {0}
 IsDone (Some s) = may_acknowledge s ≡ false
