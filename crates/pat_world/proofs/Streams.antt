@@ -113,11 +113,11 @@ pub diverged-took : (cluster : Cluster) (member from : Member) (most : ℕ) (at 
 diverged-took cluster member from most at server upstream known tick had has news state server_is upstream_is moment has_is =
     let place = member.id.number in
     let told : known ≡ with_server cluster.book.servers place (λ s. record s { diverged = true }) = state ∙ ap (after_news_at cluster.book.servers place from.id.number) news
-      ∙ diverges-from cluster.book.servers place most at (slice_get cluster.book.servers place) (slice_get cluster.book.servers from.id.number) news in
+    ∙ diverges-from cluster.book.servers place most at (slice_get cluster.book.servers place) (slice_get cluster.book.servers from.id.number) news in
     let kind : Kind = kinds.Server (servers.Diverged (server_of member) (server_of from) at) in
     let written : has ≡ had ++ record { tick = tick; kind = kind } ∷ [] = has_is
-      ∙ ap (λ (s : ServerOf). had ++ record { tick = tick; kind = kinds.Server (servers.Diverged s upstream at) } ∷ []) server_is
-      ∙ ap (λ (s : ServerOf). had ++ record { tick = tick; kind = kinds.Server (servers.Diverged (server_of member) s at) } ∷ []) upstream_is in
+    ∙ ap (λ (s : ServerOf). had ++ record { tick = tick; kind = kinds.Server (servers.Diverged s upstream at) } ∷ []) server_is
+    ∙ ap (λ (s : ServerOf). had ++ record { tick = tick; kind = kinds.Server (servers.Diverged (server_of member) s at) } ∷ []) upstream_is in
     subst (λ (o : Option Streamed). Took cluster (with_servers cluster known) had has (receives cluster member from o) 2) (sym news)
     (Took-weaker cluster (with_servers cluster known) had has _ 1 2 (serving-took cluster (with_servers cluster known) kind tick had has tt tt (ap (with_servers cluster) told) moment written) (omega arith))
 
@@ -149,8 +149,8 @@ pub received-took : (cluster after : Cluster) (member from : Member) (most count
     → Took cluster after had has (receives cluster member from (news_at cluster.book.servers member.id.number from.id.number most)) 2
 received-took cluster after member from most count server upstream known tick had mid has news state server_is upstream_is moment mid_is rest =
     let written : mid ≡ had ++ record { tick = tick; kind = receipt member from count } ∷ [] = mid_is
-      ∙ ap (λ (s : ServerOf). had ++ record { tick = tick; kind = kinds.Log (logs.Received s upstream count) } ∷ []) server_is
-      ∙ ap (λ (s : ServerOf). had ++ record { tick = tick; kind = kinds.Log (logs.Received (server_of member) s count) } ∷ []) upstream_is in
+    ∙ ap (λ (s : ServerOf). had ++ record { tick = tick; kind = kinds.Log (logs.Received s upstream count) } ∷ []) server_is
+    ∙ ap (λ (s : ServerOf). had ++ record { tick = tick; kind = kinds.Log (logs.Received (server_of member) s count) } ∷ []) upstream_is in
     subst (λ (o : Option Streamed). Took cluster after had has (receives cluster member from o) 2) (sym news)
     (Took-after cluster (with_servers cluster known) after had mid has tick (receipt member from count) (λ later. confirms later member from) 1 2 tt moment
     (received-state cluster member from most count known news state) written rest (omega arith))

@@ -8,6 +8,7 @@ ghost use Rattle.event_book.specs.declared.event.Event.{Event};
 ghost use Rattle.event_book.specs.Agents.{first_agents};
 ghost use Rattle.event_book.specs.Flight.{in_flight, snapshot_for, grant_for};
 ghost use Rattle.event_book.specs.Members.{members_from};
+ghost use Rattle.pat_world.specs.Acknowledging.{AreAcknowledged};
 ghost use Rattle.pat_world.specs.Book.{StandsFor, next_of};
 ghost use Rattle.pat_world.specs.Calm.{IsCalm};
 ghost use Rattle.pat_world.specs.Cluster.{Cluster, cluster_of, first_phases};
@@ -133,13 +134,14 @@ impl World {
     }
 
     /// One step. On Ok the events are those that come next, and the world is what they leave: a world that stood for a
-    /// book stands for that book with them at its end. On Err, want of memory, the world and the events aren't to be
+    /// book stands for that book with them at its end. No commit is left that may be acknowledged. On Err, want of memory, the world and the events aren't to be
     /// used any more.
     pub fn step(&mut self, step: &Step, events: &mut Vec<Event>) -> Result<(), AllocError>
         requires { HasRoomFor self.old 1 }
         ensures took { OnOk result (Took self.old self.new events.old.items events.new.items (next_events self.old step.now) 16777216) }
         ensures book { OnOk result ((start : Cluster) (book : List Event) → StandsFor start book self.old
             → (events.new.items ≡ events.old.items ++ next_of start book step.now) × StandsFor start (book ++ next_of start book step.now) self.new) }
+        ensures acknowledged { OnOk result (AreAcknowledged self.new.book.members self.new.book.servers) }
     {
         self.take(step, events)?;
         self.acknowledge_all(events)
