@@ -72,11 +72,12 @@ pub ready-next : (s : ServerFacts) (commit : ℕ) → next_acknowledged s ≡ So
 ready-next s commit is =
     let next = when-next (may_acknowledge s) s.waiting commit is in
     let met = both (writes s.state) (first_is_met s.required s.confirmed s.waiting) next.0 in
-    let front = front-next s.required s.confirmed s.waiting commit met.1 next.1 in
-    (ap (λ (b : Bool). if b then confirmed_front s.required s.confirmed s.waiting else []) met.0 ∙ front.0
-      ∙ ap (λ (b : Bool). commit ∷ (if b then confirmed_front s.required s.confirmed (drop 1 s.waiting) else [])) (sym met.0),
-    ap (λ (b : Bool). if b then one_told s else s) next.0,
-    front.1)
+    let front = front-next s.required s.confirmed s.waiting commit met.1 next.1 in (
+      ap (λ (b : Bool). if b then confirmed_front s.required s.confirmed s.waiting else []) met.0 ∙ front.0
+          ∙ ap (λ (b : Bool). commit ∷ (if b then confirmed_front s.required s.confirmed (drop 1 s.waiting) else [])) (sym met.0),
+      ap (λ (b : Bool). if b then one_told s else s) next.0,
+      front.1,
+    )
 
 none-met : (met : Bool) (serial : ℕ) (rest : List ℕ) → (if met then Some serial else None) ≡ None → (met ≡ false) × ((if met then serial ∷ rest else []) ≡ [])
 none-met false serial rest is = (refl, refl)
@@ -134,9 +135,9 @@ acknowledged-one cluster member commit s server known told tick has longer there
     let place = member.id.number in
     let kind : Kind = acknowledgement member commit in
     let servers : known ≡ with_server cluster.book.servers place one_told = known_is ∙ ap (with_server_at cluster.book.servers place acknowledged) there
-      ∙ ap (slice_set cluster.book.servers place) (ready-next s commit next).1 ∙ sym (ap (with_server_at cluster.book.servers place one_told) there) in
+    ∙ ap (slice_set cluster.book.servers place) (ready-next s commit next).1 ∙ sym (ap (with_server_at cluster.book.servers place one_told) there) in
     let state : telling cluster known told ≡ moved cluster kind = ap (λ (xs : List ServerFacts). telling cluster xs told) servers
-      ∙ ap (telling cluster (with_server cluster.book.servers place one_told)) told_is ∙ sym (serving-moved cluster kind tt) in
+    ∙ ap (telling cluster (with_server cluster.book.servers place one_told)) told_is ∙ sym (serving-moved cluster kind tt) in
     record {
       state = state;
       event = longer_is ∙ ap (λ (x : ServerOf). has ++ record { tick = tick; kind = kinds.Replication (replications.Acknowledged x commit) } ∷ []) server_is ∙ ap (λ es. has ++ es) (stamped-is cluster tick kind at);

@@ -9,7 +9,7 @@ loop-commit-smaller c = acknowledge-fewer c.loop-commit.self-inside.servers c.ne
 pub loop-commit-preserved : goal.loop-commit-preserved
 loop-commit-preserved c = record {
   left = acknowledge-more _ (seen c.loop-commit.self-inside) c.args.member c.in-Some.commit c.of-server.result c.next_acknowledged.new.self c.push.new.self.items c.loop-commit.self-inside.clock
-    _ _ _ _ c.loop-commit.invariant.left (sym c.next_acknowledged.ensures.commit ∙ c.in-Some.is) c.next_acknowledged.ensures.after c.in_ok-push.ensures.items c.of-server.ensures refl c.in_ok-note.ensures;
+      _ _ _ _ c.loop-commit.invariant.left (sym c.next_acknowledged.ensures.commit ∙ c.in-Some.is) c.next_acknowledged.ensures.after c.in_ok-push.ensures.items c.of-server.ensures refl c.in_ok-note.ensures;
   members = c.loop-commit.invariant.members;
   settled = c.loop-commit.invariant.settled;
   kept = c.loop-commit.invariant.kept;

@@ -15,5 +15,5 @@ pub returns : goal.returns
 returns c =
     let count : c.len-count.result ≡ length c.args.self.now.book.members = omega (arith, c.len-count.ensures, ap (λ (b : Cluster). length b.book.members) c.self.view_is) in
     let took = subst (λ (n : ℕ). Took c.args.self.now c.loop-place.self c.args.events.now.items c.loop-place.events.items (acknowledges c.args.self.now 0 n) 0) count
-      (Left-end _ _ _ _ _ _ _ _ c.loop-place.invariant (acknowledges-end c.loop-place.self c.loop-place.place c.len-count.result c.loop-place-test.false)) in
+    (Left-end _ _ _ _ _ _ _ _ c.loop-place.invariant (acknowledges-end c.loop-place.self c.loop-place.place c.len-count.result c.loop-place-test.false)) in
     record { took = took; done = acknowledged-all c.args.self.now c.loop-place.self c.args.events.now.items c.loop-place.events.items 0 took }

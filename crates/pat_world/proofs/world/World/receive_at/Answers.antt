@@ -22,7 +22,7 @@ returns-then-frozen c =
     let known : c.deref.result.now ≡ c.args.self.now.book.frozen = c.deref.ensures.value ∙ ap (λ (b : Cluster). b.book.frozen) c.self.view_is in
     let found = c.in-Some-get.ensures.lookup.3 in
     let is : slice_get c.args.self.now.book.frozen place ≡ Some true =
-      subst (λ (xs : List Bool). slice_get xs place ≡ Some true) known (slice_get_read c.deref.result.now (length c.deref.result.now) place c.in-Some-get.frozen.now refl found.0 (found.1 c.in-Some-get.frozen.now) ∙ ap Some c.if-frozen.true) in
+    subst (λ (xs : List Bool). slice_get xs place ≡ Some true) known (slice_get_read c.deref.result.now (length c.deref.result.now) place c.in-Some-get.frozen.now refl found.0 (found.1 c.in-Some-get.frozen.now) ∙ ap Some c.if-frozen.true) in
     receives-as c.args.self.now c.args.self.now c.args.place c.in-Some.member (Some true) c.args.events.now.items c.args.events.now.items (sym c.member.ensures ∙ c.in-Some.is) is (Took-nothing c.args.self.now c.args.events.now.items 2)
 
 pub returns-else-frozen : goal.returns-else-frozen
@@ -31,7 +31,7 @@ returns-else-frozen c =
     let known : c.deref.result.now ≡ c.args.self.now.book.frozen = c.deref.ensures.value ∙ ap (λ (b : Cluster). b.book.frozen) c.self.view_is in
     let found = c.in-Some-get.ensures.lookup.3 in
     let is : slice_get c.args.self.now.book.frozen place ≡ Some false =
-      subst (λ (xs : List Bool). slice_get xs place ≡ Some false) known (slice_get_read c.deref.result.now (length c.deref.result.now) place c.in-Some-get.frozen.now refl found.0 (found.1 c.in-Some-get.frozen.now) ∙ ap Some c.if-frozen.false) in
+    subst (λ (xs : List Bool). slice_get xs place ≡ Some false) known (slice_get_read c.deref.result.now (length c.deref.result.now) place c.in-Some-get.frozen.now refl found.0 (found.1 c.in-Some-get.frozen.now) ∙ ap Some c.if-frozen.false) in
     on_ok_weaker c.receive.result
     (λ took. receives-as c.args.self.now c.receive.new.self c.args.place c.in-Some.member (Some false) c.args.events.now.items c.receive.new.events.items (sym c.member.ensures ∙ c.in-Some.is) is took)
     c.receive.ensures
