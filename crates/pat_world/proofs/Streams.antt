@@ -54,21 +54,18 @@ quiet-took cluster after member from most known had has none state took =
     let confirming : Took cluster after had has (confirms cluster member from) 1 = subst (λ (s : List ServerFacts). Took (with_servers cluster s) after had has (confirms (with_servers cluster s) member from) 1) same took in
     subst (λ (o : Option Streamed). Took cluster after had has (receives cluster member from o) 2) (sym none) (Took-weaker cluster after had has (confirms cluster member from) 1 2 confirming (omega arith))
 
+no-news : (answer : Streamed) → None ≡ Some answer → ⊥
+no-news answer is = cc
+
 unless-connected : (nothing : Bool) (answer : Streamed) → (answer ≡ streams.NotConnected → ⊥) → (if nothing then None else Some answer) ≡ Some streams.NotConnected → ⊥
-unless-connected true answer other is = clash is
-  where
-    clash : ◌≡◌ {A = Option Streamed} None (Some streams.NotConnected) → ⊥
-    clash is = cc
+unless-connected true answer other is = no-news streams.NotConnected is
 unless-connected false answer other is = other (inner is)
   where
     inner : Some answer ≡ Some streams.NotConnected → answer ≡ streams.NotConnected
     inner is = cc
 
 connected-by : (answer : Streamed) (s upstream : ServerFacts) → news_by answer s upstream ≡ Some streams.NotConnected → ⊥
-connected-by streams.NotConnected s upstream is = clash is
-  where
-    clash : ◌≡◌ {A = Option Streamed} None (Some streams.NotConnected) → ⊥
-    clash is = cc
+connected-by streams.NotConnected s upstream is = no-news streams.NotConnected is
 connected-by (streams.Diverged at) s upstream is = unless-connected s.diverged (streams.Diverged at) (λ e. clash e) is
   where
     clash : streams.Diverged at ≡ streams.NotConnected → ⊥
@@ -79,14 +76,8 @@ connected-by (streams.Received count) s upstream is = unless-connected ((count =
     clash e = cc
 
 connected-between : (found upstream : Option ServerFacts) (most : ℕ) → news_between found upstream most ≡ Some streams.NotConnected → ⊥
-connected-between None upstream most is = clash is
-  where
-    clash : ◌≡◌ {A = Option Streamed} None (Some streams.NotConnected) → ⊥
-    clash is = cc
-connected-between (Some s) None most is = clash is
-  where
-    clash : ◌≡◌ {A = Option Streamed} None (Some streams.NotConnected) → ⊥
-    clash is = cc
+connected-between None upstream most is = no-news streams.NotConnected is
+connected-between (Some s) None most is = no-news streams.NotConnected is
 connected-between (Some s) (Some upstream) most is = connected-by (stream_of s upstream most) s upstream is
 
 -- that a standby isn't connected is no news
@@ -95,14 +86,8 @@ connected known place from most is = connected-between (slice_get known place) (
 
 diverges-from : (known : List ServerFacts) (place most : ℕ) (at : Lsn) (found upstream : Option ServerFacts) → news_between found upstream most ≡ Some (streams.Diverged at)
     → told_from known place (streams.Diverged at) upstream ≡ with_server known place (λ s. record s { diverged = true })
-diverges-from known place most at None None is = absurd (clash is)
-  where
-    clash : ◌≡◌ {A = Option Streamed} None (Some (streams.Diverged at)) → ⊥
-    clash is = cc
-diverges-from known place most at (Some s) None is = absurd (clash is)
-  where
-    clash : ◌≡◌ {A = Option Streamed} None (Some (streams.Diverged at)) → ⊥
-    clash is = cc
+diverges-from known place most at None None is = absurd (no-news (streams.Diverged at) is)
+diverges-from known place most at (Some s) None is = absurd (no-news (streams.Diverged at) is)
 diverges-from known place most at found (Some upstream) is = refl
 
 -- the log of a standby diverged

@@ -3,8 +3,6 @@ use Rattle.std.specs.Prelude.{slice_get}
 use Rattle.std.proofs.lemmas.Option.{slice_get_past, slice_get_read}
 use Rattle.std.proofs.lemmas.Result.{on_ok_weaker}
 use Rattle.pat_world.specs.Cluster.{Cluster}
-use Rattle.pat_world.specs.Next.{receives_at}
-use Rattle.pat_world.specs.Took.{Took}
 use Rattle.pat_world.proofs.Streams.{receives-as}
 use Rattle.pat_world.proofs.Taking.{Took-nothing}
 use Rattle.pat_world.proofs.world.World.receive_at.Goals as goal
