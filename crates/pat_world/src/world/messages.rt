@@ -1,0 +1,262 @@
+//! Messages: how they are sent, move and come, and what the key store decides.
+ghost use Rattle.std.specs.Prelude.{◌≡◌, ◌≤◌, ◌+◌, ◌*◌, ◌^◌, ◌++◌, length, OnOk, IfOk, option_map};
+ghost use Rattle.lease_store.specs.Answers.{present_pairs};
+ghost use Rattle.lease_store.specs.Decision.{decision_on};
+ghost use Rattle.lease_store.specs.Writes.{ttl_of};
+ghost use Rattle.event_book.specs.Flight.{in_flight, snapshot_for, grant_for};
+ghost use Rattle.pat_world.specs.Next.{happens, stamped, lost_at_once, sends, answer_to, answers, decides, comes_found, moves, all_move, delivers, loses};
+ghost use Rattle.pat_world.specs.Room.{HasRoom};
+ghost use Rattle.pat_world.specs.Short.{IsShort};
+ghost use Rattle.pat_world.specs.Took.{Took};
+ghost use Rattle.pat_world.specs.Ways.{way_of};
+
+use super::{World, note};
+use crate::agents::listen;
+use crate::flight::InFlight;
+use crate::way::Way;
+use crate::ways::way_of;
+use event_book::{Body, Event, Kind, LinkEnd, Message, MessageEvent, Names, Note, StoreEvent};
+use lease_store::{Granted, Held, Key, StoreRefusal, Txn};
+use pat_base::Ticks;
+use std::alloc::AllocError;
+
+impl World {
+    /// These messages move, one after another.
+    pub fn all_move(&mut self, numbers: &[u64], events: &mut Vec<Event>) -> Result<(), AllocError>
+        requires { HasRoom self.old (5 * length numbers.now) }
+        ensures { OnOk result (Took self.old self.new events.old.items events.new.items (all_move self.old numbers.now) (5 * length numbers.now)) }
+    {
+        for number in numbers {
+            self.move_message(*number, events)?;
+        }
+        Ok(())
+    }
+
+    /// A message comes to its receiver, is lost, or is kept for a receiver that is held.
+    pub fn move_message(&mut self, number: u64, events: &mut Vec<Event>) -> Result<(), AllocError>
+        requires { HasRoom self.old 5 }
+        ensures { OnOk result (Took self.old self.new events.old.items events.new.items (moves self.old number) 5) }
+    {
+        match self.way(number) {
+            None | Some(Way::Held) => Ok(()),
+            Some(Way::Open) => self.arrive(number, events),
+            Some(Way::Cut | Way::Gone) => self.drop_message(number, events),
+        }
+    }
+
+    /// A script delivers a message, where it is in flight and nothing stands in its way.
+    pub fn deliver(&mut self, number: u64, events: &mut Vec<Event>) -> Result<(), AllocError>
+        requires { HasRoom self.old 5 }
+        ensures { OnOk result (Took self.old self.new events.old.items events.new.items (delivers self.old number (in_flight self.old.book.flight number)) 5) }
+    {
+        match self.way(number) {
+            None => note(events, self.clock, Kind::Note(Note::NoMessage { number })),
+            Some(Way::Open) => self.arrive(number, events),
+            Some(Way::Gone) => self.drop_message(number, events),
+            Some(Way::Cut | Way::Held) => {
+                note(
+                    events,
+                    self.clock,
+                    Kind::Note(Note::Undeliverable { number }),
+                )
+            }
+        }
+    }
+
+    /// A script loses a message, where it is in flight.
+    pub fn lose(&mut self, number: u64, events: &mut Vec<Event>) -> Result<(), AllocError>
+        requires { HasRoom self.old 1 }
+        ensures { OnOk result (Took self.old self.new events.old.items events.new.items (loses self.old number (in_flight self.old.book.flight number)) 1) }
+    {
+        match self.way(number) {
+            None => note(events, self.clock, Kind::Note(Note::NoMessage { number })),
+            Some(_) => self.drop_message(number, events),
+        }
+    }
+
+    /// What stands between a message and its receiver. `None` exactly where it isn't in flight.
+    pub fn way(&self, number: u64) -> Option<Way>
+        ensures { result ≡ option_map (λ m. way_of self.now.book.cuts self.now.book.agents m.message) (in_flight self.now.book.flight number) }
+    {
+        let carried = self.flight.get(number)?;
+        Some(way_of(&self.cuts, &self.agents, &carried.message))
+    }
+
+    /// A message in flight is lost.
+    pub fn drop_message(&mut self, number: u64, events: &mut Vec<Event>) -> Result<(), AllocError>
+        requires { HasRoom self.old 1 }
+        ensures { OnOk result (Took self.old self.new events.old.items events.new.items (happens self.old (Kind.Message (MessageEvent.Lost number))) 1) }
+    {
+        let _ = self.flight.land(number);
+        note(
+            events,
+            self.clock,
+            Kind::Message(MessageEvent::Lost { number }),
+        )
+    }
+
+    /// A message in flight comes to its receiver, which acts on it.
+    pub fn arrive(&mut self, number: u64, events: &mut Vec<Event>) -> Result<(), AllocError>
+        requires { HasRoom self.old 5 }
+        ensures { OnOk result (Took self.old self.new events.old.items events.new.items (comes_found self.old number (in_flight self.old.book.flight number)) 5) }
+    {
+        let Some(carried) = self.flight.land(number) else {
+            return Ok(());
+        };
+        match carried.message.to {
+            LinkEnd::Store => {
+                note(
+                    events,
+                    self.clock,
+                    Kind::Message(MessageEvent::Delivered { number }),
+                )?;
+                self.answer(number, &carried.message, events)
+            }
+            LinkEnd::Member(member) => {
+                let reaction = listen(&mut self.phases, self.clock, &carried, member);
+                note(
+                    events,
+                    self.clock,
+                    Kind::Message(MessageEvent::Delivered { number }),
+                )?;
+                self.react(member, reaction, events)
+            }
+        }
+    }
+
+    /// The store answers a read with a snapshot, and a request with its decision.
+    pub fn answer(
+        &mut self,
+        number: u64,
+        message: &Message,
+        events: &mut Vec<Event>,
+    ) -> Result<(), AllocError>
+        requires room { HasRoom self.old 3 }
+        requires short { IsShort message.now.body }
+        ensures { OnOk result (Took self.old self.new events.old.items events.new.items (answers self.old number message.now) 3) }
+    {
+        match &message.body {
+            Body::Read => self.send(answer_to(message, Body::Snapshot), None, events),
+            Body::Request(txn) => self.decide(number, message, txn, events),
+            _ => Ok(()),
+        }
+    }
+
+    /// The store decides on the request that a message carries.
+    pub fn decide(
+        &mut self,
+        number: u64,
+        message: &Message,
+        txn: &Txn,
+        events: &mut Vec<Event>,
+    ) -> Result<(), AllocError>
+        requires room { HasRoom self.old 3 }
+        requires span { ttl_of txn.now ≤ 2 ^ 40 }
+        ensures { OnOk result (Took self.old self.new events.old.items events.new.items (decides self.old number message.now txn.now (decision_on self.old.book.keys self.old.book.clock txn.now) message.now.from) 3) }
+    {
+        let LinkEnd::Member(by) = message.from else {
+            return Ok(());
+        };
+        match self.store.apply(self.clock, by.id, txn.copy()?) {
+            Ok(grant) => {
+                let granted = StoreEvent::Granted {
+                    number,
+                    by,
+                    txn: txn.copy()?,
+                    standbys: Names::none(self.alloc),
+                };
+                note(events, self.clock, Kind::Store(granted))?;
+                let body = Body::Granted {
+                    request: number,
+                    leased: grant.leased(),
+                };
+                self.send(answer_to(message, body), Some(grant), events)
+            }
+            Err(StoreRefusal::Mismatch { key, found }) => {
+                let refused = StoreEvent::Refused {
+                    number,
+                    by,
+                    request: txn.kind(),
+                    key,
+                    found,
+                };
+                note(events, self.clock, Kind::Store(refused))?;
+                let body = Body::Refused {
+                    request: number,
+                    key,
+                    found,
+                };
+                self.send(answer_to(message, body), None, events)
+            }
+            Err(StoreRefusal::Memory) => Err(AllocError),
+        }
+    }
+
+    /// A message is sent under the next number, with the snapshot and the grant that an answer of the store carries. One
+    /// that is sent beyond the most in flight is lost at once.
+    pub fn send(
+        &mut self,
+        message: Message,
+        grant: Option<Granted>,
+        events: &mut Vec<Event>,
+    ) -> Result<(), AllocError>
+        requires room { HasRoom self.old 2 }
+        requires short { IsShort message.body }
+        requires grant { grant ≡ grant_for message.body message.to self.old.book.keys.revision }
+        ensures { OnOk result (Took self.old self.new events.old.items events.new.items (sends self.old message) 2) }
+    {
+        let number = self.sent + 1;
+        let carried = InFlight {
+            message: message.copy()?,
+            snapshot: self.snapshot_for(&message.body)?,
+            grant,
+        };
+        let lost = self.flight.launch(number, carried)?;
+        self.sent = number;
+        note(
+            events,
+            self.clock,
+            Kind::Message(MessageEvent::Sent { number, message }),
+        )?;
+        note_lost(events, self.clock, lost, number)
+    }
+
+    /// What the store holds, for an answer that tells it.
+    pub fn snapshot_for(&self, body: &Body) -> Result<Vec<(Key, Held)>, AllocError>
+        ensures { IfOk result (λ snapshot. snapshot.items ≡ snapshot_for body.now (present_pairs self.now.book.clock self.now.book.keys.pairs)) }
+    {
+        match body {
+            Body::Snapshot | Body::Granted { .. } => self.store.entries(self.clock),
+            _ => Ok(Vec::new(self.alloc)),
+        }
+    }
+}
+
+/// An answer of the store.
+fn answer_to(message: &Message, body: Body) -> Message
+    ensures { result ≡ answer_to message.now body }
+{
+    Message {
+        from: LinkEnd::Store,
+        to: message.from,
+        run: message.run,
+        sequence: message.sequence,
+        body,
+    }
+}
+
+/// Writes down that a message was lost at once, if it was.
+fn note_lost(
+    events: &mut Vec<Event>,
+    tick: Ticks,
+    lost: bool,
+    number: u64,
+) -> Result<(), AllocError>
+    ensures { OnOk result (events.new.items ≡ events.old.items ++ stamped tick (lost_at_once lost number)) }
+{
+    if lost {
+        note(events, tick, Kind::Message(MessageEvent::Lost { number }))
+    } else {
+        Ok(())
+    }
+}
