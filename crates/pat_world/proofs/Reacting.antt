@@ -1,5 +1,5 @@
 -- What an agent does on what it hears.
-use Rattle.std.proofs.Common.{◌≡◌, ℕ, ◌+◌, List, Option, Some, arith, sym, subst}
+use Rattle.std.proofs.Common.{◌≡◌, List, Option, Some, arith, sym, subst}
 use Rattle.event_book.specs.declared.event.Event.{Event}
 use Rattle.event_book.specs.declared.member.Member.{Member}
 use Rattle.pat_world.specs.declared.phase.Reaction.{Reaction}

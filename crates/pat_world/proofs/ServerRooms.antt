@@ -9,7 +9,7 @@ use Rattle.pat_base.specs.declared.ticks.Ticks.{Ticks}
 use Rattle.pat_base.specs.ServerState.{live}
 use Rattle.pg_model.specs.Facts.{ServerFacts, is_down}
 use Rattle.pg_model.specs.Replication.{received_from}
-use Rattle.pg_model.specs.Running.{completed, replica_started, started, starting, ticked}
+use Rattle.pg_model.specs.Running.{completed, replica_started, started, ticked}
 use Rattle.pg_model.specs.Servers.{quietly_ticked, with_server, with_server_at}
 use Rattle.event_book.specs.declared.event.Kind.{Kind}
 use Rattle.event_book.specs.declared.event.Kind.TheVariants as kinds

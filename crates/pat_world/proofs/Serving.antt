@@ -1,7 +1,5 @@
 -- What happens at servers, one event at a time.
-use Rattle.std.proofs.Common.{◌≡◌, ℕ, ◌+◌, ◌^◌, ◌≤◌, ◌<◌, ◌==◌, Bool, true, false, List, [], ◌∷◌, ◌++◌, Option, Some, None, IsTrue, arith, append_assoc, refl, ◌∙◌, ap, sym, subst, cond}
-use Rattle.std.specs.Prelude.{slice_get, if◌then◌else◌}
-use Rattle.std.proofs.lemmas.Option.{none-some, same_Some}
+use Rattle.std.proofs.Common.{◌≡◌, ℕ, Bool, List, [], ◌∷◌, ◌++◌, Option, Some, None, arith, refl, ◌∙◌, ap, sym, subst}
 use Rattle.pat_base.specs.declared.ticks.Ticks.{Ticks}
 use Rattle.pg_model.specs.Facts.{ServerFacts}
 use Rattle.event_book.specs.declared.event.Event.{Event}
@@ -11,7 +9,7 @@ use Rattle.event_book.specs.declared.event.ServerEvent.{ServerEvent}
 use Rattle.event_book.specs.Acknowledged.{acknowledged_after, commits_after}
 use Rattle.event_book.specs.Frozen.{frozen_after}
 use Rattle.event_book.specs.Servers.{servers_after}
-use Rattle.pat_world.specs.Cluster.{Cluster, moved, moved_all}
+use Rattle.pat_world.specs.Cluster.{Cluster, moved}
 use Rattle.pat_world.specs.Next.{all_happen, happens}
 use Rattle.pat_world.specs.ServerCommands.{server_kinds}
 use Rattle.pat_world.specs.Took.{Took}

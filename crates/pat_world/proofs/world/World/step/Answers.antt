@@ -1,4 +1,4 @@
-use Rattle.std.proofs.Common.{◌+◌, arith, length}
+use Rattle.std.proofs.Common.{arith, length}
 use Rattle.std.proofs.lemmas.Result.{on_ok_weaker}
 use Rattle.pat_world.specs.Next.{acknowledges, taken}
 use Rattle.pat_world.proofs.Standing.{step-stands}
