@@ -85,9 +85,11 @@ impl Model for World {
 }
 
 impl World {
-    /// The world of a script's head, before the first step. It fails only for want of memory.
+    /// The world of a script's head, before the first step: it stands for the empty book. It fails only for want of
+    /// memory.
     pub fn new(alloc: Global, head: &Head) -> Result<World, AllocError>
-        ensures { IfOk result (λ world. world ≡ cluster_of head.now) }
+        ensures cluster { IfOk result (λ world. world ≡ cluster_of head.now) }
+        ensures book { IfOk result (λ world. StandsFor (cluster_of head.now) [] world) }
     {
         let count = head.member_count();
         let members = members_of(alloc, head)?;

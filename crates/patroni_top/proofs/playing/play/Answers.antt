@@ -12,13 +12,13 @@ use Rattle.patroni_top.proofs.Whole.{has-room, text-is, TakesAll-then, TakesAll-
 use Rattle.patroni_top.proofs.playing.play.Goals as goal
 
 pub play_body-requires : goal.play_body-requires
-play_body-requires g c = has-room c.args.script.now c.in_ok-world.world c.requires.few (c.in_ok-world.ensures ∙ ap (λ h. cluster_of h) c.head.ensures.value)
+play_body-requires g c = has-room c.args.script.now c.in_ok-world.world c.requires.few (c.in_ok-world.ensures.cluster ∙ ap (λ h. cluster_of h) c.head.ensures.value)
 
 pub returns-in_err-play_body-clause-part : goal.returns-in_err-play_body-clause-part
 returns-in_err-play_body-clause-part g c =
     let script = c.args.script.now in
     let world = c.in_ok-world.world in
-    let start = c.in_ok-world.ensures ∙ ap (λ h. cluster_of h) c.head.ensures.value in
+    let start = c.in_ok-world.ensures.cluster ∙ ap (λ h. cluster_of h) c.head.ensures.value in
     let book = run_from world (steps_of script.body) in
     let end = (moved_all world book).book.clock in
     OnErr-holds c.from_residual-in_err-play_body.result
@@ -29,7 +29,7 @@ pub returns-in_err-play_body-clause-room : goal.returns-in_err-play_body-clause-
 returns-in_err-play_body-clause-room g c =
     let script = c.args.script.now in
     let world = c.in_ok-world.world in
-    let start = c.in_ok-world.ensures ∙ ap (λ h. cluster_of h) c.head.ensures.value in
+    let start = c.in_ok-world.ensures.cluster ∙ ap (λ h. cluster_of h) c.head.ensures.value in
     let book = run_from world (steps_of script.body) in
     let end = (moved_all world book).book.clock in
     let final = c.from_residual-in_err-play_body.result in
@@ -41,7 +41,7 @@ pub returns-clause-ok : goal.returns-clause-ok
 returns-clause-ok g c =
     let script = c.args.script.now in
     let world = c.in_ok-world.world in
-    let start = c.in_ok-world.ensures ∙ ap (λ h. cluster_of h) c.head.ensures.value in
+    let start = c.in_ok-world.ensures.cluster ∙ ap (λ h. cluster_of h) c.head.ensures.value in
     let book = run_from world (steps_of script.body) in
     on_ok_weaker c.print_summary.result
     (λ grew. subst (λ (t : List ℕ). Grew (g.K.Sink.content c.args.out.now) (g.K.Sink.content c.print_summary.new.out) t)
@@ -53,7 +53,7 @@ pub returns-clause-part : goal.returns-clause-part
 returns-clause-part g c =
     let script = c.args.script.now in
     let world = c.in_ok-world.world in
-    let start = c.in_ok-world.ensures ∙ ap (λ h. cluster_of h) c.head.ensures.value in
+    let start = c.in_ok-world.ensures.cluster ∙ ap (λ h. cluster_of h) c.head.ensures.value in
     let book = run_from world (steps_of script.body) in
     on_err_weaker c.print_summary.result
     (λ part. subst (λ (t : List ℕ). GrewByPrefix (g.K.Sink.content c.args.out.now) (g.K.Sink.content c.print_summary.new.out) t)
@@ -65,7 +65,7 @@ pub returns-clause-room : goal.returns-clause-room
 returns-clause-room g c =
     let script = c.args.script.now in
     let world = c.in_ok-world.world in
-    let start = c.in_ok-world.ensures ∙ ap (λ h. cluster_of h) c.head.ensures.value in
+    let start = c.in_ok-world.ensures.cluster ∙ ap (λ h. cluster_of h) c.head.ensures.value in
     let book = run_from world (steps_of script.body) in
     subst (λ (t : List ℕ). TakesAll (g.K.Sink.can_take c.args.out.now) (g.K.Sink.can_take c.print_summary.new.out) c.print_summary.result t)
     (text-is script world c.play_body.new.world c.clock.result.0 start c.in_ok-play_body.ensures.state c.clock.ensures)
