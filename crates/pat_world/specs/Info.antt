@@ -14,6 +14,6 @@ one-within = (omega (arith, ints), omega (arith, ints))
 abbrev pub no_tags : Tags
 no_tags = record { nofailover = false; nosync = false; noloadbalance = false; failover_priority = pos 1; lowest = one-within.0; highest = one-within.1 }
 
--- what a member tells of itself while it has no server
+-- what a member tells of itself until its agent sees its server
 abbrev pub bare_info : MemberInfo
 bare_info = record { host = local_host; tags = no_tags; state = Stopped; writes = false; timeline = None; end = None }

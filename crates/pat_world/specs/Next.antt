@@ -244,7 +244,7 @@ abbrev pub expiries_of : Option Member → List Key → List Kind
 expiries_of holder [] = []
 expiries_of holder (key ∷ more) = expiry_of holder key ++ expiries_of holder more
 
--- the clock grows by one, and what has expired is dropped
+-- the clock grows by one, with which starts and stops of servers are complete, and what has expired is dropped
 abbrev pub ticks : Cluster → List Event
 ticks cluster = all_happen cluster
     (kinds.Tick ∷ expiries_of (declared_member cluster.book.members (expired_holder cluster.book.keys (cluster.book.clock + 1))) (expired_keys cluster.book.keys (cluster.book.clock + 1)))

@@ -5,7 +5,7 @@ ghost use Rattle.pat_world.specs.Info.{bare_info};
 use lease_store::MemberInfo;
 use pat_base::{Host, Tags, Word};
 
-/// What a member tells of itself while it has no server.
+/// What a member tells of itself until its agent sees its server.
 pub(crate) fn bare_info() -> MemberInfo
     ensures { result ≡ bare_info }
 {

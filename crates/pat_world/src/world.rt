@@ -196,7 +196,8 @@ impl World {
         }
     }
 
-    /// The clock grows by one, and the keys that have expired are dropped.
+    /// The clock grows by one, starts and stops of servers whose moment has come are complete, and the keys that have
+    /// expired are dropped.
     fn tick(&mut self, events: &mut Vec<Event>) -> Result<(), AllocError>
         requires { HasRoom self.old 1 }
         ensures { OnOk result (Took self.old self.new events.old.items events.new.items (ticks self.old) 1) }
