@@ -104,6 +104,13 @@ impl Store {
         absent_keys(*self.pairs.allocator(), &self.pairs, now)
     }
 
+    /// The holder of the leader key, where that key is held and absent at this moment.
+    pub fn expired_holder(&self, now: Ticks) -> Option<MemberId>
+        ensures { result ≡ expired_holder self.now now.0 }
+    {
+        expired_holder(&self.pairs, now)
+    }
+
     /// Drops every key that is absent at this moment. Answers the holder of the leader key where that one was dropped.
     pub fn drop_expired(&mut self, now: Ticks) -> Option<MemberId>
         ensures state { self.new ≡ keys_kept self.old now.0 }

@@ -25,7 +25,7 @@ use Rattle.event_book.specs.Flight.{InFlightFacts, in_flight, landed}
 use Rattle.pat_world.specs.Cluster.{Cluster, moved, phases_told}
 use Rattle.pat_world.specs.Next.{happens, asked, asked_in, question, sends, answer_to, answers, decides, listened, reacts, comes_to, comes_found}
 use Rattle.pat_world.specs.Took.{Took}
-use Rattle.pat_world.proofs.Rooms.{Counts}
+use Rattle.pat_world.specs.Comes.{Counts}
 use Rattle.pat_world.proofs.Taking.{Took-nothing, Took-one, Took-then}
 
 pub stamped-is : (cluster : Cluster) (tick : Ticks) (kind : Kind) → tick.0 ≡ (moved cluster kind).book.clock → ◌≡◌ {A = List Event} ((record { tick = tick; kind = kind }) ∷ []) (happens cluster kind)

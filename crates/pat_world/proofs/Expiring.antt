@@ -1,5 +1,5 @@
 -- The expiries of keys.
-use Rattle.std.proofs.Common.{◌≡◌, ℕ, ◌+◌, ◌<◌, List, [], ◌∷◌, ◌++◌, length, drop, get_or, Option, Some, None, arith, append_assoc, refl, ◌∙◌, ap, sym}
+use Rattle.std.proofs.Common.{◌≡◌, ℕ, ◌+◌, ◌<◌, List, [], ◌∷◌, ◌++◌, length, drop, get_or, Option, Some, None, arith, append_assoc, refl, ◌∙◌, ap, sym, subst}
 use Rattle.std.proofs.lemmas.List.{drop_more}
 use Rattle.pat_base.specs.declared.ticks.Ticks.{Ticks}
 use Rattle.lease_store.specs.declared.key.Key.{Key}
@@ -10,11 +10,11 @@ use Rattle.event_book.specs.declared.event.Kind.{Kind}
 use Rattle.event_book.specs.declared.event.Kind.TheVariants as kinds
 use Rattle.event_book.specs.declared.event.StoreEvent.TheVariants as stores
 use Rattle.event_book.specs.declared.member.Member.{Member}
-use Rattle.pat_world.specs.Cluster.{Cluster, moved, moved_all}
+use Rattle.pat_world.specs.Cluster.{Cluster, moved_all}
 use Rattle.pat_world.specs.Next.{all_happen, happens, stamped, expiry_of, expiries_of, declared_member, ticks}
 use Rattle.pat_world.specs.Took.{Took}
 use Rattle.pat_world.proofs.Rooms.{HasRoom-fewer}
-use Rattle.pat_world.proofs.Taking.{Took-one, Took-then}
+use Rattle.pat_world.proofs.Taking.{Took-then}
 
 pub stamped-append : (tick : Ticks) (xs ys : List Kind) → stamped tick (xs ++ ys) ≡ stamped tick xs ++ stamped tick ys
 stamped-append tick [] ys = refl
@@ -78,19 +78,13 @@ expiries-took cluster holder all had =
     }
 
 -- a tick, and then the expiries of its moment
-pub ticks-took : (cluster after : Cluster) (had mid has : List Event) (tick : Ticks) → tick.0 ≡ cluster.book.clock + 1 → after ≡ moved cluster kinds.Tick
-    → mid ≡ had ++ record { tick = tick; kind = kinds.Tick } ∷ []
+pub ticks-took : (cluster after : Cluster) (had mid has : List Event) (tick : Ticks) → tick.0 ≡ cluster.book.clock + 1 → Took cluster after had mid (happens cluster kinds.Tick) 1
     → has ≡ mid ++ stamped tick (expiries_of (declared_member cluster.book.members (expired_holder cluster.book.keys (cluster.book.clock + 1))) (expired_keys cluster.book.keys (cluster.book.clock + 1)))
     → Took cluster after had has (ticks cluster) 1
-ticks-took cluster after had mid has tick at state mid_is has_is =
-    let holder = declared_member cluster.book.members (expired_holder cluster.book.keys (cluster.book.clock + 1)) in
-    let all = expired_keys cluster.book.keys (cluster.book.clock + 1) in
-    let moment : Ticks = record { 0 = cluster.book.clock + 1 } in
-    let same : ◌≡◌ {A = Ticks} tick moment = ap (λ (n : ℕ). let t : Ticks = record { 0 = n } in t) at in
-    let first : Took cluster (moved cluster kinds.Tick) had (had ++ happens cluster kinds.Tick) (happens cluster kinds.Tick) 1 = Took-one cluster (moved cluster kinds.Tick) had (had ++ happens cluster kinds.Tick) kinds.Tick tt refl refl in
-    let second = expiries-took (moved cluster kinds.Tick) holder all (had ++ happens cluster kinds.Tick) in
-    let whole = Took-then cluster (moved cluster kinds.Tick) (moved cluster kinds.Tick) had (had ++ happens cluster kinds.Tick) _ (happens cluster kinds.Tick) (λ later. all_happen later (expiries_of holder all)) 1 0 1 first second (omega arith) in
-    let events : has ≡ (had ++ happens cluster kinds.Tick) ++ stamped moment (expiries_of holder all) =
-    has_is ∙ ap (λ m. m ++ stamped tick (expiries_of holder all)) mid_is
-    ∙ ap (λ (t : Ticks). let event : Event = record { tick = t; kind = kinds.Tick } in (had ++ event ∷ []) ++ stamped t (expiries_of holder all)) same in
-    rw (state, events) whole
+ticks-took cluster after had mid has tick at first told =
+    let happenings = expiries_of (declared_member cluster.book.members (expired_holder cluster.book.keys (cluster.book.clock + 1))) (expired_keys cluster.book.keys (cluster.book.clock + 1)) in
+    let moment : ◌≡◌ {A = Ticks} tick (record { 0 = after.book.clock }) = ap (λ (n : ℕ). let t : Ticks = record { 0 = n } in t) (at ∙ ap (λ (c : Cluster). c.book.clock) (sym first.state)) in
+    let events : has ≡ mid ++ stamped (record { 0 = after.book.clock }) happenings = told ∙ ap (λ (t : Ticks). mid ++ stamped t happenings) moment in
+    Took-then cluster after after had mid has (happens cluster kinds.Tick) (λ later. all_happen later happenings) 1 0 1 first
+    (subst (λ (es : List Event). Took after after mid es (all_happen after happenings) 0) (sym events)
+    (expiries-took after (declared_member cluster.book.members (expired_holder cluster.book.keys (cluster.book.clock + 1))) (expired_keys cluster.book.keys (cluster.book.clock + 1)) mid)) (omega arith)

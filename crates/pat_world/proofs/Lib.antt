@@ -1,5 +1,6 @@
 pub mod Acknowledgements
 pub mod Changing
+pub mod Comings
 pub mod Deciding
 pub mod Expiring
 pub mod Flights

@@ -22,8 +22,9 @@ use Rattle.event_book.specs.Flight.{InFlightFacts, Flight, in_flight, sent_after
 use Rattle.event_book.specs.Keys.{keys_at}
 use Rattle.pat_world.specs.declared.phase.Phase.{Phase}
 use Rattle.pat_world.specs.Cluster.{Cluster, moved, phases_after, phases_by, phases_told, phases_heard, phases_reached}
+use Rattle.pat_world.specs.Comes.{Counts, CountsAgent, CountsMessage}
 use Rattle.pat_world.specs.Room.{HasRoom, PhaseHasRoom}
-use Rattle.pat_world.proofs.ServerRooms.{All-at, All-weaker, CountsCommit, CountsLog, HasTimeline, commits-more, servers-room}
+use Rattle.pat_world.proofs.ServerRooms.{All-at, All-weaker, CountsCommit, HasTimeline, commits-more, servers-room}
 use Rattle.pat_world.proofs.TurnRooms.{woken-room, heard-room, fresh-room, PhaseHasRoom-fewer}
 
 changed-all_at : (X : Type 0) (P Q : X → Type 0) (xs : List X) (n : ℕ) (change : X → X) (found : Option X) → slice_get xs n ≡ found → All P xs → ((x : X) → P x → Q x)
@@ -34,21 +35,6 @@ changed-all_at X P Q xs n change (Some x) is all weaker at = All-set Q xs n (cha
 pub changed-all : (X : Type 0) (P Q : X → Type 0) (xs : List X) (member : Member) (change : X → X) → All P xs → ((x : X) → P x → Q x)
     → ((x : X) → slice_get xs member.id.number ≡ Some x → P x → Q (change x)) → All Q (changed xs member change)
 changed-all X P Q xs member change all weaker at = changed-all_at X P Q xs member.id.number change (slice_get xs member.id.number) refl all weaker at
-
--- what is counted up is counted up by one: a message has the next number, and a run too
-abbrev pub CountsMessage : ℕ → MessageEvent → Type 0
-CountsMessage sent (messages.Sent number message) = number ≤ sent + 1
-CountsMessage sent _ = Unit {0}
-
-abbrev pub CountsAgent : List AgentState → AgentEvent → Type 0
-CountsAgent states (agents.Started agent run) = (state : AgentState) → slice_get states agent.id.number ≡ Some state → run ≤ state.run + 1
-CountsAgent states _ = Unit {0}
-
-abbrev pub Counts : Cluster → Kind → Type 0
-Counts cluster (kinds.Message happening) = CountsMessage cluster.book.sent happening
-Counts cluster (kinds.Agent happening) = CountsAgent cluster.book.agents happening
-Counts cluster (kinds.Log happening) = CountsLog cluster.book.commits happening
-Counts cluster _ = Unit {0}
 
 now-more : (now : ℕ) (kind : Kind) → (now_after now kind ≤ now + 1) × (now ≤ now_after now kind)
 now-more now kinds.Tick = (omega arith, omega arith)

@@ -1,11 +1,10 @@
 -- Members with their agents.
-use Rattle.std.proofs.Common.{◌≡◌, ℕ, ◌+◌, ◌^◌, ◌<◌, List, length, Option, Some, None, refl, ap, sym, ◌∙◌}
+use Rattle.std.proofs.Common.{◌≡◌, ℕ, ◌+◌, ◌^◌, ◌<◌, List, Option, Some, None, refl, ap, sym, ◌∙◌}
 use Rattle.std.specs.Prelude.{slice_get}
-use Rattle.std.proofs.lemmas.List.{length-set}
 use Rattle.std.proofs.lemmas.Option.{none-some, same_Some}
 use Rattle.event_book.specs.declared.agent_state.AgentState.{AgentState}
 use Rattle.event_book.specs.declared.member.Member.{Member}
-use Rattle.event_book.specs.Agents.{changed, changed_at}
+use Rattle.event_book.specs.Agents.{changed}
 use Rattle.pat_world.specs.declared.phase.Phase.{Phase}
 use Rattle.pat_world.specs.declared.phase.Seat.{Seat}
 use Rattle.pat_world.specs.Cluster.{Cluster}
@@ -52,11 +51,3 @@ phase-room cluster events number phase is room = All-at Phase (PhaseHasRoom clus
 
 pub run-room : (cluster : Cluster) (events : ℕ) (number : ℕ) (state : AgentState) → slice_get cluster.book.agents number ≡ Some state → HasRoom cluster events → state.run + events < 2 ^ 60
 run-room cluster events number state is room = All-at AgentState (λ (s : AgentState). s.run + events < 2 ^ 60) cluster.book.agents number state room.runs is
-
-length-changed_at : (X : Type 0) (xs : List X) (n : ℕ) (change : X → X) (found : Option X) → length (changed_at xs n change found) ≡ length xs
-length-changed_at X xs n change None = refl
-length-changed_at X xs n change (Some x) = length-set xs n (change x)
-
--- what is changed of one keeps how many there are
-pub length-changed : (X : Type 0) (xs : List X) (member : Member) (change : X → X) → length (changed xs member change) ≡ length xs
-length-changed X xs member change = length-changed_at X xs member.id.number change (slice_get xs member.id.number)

@@ -23,6 +23,7 @@ use Rattle.event_book.specs.declared.event.WatchdogEvent.{WatchdogEvent}
 use Rattle.event_book.specs.declared.event.WatchdogEvent.TheVariants as watchdogs
 use Rattle.event_book.specs.Acknowledged.{commits_after}
 use Rattle.event_book.specs.Servers.{begun_in, copied_by, received_by, servers_after, servers_by, servers_logged, servers_replicated, servers_watched, starts_as_replica}
+use Rattle.pat_world.specs.Comes.{CountsLog}
 
 -- what holds of each element holds of one
 pub All-at : (X : Type 0) (P : X → Type 0) (xs : List X) (n : ℕ) (x : X) → All P xs → slice_get xs n ≡ Some x → P x
@@ -161,11 +162,6 @@ servers-room now events known (kinds.Replication happening) all = room-replicate
 servers-room now events known (kinds.Agent happening) all = fewer events known all
 servers-room now events known (kinds.Link happening) all = fewer events known all
 servers-room now events known (kinds.Note note) all = fewer events known all
-
--- a commit has the next number
-abbrev pub CountsLog : ℕ → LogEvent → Type 0
-CountsLog last (logs.Appended server entry) = entry.serial ≤ last + 1
-CountsLog last _ = Unit {0}
 
 log-more : (last : ℕ) (happening : LogEvent) → CountsLog last happening → commits_after last (kinds.Log happening) ≤ last + 1
 log-more last (logs.Appended server entry) counts = counts

@@ -19,9 +19,10 @@ use Rattle.event_book.specs.declared.member.ServerOf.{ServerOf}
 use Rattle.event_book.specs.Members.{server_of}
 use Rattle.event_book.specs.Servers.{received_by}
 use Rattle.pat_world.specs.Cluster.{Cluster, moved}
+use Rattle.pat_world.specs.Commands.{kinds_of}
 use Rattle.pat_world.specs.Next.{all_happen, all_receive, confirms, followed, receives, receives_all, receives_at, receives_unless}
 use Rattle.pat_world.specs.Room.{HasRoom}
-use Rattle.pat_world.specs.Streaming.{confirm_kinds, unconfirmed_end}
+use Rattle.pat_world.specs.Streaming.{confirm_of, unconfirmed_end}
 use Rattle.pat_world.specs.Took.{Took}
 use Rattle.pat_world.proofs.Deciding.{Took-after}
 use Rattle.pat_world.proofs.Rooms.{HasRoom-moved}
@@ -41,7 +42,7 @@ pub confirm-took : (cluster : Cluster) (member from : Member) (end : Lsn) (serve
     → known ≡ with_server cluster.book.servers from.id.number (confirming member.id end) → tick.0 ≡ cluster.book.clock → has ≡ had ++ record { tick = tick; kind = confirmed server member end } ∷ []
     → Took cluster (with_servers cluster known) had has (confirms cluster member from) 1
 confirm-took cluster member from end server known tick had has is of_is told at has_is =
-    subst (λ (o : Option Lsn). Took cluster (with_servers cluster known) had has (all_happen cluster (confirm_kinds member from o)) 1) (sym is)
+    subst (λ (o : Option Lsn). Took cluster (with_servers cluster known) had has (all_happen cluster (kinds_of (confirm_of member from o))) 1) (sym is)
     (serving-took cluster (with_servers cluster known) (confirmed (server_of from) member end) tick had has tt tt (ap (with_servers cluster) told) at
     (has_is ∙ ap (λ (s : ServerOf). had ++ record { tick = tick; kind = confirmed s member end } ∷ []) of_is))
 

@@ -3,9 +3,10 @@ use Rattle.std.proofs.Common.{◌≡◌, ℕ, ◌+◌, ◌≤◌, List, [], ◌�
 use Rattle.event_book.specs.declared.event.Event.{Event}
 use Rattle.event_book.specs.declared.event.Kind.{Kind}
 use Rattle.pat_world.specs.Cluster.{Cluster, moved, moved_all}
-use Rattle.pat_world.specs.Next.{happens, followed}
+use Rattle.pat_world.specs.Next.{all_happen, happens, followed}
 use Rattle.pat_world.specs.Took.{Took}
-use Rattle.pat_world.proofs.Rooms.{Counts, HasRoom-moved, HasRoom-fewer}
+use Rattle.pat_world.specs.Comes.{Counts}
+use Rattle.pat_world.proofs.Rooms.{HasRoom-moved, HasRoom-fewer}
 
 pub moved_all-append : (cluster : Cluster) (xs ys : List Event) → moved_all cluster (xs ++ ys) ≡ moved_all (moved_all cluster xs) ys
 moved_all-append cluster [] ys = refl
@@ -43,3 +44,9 @@ Took-weaker before after had has events cost whole took enough = record {
   event = took.event;
   room = λ more room. took.room more (HasRoom-fewer before (whole + more) (cost + more) (omega (arith, enough)) room);
 }
+
+-- one thing happened, and then others
+pub Took-more : (first second third : Cluster) (had mid has : List Event) (kind : Kind) (more : List Kind) (cost whole : ℕ)
+    → Took first second had mid (happens first kind) 1 → Took second third mid has (all_happen second more) cost → 1 + cost ≤ whole → Took first third had has (all_happen first (kind ∷ more)) whole
+Took-more first second third had mid has kind more cost whole one rest enough =
+    Took-then first second third had mid has (happens first kind) (λ later. all_happen later more) 1 cost whole one rest enough

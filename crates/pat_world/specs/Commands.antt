@@ -2,9 +2,7 @@
 use Rattle.std.specs.Prelude.{◌+◌, ◌&&◌, not, if◌then◌else◌, List, [], ◌∷◌, Option, Some, None, slice_get}
 use Rattle.event_book.specs.declared.event.Kind.{Kind}
 use Rattle.event_book.specs.declared.event.Kind.TheVariants as kinds
-use Rattle.event_book.specs.declared.event.AgentEvent.{AgentEvent}
 use Rattle.event_book.specs.declared.event.AgentEvent.TheVariants.{Suspended, Resumed, Killed, Started}
-use Rattle.event_book.specs.declared.event.LinkEvent.{LinkEvent}
 use Rattle.event_book.specs.declared.event.LinkEvent.TheVariants as changes
 use Rattle.event_book.specs.declared.event.Note.TheVariants.{AlreadyRunning}
 use Rattle.event_book.specs.declared.member.Member.{Member}
@@ -17,19 +15,19 @@ use Rattle.cluster_script.specs.declared.line.End.{End}
 use Rattle.cluster_script.specs.declared.line.End.TheVariants as ends
 
 -- an agent that runs and isn't held becomes held
-abbrev pub hold_of : Option Seat → Option AgentEvent
+abbrev pub hold_of : Option Seat → Option Kind
 hold_of None = None
-hold_of (Some seat) = if seat.state.running && not seat.state.held then Some (Suspended seat.member) else None
+hold_of (Some seat) = if seat.state.running && not seat.state.held then Some (kinds.Agent (Suspended seat.member)) else None
 
 -- a held agent goes on
-abbrev pub resume_of : Option Seat → Option AgentEvent
+abbrev pub resume_of : Option Seat → Option Kind
 resume_of None = None
-resume_of (Some seat) = if seat.state.held then Some (Resumed seat.member) else None
+resume_of (Some seat) = if seat.state.held then Some (kinds.Agent (Resumed seat.member)) else None
 
 -- an agent that runs ends
-abbrev pub kill_of : Option Seat → Option AgentEvent
+abbrev pub kill_of : Option Seat → Option Kind
 kill_of None = None
-kill_of (Some seat) = if seat.state.running then Some (Killed seat.member) else None
+kill_of (Some seat) = if seat.state.running then Some (kinds.Agent (Killed seat.member)) else None
 
 abbrev pub member_end : Option Member → Option LinkEnd
 member_end None = None
@@ -50,25 +48,24 @@ abbrev pub link_of : List Member → End → End → Option Link
 link_of members first second = link_between (end_of members first) (end_of members second)
 
 -- a link that isn't cut is cut
-abbrev pub cut_of : List Link → Option Link → Option LinkEvent
+abbrev pub cut_of : List Link → Option Link → Option Kind
 cut_of cuts None = None
-cut_of cuts (Some link) = if is_cut cuts link then None else Some (changes.Cut link)
+cut_of cuts (Some link) = if is_cut cuts link then None else Some (kinds.Link (changes.Cut link))
 
 -- a link that is cut is joined
-abbrev pub join_of : List Link → Option Link → Option LinkEvent
+abbrev pub join_of : List Link → Option Link → Option Kind
 join_of cuts None = None
-join_of cuts (Some link) = if is_cut cuts link then Some (changes.Joined link) else None
+join_of cuts (Some link) = if is_cut cuts link then Some (kinds.Link (changes.Joined link)) else None
 
 -- what happened, if anything did
-abbrev pub agent_kinds : Option AgentEvent → List Kind
-agent_kinds None = []
-agent_kinds (Some happening) = kinds.Agent happening ∷ []
-
-abbrev pub link_kinds : Option LinkEvent → List Kind
-link_kinds None = []
-link_kinds (Some happening) = kinds.Link happening ∷ []
+abbrev pub kinds_of : Option Kind → List Kind
+kinds_of None = []
+kinds_of (Some kind) = kind ∷ []
 
 -- an agent that doesn't run is started, in its next run; of one that runs it is said that it does
-abbrev pub restart_kinds : Option Seat → List Kind
-restart_kinds None = []
-restart_kinds (Some seat) = if seat.state.running then kinds.Note (AlreadyRunning seat.member) ∷ [] else kinds.Agent (Started seat.member (seat.state.run + 1)) ∷ []
+abbrev pub restarted : Seat → Kind
+restarted seat = if seat.state.running then kinds.Note (AlreadyRunning seat.member) else kinds.Agent (Started seat.member (seat.state.run + 1))
+
+abbrev pub restart_of : Option Seat → Option Kind
+restart_of None = None
+restart_of (Some seat) = Some (restarted seat)

@@ -1,7 +1,7 @@
 pub mod Acknowledging
 pub mod Book
-pub mod Calm
 pub mod Cluster
+pub mod Comes
 pub mod Commands
 pub mod Concerns
 pub mod FollowRows

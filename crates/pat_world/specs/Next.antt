@@ -1,5 +1,5 @@
 -- What happens in a step.
-use Rattle.std.specs.Prelude.{ℕ, ◌+◌, ◌-◌, ◌^◌, ◌&&◌, not, nat_le, Bool, true, false, if◌then◌else◌, List, [], ◌∷◌, ◌++◌, map, Option, Some, None, option_map, slice_get, length, zero, suc}
+use Rattle.std.specs.Prelude.{ℕ, ◌+◌, ◌-◌, ◌^◌, ◌&&◌, not, nat_le, Bool, true, false, if◌then◌else◌, List, [], ◌∷◌, ◌++◌, map, Option, Some, None, option_and_then, option_map, slice_get, length, zero, suc}
 use Rattle.std.specs.Map.{keys_of}
 use Rattle.pat_base.specs.declared.member_id.MemberId.{MemberId}
 use Rattle.pat_base.specs.declared.ticks.Ticks.{Ticks}
@@ -33,8 +33,6 @@ use Rattle.event_book.specs.Flight.{InFlightFacts, in_flight}
 use Rattle.event_book.specs.Members.{server_of}
 use Rattle.cluster_script.specs.declared.line.Command.{Command}
 use Rattle.cluster_script.specs.declared.line.Command.TheVariants as commands
-use Rattle.cluster_script.specs.declared.line.Transition.{Transition}
-use Rattle.cluster_script.specs.declared.ranges.Delay.{Delay}
 use Rattle.cluster_script.specs.declared.line.Step.{Step}
 use Rattle.cluster_script.specs.declared.line.Step.TheVariants as steps
 use Rattle.pat_world.specs.Acknowledging.{acknowledge_kinds}
@@ -44,11 +42,11 @@ use Rattle.pat_world.specs.declared.phase.Seat.{Seat}
 use Rattle.pat_world.specs.declared.way.Way.{Way}
 use Rattle.pat_world.specs.declared.way.Way.TheVariants as ways
 use Rattle.pat_world.specs.Cluster.{Cluster, moved, moved_all}
-use Rattle.pat_world.specs.Commands.{agent_kinds, hold_of, resume_of, kill_of, restart_kinds, link_kinds, link_of, cut_of, join_of}
+use Rattle.pat_world.specs.Commands.{kinds_of, hold_of, resume_of, kill_of, restart_of, link_of, cut_of, join_of}
 use Rattle.pat_world.specs.Turns.{is_due, woken, heard}
 use Rattle.pat_world.specs.FollowRows.{follow_kinds, follow_row_of}
-use Rattle.pat_world.specs.ServerCommands.{server_kinds, promote_kinds, promoted_timeline, crash_of, freeze_of, thaw_of, slow_of, commit_kinds}
-use Rattle.pat_world.specs.Streaming.{source_of, confirm_kinds, unconfirmed_end}
+use Rattle.pat_world.specs.ServerCommands.{promote_kinds, promoted_timeline, crash_of, freeze_of, thaw_of, slow_of, commit_of}
+use Rattle.pat_world.specs.Streaming.{source_of, confirm_of, unconfirmed_end}
 use Rattle.pat_world.specs.Ways.{way_of}
 
 -- one happening, at its moment
@@ -267,7 +265,7 @@ loses cluster number (Some message) = happens cluster (kinds.Message (Lost numbe
 
 -- a standby confirms what it has, where that isn't known
 abbrev pub confirms : Cluster → Member → Member → List Event
-confirms cluster member from = all_happen cluster (confirm_kinds member from (unconfirmed_end member (slice_get cluster.book.servers member.id.number) (slice_get cluster.book.servers from.id.number)))
+confirms cluster member from = all_happen cluster (kinds_of (confirm_of member from (unconfirmed_end member (slice_get cluster.book.servers member.id.number) (slice_get cluster.book.servers from.id.number))))
 
 -- the server of a member receives from that of another one what is new to it, and confirms; or finds that its log diverged
 abbrev pub receives : Cluster → Member → Member → Option Streamed → List Event
@@ -324,45 +322,29 @@ abbrev pub promotes : Cluster → Option Member → List Event
 promotes cluster None = []
 promotes cluster (Some member) = all_happen cluster (promote_kinds member (promoted_timeline (slice_get cluster.book.servers member.id.number)))
 
-abbrev pub crashes : Cluster → Option Member → List Event
-crashes cluster None = []
-crashes cluster (Some member) = all_happen cluster (server_kinds (crash_of member (slice_get cluster.book.servers member.id.number)))
-
-abbrev pub freezes : Cluster → Option Member → List Event
-freezes cluster None = []
-freezes cluster (Some member) = all_happen cluster (server_kinds (freeze_of member (slice_get cluster.book.frozen member.id.number)))
-
-abbrev pub thaws : Cluster → Option Member → List Event
-thaws cluster None = []
-thaws cluster (Some member) = all_happen cluster (server_kinds (thaw_of member (slice_get cluster.book.frozen member.id.number)))
-
-abbrev pub slows : Cluster → Option Member → Transition → Delay → List Event
-slows cluster None transition delay = []
-slows cluster (Some member) transition delay = all_happen cluster (server_kinds (slow_of member transition delay (slice_get cluster.book.servers member.id.number)))
-
-abbrev pub commits_of : Cluster → Option Member → ℕ → List Event
-commits_of cluster None bytes = []
-commits_of cluster (Some member) bytes = all_happen cluster (commit_kinds member (entry_for cluster.book.servers member.id.number (cluster.book.commits + 1) bytes))
+-- what a command comes to that brings one event at most
+abbrev pub ordered : Cluster → Command → Option Kind
+ordered cluster (commands.Hold member) = hold_of (seat_at cluster member.number)
+ordered cluster (commands.Resume member) = resume_of (seat_at cluster member.number)
+ordered cluster (commands.Kill member) = kill_of (seat_at cluster member.number)
+ordered cluster (commands.Restart member) = restart_of (seat_at cluster member.number)
+ordered cluster (commands.Crash member) = option_and_then (λ m. crash_of m (slice_get cluster.book.servers m.id.number)) (slice_get cluster.book.members member.number)
+ordered cluster (commands.Commit member size) = option_map (λ m. commit_of m (entry_for cluster.book.servers m.id.number (cluster.book.commits + 1) size.bytes)) (slice_get cluster.book.members member.number)
+ordered cluster (commands.Freeze member) = option_and_then (λ m. freeze_of m (slice_get cluster.book.frozen m.id.number)) (slice_get cluster.book.members member.number)
+ordered cluster (commands.Thaw member) = option_and_then (λ m. thaw_of m (slice_get cluster.book.frozen m.id.number)) (slice_get cluster.book.members member.number)
+ordered cluster (commands.Slow member transition delay) = option_and_then (λ m. slow_of m transition delay (slice_get cluster.book.servers m.id.number)) (slice_get cluster.book.members member.number)
+ordered cluster (commands.Cut first second) = cut_of cluster.book.cuts (link_of cluster.book.members first second)
+ordered cluster (commands.Join first second) = join_of cluster.book.cuts (link_of cluster.book.members first second)
+ordered cluster _ = None
 
 -- the events of a command
 abbrev pub command_events : Cluster → Command → List Event
 command_events cluster (commands.Turn member) = wake_at cluster member.number
 command_events cluster (commands.Deliver number) = delivers cluster number (in_flight cluster.book.flight number)
 command_events cluster (commands.Lose number) = loses cluster number (in_flight cluster.book.flight number)
-command_events cluster (commands.Hold member) = all_happen cluster (agent_kinds (hold_of (seat_at cluster member.number)))
-command_events cluster (commands.Resume member) = all_happen cluster (agent_kinds (resume_of (seat_at cluster member.number)))
-command_events cluster (commands.Kill member) = all_happen cluster (agent_kinds (kill_of (seat_at cluster member.number)))
-command_events cluster (commands.Restart member) = all_happen cluster (restart_kinds (seat_at cluster member.number))
 command_events cluster (commands.Promote member) = promotes cluster (slice_get cluster.book.members member.number)
-command_events cluster (commands.Crash member) = crashes cluster (slice_get cluster.book.members member.number)
-command_events cluster (commands.Commit member size) = commits_of cluster (slice_get cluster.book.members member.number) size.bytes
 command_events cluster (commands.Stream member most) = receives_at_most cluster most (slice_get cluster.book.members member.number)
-command_events cluster (commands.Freeze member) = freezes cluster (slice_get cluster.book.members member.number)
-command_events cluster (commands.Thaw member) = thaws cluster (slice_get cluster.book.members member.number)
-command_events cluster (commands.Slow member transition delay) = slows cluster (slice_get cluster.book.members member.number) transition delay
-command_events cluster (commands.Cut first second) = all_happen cluster (link_kinds (cut_of cluster.book.cuts (link_of cluster.book.members first second)))
-command_events cluster (commands.Join first second) = all_happen cluster (link_kinds (join_of cluster.book.cuts (link_of cluster.book.members first second)))
-command_events cluster (commands.Trace on) = []
+command_events cluster command = all_happen cluster (kinds_of (ordered cluster command))
 
 -- a tick of the default schedule: standbys receive, and then agents are woken and messages come
 abbrev pub scheduled : Cluster → List Event

@@ -9,18 +9,12 @@ use Rattle.event_book.specs.declared.event.Kind.{Kind}
 use Rattle.event_book.specs.declared.event.Kind.TheVariants as kinds
 use Rattle.event_book.specs.declared.event.LogEvent.TheVariants as logs
 use Rattle.event_book.specs.declared.event.Note.TheVariants.{RefusesCommit}
-use Rattle.event_book.specs.declared.event.ServerEvent.{ServerEvent}
 use Rattle.event_book.specs.declared.event.ServerEvent.TheVariants as servers
 use Rattle.event_book.specs.declared.member.Member.{Member}
 use Rattle.event_book.specs.Members.{server_of}
 use Rattle.cluster_script.specs.declared.line.Transition.{Transition}
 use Rattle.cluster_script.specs.declared.line.Transition.TheVariants as transitions
 use Rattle.cluster_script.specs.declared.ranges.Delay.{Delay}
-
--- what happened to a server, if anything did
-abbrev pub server_kinds : Option ServerEvent → List Kind
-server_kinds None = []
-server_kinds (Some happening) = kinds.Server happening ∷ []
 
 -- a standby may be promoted, to the next timeline
 abbrev pub promoted_timeline : Option ServerFacts → Option ℕ
@@ -39,33 +33,33 @@ is_gone states.Creating = true
 is_gone _ = false
 
 -- a server that isn't gone already crashes
-abbrev pub crash_of : Member → Option ServerFacts → Option ServerEvent
+abbrev pub crash_of : Member → Option ServerFacts → Option Kind
 crash_of member None = None
-crash_of member (Some s) = if is_gone s.state then None else Some (servers.Crashed (server_of member))
+crash_of member (Some s) = if is_gone s.state then None else Some (kinds.Server (servers.Crashed (server_of member)))
 
 -- a server that isn't frozen is
-abbrev pub freeze_of : Member → Option Bool → Option ServerEvent
+abbrev pub freeze_of : Member → Option Bool → Option Kind
 freeze_of member None = None
-freeze_of member (Some frozen) = if frozen then None else Some (servers.Frozen (server_of member))
+freeze_of member (Some frozen) = if frozen then None else Some (kinds.Server (servers.Frozen (server_of member)))
 
 -- a frozen server isn't any more
-abbrev pub thaw_of : Member → Option Bool → Option ServerEvent
+abbrev pub thaw_of : Member → Option Bool → Option Kind
 thaw_of member None = None
-thaw_of member (Some frozen) = if frozen then Some (servers.Thawed (server_of member)) else None
+thaw_of member (Some frozen) = if frozen then Some (kinds.Server (servers.Thawed (server_of member))) else None
 
 abbrev pub ticks_of : Delay → Ticks
 ticks_of delay = record { 0 = delay.ticks }
 
 -- later stops, or later starts, of a server take so long, where they don't already
-abbrev pub slow_by : Member → Transition → Delay → Ticks → Ticks → Option ServerEvent
-slow_by member transitions.Stop delay stop start = if stop.0 == delay.ticks then None else Some (servers.Slowed (server_of member) (Some (ticks_of delay)) None)
-slow_by member transitions.Start delay stop start = if start.0 == delay.ticks then None else Some (servers.Slowed (server_of member) None (Some (ticks_of delay)))
+abbrev pub slow_by : Member → Transition → Delay → Ticks → Ticks → Option Kind
+slow_by member transitions.Stop delay stop start = if stop.0 == delay.ticks then None else Some (kinds.Server (servers.Slowed (server_of member) (Some (ticks_of delay)) None))
+slow_by member transitions.Start delay stop start = if start.0 == delay.ticks then None else Some (kinds.Server (servers.Slowed (server_of member) None (Some (ticks_of delay))))
 
-abbrev pub slow_of : Member → Transition → Delay → Option ServerFacts → Option ServerEvent
+abbrev pub slow_of : Member → Transition → Delay → Option ServerFacts → Option Kind
 slow_of member transition delay None = None
 slow_of member transition delay (Some s) = slow_by member transition delay s.stop_delay s.start_delay
 
 -- a commit stands in the log of a server as this entry, or is refused
-abbrev pub commit_kinds : Member → Option Entry → List Kind
-commit_kinds member None = kinds.Note (RefusesCommit (server_of member)) ∷ []
-commit_kinds member (Some entry) = kinds.Log (logs.Appended (server_of member) entry) ∷ []
+abbrev pub commit_of : Member → Option Entry → Kind
+commit_of member None = kinds.Note (RefusesCommit (server_of member))
+commit_of member (Some entry) = kinds.Log (logs.Appended (server_of member) entry)

@@ -1,5 +1,5 @@
 -- From whom a server receives, and what it confirms.
-use Rattle.std.specs.Prelude.{◌==◌, ◌&&◌, not, Bool, false, if◌then◌else◌, List, [], ◌∷◌, Option, Some, None, slice_get, slice_index_or}
+use Rattle.std.specs.Prelude.{◌==◌, ◌&&◌, not, Bool, false, if◌then◌else◌, List, Option, Some, None, slice_get, slice_index_or}
 use Rattle.pat_base.specs.declared.lsn.Lsn.{Lsn}
 use Rattle.pat_base.specs.declared.server_id.ServerId.{ServerId}
 use Rattle.pat_base.specs.Lsn.{lsn_at}
@@ -56,6 +56,6 @@ unconfirmed_end member (Some s) None = None
 unconfirmed_end member (Some s) (Some upstream) = end_unless_confirmed s.log (slice_index_or upstream.confirmed member.id.number None)
 
 -- a standby confirms that its log ends there
-abbrev pub confirm_kinds : Member → Member → Option Lsn → List Kind
-confirm_kinds member from None = []
-confirm_kinds member from (Some end) = kinds.Replication (replications.Confirmed (server_of from) member end) ∷ []
+abbrev pub confirm_of : Member → Member → Option Lsn → Option Kind
+confirm_of member from None = None
+confirm_of member from (Some end) = Some (kinds.Replication (replications.Confirmed (server_of from) member end))

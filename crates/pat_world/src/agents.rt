@@ -1,8 +1,9 @@
 //! Agents of members: what commands change of them, and which are ready.
 ghost use Rattle.std.specs.Prelude.{◌≡◌, ◌<◌, ◌^◌, slice_get, true, false, IfSome, All};
 ghost use Rattle.event_book.specs.Agents.{agents_by, changed, running_in};
-ghost use Rattle.pat_world.specs.Calm.{IsCalm};
-ghost use Rattle.pat_world.specs.Commands.{hold_of, resume_of, kill_of};
+ghost use Rattle.pat_world.specs.Cluster.{Cluster};
+ghost use Rattle.pat_world.specs.Comes.{MayCome};
+ghost use Rattle.pat_world.specs.Commands.{hold_of, resume_of, kill_of, restart_of};
 ghost use Rattle.pat_world.specs.Next.{is_ready, seat_of, roused, listened};
 ghost use Rattle.pat_world.specs.Room.{PhaseHasRoom};
 ghost use Rattle.pat_world.specs.Short.{AsksShortly};
@@ -11,7 +12,7 @@ ghost use Rattle.pat_world.specs.Turns.{fresh_phase, woken, heard};
 use crate::agent::{fresh_phase, heard, is_due, woken};
 use crate::flight::InFlight;
 use crate::phase::{Phase, Reaction, Seat};
-use event_book::{AgentEvent, AgentState, Member};
+use event_book::{AgentEvent, AgentState, Kind, Member, Note};
 use pat_base::Ticks;
 
 /// A member with its agent.
@@ -36,47 +37,62 @@ pub fn is_ready(now: Ticks, seat: &Seat) -> bool
 }
 
 /// A hold: what happens where the agent runs and isn't held.
-pub fn hold_of(seat: Option<Seat>) -> Option<AgentEvent>
-    ensures event { result ≡ hold_of seat }
-    ensures calm { IfSome result IsCalm }
+pub fn hold_of(seat: Option<Seat>) -> Option<Kind>
+    ensures kind { result ≡ hold_of seat }
+    ensures comes { (cluster : Cluster) → IfSome result (MayCome cluster) }
 {
     let seat = seat?;
     if seat.state.running && !seat.state.held {
-        Some(AgentEvent::Suspended { agent: seat.member })
+        Some(Kind::Agent(AgentEvent::Suspended { agent: seat.member }))
     } else {
         None
     }
 }
 
 /// The end of a hold: what happens where the agent is held.
-pub fn resume_of(seat: Option<Seat>) -> Option<AgentEvent>
-    ensures event { result ≡ resume_of seat }
-    ensures calm { IfSome result IsCalm }
+pub fn resume_of(seat: Option<Seat>) -> Option<Kind>
+    ensures kind { result ≡ resume_of seat }
+    ensures comes { (cluster : Cluster) → IfSome result (MayCome cluster) }
 {
     let seat = seat?;
     if seat.state.held {
-        Some(AgentEvent::Resumed { agent: seat.member })
+        Some(Kind::Agent(AgentEvent::Resumed { agent: seat.member }))
     } else {
         None
     }
 }
 
 /// The end of an agent: what happens where it runs.
-pub fn kill_of(seat: Option<Seat>) -> Option<AgentEvent>
-    ensures event { result ≡ kill_of seat }
-    ensures calm { IfSome result IsCalm }
+pub fn kill_of(seat: Option<Seat>) -> Option<Kind>
+    ensures kind { result ≡ kill_of seat }
+    ensures comes { (cluster : Cluster) → IfSome result (MayCome cluster) }
 {
     let seat = seat?;
     if seat.state.running {
-        Some(AgentEvent::Killed { agent: seat.member })
+        Some(Kind::Agent(AgentEvent::Killed { agent: seat.member }))
     } else {
         None
     }
 }
 
+/// The start of an agent: it is in its next run then. Of one that runs it is said that it does.
+pub fn restart_of(seat: Option<Seat>) -> Option<Kind>
+    requires { IfSome seat (λ s. s.state.run < 2 ^ 60) }
+    ensures { result ≡ restart_of seat }
+{
+    let seat = seat?;
+    let agent = seat.member;
+    if seat.state.running {
+        Some(Kind::Note(Note::AlreadyRunning { agent }))
+    } else {
+        let run = seat.state.run + 1;
+        Some(Kind::Agent(AgentEvent::Started { agent, run }))
+    }
+}
+
 /// The agents after what happens to one of them.
-pub fn change_agents(agents: &mut [AgentState], happening: &AgentEvent)
-    ensures { agents.new ≡ agents_by agents.old happening.now }
+pub fn change_agent(agents: &mut Vec<AgentState>, happening: &AgentEvent)
+    ensures { agents.new.items ≡ agents_by agents.old.items happening.now }
 {
     match happening {
         AgentEvent::Suspended { agent } => suspend(agents, *agent),
@@ -87,8 +103,8 @@ pub fn change_agents(agents: &mut [AgentState], happening: &AgentEvent)
     }
 }
 
-fn suspend(agents: &mut [AgentState], agent: Member)
-    ensures { agents.new ≡ changed agents.old agent (λ state. record state { held = true }) }
+fn suspend(agents: &mut Vec<AgentState>, agent: Member)
+    ensures { agents.new.items ≡ changed agents.old.items agent (λ state. record state { held = true }) }
 {
     let place = agent.id.number as usize;
     if place < agents.len() {
@@ -96,8 +112,8 @@ fn suspend(agents: &mut [AgentState], agent: Member)
     }
 }
 
-fn resume(agents: &mut [AgentState], agent: Member)
-    ensures { agents.new ≡ changed agents.old agent (λ state. record state { held = false }) }
+fn resume(agents: &mut Vec<AgentState>, agent: Member)
+    ensures { agents.new.items ≡ changed agents.old.items agent (λ state. record state { held = false }) }
 {
     let place = agent.id.number as usize;
     if place < agents.len() {
@@ -105,8 +121,8 @@ fn resume(agents: &mut [AgentState], agent: Member)
     }
 }
 
-fn end(agents: &mut [AgentState], agent: Member)
-    ensures { agents.new ≡ changed agents.old agent (λ state. record state { running = false; held = false }) }
+fn end(agents: &mut Vec<AgentState>, agent: Member)
+    ensures { agents.new.items ≡ changed agents.old.items agent (λ state. record state { running = false; held = false }) }
 {
     let place = agent.id.number as usize;
     if place < agents.len() {
@@ -118,8 +134,8 @@ fn end(agents: &mut [AgentState], agent: Member)
     }
 }
 
-fn begin(agents: &mut [AgentState], agent: Member, run: u64)
-    ensures { agents.new ≡ changed agents.old agent (λ state. running_in run) }
+fn begin(agents: &mut Vec<AgentState>, agent: Member, run: u64)
+    ensures { agents.new.items ≡ changed agents.old.items agent (λ state. running_in run) }
 {
     let place = agent.id.number as usize;
     if place < agents.len() {
@@ -132,11 +148,11 @@ fn begin(agents: &mut [AgentState], agent: Member, run: u64)
 }
 
 /// The agent of a member is woken. Answers what it does, where there is one.
-pub fn rouse(phases: &mut [Phase], now: Ticks, member: Member) -> Option<Reaction>
+pub fn rouse(phases: &mut Vec<Phase>, now: Ticks, member: Member) -> Option<Reaction>
     requires clock { now.0 < 2 ^ 61 }
-    requires room { All (PhaseHasRoom now.0 1) phases.old }
-    ensures phases { phases.new ≡ changed phases.old member (λ phase. (woken now.0 phase).phase) }
-    ensures reaction { result ≡ roused now.0 phases.old member }
+    requires room { All (PhaseHasRoom now.0 1) phases.old.items }
+    ensures phases { phases.new.items ≡ changed phases.old.items member (λ phase. (woken now.0 phase).phase) }
+    ensures reaction { result ≡ roused now.0 phases.old.items member }
     ensures short { IfSome result (λ reaction. AsksShortly reaction.asks) }
 {
     let place = member.id.number as usize;
@@ -148,15 +164,15 @@ pub fn rouse(phases: &mut [Phase], now: Ticks, member: Member) -> Option<Reactio
 
 /// The agent of a member hears a message. Answers what it does, where there is one.
 pub fn listen(
-    phases: &mut [Phase],
+    phases: &mut Vec<Phase>,
     now: Ticks,
     message: &InFlight,
     member: Member,
 ) -> Option<Reaction>
     requires clock { now.0 < 2 ^ 61 }
-    requires room { All (PhaseHasRoom now.0 1) phases.old }
-    ensures phases { phases.new ≡ changed phases.old member (λ phase. (heard now.0 member.id message.now phase).phase) }
-    ensures reaction { result ≡ listened now.0 phases.old message.now member }
+    requires room { All (PhaseHasRoom now.0 1) phases.old.items }
+    ensures phases { phases.new.items ≡ changed phases.old.items member (λ phase. (heard now.0 member.id message.now phase).phase) }
+    ensures reaction { result ≡ listened now.0 phases.old.items message.now member }
     ensures short { IfSome result (λ reaction. AsksShortly reaction.asks) }
 {
     let place = member.id.number as usize;
@@ -167,8 +183,8 @@ pub fn listen(
 }
 
 /// The agent of a member starts, with its first turn at this moment.
-pub fn start(phases: &mut [Phase], member: Member, first_turn: Ticks)
-    ensures { phases.new ≡ changed phases.old member (λ phase. fresh_phase first_turn.0) }
+pub fn start(phases: &mut Vec<Phase>, member: Member, first_turn: Ticks)
+    ensures { phases.new.items ≡ changed phases.old.items member (λ phase. fresh_phase first_turn.0) }
 {
     let place = member.id.number as usize;
     if place < phases.len() {

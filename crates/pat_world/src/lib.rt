@@ -3,6 +3,7 @@
 
 mod agent;
 mod agents;
+mod changes;
 mod flight;
 mod follow_row;
 mod following;
@@ -10,6 +11,7 @@ mod info;
 mod laws;
 mod links;
 mod phase;
+mod server_changes;
 mod server_commands;
 mod streaming;
 mod way;

@@ -1,6 +1,8 @@
 //! Links: which are cut, and what commands change of them.
-ghost use Rattle.std.specs.Prelude.{◌≡◌, OnOk};
+ghost use Rattle.std.specs.Prelude.{◌≡◌, IfSome, OnErr, OnOk};
 ghost use Rattle.event_book.specs.Links.{cuts_after, is_cut};
+ghost use Rattle.pat_world.specs.Cluster.{Cluster};
+ghost use Rattle.pat_world.specs.Comes.{MayCome};
 ghost use Rattle.pat_world.specs.Commands.{cut_of, join_of, end_of, link_of};
 
 use cluster_script::End;
@@ -36,32 +38,35 @@ pub fn is_cut(cuts: &[Link], link: Link) -> bool
 }
 
 /// A cut: what happens where the link isn't cut.
-pub fn cut_of(cuts: &[Link], link: Option<Link>) -> Option<LinkEvent>
-    ensures { result ≡ cut_of cuts.now link }
+pub fn cut_of(cuts: &[Link], link: Option<Link>) -> Option<Kind>
+    ensures kind { result ≡ cut_of cuts.now link }
+    ensures comes { (cluster : Cluster) → IfSome result (MayCome cluster) }
 {
     let link = link?;
     if is_cut(cuts, link) {
         None
     } else {
-        Some(LinkEvent::Cut(link))
+        Some(Kind::Link(LinkEvent::Cut(link)))
     }
 }
 
 /// A join: what happens where the link is cut.
-pub fn join_of(cuts: &[Link], link: Option<Link>) -> Option<LinkEvent>
-    ensures { result ≡ join_of cuts.now link }
+pub fn join_of(cuts: &[Link], link: Option<Link>) -> Option<Kind>
+    ensures kind { result ≡ join_of cuts.now link }
+    ensures comes { (cluster : Cluster) → IfSome result (MayCome cluster) }
 {
     let link = link?;
     if is_cut(cuts, link) {
-        Some(LinkEvent::Joined(link))
+        Some(Kind::Link(LinkEvent::Joined(link)))
     } else {
         None
     }
 }
 
 /// The links that are cut after what happens to one. It fails only for want of memory.
-pub fn change_links(cuts: &mut Vec<Link>, change: &LinkEvent) -> Result<(), AllocError>
-    ensures { OnOk result (cuts.new.items ≡ cuts_after cuts.old.items (Kind.Link change.now)) }
+pub fn change_link(cuts: &mut Vec<Link>, change: &LinkEvent) -> Result<(), AllocError>
+    ensures ok { OnOk result (cuts.new.items ≡ cuts_after cuts.old.items (Kind.Link change.now)) }
+    ensures err { OnErr result (cuts.new.items ≡ cuts.old.items) }
 {
     match change {
         LinkEvent::Cut(link) => {

@@ -1,11 +1,15 @@
 //! What commands of a script come to at servers.
 ghost use Rattle.std.specs.Prelude.{◌≡◌, ◌<◌, ◌^◌, IfSome, slice_get};
-ghost use Rattle.pat_world.specs.ServerCommands.{promoted_timeline, is_gone, crash_of, freeze_of, thaw_of, slow_by, slow_of};
+ghost use Rattle.pg_model.specs.Servers.{entry_for};
+ghost use Rattle.pat_world.specs.Cluster.{Cluster};
+ghost use Rattle.pat_world.specs.Comes.{MayCome};
+ghost use Rattle.pat_world.specs.ServerCommands.{promoted_timeline, is_gone, commit_of, crash_of, freeze_of, thaw_of, slow_by, slow_of};
 
 use cluster_script::{Delay, Transition};
-use event_book::{Member, ServerEvent, ServerOf};
+use event_book::{Kind, LogEvent, Member, Note, ServerEvent, ServerOf};
 use pat_base::{State, Ticks};
 use pg_model::Servers;
+use wal_model::Entry;
 
 /// The timeline to which the server of a member is promoted, if it is a standby.
 pub fn promoted_timeline(servers: &Servers, member: Member) -> Option<u64>
@@ -20,16 +24,17 @@ pub fn promoted_timeline(servers: &Servers, member: Member) -> Option<u64>
 }
 
 /// A crash: what happens where the server isn't gone already.
-pub fn crash_of(servers: &Servers, member: Member) -> Option<ServerEvent>
-    ensures { result ≡ crash_of member (slice_get servers.now member.id.number) }
+pub fn crash_of(servers: &Servers, member: Member) -> Option<Kind>
+    ensures kind { result ≡ crash_of member (slice_get servers.now member.id.number) }
+    ensures comes { (cluster : Cluster) → IfSome result (MayCome cluster) }
 {
     let server = servers.get(member.id.number as usize)?;
     if is_gone(server.state()) {
         None
     } else {
-        Some(ServerEvent::Crashed {
+        Some(Kind::Server(ServerEvent::Crashed {
             server: ServerOf::of(member),
-        })
+        }))
     }
 }
 
@@ -41,28 +46,30 @@ fn is_gone(state: State) -> bool
 }
 
 /// What happens where the server isn't frozen.
-pub fn freeze_of(frozen: &[bool], member: Member) -> Option<ServerEvent>
-    ensures { result ≡ freeze_of member (slice_get frozen.now member.id.number) }
+pub fn freeze_of(frozen: &[bool], member: Member) -> Option<Kind>
+    ensures kind { result ≡ freeze_of member (slice_get frozen.now member.id.number) }
+    ensures comes { (cluster : Cluster) → IfSome result (MayCome cluster) }
 {
     let is_frozen = *frozen.get(member.id.number as usize)?;
     if is_frozen {
         None
     } else {
-        Some(ServerEvent::Frozen {
+        Some(Kind::Server(ServerEvent::Frozen {
             server: ServerOf::of(member),
-        })
+        }))
     }
 }
 
 /// What happens where the server is frozen.
-pub fn thaw_of(frozen: &[bool], member: Member) -> Option<ServerEvent>
-    ensures { result ≡ thaw_of member (slice_get frozen.now member.id.number) }
+pub fn thaw_of(frozen: &[bool], member: Member) -> Option<Kind>
+    ensures kind { result ≡ thaw_of member (slice_get frozen.now member.id.number) }
+    ensures comes { (cluster : Cluster) → IfSome result (MayCome cluster) }
 {
     let is_frozen = *frozen.get(member.id.number as usize)?;
     if is_frozen {
-        Some(ServerEvent::Thawed {
+        Some(Kind::Server(ServerEvent::Thawed {
             server: ServerOf::of(member),
-        })
+        }))
     } else {
         None
     }
@@ -74,8 +81,9 @@ pub fn slow_of(
     member: Member,
     transition: Transition,
     delay: Delay,
-) -> Option<ServerEvent>
-    ensures { result ≡ slow_of member transition delay (slice_get servers.now member.id.number) }
+) -> Option<Kind>
+    ensures kind { result ≡ slow_of member transition delay (slice_get servers.now member.id.number) }
+    ensures comes { (cluster : Cluster) → IfSome result (MayCome cluster) }
 {
     let server = servers.get(member.id.number as usize)?;
     slow_by(
@@ -93,21 +101,51 @@ fn slow_by(
     delay: Delay,
     stop: Ticks,
     start: Ticks,
-) -> Option<ServerEvent>
-    ensures { result ≡ slow_by member transition delay stop start }
+) -> Option<Kind>
+    ensures kind { result ≡ slow_by member transition delay stop start }
+    ensures comes { (cluster : Cluster) → IfSome result (MayCome cluster) }
 {
     let server = ServerOf::of(member);
     let ticks = Ticks(delay.ticks);
     match transition {
-        Transition::Stop if stop.0 != delay.ticks => Some(ServerEvent::Slowed {
+        Transition::Stop if stop.0 != delay.ticks => Some(Kind::Server(ServerEvent::Slowed {
             server,
             stop: Some(ticks),
             start: None,
-        }),
-        Transition::Start if start.0 != delay.ticks => Some(ServerEvent::Slowed {
+        })),
+        Transition::Start if start.0 != delay.ticks => Some(Kind::Server(ServerEvent::Slowed {
             server,
             stop: None,
             start: Some(ticks),
+        })),
+        _ => None,
+    }
+}
+
+/// A commit of so many bytes at the server of a member, which refuses it unless it accepts writes.
+pub fn commit_of(servers: &Servers, member: Member, serial: u64, bytes: u64) -> Kind
+    ensures { result ≡ commit_of member (entry_for servers.now member.id.number serial bytes) }
+{
+    let server = ServerOf::of(member);
+    match entry_for(servers, member.id.number as usize, serial, bytes) {
+        None => Kind::Note(Note::RefusesCommit { server }),
+        Some(entry) => Kind::Log(LogEvent::Appended { server, entry }),
+    }
+}
+
+/// The entry of a commit at the server at a place, where that one accepts writes and its log has room for it.
+fn entry_for(servers: &Servers, place: usize, serial: u64, bytes: u64) -> Option<Entry>
+    ensures { result ≡ entry_for servers.now place serial bytes }
+{
+    let server = servers.get(place)?;
+    if !server.writes() {
+        return None;
+    }
+    match server.log() {
+        Some(log) if log.fits(bytes) => Some(Entry {
+            serial,
+            timeline: server.timeline(),
+            bytes,
         }),
         _ => None,
     }

@@ -1,5 +1,5 @@
 //! The world: it takes the steps of a script and hands out what happens.
-ghost use Rattle.std.specs.Prelude.{ℕ, List, ◌≡◌, ◌<◌, ◌≤◌, ◌+◌, ◌*◌, ◌^◌, ◌++◌, ◌∷◌, [], length, OnOk, IfOk, slice_get, Some};
+ghost use Rattle.std.specs.Prelude.{ℕ, List, ◌≡◌, ◌<◌, ◌≤◌, ◌+◌, ◌*◌, ◌^◌, ◌++◌, ◌∷◌, [], length, OnOk, IfOk, IfSome, slice_get, Some};
 ghost use Rattle.pat_base.specs.MemberId.{member_of};
 ghost use Rattle.event_book.specs.declared.event.Event.{Event};
 ghost use Rattle.event_book.specs.Agents.{first_agents};
@@ -7,24 +7,27 @@ ghost use Rattle.event_book.specs.Members.{members_from};
 ghost use Rattle.pat_world.specs.Acknowledging.{AreAcknowledged};
 ghost use Rattle.pat_world.specs.Book.{StandsFor, next_of};
 ghost use Rattle.pat_world.specs.Cluster.{Cluster, cluster_of, first_phases};
-ghost use Rattle.pat_world.specs.Commands.{link_kinds, link_of};
-ghost use Rattle.pat_world.specs.Next.{all_happen, stamped, round, rounds, most_rounds, declared_member, expiry_of, expiries_of, ticks, command_events, scheduled, taken, next_events};
+ghost use Rattle.pat_world.specs.Comes.{MayCome};
+ghost use Rattle.pat_world.specs.Commands.{link_of};
+ghost use Rattle.pat_world.specs.Next.{stamped, round, rounds, most_rounds, declared_member, expiry_of, expiries_of, ticks, command_events, ordered, scheduled, taken, next_events};
 ghost use Rattle.pat_world.specs.Room.{HasRoom, HasRoomFor};
 ghost use Rattle.pat_world.specs.Took.{Took};
 
 mod acknowledging;
 mod agents;
+mod happening;
 mod messages;
 mod servers;
 mod streaming;
 
 use crate::agent::fresh_phase;
-use crate::agents::{hold_of, kill_of, resume_of};
+use crate::agents::{hold_of, kill_of, restart_of, resume_of};
 use crate::flight::Flight;
-use crate::links::{change_links, cut_of, join_of, link_of};
+use crate::links::{cut_of, join_of, link_of};
 use crate::phase::Phase;
+use crate::server_commands::{commit_of, crash_of, freeze_of, slow_of, thaw_of};
 use cluster_script::{Command, End, Head, Step};
-use event_book::{AgentState, Event, Kind, Link, LinkEvent, Member, StoreEvent};
+use event_book::{AgentState, Event, Kind, Link, Member, StoreEvent};
 use lease_store::{ConfigValue, Key, Store};
 use pat_base::{MemberId, Ticks};
 use pg_model::Servers;
@@ -171,28 +174,36 @@ impl World {
             Command::Turn(member) => self.wake(member.number as usize, events),
             Command::Deliver(number) => self.deliver(number, events),
             Command::Lose(number) => self.lose(number, events),
-            Command::Hold(member) => self.change_agent(hold_of(self.seat(member)), events),
-            Command::Resume(member) => self.change_agent(resume_of(self.seat(member)), events),
-            Command::Kill(member) => self.change_agent(kill_of(self.seat(member)), events),
-            Command::Restart(member) => self.restart(member, events),
             Command::Promote(id) => self.promote(self.declared(id), events),
-            Command::Crash(id) => self.crash(self.declared(id), events),
-            Command::Commit(id, size) => self.commit(self.declared(id), size, events),
             Command::Stream(id, most) => self.receive(self.declared(id), most, events),
-            Command::Freeze(id) => self.freeze(self.declared(id), events),
-            Command::Thaw(id) => self.thaw(self.declared(id), events),
+            _ => self.happen_if(self.ordered(command), events),
+        }
+    }
+
+    /// What a command comes to that brings one event at most.
+    fn ordered(&self, command: &Command) -> Option<Kind>
+        requires { HasRoom self.now 1 }
+        ensures kind { result ≡ ordered self.now command.now }
+        ensures comes { IfSome result (MayCome self.now) }
+    {
+        match *command {
+            Command::Hold(member) => hold_of(self.seat(member)),
+            Command::Resume(member) => resume_of(self.seat(member)),
+            Command::Kill(member) => kill_of(self.seat(member)),
+            Command::Restart(member) => restart_of(self.seat(member)),
+            Command::Crash(id) => crash_of(&self.servers, self.declared(id)?),
+            Command::Commit(id, size) => {
+                let member = self.declared(id)?;
+                Some(commit_of(&self.servers, member, self.commits + 1, size.bytes))
+            }
+            Command::Freeze(id) => freeze_of(&self.frozen, self.declared(id)?),
+            Command::Thaw(id) => thaw_of(&self.frozen, self.declared(id)?),
             Command::Slow(id, transition, delay) => {
-                self.slow(self.declared(id), transition, delay, events)
+                slow_of(&self.servers, self.declared(id)?, transition, delay)
             }
-            Command::Cut(first, second) => {
-                let change = cut_of(&self.cuts, self.link(first, second));
-                self.change_link(change, events)
-            }
-            Command::Join(first, second) => {
-                let change = join_of(&self.cuts, self.link(first, second));
-                self.change_link(change, events)
-            }
-            Command::Trace(_) => Ok(()),
+            Command::Cut(first, second) => cut_of(&self.cuts, self.link(first, second)),
+            Command::Join(first, second) => join_of(&self.cuts, self.link(first, second)),
+            _ => None,
         }
     }
 
@@ -202,13 +213,12 @@ impl World {
         requires { HasRoom self.old 1 }
         ensures { OnOk result (Took self.old self.new events.old.items events.new.items (ticks self.old) 1) }
     {
-        self.clock = Ticks(self.clock.0 + 1);
-        self.servers.tick(self.clock);
-        note(events, self.clock, Kind::Tick)?;
-        let expired = self.store.expired(self.clock)?;
-        let holder = self.store.drop_expired(self.clock);
+        let now = Ticks(self.clock.0 + 1);
+        let expired = self.store.expired(now)?;
+        let holder = self.store.expired_holder(now);
         let holder = declared_member(&self.members, holder);
-        note_expiries(events, self.clock, holder, &expired)
+        self.happen(Kind::Tick, events)?;
+        note_expiries(events, now, holder, &expired)
     }
 
     /// The rounds of a tick. A round in which nothing happens is the last.
@@ -267,23 +277,6 @@ impl World {
         ensures { result ≡ link_of self.now.book.members first second }
     {
         link_of(&self.members, first, second)
-    }
-
-    /// What happens to a link, if anything does.
-    fn change_link(
-        &mut self,
-        change: Option<LinkEvent>,
-        events: &mut Vec<Event>,
-    ) -> Result<(), AllocError>
-        requires { HasRoom self.old 1 }
-        ensures { OnOk result (Took self.old self.new events.old.items events.new.items (all_happen self.old (link_kinds change)) 1) }
-    {
-        let Some(change) = change else {
-            return Ok(());
-        };
-        self.settled = 0;
-        change_links(&mut self.cuts, &change)?;
-        note(events, self.clock, Kind::Link(change))
     }
 }
 

@@ -399,6 +399,14 @@ impl Server {
         Ok(())
     }
 
+    /// Follows another server from now on, or from when it runs as a replica.
+    pub(crate) fn set_upstream(&mut self, upstream: ServerId)
+        ensures { self.new ≡ following upstream self.old }
+    {
+        self.upstream = Some(upstream);
+        self.diverged = false;
+    }
+
     /// Appends a commit of so many bytes, which then waits for acknowledgement. `NotPrimary` exactly where the server
     /// doesn't accept writes, and then `Full` exactly where the log would end past 2^63 bytes. It costs constant time
     /// beside the log's growth. A refused server stays as it was.

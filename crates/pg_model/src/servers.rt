@@ -98,9 +98,9 @@ impl Servers {
         }
     }
 
-    /// Lets the standby at a place, if there is one there, follow another server.
+    /// Lets the server at a place, if there is one there, follow another server: a standby receives from that one from now
+    /// on, and one that starts from when it runs.
     pub fn follow(&mut self, place: usize, upstream: ServerId)
-        requires { IfSome (slice_get self.old place) (λ s. IsTrue (is_replica s.state)) }
         ensures { self.new ≡ with_server self.old place (following upstream) }
     {
         if place >= self.servers.len() {
@@ -108,7 +108,7 @@ impl Servers {
         }
         let server = &mut self.servers[place];
         let is_same = follows(server, upstream.number as usize);
-        server.follow(upstream).unwrap();
+        server.set_upstream(upstream);
         self.in_step[place] &= is_same;
     }
 

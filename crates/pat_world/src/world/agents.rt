@@ -1,14 +1,12 @@
 //! Agents: how they are woken, act and are changed by commands.
-ghost use Rattle.std.specs.Prelude.{◌≡◌, ◌+◌, ◌*◌, OnOk, IfSome, slice_get};
-ghost use Rattle.pat_world.specs.Calm.{IsCalm};
-ghost use Rattle.pat_world.specs.Commands.{agent_kinds, restart_kinds};
-ghost use Rattle.pat_world.specs.Next.{all_happen, seat_at, reacts, asked, wake_at, wakes};
+ghost use Rattle.std.specs.Prelude.{◌≡◌, ◌+◌, ◌*◌, OnOk, IfOk, IfSome, slice_get};
+ghost use Rattle.pat_world.specs.Next.{happens, roused, seat_at, reacts, asked, wake_at, wakes};
 ghost use Rattle.pat_world.specs.Room.{HasRoom};
 ghost use Rattle.pat_world.specs.Short.{AsksShortly};
 ghost use Rattle.pat_world.specs.Took.{Took};
 
 use super::{World, declared_member, note};
-use crate::agents::{change_agents, is_ready, rouse, seat_for, start};
+use crate::agents::{is_ready, rouse, seat_for};
 use crate::phase::{Reaction, Seat};
 use event_book::{AgentEvent, AgentState, Body, Event, Kind, LinkEnd, Member, Message, Note};
 use pat_base::{MemberId, Ticks};
@@ -38,9 +36,24 @@ impl World {
             return Ok(());
         }
         let agent = seat.member;
+        let reaction = self.rouse(agent, events)?;
+        self.react(agent, reaction, events)
+    }
+
+    /// The agent of a member is woken. Answers what it does, where there is one.
+    fn rouse(
+        &mut self,
+        agent: Member,
+        events: &mut Vec<Event>,
+    ) -> Result<Option<Reaction>, AllocError>
+        requires { HasRoom self.old 1 }
+        ensures took { OnOk result (Took self.old self.new events.old.items events.new.items (happens self.old (Kind.Agent (AgentEvent.Woken agent))) 1) }
+        ensures reaction { IfOk result (λ reaction. reaction ≡ roused self.old.book.clock self.old.phases agent) }
+        ensures short { IfOk result (λ reaction. IfSome reaction (λ r. AsksShortly r.asks)) }
+    {
         let reaction = rouse(&mut self.phases, self.clock, agent);
         note(events, self.clock, Kind::Agent(AgentEvent::Woken { agent }))?;
-        self.react(agent, reaction, events)
+        Ok(reaction)
     }
 
     /// The server of a member follows whom its agent's reaction says, and the agent sends what it asks.
@@ -111,50 +124,5 @@ impl World {
         ensures { result ≡ seat_at self.now id.number }
     {
         self.seat_at(id.number as usize)
-    }
-
-    /// An agent is asked to start. It does where it doesn't run.
-    pub fn restart(&mut self, member: MemberId, events: &mut Vec<Event>) -> Result<(), AllocError>
-        requires { HasRoom self.old 1 }
-        ensures { OnOk result (Took self.old self.new events.old.items events.new.items (all_happen self.old (restart_kinds (seat_at self.old member.number))) 1) }
-    {
-        let Some(seat) = self.seat(member) else {
-            return Ok(());
-        };
-        let agent = seat.member;
-        if seat.state.running {
-            return note(
-                events,
-                self.clock,
-                Kind::Note(Note::AlreadyRunning { agent }),
-            );
-        }
-        let first_turn = Ticks(self.clock.0 + 1);
-        let started = AgentEvent::Started {
-            agent,
-            run: seat.state.run + 1,
-        };
-        self.settled = 0;
-        change_agents(&mut self.agents, &started);
-        start(&mut self.phases, agent, first_turn);
-        note(events, self.clock, Kind::Agent(started))
-    }
-
-    /// What happens to an agent, if anything does.
-    pub fn change_agent(
-        &mut self,
-        happening: Option<AgentEvent>,
-        events: &mut Vec<Event>,
-    ) -> Result<(), AllocError>
-        requires room { HasRoom self.old 1 }
-        requires calm { IfSome happening IsCalm }
-        ensures { OnOk result (Took self.old self.new events.old.items events.new.items (all_happen self.old (agent_kinds happening)) 1) }
-    {
-        let Some(happening) = happening else {
-            return Ok(());
-        };
-        self.settled = 0;
-        change_agents(&mut self.agents, &happening);
-        note(events, self.clock, Kind::Agent(happening))
     }
 }

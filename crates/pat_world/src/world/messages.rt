@@ -87,12 +87,7 @@ impl World {
         requires { HasRoom self.old 1 }
         ensures { OnOk result (Took self.old self.new events.old.items events.new.items (happens self.old (Kind.Message (MessageEvent.Lost number))) 1) }
     {
-        let _ = self.flight.land(number);
-        note(
-            events,
-            self.clock,
-            Kind::Message(MessageEvent::Lost { number }),
-        )
+        self.happen(Kind::Message(MessageEvent::Lost { number }), events)
     }
 
     /// A message in flight comes to its receiver, which acts on it.

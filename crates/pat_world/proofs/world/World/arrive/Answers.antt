@@ -1,6 +1,4 @@
-use Rattle.std.proofs.Common.{◌≡◌, ◌∙◌, List, Option, Some, arith, length, refl, ap, sym, subst}
-use Rattle.std.specs.Vec.{with_items}
-use Rattle.std.proofs.lemmas.List.{with_items_is}
+use Rattle.std.proofs.Common.{◌≡◌, ◌∙◌, List, Option, Some, arith, refl, ap, sym, subst}
 use Rattle.std.proofs.lemmas.Result.{on_ok_weaker}
 use Rattle.event_book.specs.declared.event.Kind.TheVariants as kinds
 use Rattle.event_book.specs.declared.event.MessageEvent.TheVariants.{Delivered}
@@ -15,7 +13,6 @@ use Rattle.pat_world.specs.Room.{HasRoom}
 use Rattle.pat_world.specs.Took.{Took}
 use Rattle.pat_world.proofs.Deciding.{nothing-took, stored-took, heard-took}
 use Rattle.pat_world.proofs.Rooms.{HasRoom-moved, HasRoom-fewer}
-use Rattle.pat_world.proofs.Seats.{length-changed}
 use Rattle.pat_world.proofs.Settling.{kept-fewer}
 use Rattle.pat_world.proofs.Worlds.{seen, landing, hearing-is, told-is, listened-is}
 use Rattle.pat_world.proofs.world.World.arrive.Goals as goal
@@ -77,7 +74,7 @@ pub listen-reaction-requires-clause-room : goal.listen-reaction-requires-clause-
 listen-reaction-requires-clause-room c =
     let before = seen c.self.inside in
     let room : HasRoom before 5 = subst (λ (b : Cluster). HasRoom b 5) (sym c.self.view_is) c.requires in
-    rw c.deref_mut.ensures.value (HasRoom-fewer before 5 1 (omega arith) room).phases
+    (HasRoom-fewer before 5 1 (omega arith) room).phases
 
 pub react-requires-clause-room : goal.react-requires-clause-room
 react-requires-clause-room c =
@@ -86,11 +83,8 @@ react-requires-clause-room c =
     let member = c.in-Member.member in
     let found : in_flight before.book.flight c.args.number ≡ Some carried = sym c.land.ensures.message ∙ c.in-Some.is in
     let to : carried.message.to ≡ link_ends.Member member = ap (λ m. m.message.to) (sym c.carried.view_is) ∙ c.in-Member.is in
-    let old = c.deref_mut.ensures.value in
-    let heard_so = told-is before.book.clock _ _ before.phases member _ carried c.listen-reaction.ensures.phases old refl in
-    let long = ap length c.listen-reaction.ensures.phases ∙ length-changed Phase c.deref_mut.result.now member _ ∙ c.deref_mut.ensures.len in
-    let phases = with_items_is c.self.inside.phases c.listen-reaction.new.phases long ∙ heard_so in
-    let state = hearing-is before c.args.number carried (link_ends.Member member) c.land.new.self _ c.land.ensures.flight phases to found in
+    let heard_so = told-is before.book.clock _ _ before.phases member _ carried c.listen-reaction.ensures.phases refl refl in
+    let state = hearing-is before c.args.number carried (link_ends.Member member) c.land.new.self _ c.land.ensures.flight heard_so to found in
     let room : HasRoom before 5 = subst (λ (b : Cluster). HasRoom b 5) (sym c.self.view_is) c.requires in
     subst (λ (b : Cluster). HasRoom b 4) (sym state) (HasRoom-moved before (kinds.Message (Delivered c.args.number)) 4 tt room)
 
@@ -101,13 +95,10 @@ returns c =
     let member = c.in-Member.member in
     let found : in_flight before.book.flight c.args.number ≡ Some carried = sym c.land.ensures.message ∙ c.in-Some.is in
     let to : carried.message.to ≡ link_ends.Member member = ap (λ m. m.message.to) (sym c.carried.view_is) ∙ c.in-Member.is in
-    let old = c.deref_mut.ensures.value in
-    let heard_so = told-is before.book.clock _ _ before.phases member _ carried c.listen-reaction.ensures.phases old refl in
-    let long = ap length c.listen-reaction.ensures.phases ∙ length-changed Phase c.deref_mut.result.now member _ ∙ c.deref_mut.ensures.len in
-    let phases = with_items_is c.self.inside.phases c.listen-reaction.new.phases long ∙ heard_so in
-    let stand : List Phase = (with_items c.self.inside.phases c.listen-reaction.new.phases).items in
-    let state = hearing-is before c.args.number carried (link_ends.Member member) c.land.new.self stand c.land.ensures.flight phases to found in
-    let reaction = listened-is before.book.clock _ before.phases member _ carried _ c.listen-reaction.ensures.reaction old refl in
+    let heard_so = told-is before.book.clock _ _ before.phases member _ carried c.listen-reaction.ensures.phases refl refl in
+    let stand : List Phase = c.listen-reaction.new.phases.items in
+    let state = hearing-is before c.args.number carried (link_ends.Member member) c.land.new.self stand c.land.ensures.flight heard_so to found in
+    let reaction = listened-is before.book.clock _ before.phases member _ carried _ c.listen-reaction.ensures.reaction refl refl in
     let hearing = landing before c.land.new.self stand in
     on_ok_weaker c.react.result
     (λ took. subst (λ (b : Cluster). Took b c.react.new.self c.args.events.now.items c.react.new.events.items (comes_found b c.args.number (in_flight b.book.flight c.args.number)) 5) c.self.view_is

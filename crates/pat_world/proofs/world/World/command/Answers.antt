@@ -1,44 +1,22 @@
-use Rattle.std.proofs.Common.{◌∙◌, Option, arith, ap, subst}
+use Rattle.std.proofs.Common.{◌≡◌, Option, arith, rules, subst}
 use Rattle.std.proofs.lemmas.Result.{on_ok_weaker}
 use Rattle.event_book.specs.declared.member.Member.{Member}
 use Rattle.cluster_script.specs.declared.line.Command.TheVariants as commands
-use Rattle.pat_world.specs.Commands.{hold_of, resume_of, kill_of}
-use Rattle.pat_world.specs.Next.{commits_of, receives_at_most, slows}
+use Rattle.pat_world.specs.Commands.{kinds_of}
+use Rattle.pat_world.specs.Next.{all_happen, command_events, ordered, promotes, receives_at_most}
 use Rattle.pat_world.specs.Took.{Took}
-use Rattle.pat_world.proofs.Changing.{commanded, agent-kinds-took}
+use Rattle.pat_world.proofs.Changing.{commanded, ordered-took}
 use Rattle.pat_world.proofs.world.World.command.Goals as goal
 
 pub returns-in-Turn : goal.returns-in-Turn
 returns-in-Turn c = on_ok_weaker c.wake.result (λ took. commanded _ _ _ _ _ _ 5 c.in-Turn.is took (omega arith)) c.wake.ensures
 
-pub returns-in-Hold : goal.returns-in-Hold
-returns-in-Hold c =
-    on_ok_weaker c.change_agent.result
-    (λ took. commanded _ _ _ _ _ _ 1 c.in-Hold.is (agent-kinds-took _ _ _ _ _ _ (c.hold_of.ensures.event ∙ ap hold_of c.seat.ensures) took) (omega arith))
-    c.change_agent.ensures
-
-pub returns-in-Resume : goal.returns-in-Resume
-returns-in-Resume c =
-    on_ok_weaker c.change_agent-in-Resume.result
-    (λ took. commanded _ _ _ _ _ _ 1 c.in-Resume.is (agent-kinds-took _ _ _ _ _ _ (c.resume_of.ensures.event ∙ ap resume_of c.seat-in-Resume.ensures) took) (omega arith))
-    c.change_agent-in-Resume.ensures
-
-pub returns-in-Kill : goal.returns-in-Kill
-returns-in-Kill c =
-    on_ok_weaker c.change_agent-in-Kill.result
-    (λ took. commanded _ _ _ _ _ _ 1 c.in-Kill.is (agent-kinds-took _ _ _ _ _ _ (c.kill_of.ensures.event ∙ ap kill_of c.seat-in-Kill.ensures) took) (omega arith))
-    c.change_agent-in-Kill.ensures
-
-pub returns-in-Restart : goal.returns-in-Restart
-returns-in-Restart c = on_ok_weaker c.restart.result (λ took. commanded _ _ _ _ _ _ 1 c.in-Restart.is took (omega arith)) c.restart.ensures
-
-pub returns-in-Commit : goal.returns-in-Commit
-returns-in-Commit c =
-    let size = c.in-Commit.size in
-    on_ok_weaker c.commit.result
-    (λ took. commanded _ _ _ _ _ (commands.Commit c.in-Commit.id size) 1 c.in-Commit.is
-    (subst (λ (m : Option Member). Took c.args.self.now c.commit.new.self c.args.events.now.items c.commit.new.events.items (commits_of c.args.self.now m size.bytes) 1) c.declared-in-Commit.ensures took) (omega arith))
-    c.commit.ensures
+pub returns-in-Promote : goal.returns-in-Promote
+returns-in-Promote c =
+    on_ok_weaker c.promote.result
+    (λ took. commanded _ _ _ _ _ (commands.Promote c.in-Promote.id) 2 c.in-Promote.is
+    (subst (λ (m : Option Member). Took c.args.self.now c.promote.new.self c.args.events.now.items c.promote.new.events.items (promotes c.args.self.now m) 2) c.declared.ensures took) (omega arith))
+    c.promote.ensures
 
 pub returns-in-Stream : goal.returns-in-Stream
 returns-in-Stream c =
@@ -48,11 +26,7 @@ returns-in-Stream c =
     (subst (λ (m : Option Member). Took c.args.self.now c.receive.new.self c.args.events.now.items c.receive.new.events.items (receives_at_most c.args.self.now most m) 2) c.declared-in-Stream.ensures took) (omega arith))
     c.receive.ensures
 
-pub returns-in-Slow : goal.returns-in-Slow
-returns-in-Slow c =
-    let transition = c.in-Slow.transition in
-    let delay = c.in-Slow.delay in
-    on_ok_weaker c.slow.result
-    (λ took. commanded _ _ _ _ _ (commands.Slow c.in-Slow.id transition delay) 1 c.in-Slow.is
-    (subst (λ (m : Option Member). Took c.args.self.now c.slow.new.self c.args.events.now.items c.slow.new.events.items (slows c.args.self.now m transition delay) 1) c.declared-in-Slow.ensures took) (omega arith))
-    c.slow.ensures
+pub returns-in_default : goal.returns-in_default
+returns-in_default c =
+    let same : command_events c.args.self.now c.args.command.now ≡ all_happen c.args.self.now (kinds_of (ordered c.args.self.now c.args.command.now)) = search rules in
+    on_ok_weaker c.happen_if.result (λ took. ordered-took c.args.self.now c.happen_if.new.self c.args.events.now.items c.happen_if.new.events.items c.args.command.now c.ordered.result same c.ordered.ensures.kind took) c.happen_if.ensures

@@ -1,0 +1,15 @@
+use Rattle.std.proofs.Common.{◌∙◌, ◌+◌, ap, sym, subst}
+use Rattle.event_book.specs.declared.event.Kind.{Kind}
+use Rattle.pg_model.specs.Servers.{entry_for}
+use Rattle.pat_world.specs.Cluster.{Cluster}
+use Rattle.pat_world.specs.Comes.{MayCome}
+use Rattle.pat_world.specs.ServerCommands.{commit_of}
+use Rattle.pat_world.proofs.ServerCommanding.{commit-comes}
+use Rattle.pat_world.proofs.world.World.ordered.Goals as goal
+
+pub returns-in_ok-member-in-Commit-clause-comes : goal.returns-in_ok-member-in-Commit-clause-comes
+returns-in_ok-member-in-Commit-clause-comes c =
+    let member = c.in_ok-member-in-Commit.member in
+    let bytes = c.in-Commit.size.bytes in
+    let is = c.commit_of.ensures ∙ ap (λ (b : Cluster). commit_of member (entry_for b.book.servers member.id.number (b.book.commits + 1) bytes)) c.self.view_is in
+    subst (λ (k : Kind). MayCome c.args.self.now k) (sym is) (commit-comes c.args.self.now member bytes)

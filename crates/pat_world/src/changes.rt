@@ -1,0 +1,148 @@
+//! What a happening changes, field by field of what a book determines.
+ghost use Rattle.std.specs.Prelude.{ℕ, ◌≡◌, ◌<◌, ◌+◌, ◌^◌, OnErr, OnOk, Some};
+ghost use Rattle.event_book.specs.Acknowledged.{acknowledged_after, commits_after};
+ghost use Rattle.event_book.specs.Agents.{agents_after, changed_by};
+ghost use Rattle.event_book.specs.Clock.{now_after};
+ghost use Rattle.event_book.specs.Flight.{Flight, InFlightFacts, flight_at, in_flight, sent_after};
+ghost use Rattle.event_book.specs.Frozen.{frozen_after};
+ghost use Rattle.event_book.specs.Keys.{keys_at};
+ghost use Rattle.event_book.specs.Links.{cuts_after};
+ghost use Rattle.lease_store.specs.Keys.{Keys};
+ghost use Rattle.pat_world.specs.Cluster.{phases_after};
+ghost use Rattle.pat_world.specs.Comes.{IsBare};
+ghost use Rattle.pat_world.specs.Settled.{settled_after};
+
+use crate::agents::{change_agent, start};
+use crate::flight::Flight;
+use crate::links::change_link;
+use crate::phase::Phase;
+use event_book::{
+    AgentEvent, AgentState, Kind, Link, LogEvent, MessageEvent, ReplicationEvent, ServerEvent,
+    ServerOf,
+};
+use lease_store::Store;
+use pat_base::Ticks;
+use std::alloc::AllocError;
+
+/// The moment after a happening.
+pub fn now_after(now: Ticks, kind: &Kind) -> Ticks
+    requires { now.0 < 2 ^ 61 }
+    ensures { result.0 ≡ now_after now.0 kind.now }
+{
+    match kind {
+        Kind::Tick => Ticks(now.0 + 1),
+        _ => now,
+    }
+}
+
+/// The keys after a happening of this moment.
+pub fn change_keys(store: &mut Store, now: Ticks, kind: &Kind)
+    requires { IsBare kind.now }
+    ensures { store.new ≡ keys_at now.0 store.old kind.now }
+{
+    if let Kind::Tick = kind {
+        store.drop_expired(now);
+    }
+}
+
+/// The agents after a happening.
+pub fn change_agents(agents: &mut Vec<AgentState>, kind: &Kind)
+    ensures { agents.new.items ≡ agents_after agents.old.items kind.now }
+{
+    if let Kind::Agent(happening) = kind {
+        change_agent(agents, happening);
+    }
+}
+
+/// Where the agents stand after a happening that is no input of one but its start.
+pub fn change_phases(phases: &mut Vec<Phase>, now: Ticks, kind: &Kind)
+    requires bare { IsBare kind.now }
+    requires moment { now.0 < 2 ^ 61 }
+    ensures { (flight : Flight) → phases.new.items ≡ phases_after now.0 flight phases.old.items kind.now }
+{
+    if let Kind::Agent(AgentEvent::Started { agent, .. }) = kind {
+        start(phases, *agent, Ticks(now.0 + 1));
+    }
+}
+
+/// The links that are cut after a happening. It fails only for want of memory.
+pub fn change_links(cuts: &mut Vec<Link>, kind: &Kind) -> Result<(), AllocError>
+    ensures ok { OnOk result (cuts.new.items ≡ cuts_after cuts.old.items kind.now) }
+    ensures err { OnErr result (cuts.new.items ≡ cuts.old.items) }
+{
+    match kind {
+        Kind::Link(change) => change_link(cuts, change),
+        _ => Ok(()),
+    }
+}
+
+/// The messages in flight after a happening, which sends none.
+pub fn change_flight(flight: &mut Flight, kind: &Kind)
+    requires { IsBare kind.now }
+    ensures flight { (now : ℕ) (known : Keys) → flight.new ≡ flight_at now known flight.old kind.now }
+    ensures others { (n : ℕ) (m : InFlightFacts) → in_flight flight.new n ≡ Some m → in_flight flight.old n ≡ Some m }
+{
+    if let Kind::Message(MessageEvent::Lost { number }) = kind {
+        let _ = flight.land(*number);
+    }
+}
+
+/// The number of the last message after a happening.
+pub fn sent_after(sent: u64, kind: &Kind) -> u64
+    ensures { result ≡ sent_after sent kind.now }
+{
+    match kind {
+        Kind::Message(MessageEvent::Sent { number, .. }) => *number,
+        _ => sent,
+    }
+}
+
+/// Which servers are frozen after a happening.
+pub fn change_frozen(frozen: &mut Vec<bool>, kind: &Kind)
+    ensures { frozen.new.items ≡ frozen_after frozen.old.items kind.now }
+{
+    match kind {
+        Kind::Server(ServerEvent::Frozen { server }) => set_frozen(frozen, *server, true),
+        Kind::Server(ServerEvent::Thawed { server }) => set_frozen(frozen, *server, false),
+        _ => {}
+    }
+}
+
+fn set_frozen(frozen: &mut Vec<bool>, server: ServerOf, is_frozen: bool)
+    ensures { frozen.new.items ≡ changed_by frozen.old.items server.id.number (λ before. is_frozen) }
+{
+    let place = server.id.number as usize;
+    if place < frozen.len() {
+        frozen[place] = is_frozen;
+    }
+}
+
+/// The number of the last commit after a happening.
+pub fn commits_after(commits: u64, kind: &Kind) -> u64
+    ensures { result ≡ commits_after commits kind.now }
+{
+    match kind {
+        Kind::Log(LogEvent::Appended { entry, .. }) => entry.serial,
+        _ => commits,
+    }
+}
+
+/// The commits that are acknowledged after a happening. It fails only for want of memory.
+pub fn change_acknowledged(told: &mut Vec<u64>, kind: &Kind) -> Result<(), AllocError>
+    ensures { OnOk result (told.new.items ≡ acknowledged_after told.old.items kind.now) }
+{
+    if let Kind::Replication(ReplicationEvent::Acknowledged { commit, .. }) = kind {
+        told.push(*commit)?;
+    }
+    Ok(())
+}
+
+/// The number below which no message need be looked at after a happening.
+pub fn settled_after(settled: u64, kind: &Kind) -> u64
+    ensures { result ≡ settled_after settled kind.now }
+{
+    match kind {
+        Kind::Agent(_) | Kind::Link(_) => 0,
+        _ => settled,
+    }
+}
