@@ -4,13 +4,15 @@ use Rattle.std.specs.Fmt.{decimal}
 use Rattle.std.specs.Str.{bytes_eq}
 use Rattle.std.proofs.lemmas.Option.{slice_get_within}
 use Rattle.std.proofs.lemmas.Slice.Eq.{bytes_eq-Decides}
+use Rattle.pat_base.specs.MemberId.{member_of}
 use Rattle.pat_base.specs.Name.{name_of}
 use Rattle.pat_base.specs.declared.name.Name.{Name}
 use Rattle.pat_base.specs.declared.member_id.MemberId.{MemberId}
+use Rattle.pat_base.proofs.Members.{number-member_of}
 use Rattle.pat_base.proofs.Names.{name_of-text}
 use Rattle.cluster_script.specs.Arguments.{number_in, switch_in, transition_in, commit_size_in, delay_in, some_or, declared_member, member_in, end_in, line_end, last_word, one_word, word_behind, two_words, words_behind, three_words, same_end, apart, two_ends, commit_in, stream_in, slow_in, command, line_of_words}
 use Rattle.cluster_script.specs.Faults.{on_ok, both}
-use Rattle.cluster_script.specs.Members.{member_of, place_of, member_named}
+use Rattle.cluster_script.specs.Members.{place_of, member_named}
 use Rattle.cluster_script.specs.Numbers.{number}
 use Rattle.cluster_script.specs.Ranges.{commit_size_of, delay_of}
 use Rattle.cluster_script.specs.Script.{text_of_name, member_text, end_text, switch_text, transition_text, two_texts, line_text, IsMember, IsEnd, IsLink, IsLine}
@@ -28,7 +30,7 @@ use Rattle.cluster_script.specs.declared.line.Transition.{Transition}
 use Rattle.cluster_script.specs.declared.line.Transition.TheVariants as transitions
 use Rattle.cluster_script.specs.declared.ranges.CommitSize.{CommitSize}
 use Rattle.cluster_script.specs.declared.ranges.Delay.{Delay}
-use Rattle.cluster_script.proofs.NameLaws.{place_of-Some, member_of-number}
+use Rattle.cluster_script.proofs.NameLaws.{place_of-Some}
 use Rattle.cluster_script.proofs.NumberLaws.{number-is, number-below}
 use Rattle.cluster_script.proofs.Outcomes.{ok_is, err_is, on_some-Some, on_ok-Ok, some_or-Ok, both-Ok, cond-Err}
 use Rattle.cluster_script.proofs.RangeLaws.{commit_size_of-bytes, delay_of-ticks}
@@ -44,7 +46,7 @@ member-named members word m None is e = absurd (err_is _ m e)
 member-named members word m (Some name) is e =
     let p = on_some-Some (place_of members name) member_of m (some_or-Ok faults.UnknownName (member_named members name) m e) in
     let at : slice_get members p.0 ≡ Some name = place_of-Some members name p.0 p.1 in
-    let n : m.number ≡ p.0 = member_of-number p.0 m p.2 in
+    let n : m.number ≡ p.0 = number-member_of p.0 m p.2 in
     let inside : p.0 < length members = slice_get_within members p.0 name at in
     record {
       text = ap (λ k. text_of_name (slice_get members k)) n ∙ ap text_of_name at ∙ name_of-text word name is;

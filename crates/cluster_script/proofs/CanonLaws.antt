@@ -3,13 +3,14 @@ use Rattle.std.proofs.Common.{◌≡◌, ℕ, ◌+◌, ◌^◌, ◌≤◌, ◌<�
 use Rattle.std.specs.Fmt.{decimal}
 use Rattle.std.specs.List.{list_all}
 use Rattle.std.specs.Str.{is_utf8}
-use Rattle.std.proofs.lemmas.Bool.{eqb-true}
+use Rattle.std.proofs.lemmas.Bool.{and_parts, and_from, eqb-true}
 use Rattle.std.proofs.lemmas.Bool.Decides.{nat_tests}
 use Rattle.std.proofs.lemmas.Fmt.{decimal_by_steps, length-decimal-le}
+use Rattle.std.proofs.lemmas.List.Folds.{list_all-append}
 use Rattle.std.proofs.lemmas.Str.{IsUtf8-from_ascii, is_utf8-from_IsUtf8}
-use Rattle.std.proofs.lemmas.Str.Ascii.{IsAscii-nil}
+use Rattle.pat_base.specs.Bounded.{list_all-ascii, is_text-bytes, is_text-fits}
 use Rattle.pat_base.specs.Name.{name_bytes}
-use Rattle.pat_base.specs.NameText.{is_name, is_name_byte, is_name-length}
+use Rattle.pat_base.specs.NameText.{is_name, is_name_byte}
 use Rattle.pat_base.specs.declared.name.Name.{Name}
 use Rattle.pat_base.specs.declared.member_id.MemberId.{MemberId}
 use Rattle.cluster_script.specs.Lines.{ended, lines_in, is_skipped, counted_lines}
@@ -33,26 +34,13 @@ use Rattle.cluster_script.proofs.WordLaws.{spelled-counts}
 abbrev is_plain : ℕ → Bool
 is_plain b = nat_lt b 128 && not (b == 10)
 
-and-left : (a b : Bool) → (a && b) ≡ true → a ≡ true
-and-left true b h = refl
-and-left false b h = h
-
-and-right : (a b : Bool) → (a && b) ≡ true → b ≡ true
-and-right true b h = h
-and-right false b h = cc
-
-both-true : (a b : Bool) → a ≡ true → b ≡ true → (a && b) ≡ true
-both-true a b x y = rw (x, y) refl
-
 -- words of plain bytes, and no more than so many
 record IsPlain (text : List ℕ) (most : ℕ) : Type 0 where
   pub plain : list_all is_plain text ≡ true
   pub short : length text ≤ most
 
 plain-append : (xs ys : List ℕ) → list_all is_plain xs ≡ true → list_all is_plain ys ≡ true → list_all is_plain (xs ++ ys) ≡ true
-plain-append [] ys h k = k
-plain-append (x ∷ xs) ys h k =
-    both-true (is_plain x) (list_all is_plain (xs ++ ys)) (and-left (is_plain x) (list_all is_plain xs) h) (plain-append xs ys (and-right (is_plain x) (list_all is_plain xs) h) k)
+plain-append xs ys h k = list_all-append is_plain xs ys ∙ and_from (list_all is_plain xs) (list_all is_plain ys) h k
 
 IsPlain-append : (xs ys : List ℕ) (m n : ℕ) → IsPlain xs m → IsPlain ys n → IsPlain (xs ++ ys) (m + n)
 IsPlain-append xs ys m n h k = record { plain = plain-append xs ys h.plain k.plain; short = omega (arith, length-append xs ys, h.short, k.short) }
@@ -69,13 +57,14 @@ name-byte b h = grind (arith, nat_tests)
 name-bytes : (v : List ℕ) → list_all is_name_byte v ≡ true → list_all is_plain v ≡ true
 name-bytes [] h = refl
 name-bytes (b ∷ bs) h =
-    both-true (is_plain b) (list_all is_plain bs) (name-byte b (and-left (is_name_byte b) (list_all is_name_byte bs) h)) (name-bytes bs (and-right (is_name_byte b) (list_all is_name_byte bs) h))
+    let both = and_parts (is_name_byte b) (list_all is_name_byte bs) h in
+    and_from (is_plain b) (list_all is_plain bs) (name-byte b both.0) (name-bytes bs both.1)
 
 text-IsPlain : (v : List ℕ) → is_name v ≡ true → IsPlain v 32
-text-IsPlain v h = record { plain = name-bytes v (and-right (nat_lt 0 (length v) && nat_le (length v) 32) (list_all is_name_byte v) h); short = is_name-length v h }
+text-IsPlain v h = record { plain = name-bytes v (is_text-bytes 32 is_name_byte v h); short = is_text-fits 32 is_name_byte v h }
 
 name-IsPlain : (name : Name) → IsPlain (name_bytes name) 32
-name-IsPlain name = text-IsPlain (name_bytes name) name.text
+name-IsPlain name = text-IsPlain (name_bytes name) name.legal
 
 some_name-IsPlain : (o : Option Name) → IsPlain (text_of_name o) 32
 some_name-IsPlain None = record { plain = refl; short = omega arith }
@@ -237,18 +226,14 @@ ascii-byte b h = grind (arith, nat_tests)
 no-feed : (b : ℕ) → is_plain b ≡ true → (b == 10) ≡ false
 no-feed b h = grind (arith, nat_tests)
 
-plain-ascii : (v : List ℕ) → list_all is_plain v ≡ true → (i : ℕ) → get_or v i 0 < 128
-plain-ascii [] h i = IsAscii-nil i
-plain-ascii (b ∷ bs) h zero = ascii-byte b (and-left (is_plain b) (list_all is_plain bs) h)
-plain-ascii (b ∷ bs) h (suc i) = plain-ascii bs (and-right (is_plain b) (list_all is_plain bs) h) i
-
 plain-is_utf8 : (v : List ℕ) → list_all is_plain v ≡ true → is_utf8 v ≡ true
-plain-is_utf8 v h = is_utf8-from_IsUtf8 v (IsUtf8-from_ascii v (plain-ascii v h))
+plain-is_utf8 v h = is_utf8-from_IsUtf8 v (IsUtf8-from_ascii v (list_all-ascii is_plain ascii-byte v h))
 
 line-again : (line rest : List ℕ) → list_all is_plain line ≡ true → lines_in (line ++ (10 ∷ rest)) ≡ line ∷ lines_in rest
 line-again [] rest h = refl
 line-again (b ∷ bs) rest h =
-    rw (no-feed b (and-left (is_plain b) (list_all is_plain bs) h), line-again bs rest (and-right (is_plain b) (list_all is_plain bs) h)) refl
+    let both = and_parts (is_plain b) (list_all is_plain bs) h in
+    rw (no-feed b both.0, line-again bs rest both.1) refl
 
 lines-again : (lines : List (List ℕ)) → AllLineTexts lines → lines_in (ended lines) ≡ lines
 lines-again [] h = refl

@@ -1,38 +1,14 @@
--- Members by number and in a table.
+-- Members in a table.
 use Rattle.std.proofs.Common.{◌≡◌, ℕ, ◌<◌, ◌↔◌, Bool, true, false, cond, nat_lt, List, [], ◌∷◌, ◌++◌, slice_get, Option, Some, None, IsSome, is_some, IfSome, arith, refl, ap, subst, zero, suc}
 use Rattle.std.specs.Bool.{Decides}
 use Rattle.std.specs.Str.{bytes_eq}
 use Rattle.std.specs.Map.{keys_of}
-use Rattle.std.proofs.lemmas.Bool.{ltb-true}
-use Rattle.std.proofs.lemmas.Bool.Decides.{nat_tests}
-use Rattle.std.proofs.Math.Bridge.{le_prop}
 use Rattle.indexmap.specs.IndexMap.{insert_entry}
 use Rattle.pat_base.specs.Name.{name_bytes}
 use Rattle.pat_base.specs.declared.name.Name.{Name}
-use Rattle.pat_base.specs.declared.member_id.MemberId.{MemberId}
 use Rattle.cluster_script.specs.Lines.{one_more}
-use Rattle.cluster_script.specs.Members.{member_of, member_by, place_of}
+use Rattle.cluster_script.specs.Members.{place_of}
 use Rattle.cluster_script.proofs.Places.{same_text}
-
--- a member is its number
-pub same_member_id : (a b : MemberId) → a.number ≡ b.number → a ≡ b
-same_member_id a b e =
-    subst
-    (λ (n : ℕ). (below : n < 16) → ◌≡◌ {A = MemberId} a (record { number = n; below = below }))
-    e
-    (λ below. ap (λ (x : a.number < 16). record { number = a.number; below = x }) (le_prop a.below below))
-    b.below
-
-made : (n : ℕ) (test : Bool) (is : nat_lt n 16 ≡ test) (r : Option MemberId) → IsSome r ↔ (n < 16) → IfSome r (λ m. m.number ≡ n) → r ≡ member_by n test is
-unfolding member_by
-made n true is None found value = let no : IsSome {T = MemberId} None = found.1 (ltb-true n 16 is) in cc
-made n true is (Some m) found value = ap Some (same_member_id m _ value)
-made n false is None found value = refl
-made n false is (Some m) found value = let small : n < 16 = found.0 refl in absurd (grind (arith, nat_tests))
-
-pub member_of-is : (n : ℕ) (r : Option MemberId) → IsSome r ↔ (n < 16) → IfSome r (λ m. m.number ≡ n) → r ≡ member_of n
-unfolding member_of
-member_of-is n r found value = made n (nat_lt n 16) refl r found value
 
 pub slice_get-keys_of : {X : Type 0} (es : List (Name × X)) (i : ℕ) (name : Name) (x : X) → slice_get es i ≡ Some (name, x) → slice_get (keys_of es) i ≡ Some name
 slice_get-keys_of [] i name x e = cc

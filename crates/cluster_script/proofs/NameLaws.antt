@@ -1,13 +1,12 @@
 -- Names among different names.
-use Rattle.std.proofs.Common.{◌≡◌, ℕ, ◌+◌, ◌⊎◌, inl, inr, Bool, true, false, cond, nat_lt, List, [], ◌∷◌, ◌++◌, length, slice_get, Option, Some, None, refl, ◌∙◌, ap, sym, zero, suc, arith}
+use Rattle.std.proofs.Common.{◌≡◌, ℕ, ◌+◌, ◌⊎◌, inl, inr, Bool, true, false, cond, List, [], ◌∷◌, ◌++◌, length, slice_get, Option, Some, None, refl, ◌∙◌, ap, sym, zero, suc, arith}
 use Rattle.std.specs.Str.{bytes_eq}
 use Rattle.std.proofs.lemmas.Slice.Eq.{bytes_eq-Decides}
 use Rattle.pat_base.specs.Name.{name_bytes}
 use Rattle.pat_base.specs.declared.name.Name.{Name}
-use Rattle.pat_base.specs.declared.member_id.MemberId.{MemberId}
 use Rattle.pat_base.proofs.Names.{name_bytes-injective}
 use Rattle.cluster_script.specs.Lines.{one_more}
-use Rattle.cluster_script.specs.Members.{member_of, member_by, place_of}
+use Rattle.cluster_script.specs.Members.{place_of}
 use Rattle.cluster_script.proofs.Outcomes.{some_is, none_is}
 
 -- no name stands at two places
@@ -65,12 +64,3 @@ AreDifferent-push members name h none i j x p q =
         | inr b ↦ a.0 ∙ sym b.0
       ]
     ]
-
-made : (n : ℕ) (test : Bool) (is : nat_lt n 16 ≡ test) (m : MemberId) → member_by n test is ≡ Some m → m.number ≡ n
-unfolding member_by
-made n true is m e = ap (λ (x : MemberId). x.number) (sym (some_is _ m e))
-made n false is m e = absurd (none_is m e)
-
-pub member_of-number : (n : ℕ) (m : MemberId) → member_of n ≡ Some m → m.number ≡ n
-unfolding member_of
-member_of-number n m e = made n (nat_lt n 16) refl m e

@@ -3,14 +3,16 @@ use Rattle.std.proofs.Common.{◌≡◌, ◌≢◌, ℕ, ◌+◌, ◌^◌, ◌�
 use Rattle.std.specs.Fmt.{decimal}
 use Rattle.std.specs.List.{list_all}
 use Rattle.std.specs.Str.{bytes_eq}
-use Rattle.std.proofs.lemmas.Bool.{eqb-true}
+use Rattle.std.proofs.lemmas.Bool.{and_parts, eqb-true}
 use Rattle.std.proofs.lemmas.Bool.Decides.{nat_tests}
 use Rattle.std.proofs.lemmas.Option.{slice_get_within}
 use Rattle.std.proofs.lemmas.Slice.Eq.{bytes_eq-Decides}
+use Rattle.pat_base.specs.Bounded.{is_text-bytes}
+use Rattle.pat_base.specs.MemberId.{member_of}
 use Rattle.pat_base.specs.NameText.{is_name, is_name_byte}
 use Rattle.pat_base.specs.declared.member_id.MemberId.{MemberId}
+use Rattle.pat_base.proofs.Members.{number-injective, member_of-number}
 use Rattle.pat_base.proofs.Names.{name_of-name_bytes}
-use Rattle.cluster_script.specs.Members.{member_of}
 use Rattle.cluster_script.specs.Numbers.{number}
 use Rattle.cluster_script.specs.Lines.{first_at}
 use Rattle.cluster_script.specs.Options.{on_some}
@@ -42,7 +44,6 @@ use Rattle.cluster_script.specs.declared.line.Transition.{Transition}
 use Rattle.cluster_script.specs.declared.line.Transition.TheVariants as transitions
 use Rattle.cluster_script.specs.declared.ranges.CommitSize.{CommitSize}
 use Rattle.cluster_script.specs.declared.ranges.Delay.{Delay}
-use Rattle.cluster_script.proofs.MemberLaws.{member_of-is, same_member_id}
 use Rattle.cluster_script.proofs.NameLaws.{AreDifferent, place_of-Some, place_of-None}
 use Rattle.cluster_script.proofs.NumberLaws.{number-decimal, first_at-decimal}
 use Rattle.cluster_script.proofs.RangeLaws.{commit_size_of-Some, delay_of-Some}
@@ -52,24 +53,17 @@ use Rattle.cluster_script.proofs.WordLaws.{cut_word-again, cut_word-alone, cut_w
 byte-other : (b : ℕ) → is_name_byte b ≡ true → (b == 32) ≡ false
 byte-other b h = grind (arith, nat_tests)
 
-and-left : (a b : Bool) → (a && b) ≡ true → a ≡ true
-and-left true b h = refl
-and-left false b h = h
-
-and-right : (a b : Bool) → (a && b) ≡ true → b ≡ true
-and-right true b h = h
-and-right false b h = cc
-
 first_at-bytes : (v : List ℕ) → list_all is_name_byte v ≡ true → first_at 32 v ≡ None
 first_at-bytes [] h = refl
 first_at-bytes (b ∷ bs) h =
-    rw (byte-other b (and-left (is_name_byte b) (list_all is_name_byte bs) h), first_at-bytes bs (and-right (is_name_byte b) (list_all is_name_byte bs) h)) refl
+    let both = and_parts (is_name_byte b) (list_all is_name_byte bs) h in
+    rw (byte-other b both.0, first_at-bytes bs both.1) refl
 
 first_at-text : (v : List ℕ) → is_name v ≡ true → first_at 32 v ≡ None
-first_at-text v h = first_at-bytes v (and-right (nat_lt 0 (length v) && nat_le (length v) 32) (list_all is_name_byte v) h)
+first_at-text v h = first_at-bytes v (is_text-bytes 32 is_name_byte v h)
 
 pub first_at-name : (name : Name) → first_at 32 (name_bytes name) ≡ None
-first_at-name name = first_at-text (name_bytes name) name.text
+first_at-name name = first_at-text (name_bytes name) name.legal
 
 first_at-some_name : (o : Option Name) → first_at 32 (text_of_name o) ≡ None
 first_at-some_name None = refl
@@ -84,9 +78,6 @@ placed : (members : List Name) (name : Name) (i : ℕ) (o : Option ℕ) → AreD
 placed members name i None h at e = absurd (place_of-None members name i e at)
 placed members name i (Some j) h at e = ap Some (h j i name (place_of-Some members name j e) at)
 
-numbered : (m : MemberId) → member_of m.number ≡ Some m
-numbered m = sym (member_of-is m.number (Some m) ((λ _. m.below), (λ _. refl)) refl)
-
 past : {X : Type 0} (xs : List X) (i : ℕ) → slice_get xs i ≡ None → length xs ≤ i
 past [] i e = omega arith
 past (x ∷ xs) zero e = cc
@@ -97,7 +88,7 @@ named members m None h small at = absurd (omega (arith, past members m.number at
 named members m (Some name) h small at =
     ap (declared_member members) (name_of-name_bytes name)
     ∙ ap (λ o. some_or faults.UnknownName (on_some o member_of)) (placed members name m.number (place_of members name) h at refl)
-    ∙ ap (some_or faults.UnknownName) (numbered m)
+    ∙ ap (some_or faults.UnknownName) (member_of-number m)
 
 pub member_in-again : (members : List Name) (m : MemberId) → AreDifferent members → IsMember members m → member_in members (member_text members m) ≡ Ok m
 member_in-again members m h small = named members m (slice_get members m.number) h small refl
@@ -131,7 +122,7 @@ same_end-is : (x y : End) → same_end x y ≡ true → x ≡ y
 same_end-is ends.Store ends.Store e = refl
 same_end-is ends.Store (ends.Member m) e = cc
 same_end-is (ends.Member m) ends.Store e = cc
-same_end-is (ends.Member m) (ends.Member k) e = ap ends.Member (same_member_id m k (eqb-true m.number k.number e))
+same_end-is (ends.Member m) (ends.Member k) e = ap ends.Member (number-injective m k (eqb-true m.number k.number e))
 
 other_end : (x y : End) (t : Bool) → same_end x y ≡ t → x ≢ y → t ≡ false
 other_end x y true is other = absurd (other (same_end-is x y is))

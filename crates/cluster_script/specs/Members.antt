@@ -1,20 +1,12 @@
 -- Members by name and by number.
-use Rattle.std.specs.Prelude.{ℕ, ◌≡◌, nat_lt, Bool, true, false, if◌then◌else◌, List, [], ◌∷◌, Option, Some, None, refl}
+use Rattle.std.specs.Prelude.{ℕ, if◌then◌else◌, List, [], ◌∷◌, Option, Some, None}
 use Rattle.std.specs.Str.{bytes_eq}
-use Rattle.std.proofs.lemmas.Bool.{ltb-true}
+use Rattle.pat_base.specs.MemberId.{member_of}
 use Rattle.pat_base.specs.Name.{name_bytes}
 use Rattle.pat_base.specs.declared.name.Name.{Name}
 use Rattle.pat_base.specs.declared.member_id.MemberId.{MemberId}
 use Rattle.cluster_script.specs.Lines.{one_more}
 use Rattle.cluster_script.specs.Options.{on_some}
-
-unfoldable pub member_by : (number : ℕ) (test : Bool) → nat_lt number 16 ≡ test → Option MemberId
-member_by number true is = Some (record { number = number; below = ltb-true number 16 is })
-member_by number false is = None
-
--- the member of this number
-unfoldable pub member_of : ℕ → Option MemberId
-member_of number = member_by number (nat_lt number 16) refl
 
 -- the place of the member of this name
 abbrev pub place_of : List Name → Name → Option ℕ

@@ -87,10 +87,6 @@ line_text members (lines.Run n) = spelled words.Run (decimal n)
 line_text members (lines.Tick n) = spelled words.Tick (decimal n)
 line_text members (lines.Command command) = command_text members command
 
--- a line of the body, with its line feed
-abbrev pub spelling_of_line : HeadText → Line → List ℕ
-spelling_of_line head line = line_text head.members line ++ 10 ∷ []
-
 -- the lines of members, in order
 abbrev pub member_lines : List Name → List (List ℕ)
 member_lines members = map member_line_text members

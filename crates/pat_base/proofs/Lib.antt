@@ -2,5 +2,7 @@ pub mod Contents
 pub mod Digits
 pub mod Hosts
 pub mod MemberBits
+pub mod Members
 pub mod Names
 pub mod Positions
+pub mod Texts

@@ -1,3 +1,4 @@
+pub mod Bounded
 pub mod Host
 pub mod HostText
 pub mod Lsn
@@ -8,5 +9,6 @@ pub mod Name
 pub mod NameText
 pub mod Outside
 pub mod ServerState
+pub mod ShortText
 pub mod SizeText
 pub mod Word

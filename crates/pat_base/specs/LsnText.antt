@@ -1,9 +1,10 @@
 -- Log positions as text.
-use Rattle.std.specs.Prelude.{ℕ, ◌+◌, ◌*◌, ◌/◌, ◌%◌, ◌^◌, ◌++◌, ◌&&◌, ◌==◌, nat_le, nat_lt, if◌then◌else◌, Bool, true, List, length, codes, Option, Some, None}
-use Rattle.std.specs.List.{list_all, before_first, after_first}
+use Rattle.std.specs.Prelude.{ℕ, ◌+◌, ◌*◌, ◌/◌, ◌%◌, ◌^◌, ◌++◌, ◌==◌, nat_le, if◌then◌else◌, Bool, true, List, codes, Option, Some, None}
+use Rattle.std.specs.List.{before_first, after_first}
 use Rattle.std.specs.Char.{is_ascii_hexdigit}
 use Rattle.std.specs.Fmt.{digits}
 use Rattle.std.specs.Str.Parse.{digits_value}
+use Rattle.pat_base.specs.Bounded.{is_text}
 
 -- two hexadecimal numbers in capitals, the high and the low 32 bits, with a slash between
 abbrev pub lsn_text : ℕ → List ℕ
@@ -11,7 +12,7 @@ lsn_text position = digits 16 true (position / 2 ^ 32) ++ (codes "/" ++ digits 1
 
 -- 1 to 8 hexadecimal digits
 abbrev pub is_hex_number : List ℕ → Bool
-is_hex_number bytes = nat_lt 0 (length bytes) && nat_le (length bytes) 8 && list_all is_ascii_hexdigit bytes
+is_hex_number bytes = is_text 8 is_ascii_hexdigit bytes
 
 -- the number that 1 to 8 hexadecimal digits write, if the bytes are such
 abbrev pub hex_number : List ℕ → Option ℕ

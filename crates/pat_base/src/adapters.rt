@@ -13,7 +13,11 @@ pub struct ReaderSource<R: Drop> {
 }
 
 impl<R: Read + Drop> ReaderSource<R> {
-    pub fn new(reader: R) -> Self {
+    /// A source over this reader, with no fault so far.
+    pub fn new(reader: R) -> Self
+        ensures faults { ⟦<ReaderSource<R> as Source>⟧.faults result ≡ 0 }
+        ensures untold { ⟦<ReaderSource<R> as Source>⟧.rest result ≡ None }
+    {
         ReaderSource { reader, faults: 0 }
     }
 }
@@ -44,7 +48,11 @@ pub struct WriterSink<W: Drop> {
 }
 
 impl<W: Write + Drop> WriterSink<W> {
-    pub fn new(writer: W) -> Self {
+    /// A sink over this writer, with no fault so far.
+    pub fn new(writer: W) -> Self
+        ensures faults { ⟦<WriterSink<W> as Sink>⟧.faults result ≡ 0 }
+        ensures untold { ⟦<WriterSink<W> as Sink>⟧.content result ≡ None }
+    {
         WriterSink { writer, faults: 0 }
     }
 }

@@ -1,23 +1,20 @@
 //! Hosts of members.
-ghost use Rattle.std.specs.Prelude.{◌≡◌, ◌≤◌, ◌↔◌, IsSome, IfSome, IsTrue, length, take};
+ghost use Rattle.std.specs.Prelude.{◌≡◌, IsTrue};
 ghost use Rattle.std.specs.List.{list_all};
-ghost use Rattle.pat_base.specs.HostText.{is_host, is_host_byte, padded_host};
+ghost use Rattle.pat_base.specs.HostText.{is_host, is_host_byte};
+ghost use Rattle.pat_base.specs.ShortText.{text_bytes};
 
+use crate::short_text::ShortText;
 use std::fmt;
 
 /// The longest host, in bytes.
 const LONGEST: usize = 40;
 
-/// Where a member is reached: 1 to 40 bytes of `a` to `z`, `A` to `Z`, `0` to `9`, `.`, `:` and `-`. The bytes behind
-/// the host are 0.
+/// Where a member is reached: 1 to 40 bytes of `a` to `z`, `A` to `Z`, `0` to `9`, `.`, `:` and `-`.
 #[derive(Clone, Copy, Debug, PartialEq, Eq, PartialOrd, Ord, Hash)]
 pub struct Host {
-    bytes: [u8; 40],
-    len: u8,
-    ghost full: { length bytes ≡ 40 },
-    ghost short: { len ≤ 40 },
-    ghost text: { IsTrue (is_host (take len bytes)) },
-    ghost zeros: { bytes ≡ padded_host (take len bytes) },
+    text: ShortText<LONGEST>,
+    ghost legal: { IsTrue (is_host (text_bytes text)) },
 }
 
 impl Host {
@@ -49,17 +46,14 @@ impl Host {
         ensures value { result.now ≡ host_bytes self.now }
         ensures host { IsTrue (is_host result.now) }
     {
-        &self.bytes[..self.len as usize]
+        self.text.as_bytes()
     }
 
     /// The host as text.
     pub fn as_str(&self) -> &str
         ensures { result.now ≡ host_bytes self.now }
     {
-        match str::from_utf8(self.as_bytes()) {
-            Ok(text) => text,
-            Err(_) => unreachable!(),
-        }
+        self.text.as_str()
     }
 }
 
@@ -77,13 +71,10 @@ impl fmt::Display for Host {
 /// The host of bytes that are one.
 fn made(bytes: &[u8]) -> Host
     requires { IsTrue (is_host bytes.now) }
-    ensures { take result.len result.bytes ≡ bytes.now }
+    ensures { text_bytes result.text ≡ bytes.now }
 {
-    let mut all = [0u8; LONGEST];
-    all[..bytes.len()].copy_from_slice(bytes);
     Host {
-        bytes: all,
-        len: bytes.len() as u8,
+        text: ShortText::new(bytes),
     }
 }
 

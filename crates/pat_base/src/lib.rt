@@ -11,6 +11,7 @@ mod name;
 mod outside;
 mod server_id;
 mod server_state;
+mod short_text;
 mod size;
 mod tags;
 mod ticks;

@@ -1,22 +1,20 @@
 //! Names of clusters and members.
-ghost use Rattle.std.specs.Prelude.{◌≡◌, ◌≤◌, ◌↔◌, IsSome, IfSome, IsTrue, length, take};
+ghost use Rattle.std.specs.Prelude.{◌≡◌, IsTrue};
 ghost use Rattle.std.specs.List.{list_all};
-ghost use Rattle.pat_base.specs.NameText.{is_name, is_name_byte, padded};
+ghost use Rattle.pat_base.specs.NameText.{is_name, is_name_byte};
+ghost use Rattle.pat_base.specs.ShortText.{text_bytes};
 
+use crate::short_text::ShortText;
 use std::fmt;
 
 /// The longest name, in bytes.
 const LONGEST: usize = 32;
 
-/// A name: 1 to 32 bytes of `a` to `z`, `0` to `9`, `_` and `-`. The bytes behind the name are 0.
+/// A name: 1 to 32 bytes of `a` to `z`, `0` to `9`, `_` and `-`.
 #[derive(Clone, Copy, Debug, PartialEq, Eq, PartialOrd, Ord, Hash)]
 pub struct Name {
-    bytes: [u8; 32],
-    len: u8,
-    ghost full: { length bytes ≡ 32 },
-    ghost short: { len ≤ 32 },
-    ghost text: { IsTrue (is_name (take len bytes)) },
-    ghost zeros: { bytes ≡ padded (take len bytes) },
+    text: ShortText<LONGEST>,
+    ghost legal: { IsTrue (is_name (text_bytes text)) },
 }
 
 impl Name {
@@ -31,7 +29,9 @@ impl Name {
         ensures value { result ≡ name_of bytes.now }
     {
         if is_name(bytes) {
-            Some(made(bytes))
+            Some(Name {
+                text: ShortText::new(bytes),
+            })
         } else {
             None
         }
@@ -42,17 +42,14 @@ impl Name {
         ensures value { result.now ≡ name_bytes self.now }
         ensures name { IsTrue (is_name result.now) }
     {
-        &self.bytes[..self.len as usize]
+        self.text.as_bytes()
     }
 
     /// The name as text.
     pub fn as_str(&self) -> &str
         ensures { result.now ≡ name_bytes self.now }
     {
-        match str::from_utf8(self.as_bytes()) {
-            Ok(text) => text,
-            Err(_) => unreachable!(),
-        }
+        self.text.as_str()
     }
 }
 
@@ -64,19 +61,6 @@ impl fmt::Display for Name {
 
     fn fmt<W: fmt::Write>(&self, f: &mut fmt::Formatter<W>) -> fmt::Result {
         f.write_str(self.as_str())
-    }
-}
-
-/// The name of bytes that are one.
-fn made(bytes: &[u8]) -> Name
-    requires { IsTrue (is_name bytes.now) }
-    ensures { take result.len result.bytes ≡ bytes.now }
-{
-    let mut all = [0u8; LONGEST];
-    all[..bytes.len()].copy_from_slice(bytes);
-    Name {
-        bytes: all,
-        len: bytes.len() as u8,
     }
 }
 
