@@ -1,6 +1,7 @@
 -- What a line says is spelled so.
 use Rattle.std.proofs.Common.{◌≡◌, ◌≢◌, ℕ, ◌<◌, ◌^◌, Bool, true, false, cond, List, [], ◌∷◌, length, slice_get, Option, Some, None, Result, Ok, Err, codes, refl, ◌∙◌, ap, sym, subst, arith, eq-eqb}
 use Rattle.std.specs.Fmt.{decimal}
+use Rattle.std.specs.Option.{ok_or}
 use Rattle.std.specs.Str.{bytes_eq}
 use Rattle.std.proofs.lemmas.Option.{slice_get_within}
 use Rattle.std.proofs.lemmas.Slice.Eq.{bytes_eq-Decides}
@@ -10,7 +11,7 @@ use Rattle.pat_base.specs.declared.name.Name.{Name}
 use Rattle.pat_base.specs.declared.member_id.MemberId.{MemberId}
 use Rattle.pat_base.proofs.Members.{number-member_of}
 use Rattle.pat_base.proofs.Names.{name_of-text}
-use Rattle.cluster_script.specs.Arguments.{number_in, switch_in, transition_in, commit_size_in, delay_in, some_or, declared_member, member_in, end_in, line_end, last_word, one_word, word_behind, two_words, words_behind, three_words, same_end, apart, two_ends, commit_in, stream_in, slow_in, command, line_of_words}
+use Rattle.cluster_script.specs.Arguments.{number_in, switch_in, transition_in, commit_size_in, delay_in, declared_member, member_in, end_in, line_end, last_word, one_word, word_behind, two_words, words_behind, three_words, same_end, apart, two_ends, commit_in, stream_in, slow_in, command, line_of_words}
 use Rattle.cluster_script.specs.Faults.{on_ok, both}
 use Rattle.cluster_script.specs.Members.{place_of, member_named}
 use Rattle.cluster_script.specs.Numbers.{number}
@@ -32,7 +33,7 @@ use Rattle.cluster_script.specs.declared.ranges.CommitSize.{CommitSize}
 use Rattle.cluster_script.specs.declared.ranges.Delay.{Delay}
 use Rattle.cluster_script.proofs.NameLaws.{place_of-Some}
 use Rattle.cluster_script.proofs.NumberLaws.{number-is, number-below}
-use Rattle.cluster_script.proofs.Outcomes.{ok_is, err_is, on_some-Some, on_ok-Ok, some_or-Ok, both-Ok, cond-Err}
+use Rattle.cluster_script.proofs.Outcomes.{ok_is, err_is, and_then-Some, on_ok-Ok, ok_or-Ok, both-Ok, cond-Err}
 use Rattle.cluster_script.proofs.RangeLaws.{commit_size_of-bytes, delay_of-ticks}
 use Rattle.cluster_script.proofs.WordLaws.{cut_word-None, cut_word-Some}
 
@@ -44,7 +45,7 @@ pub record IsNamed (members : List Name) (word : List ℕ) (m : MemberId) : Type
 member-named : (members : List Name) (word : List ℕ) (m : MemberId) (o : Option Name) → name_of word ≡ o → declared_member members o ≡ Ok m → IsNamed members word m
 member-named members word m None is e = absurd (err_is _ m e)
 member-named members word m (Some name) is e =
-    let p = on_some-Some (place_of members name) member_of m (some_or-Ok faults.UnknownName (member_named members name) m e) in
+    let p = and_then-Some member_of (place_of members name) m (ok_or-Ok (member_named members name) faults.UnknownName m e) in
     let at : slice_get members p.0 ≡ Some name = place_of-Some members name p.0 p.1 in
     let n : m.number ≡ p.0 = number-member_of p.0 m p.2 in
     let inside : p.0 < length members = slice_get_within members p.0 name at in
@@ -192,18 +193,18 @@ two_ends-Ok members rest p e =
 
 -- numbers in a range
 pub number_in-Ok : (word : List ℕ) (n : ℕ) → number_in word ≡ Ok n → number word ≡ Some n
-number_in-Ok word n e = some_or-Ok faults.BadNumber (number word) n e
+number_in-Ok word n e = ok_or-Ok (number word) faults.BadNumber n e
 
 commit_size_in-Ok : (word : List ℕ) (size : CommitSize) → commit_size_in word ≡ Ok size → decimal size.bytes ≡ word
 commit_size_in-Ok word size e =
-    let p = on_ok-Ok (number_in word) (λ n. some_or faults.BadNumber (commit_size_of n)) size e in
-    let same : size.bytes ≡ p.0 = commit_size_of-bytes p.0 size (some_or-Ok faults.BadNumber (commit_size_of p.0) size p.2) in
+    let p = on_ok-Ok (number_in word) (λ n. ok_or (commit_size_of n) faults.BadNumber) size e in
+    let same : size.bytes ≡ p.0 = commit_size_of-bytes p.0 size (ok_or-Ok (commit_size_of p.0) faults.BadNumber size p.2) in
     ap decimal same ∙ sym (number-is word p.0 (number_in-Ok word p.0 p.1))
 
 delay_in-Ok : (word : List ℕ) (delay : Delay) → delay_in word ≡ Ok delay → decimal delay.ticks ≡ word
 delay_in-Ok word delay e =
-    let p = on_ok-Ok (number_in word) (λ n. some_or faults.BadNumber (delay_of n)) delay e in
-    let same : delay.ticks ≡ p.0 = delay_of-ticks p.0 delay (some_or-Ok faults.BadNumber (delay_of p.0) delay p.2) in
+    let p = on_ok-Ok (number_in word) (λ n. ok_or (delay_of n) faults.BadNumber) delay e in
+    let same : delay.ticks ≡ p.0 = delay_of-ticks p.0 delay (ok_or-Ok (delay_of p.0) faults.BadNumber delay p.2) in
     ap decimal same ∙ sym (number-is word p.0 (number_in-Ok word p.0 p.1))
 
 -- 'stop' and 'start'
@@ -251,7 +252,7 @@ number-line : (members : List Name) (keyword : Keyword) (make : ℕ → Line) �
 number-line members keyword make text is_line rest line e =
     let p = on_ok-Ok (one_word members number_in rest) (λ n. Ok (make n)) line e in
     let w = one_word-Ok members number_in rest p.0 p.1 in
-    let n : number w.word ≡ Some p.0 = some_or-Ok faults.BadNumber (number w.word) p.0 w.value in
+    let n : number w.word ≡ Some p.0 = ok_or-Ok (number w.word) faults.BadNumber p.0 w.value in
     let same : make p.0 ≡ line = ok_is (make p.0) line p.2 in
     subst (Says members keyword rest) same (record {
       words = w.word;

@@ -7,11 +7,8 @@ use Rattle.pat_base.specs.declared.name.Name.{Name}
 use Rattle.pat_base.proofs.Names.{name_bytes-injective}
 use Rattle.cluster_script.specs.Lines.{one_more}
 use Rattle.cluster_script.specs.Members.{place_of}
+use Rattle.cluster_script.specs.Script.{AreDifferent}
 use Rattle.cluster_script.proofs.Outcomes.{some_is, none_is}
-
--- no name stands at two places
-abbrev pub AreDifferent : List Name → Type 0
-AreDifferent members = (i j : ℕ) (name : Name) → slice_get members i ≡ Some name → slice_get members j ≡ Some name → i ≡ j
 
 -- a name that has no place stands nowhere
 none-step : (t : Bool) (m name : Name) (members : List Name) (o : Option ℕ) (i : ℕ) → bytes_eq (name_bytes m) (name_bytes name) ≡ t → ((k : ℕ) → o ≡ None → slice_get members k ≡ Some name → ⊥) → cond t (Some 0) (one_more o) ≡ None → slice_get (m ∷ members) i ≡ Some name → ⊥

@@ -1,15 +1,16 @@
 -- Numbers and their digits.
 use Rattle.std.proofs.Common.{◌≡◌, ℕ, ◌+◌, ◌-◌, ◌*◌, ◌/◌, ◌%◌, ◌^◌, ◌≤◌, ◌<◌, ◌==◌, nat_lt, ◌&&◌, true, false, List, [], ◌∷◌, ◌++◌, length, Option, Some, None, refl, ◌∙◌, ap, sym, zero, suc, arith, append_assoc, append-nil}
+use Rattle.std.specs.Char.{is_ascii_digit}
 use Rattle.std.specs.Fmt.{decimal}
+use Rattle.std.specs.Option.{option_and_then}
 use Rattle.std.proofs.lemmas.Fmt.{decimal_by_steps, decimal_step, decimal_digit}
 use Rattle.std.proofs.lemmas.Bool.Decides.{nat_tests}
 use Rattle.cluster_script.specs.Lines.{first_at}
-use Rattle.cluster_script.specs.Options.{on_some}
-use Rattle.cluster_script.specs.Numbers.{number, digits_from, digit_on, is_digit}
+use Rattle.cluster_script.specs.Numbers.{number, digits_from, digit_on}
 use Rattle.cluster_script.proofs.WordLaws.{passed}
-use Rattle.cluster_script.proofs.Outcomes.{some_is, none_is, on_some-Some, cond-Some, cond-refuses}
+use Rattle.cluster_script.proofs.Outcomes.{some_is, none_is, and_then-Some, cond-Some, cond-refuses}
 
-test-ok : (b v : ℕ) → 48 ≤ b → b ≤ 57 → v < 2 ^ 64 → (is_digit b && nat_lt v (2 ^ 64)) ≡ true
+test-ok : (b v : ℕ) → 48 ≤ b → b ≤ 57 → v < 2 ^ 64 → (is_ascii_digit b && nat_lt v (2 ^ 64)) ≡ true
 test-ok b v low high fits = grind (arith, nat_tests)
 
 big : (n : ℕ) → 10 ≤ n → n / 10 ≡ 0 → ⊥
@@ -18,10 +19,10 @@ big n h e = omega arith
 digit-ok : (n d : ℕ) → d < 10 → n * 10 + d < 2 ^ 64 → digit_on n (48 + d) ≡ Some (n * 10 + d)
 digit-ok n d small fits =
     let back : (48 + d) - 48 ≡ d = omega arith in
-    let test : (is_digit (48 + d) && nat_lt (n * 10 + ((48 + d) - 48)) (2 ^ 64)) ≡ true = rw back (test-ok (48 + d) (n * 10 + d) (omega arith) (omega arith) fits) in
+    let test : (is_ascii_digit (48 + d) && nat_lt (n * 10 + ((48 + d) - 48)) (2 ^ 64)) ≡ true = rw back (test-ok (48 + d) (n * 10 + d) (omega arith) (omega arith) fits) in
     rw (test, back) refl
 
-digits-on : (o : Option ℕ) (ds : List ℕ) (d m : ℕ) → ((k : ℕ) → o ≡ Some k → on_some (Some k) (λ m'. digits_from m' ds) ≡ Some m → digits_from k (ds ++ ((48 + d) ∷ [])) ≡ Some (m * 10 + d)) → on_some o (λ m'. digits_from m' ds) ≡ Some m → on_some o (λ m'. digits_from m' (ds ++ ((48 + d) ∷ []))) ≡ Some (m * 10 + d)
+digits-on : (o : Option ℕ) (ds : List ℕ) (d m : ℕ) → ((k : ℕ) → o ≡ Some k → option_and_then (λ m'. digits_from m' ds) (Some k) ≡ Some m → digits_from k (ds ++ ((48 + d) ∷ [])) ≡ Some (m * 10 + d)) → option_and_then (λ m'. digits_from m' ds) o ≡ Some m → option_and_then (λ m'. digits_from m' (ds ++ ((48 + d) ∷ []))) o ≡ Some (m * 10 + d)
 digits-on None ds d m step e = cc
 digits-on (Some k) ds d m step e = step k refl e
 
@@ -87,12 +88,12 @@ record IsDigit (n b m : ℕ) : Type 0 where
   pub value : n * 10 + (b - 48) ≡ m
   pub fits : m < 2 ^ 64
 
-digit : (n b m v : ℕ) → v ≡ n * 10 + (b - 48) → (is_digit b && nat_lt v (2 ^ 64)) ≡ true → v ≡ m → IsDigit n b m
+digit : (n b m v : ℕ) → v ≡ n * 10 + (b - 48) → (is_ascii_digit b && nat_lt v (2 ^ 64)) ≡ true → v ≡ m → IsDigit n b m
 digit n b m v is test e = record { low = grind (arith, nat_tests); high = grind (arith, nat_tests); value = omega arith; fits = grind (arith, nat_tests) }
 
 digit_on-IsDigit : (n b m : ℕ) → digit_on n b ≡ Some m → IsDigit n b m
 digit_on-IsDigit n b m e =
-    let p = cond-Some (is_digit b && nat_lt (n * 10 + (b - 48)) (2 ^ 64)) (Some (n * 10 + (b - 48))) m e in
+    let p = cond-Some (is_ascii_digit b && nat_lt (n * 10 + (b - 48)) (2 ^ 64)) (Some (n * 10 + (b - 48))) m e in
     digit n b m (n * 10 + (b - 48)) refl p.0 (some_is (n * 10 + (b - 48)) m p.1)
 
 one-more : (n b m : ℕ) → 0 < n → IsDigit n b m → decimal m ≡ decimal n ++ b ∷ []
@@ -104,7 +105,7 @@ one-more n b m some d =
 digits : (n m : ℕ) (bs : List ℕ) → 0 < n → digits_from n bs ≡ Some m → decimal m ≡ decimal n ++ bs
 digits n m [] some e = ap decimal (sym (some_is n m e)) ∙ sym (append-nil (decimal n))
 digits n m (b ∷ bs) some e =
-    let p = on_some-Some (digit_on n b) (λ k. digits_from k bs) m e in
+    let p = and_then-Some (λ k. digits_from k bs) (digit_on n b) m e in
     let d = digit_on-IsDigit n b p.0 p.1 in
     digits p.0 m bs (omega (arith, d.value)) p.2 ∙ ap (λ t. t ++ bs) (one-more n b p.0 some d) ∙ append_assoc (decimal n) (b ∷ []) bs
 
@@ -125,13 +126,13 @@ pub number-is : (bytes : List ℕ) (n : ℕ) → number bytes ≡ Some n → byt
 number-is [] n e = absurd (none_is n e)
 number-is (b ∷ bs) n e =
     let p = cond-refuses ((b == 48) && nat_lt 0 (length bs)) (digits_from 0 (b ∷ bs)) n e in
-    let q = on_some-Some (digit_on 0 b) (λ k. digits_from k bs) n p.1 in
+    let q = and_then-Some (λ k. digits_from k bs) (digit_on 0 b) n p.1 in
     first b q.0 n bs p.0 (digit_on-IsDigit 0 b q.0 q.1) q.2
 
 below : (n m : ℕ) (bs : List ℕ) → n < 2 ^ 64 → digits_from n bs ≡ Some m → m < 2 ^ 64
 below n m [] h e = let same : n ≡ m = some_is n m e in omega arith
 below n m (b ∷ bs) h e =
-    let p = on_some-Some (digit_on n b) (λ k. digits_from k bs) m e in
+    let p = and_then-Some (λ k. digits_from k bs) (digit_on n b) m e in
     below p.0 m bs (digit_on-IsDigit n b p.0 p.1).fits p.2
 
 pub number-below : (bytes : List ℕ) (n : ℕ) → number bytes ≡ Some n → n < 2 ^ 64

@@ -1,8 +1,7 @@
 -- Answers that may be missing or a fault.
 use Rattle.std.proofs.Common.{◌≡◌, Bool, true, false, cond, Option, Some, None, Result, Ok, Err, refl, ℕ}
-use Rattle.cluster_script.specs.Arguments.{some_or}
+use Rattle.std.specs.Option.{ok_or, option_and_then}
 use Rattle.cluster_script.specs.Faults.{on_ok, both}
-use Rattle.cluster_script.specs.Options.{on_some}
 use Rattle.cluster_script.specs.Reading.{at_line}
 use Rattle.cluster_script.specs.declared.fault.Fault.{Fault}
 
@@ -18,9 +17,9 @@ ok_is x y e = cc
 pub err_is : {A E : Type 0} (f : E) (x : A) → ◌≡◌ {A = Result A E} (Err f) (Ok x) → ⊥
 err_is f x e = cc
 
-pub on_some-Some : {A B : Type 0} (o : Option A) (f : A → Option B) (y : B) → on_some o f ≡ Some y → (x : A) × (o ≡ Some x) × (f x ≡ Some y)
-on_some-Some None f y e = absurd (none_is y e)
-on_some-Some (Some x) f y e = (x, refl, e)
+pub and_then-Some : {A B : Type 0} (f : A → Option B) (o : Option A) (y : B) → option_and_then f o ≡ Some y → (x : A) × (o ≡ Some x) × (f x ≡ Some y)
+and_then-Some f None y e = absurd (none_is y e)
+and_then-Some f (Some x) y e = (x, refl, e)
 
 pub on_ok-Ok : {A B E : Type 0} (r : Result A E) (f : A → Result B E) (y : B) → on_ok r f ≡ Ok y → (x : A) × (r ≡ Ok x) × (f x ≡ Ok y)
 on_ok-Ok (Ok x) f y e = (x, refl, e)
@@ -30,9 +29,9 @@ pub at_line-Ok : {A : Type 0} (number : ℕ) (r : Result A Fault) (x : A) → at
 at_line-Ok number (Ok y) x e = let same : y ≡ x = ok_is y x e in rw same refl
 at_line-Ok number (Err f) x e = absurd (err_is (number, f) x e)
 
-pub some_or-Ok : {A : Type 0} (fault : Fault) (o : Option A) (x : A) → some_or fault o ≡ Ok x → o ≡ Some x
-some_or-Ok fault None x e = absurd (err_is fault x e)
-some_or-Ok fault (Some y) x e = let same : y ≡ x = ok_is y x e in rw same refl
+pub ok_or-Ok : {A : Type 0} (o : Option A) (fault : Fault) (x : A) → ok_or o fault ≡ Ok x → o ≡ Some x
+ok_or-Ok None fault x e = absurd (err_is fault x e)
+ok_or-Ok (Some y) fault x e = let same : y ≡ x = ok_is y x e in rw same refl
 
 pub both-Ok : {A B : Type 0} (r : Result A Fault) (s : Result B Fault) (p : A × B) → both r s ≡ Ok p → (r ≡ Ok p.0) × (s ≡ Ok p.1)
 both-Ok (Ok x) (Ok y) p e = let same : (x, y) ≡ p = ok_is (x, y) p e in (rw (← same) refl, rw (← same) refl)

@@ -13,7 +13,7 @@ use Rattle.cluster_script.specs.Faults.{on_ok}
 use Rattle.cluster_script.specs.Lines.{lines_in, is_skipped, counted_lines}
 use Rattle.cluster_script.specs.Members.{place_of}
 use Rattle.cluster_script.specs.Reading.{has_option, declared_in_head, declared_once, named_member, new_member, next_member, ranged_base, base_in, head_end, base_end, next_base, addition_of, known_addition, addition_in, with_addition, with_line, alone, cluster_named, cluster_of, begun_by, first_line, begun, after_counted, after_text, after_line, after_lines, at_line, with_some, finished, script_of}
-use Rattle.cluster_script.specs.Script.{ScriptText, IsScript, IsLine, AllAreLines, cluster_text, member_line_text, base_text, line_text, member_lines, base_or_default, head_with_base, IsHeadLines, body_lines, IsInForm, AllInForm, Spells}
+use Rattle.cluster_script.specs.Script.{AreDifferent, ScriptText, IsScript, IsLine, AllAreLines, cluster_text, member_line_text, base_text, line_text, member_lines, base_or_default, head_with_base, IsHeadLines, body_lines, IsInForm, AllInForm, Spells}
 use Rattle.cluster_script.specs.Words.{spelled, keyword_of, cut_word}
 use Rattle.cluster_script.specs.declared.addition.Addition.{Addition}
 use Rattle.cluster_script.specs.declared.addition.Addition.TheVariants as additions
@@ -22,7 +22,7 @@ use Rattle.cluster_script.specs.declared.keyword.Keyword.{Keyword}
 use Rattle.cluster_script.specs.declared.keyword.Keyword.TheVariants as words
 use Rattle.cluster_script.specs.declared.line.Line.{Line}
 use Rattle.cluster_script.proofs.ArgumentLaws.{number_in-Ok, line_of_words-Ok}
-use Rattle.cluster_script.proofs.NameLaws.{AreDifferent, AreDifferent-push}
+use Rattle.cluster_script.proofs.NameLaws.{AreDifferent-push}
 use Rattle.cluster_script.proofs.NumberLaws.{number-is}
 use Rattle.cluster_script.proofs.Outcomes.{none_is, ok_is, err_is, on_ok-Ok, at_line-Ok, cond-Ok, cond-Err}
 use Rattle.cluster_script.proofs.WordLaws.{cut_word-None, cut_word-Some, keyword_of-is}

@@ -1,7 +1,8 @@
 -- What is spelled as a script is read as it.
-use Rattle.std.proofs.Common.{◌≡◌, ◌≢◌, ℕ, ◌+◌, ◌^◌, ◌≤◌, ◌<◌, ◌&&◌, ◌==◌, nat_le, nat_lt, Bool, true, false, cond, List, [], ◌∷◌, ◌++◌, length, slice_get, Option, Some, None, Result, Ok, Err, codes, refl, ◌∙◌, ap, sym, subst, zero, suc, arith, append_assoc, append-nil, length-append}
+use Rattle.std.proofs.Common.{◌≡◌, ◌≢◌, ℕ, ◌+◌, ◌^◌, ◌≤◌, ◌<◌, ◌&&◌, ◌==◌, nat_le, Bool, true, false, cond, List, [], ◌∷◌, ◌++◌, length, slice_get, Option, Some, None, Result, Ok, Err, codes, refl, ◌∙◌, ap, sym, subst, zero, suc, arith, append_assoc, append-nil, length-append}
 use Rattle.std.specs.Fmt.{decimal}
 use Rattle.std.specs.List.{list_all}
+use Rattle.std.specs.Option.{ok_or, option_and_then}
 use Rattle.std.specs.Str.{bytes_eq}
 use Rattle.std.proofs.lemmas.Bool.{and_parts, eqb-true}
 use Rattle.std.proofs.lemmas.Bool.Decides.{nat_tests}
@@ -15,9 +16,8 @@ use Rattle.pat_base.proofs.Members.{number-injective, member_of-number}
 use Rattle.pat_base.proofs.Names.{name_of-name_bytes}
 use Rattle.cluster_script.specs.Numbers.{number}
 use Rattle.cluster_script.specs.Lines.{first_at}
-use Rattle.cluster_script.specs.Options.{on_some}
 use Rattle.cluster_script.specs.Ranges.{commit_size_of, delay_of}
-use Rattle.cluster_script.specs.Arguments.{some_or, number_in, switch_in, transition_in, commit_size_in, delay_in, declared_member, member_in, end_in, line_end, last_word, one_word, word_behind, two_words, words_behind, same_end, apart, two_ends, commit_in, stream_in, slow_in, command}
+use Rattle.cluster_script.specs.Arguments.{number_in, switch_in, transition_in, commit_size_in, delay_in, declared_member, member_in, end_in, line_end, last_word, one_word, word_behind, two_words, words_behind, same_end, apart, two_ends, commit_in, stream_in, slow_in, command}
 use Rattle.cluster_script.specs.Draft.{DraftText, script_so_far}
 use Rattle.cluster_script.specs.Faults.{both}
 use Rattle.cluster_script.specs.Script.{end_text, switch_text, transition_text, two_texts, base_text, member_lines, base_or_default, base_lines, head_with_base, IsHeadLines}
@@ -27,7 +27,7 @@ use Rattle.cluster_script.specs.Faults.{on_ok}
 use Rattle.cluster_script.specs.Lines.{lines_in, is_skipped, counted_lines}
 use Rattle.cluster_script.specs.Members.{place_of}
 use Rattle.cluster_script.specs.Reading.{has_option, declared_once, named_member, new_member, next_member, ranged_base, base_in, base_end, next_base, addition_of, known_addition, addition_in, with_addition, with_line, cluster_named, begun_by, first_line, begun, after_counted, after_text, after_line, after_lines, at_line, with_some, finished, script_of}
-use Rattle.cluster_script.specs.Script.{ScriptText, IsScript, IsMember, IsEnd, IsLink, IsCommand, IsLine, AllAreLines, cluster_text, member_line_text, line_text, body_lines, IsInForm, AllInForm, Spells, member_text, text_of_name}
+use Rattle.cluster_script.specs.Script.{AreDifferent, ScriptText, IsScript, IsMember, IsEnd, IsLink, IsCommand, IsLine, AllAreLines, cluster_text, member_line_text, line_text, body_lines, IsInForm, AllInForm, Spells, member_text, text_of_name}
 use Rattle.cluster_script.specs.Words.{spelled, keyword_of, cut_word}
 use Rattle.cluster_script.specs.declared.addition.Addition.TheVariants as additions
 use Rattle.cluster_script.specs.declared.fault.Fault.{Fault}
@@ -44,7 +44,7 @@ use Rattle.cluster_script.specs.declared.line.Transition.{Transition}
 use Rattle.cluster_script.specs.declared.line.Transition.TheVariants as transitions
 use Rattle.cluster_script.specs.declared.ranges.CommitSize.{CommitSize}
 use Rattle.cluster_script.specs.declared.ranges.Delay.{Delay}
-use Rattle.cluster_script.proofs.NameLaws.{AreDifferent, place_of-Some, place_of-None}
+use Rattle.cluster_script.proofs.NameLaws.{place_of-Some, place_of-None}
 use Rattle.cluster_script.proofs.NumberLaws.{number-decimal, first_at-decimal}
 use Rattle.cluster_script.proofs.RangeLaws.{commit_size_of-Some, delay_of-Some}
 use Rattle.cluster_script.proofs.WordLaws.{cut_word-again, cut_word-alone, cut_word-spelled, keyword_of-word_of, passed}
@@ -87,8 +87,8 @@ named : (members : List Name) (m : MemberId) (o : Option Name) → AreDifferent 
 named members m None h small at = absurd (omega (arith, past members m.number at))
 named members m (Some name) h small at =
     ap (declared_member members) (name_of-name_bytes name)
-    ∙ ap (λ o. some_or faults.UnknownName (on_some o member_of)) (placed members name m.number (place_of members name) h at refl)
-    ∙ ap (some_or faults.UnknownName) (member_of-number m)
+    ∙ ap (λ o. ok_or (option_and_then member_of o) faults.UnknownName) (placed members name m.number (place_of members name) h at refl)
+    ∙ ap (λ o. ok_or o faults.UnknownName) (member_of-number m)
 
 pub member_in-again : (members : List Name) (m : MemberId) → AreDifferent members → IsMember members m → member_in members (member_text members m) ≡ Ok m
 member_in-again members m h small = named members m (slice_get members m.number) h small refl
@@ -157,7 +157,7 @@ two_ends-again members x y some h link =
 
 -- lines of the body
 number-again : (members : List Name) (n : ℕ) → 0 < length members → n < 2 ^ 64 → one_word members number_in (Some (decimal n)) ≡ Ok n
-number-again members n some fits = one_word-again members number_in (decimal n) n some (first_at-decimal 32 n (omega arith) fits) (ap (some_or faults.BadNumber) (number-decimal n fits))
+number-again members n some fits = one_word-again members number_in (decimal n) n some (first_at-decimal 32 n (omega arith) fits) (ap (λ o. ok_or o faults.BadNumber) (number-decimal n fits))
 
 member-again : (members : List Name) (m : MemberId) → 0 < length members → AreDifferent members → IsMember members m → one_word members (member_in members) (Some (member_text members m)) ≡ Ok m
 member-again members m some h is = one_word-again members (member_in members) (member_text members m) m some (first_at-some_name (slice_get members m.number)) (member_in-again members m h is)
@@ -168,7 +168,7 @@ switch-again members false some = one_word-again members switch_in (codes "off")
 
 -- numbers in a range
 number_in-again : (n : ℕ) → n < 2 ^ 64 → number_in (decimal n) ≡ Ok n
-number_in-again n fits = ap (some_or faults.BadNumber) (number-decimal n fits)
+number_in-again n fits = ap (λ o. ok_or o faults.BadNumber) (number-decimal n fits)
 
 pub size-fits : (size : CommitSize) → size.bytes < 2 ^ 64
 size-fits size = omega (arith, size.most)
@@ -178,13 +178,13 @@ delay-fits delay = omega (arith, delay.most)
 
 commit_size_in-again : (size : CommitSize) → commit_size_in (decimal size.bytes) ≡ Ok size
 commit_size_in-again size =
-    ap (λ r. on_ok r (λ n. some_or faults.BadNumber (commit_size_of n))) (number_in-again size.bytes (size-fits size))
-    ∙ ap (some_or faults.BadNumber) (commit_size_of-Some size.bytes size refl)
+    ap (λ r. on_ok r (λ n. ok_or (commit_size_of n) faults.BadNumber)) (number_in-again size.bytes (size-fits size))
+    ∙ ap (λ o. ok_or o faults.BadNumber) (commit_size_of-Some size.bytes size refl)
 
 delay_in-again : (delay : Delay) → delay_in (decimal delay.ticks) ≡ Ok delay
 delay_in-again delay =
-    ap (λ r. on_ok r (λ n. some_or faults.BadNumber (delay_of n))) (number_in-again delay.ticks (delay-fits delay))
-    ∙ ap (some_or faults.BadNumber) (delay_of-Some delay.ticks delay refl)
+    ap (λ r. on_ok r (λ n. ok_or (delay_of n) faults.BadNumber)) (number_in-again delay.ticks (delay-fits delay))
+    ∙ ap (λ o. ok_or o faults.BadNumber) (delay_of-Some delay.ticks delay refl)
 
 transition_in-again : (transition : Transition) → transition_in (transition_text transition) ≡ Ok transition
 transition_in-again transitions.Stop = refl

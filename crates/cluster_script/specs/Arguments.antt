@@ -1,5 +1,6 @@
 -- The words behind a line's first word. What stands there is judged in the order of the faults.
 use Rattle.std.specs.Prelude.{ℕ, ◌==◌, Bool, true, false, if◌then◌else◌, List, [], ◌∷◌, Option, Some, None, Result, Ok, Err, codes}
+use Rattle.std.specs.Option.{ok_or}
 use Rattle.std.specs.Str.{bytes_eq}
 use Rattle.pat_base.specs.Name.{name_of}
 use Rattle.pat_base.specs.declared.name.Name.{Name}
@@ -24,13 +25,9 @@ use Rattle.cluster_script.specs.declared.line.Line.TheVariants as lines
 use Rattle.cluster_script.specs.declared.ranges.CommitSize.{CommitSize}
 use Rattle.cluster_script.specs.declared.ranges.Delay.{Delay}
 
-abbrev pub some_or : {A : Type 0} → Fault → Option A → Result A Fault
-some_or fault None = Err fault
-some_or fault (Some x) = Ok x
-
 -- a number
 abbrev pub number_in : List ℕ → Result ℕ Fault
-number_in word = some_or faults.BadNumber (number word)
+number_in word = ok_or (number word) faults.BadNumber
 
 -- 'on' or 'off'
 abbrev pub switch_in : List ℕ → Result Bool Fault
@@ -42,15 +39,16 @@ transition_in word = if bytes_eq word (codes "stop") then Ok transitions.Stop el
 
 -- a number in the range of commits
 abbrev pub commit_size_in : List ℕ → Result CommitSize Fault
-commit_size_in word = on_ok (number_in word) (λ n. some_or faults.BadNumber (commit_size_of n))
+commit_size_in word = on_ok (number_in word) (λ n. ok_or (commit_size_of n) faults.BadNumber)
 
 -- a number in the range of delays
 abbrev pub delay_in : List ℕ → Result Delay Fault
-delay_in word = on_ok (number_in word) (λ n. some_or faults.BadNumber (delay_of n))
+delay_in word = on_ok (number_in word) (λ n. ok_or (delay_of n) faults.BadNumber)
 
+-- the member that a name declares
 abbrev pub declared_member : List Name → Option Name → Result MemberId Fault
 declared_member members None = Err faults.BadName
-declared_member members (Some name) = some_or faults.UnknownName (member_named members name)
+declared_member members (Some name) = ok_or (member_named members name) faults.UnknownName
 
 -- the name of a member
 abbrev pub member_in : List Name → List ℕ → Result MemberId Fault
@@ -76,6 +74,7 @@ line_end [] rest = Err faults.NoMember
 line_end (member ∷ members) None = Ok tt
 line_end (member ∷ members) (Some words) = Err faults.WordCount
 
+-- what a word says, behind which the line ends
 abbrev pub last_word : {A : Type 0} → List Name → Result A Fault → Option (List ℕ) → Result A Fault
 last_word members value rest = on_ok value (λ x. on_ok (line_end members rest) (λ _. Ok x))
 
@@ -104,15 +103,18 @@ abbrev pub three_words : {A B C : Type 0} → List Name → (List ℕ → Result
 three_words members first second third None = Err (missing_word members)
 three_words members first second third (Some words) = words_behind members (first (cut_word words).0) second third (cut_word words).1
 
+-- two members are one
 abbrev pub same_member : MemberId → MemberId → Bool
 same_member first second = first.number == second.number
 
+-- two ends of a link are one
 abbrev pub same_end : End → End → Bool
 same_end ends.Store ends.Store = true
 same_end ends.Store (ends.Member member) = false
 same_end (ends.Member member) ends.Store = false
 same_end (ends.Member first) (ends.Member second) = same_member first second
 
+-- the ends of a link differ
 abbrev pub apart : End × End → Result (End × End) Fault
 apart link = if same_end link.0 link.1 then Err faults.SameEnds else Ok link
 
@@ -132,6 +134,7 @@ stream_in members rest = on_ok (two_words members (member_in members) number_in 
 abbrev pub slow_in : List Name → Option (List ℕ) → Result Command Fault
 slow_in members rest = on_ok (three_words members (member_in members) transition_in delay_in rest) (λ said. Ok (commands.Slow said.0.0 said.0.1 said.1))
 
+-- a line that is a command
 abbrev pub command : Command → Result Line Fault
 command c = Ok (lines.Command c)
 

@@ -20,6 +20,7 @@ draft_of (Some cluster) base members body = Some (record { cluster = cluster; ba
 abbrev pub script_so_far : DraftText → ScriptText
 script_so_far d = record { head = record { cluster = d.cluster; base = base_or_default d.base; members = d.members }; body = d.body }
 
+-- at most 16 members, and nothing before the line of the cluster
 pub record IsDraft (cluster : Option Name) (base : Option ℕ) (members : List Name) (body : List Line) : Type 0 where
   pub few : length members ≤ 16
   pub no_base : cluster ≡ None → base ≡ None

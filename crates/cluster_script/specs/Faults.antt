@@ -3,6 +3,7 @@ use Rattle.std.specs.Prelude.{ℕ, nat_le, if◌then◌else◌, List, codes, Res
 use Rattle.cluster_script.specs.declared.fault.Fault.{Fault}
 use Rattle.cluster_script.specs.declared.fault.Fault.TheVariants.{NotUtf8, TooLong, NoCluster, BadWord, NotBuilt, BadName, BadNumber, BadOption, Duplicate, UnknownName, NoMember, HeadLate, WordCount, BadConfig, SameEnds}
 
+-- what a fault is called
 abbrev pub text_of : Fault → List ℕ
 text_of NotUtf8 = codes "not UTF-8"
 text_of TooLong = codes "line too long"

@@ -5,7 +5,6 @@ pub mod Limits
 pub mod Lines
 pub mod Members
 pub mod Numbers
-pub mod Options
 pub mod Ranges
 pub mod Reading
 pub mod Script

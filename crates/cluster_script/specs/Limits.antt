@@ -8,12 +8,14 @@ use Rattle.cluster_script.specs.declared.keyword.Keyword.TheVariants as words
 use Rattle.cluster_script.specs.declared.limits.Limit.{Limit}
 use Rattle.cluster_script.specs.declared.limits.Limit.TheVariants as limits
 
+-- what a limit is called
 abbrev pub limit_text : Limit → List ℕ
 limit_text limits.Bytes = codes "bytes"
 limit_text limits.Lines = codes "lines"
 limit_text limits.Members = codes "members"
 limit_text limits.Ticks = codes "ticks"
 
+-- the first word 'member'
 abbrev pub is_member_word : Option Keyword → Bool
 is_member_word (Some words.Member) = true
 is_member_word _ = false
@@ -36,6 +38,7 @@ abbrev pub ticks_behind : Option (List ℕ) → ℕ
 ticks_behind None = 0
 ticks_behind (Some words) = ticks_or_none (number words)
 
+-- the ticks of a line, from its first word and what stands behind it
 abbrev pub ticks_of_words : Option Keyword → Option (List ℕ) → ℕ
 ticks_of_words (Some words.Tick) rest = ticks_behind rest
 ticks_of_words (Some words.Run) rest = ticks_behind rest
@@ -49,6 +52,7 @@ ticks_in_line line = ticks_of_words (keyword_of (cut_word line).0) (cut_word lin
 abbrev pub ticks_in : List (List ℕ) → ℕ
 ticks_in lines = min (sum_by ticks_in_line lines) (2 ^ 64 - 1)
 
+-- the first limit that lines pass, if they pass any
 abbrev pub limit_of_lines : List (List ℕ) → Option Limit
 limit_of_lines lines = if nat_lt 100000 (length lines) then Some limits.Lines else if nat_lt 16 (members_in lines) then Some limits.Members else if nat_lt 1000000 (ticks_in lines) then Some limits.Ticks else None
 

@@ -26,6 +26,7 @@ abbrev pub counted_lines : List (List ℕ) → List (List ℕ)
 counted_lines [] = []
 counted_lines (line ∷ lines) = if is_skipped line then counted_lines lines else line ∷ counted_lines lines
 
+-- one place further
 abbrev pub one_more : Option ℕ → Option ℕ
 one_more None = None
 one_more (Some n) = Some (n + 1)

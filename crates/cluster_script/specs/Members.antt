@@ -1,12 +1,12 @@
 -- Members by name and by number.
 use Rattle.std.specs.Prelude.{ℕ, if◌then◌else◌, List, [], ◌∷◌, Option, Some, None}
+use Rattle.std.specs.Option.{option_and_then}
 use Rattle.std.specs.Str.{bytes_eq}
 use Rattle.pat_base.specs.MemberId.{member_of}
 use Rattle.pat_base.specs.Name.{name_bytes}
 use Rattle.pat_base.specs.declared.name.Name.{Name}
 use Rattle.pat_base.specs.declared.member_id.MemberId.{MemberId}
 use Rattle.cluster_script.specs.Lines.{one_more}
-use Rattle.cluster_script.specs.Options.{on_some}
 
 -- the place of the member of this name
 abbrev pub place_of : List Name → Name → Option ℕ
@@ -15,4 +15,4 @@ place_of (member ∷ members) name = if bytes_eq (name_bytes member) (name_bytes
 
 -- the member of this name
 abbrev pub member_named : List Name → Name → Option MemberId
-member_named members name = on_some (place_of members name) member_of
+member_named members name = option_and_then member_of (place_of members name)

@@ -4,6 +4,7 @@ use Rattle.std.proofs.lemmas.Bool.{leb-true}
 use Rattle.cluster_script.specs.declared.ranges.CommitSize.{CommitSize}
 use Rattle.cluster_script.specs.declared.ranges.Delay.{Delay}
 
+-- a commit, by the tests of its range
 unfoldable pub commit_size_by : (number : ℕ) (some few : Bool) → nat_le 1 number ≡ some → nat_le number (2 ^ 30) ≡ few → Option CommitSize
 commit_size_by number true true some few = Some (record { bytes = number; least = leb-true 1 number some; most = leb-true number (2 ^ 30) few })
 commit_size_by number true false some few = None
@@ -13,6 +14,7 @@ commit_size_by number false many some few = None
 unfoldable pub commit_size_of : ℕ → Option CommitSize
 commit_size_of number = commit_size_by number (nat_le 1 number) (nat_le number (2 ^ 30)) refl refl
 
+-- a delay, by the test of its range
 unfoldable pub delay_by : (number : ℕ) (few : Bool) → nat_le number 100000 ≡ few → Option Delay
 delay_by number true few = Some (record { ticks = number; most = leb-true number 100000 few })
 delay_by number false few = None

@@ -40,6 +40,7 @@ abbrev pub in_head : List Line → Fault → Fault
 in_head [] fault = fault
 in_head (line ∷ body) fault = faults.HeadLate
 
+-- a name that is declared in front of the body
 abbrev pub declared_in_head : Name → List Line → Result Name Fault
 declared_in_head name [] = Ok name
 declared_in_head name (line ∷ body) = Err faults.HeadLate
@@ -49,6 +50,7 @@ abbrev pub declared_once : Name → List Line → Option ℕ → Result Name Fau
 declared_once name body (Some place) = Err faults.Duplicate
 declared_once name body None = declared_in_head name body
 
+-- the name of a new member, behind which its line ends
 abbrev pub named_member : List Name → List Line → Option Name → Option (List ℕ) → Result Name Fault
 named_member members body None rest = Err faults.BadName
 named_member members body (Some name) (Some words) = Err faults.BadOption
@@ -67,6 +69,7 @@ next_member members body rest = if nat_le 16 (length members) then Err faults.Ba
 abbrev pub ranged_base : ℕ → Result ℕ Fault
 ranged_base n = if nat_le 1 n && nat_le n (2 ^ 40) then Ok n else Err faults.BadNumber
 
+-- a base, in its range
 abbrev pub base_in : List ℕ → Result ℕ Fault
 base_in word = on_ok (number_in word) ranged_base
 
@@ -81,6 +84,7 @@ abbrev pub base_end : Option ℕ → List Line → Option (List ℕ) → Result 
 base_end (Some said) body rest = Err faults.Duplicate
 base_end None body rest = head_end body rest
 
+-- the fault of a line 'base' without a word behind it
 abbrev pub base_missing : Option ℕ → List Line → Fault
 base_missing (Some said) body = faults.Duplicate
 base_missing None body = in_head body faults.WordCount
@@ -90,6 +94,7 @@ abbrev pub next_base : Option ℕ → List Line → Option (List ℕ) → Result
 next_base said body None = Err (base_missing said body)
 next_base said body (Some words) = on_ok (base_in (cut_word words).0) (λ n. on_ok (base_end said body (cut_word words).1) (λ _. Ok n))
 
+-- the fault of a cluster that is declared again
 abbrev pub named_twice : Option Name → Fault
 named_twice None = faults.BadName
 named_twice (Some name) = faults.Duplicate
@@ -106,6 +111,7 @@ addition_of base members body words.Base rest = on_ok (next_base base body rest)
 addition_of base members body words.Member rest = on_ok (next_member members body rest) (λ name. Ok (additions.Member name))
 addition_of base members body keyword rest = on_ok (line_of_words members keyword rest) (λ line. Ok (additions.Body line))
 
+-- what a line adds, if its first word is known
 abbrev pub known_addition : Option ℕ → List Name → List Line → Option Keyword → Option (List ℕ) → Result Addition Fault
 known_addition base members body None rest = Err faults.BadWord
 known_addition base members body (Some keyword) rest = addition_of base members body keyword rest
@@ -136,13 +142,16 @@ body_after body (additions.Body line) = body ++ line ∷ []
 abbrev pub with_addition : DraftText → Addition → DraftText
 with_addition d added = record { cluster = d.cluster; base = base_after d.base added; members = members_after d.members added; body = body_after d.body added }
 
+-- what the lines say with one more of them
 abbrev pub with_line : DraftText → List ℕ → Result DraftText Fault
 with_line d line = on_ok (addition_in d.base d.members d.body line) (λ added. Ok (with_addition d added))
 
+-- a name, behind which its line ends
 abbrev pub alone : Name → Option (List ℕ) → Result Name Fault
 alone name None = Ok name
 alone name (Some words) = Err faults.WordCount
 
+-- the name of the cluster, behind which its line ends
 abbrev pub cluster_named : Option Name → Option (List ℕ) → Result Name Fault
 cluster_named None rest = Err faults.BadName
 cluster_named (Some name) rest = alone name rest
@@ -152,6 +161,7 @@ abbrev pub cluster_of : Option (List ℕ) → Result Name Fault
 cluster_of None = Err faults.WordCount
 cluster_of (Some words) = cluster_named (name_of (cut_word words).0) (cut_word words).1
 
+-- the cluster, from the first word of a line and what stands behind it
 abbrev pub begun_by : Option Keyword → Option (List ℕ) → Result Name Fault
 begun_by (Some words.Cluster) rest = cluster_of rest
 begun_by _ rest = Err faults.NoCluster
@@ -169,9 +179,11 @@ abbrev pub after_counted : Option DraftText → List ℕ → Result (Option Draf
 after_counted None line = on_ok (first_line line) (λ name. Ok (Some (begun name)))
 after_counted (Some d) line = on_ok (with_line d line) (λ e. Ok (Some e))
 
+-- a line of text, behind those before it
 abbrev pub after_text : Option DraftText → List ℕ → Result (Option DraftText) Fault
 after_text d line = if is_skipped line then Ok d else after_counted d line
 
+-- a line, behind those before it
 abbrev pub after_line : Option DraftText → List ℕ → Result (Option DraftText) Fault
 after_line d line = if is_utf8 line then (if nat_le (length line) 8192 then after_text d line else Err faults.TooLong) else Err faults.NotUtf8
 
@@ -191,6 +203,7 @@ abbrev pub after_lines : ℕ → Option DraftText → List (List ℕ) → Result
 after_lines number d [] = Ok d
 after_lines number d (line ∷ lines) = on_ok (at_line number (after_line d line)) (λ e. after_lines (number + 1) e lines)
 
+-- a script that has a member
 abbrev pub with_some : ScriptText → List Name → Result ScriptText Fault
 with_some s [] = Err faults.NoMember
 with_some s (member ∷ members) = Ok s
@@ -200,6 +213,7 @@ abbrev pub finished : Option DraftText → Result ScriptText Fault
 finished None = Err faults.NoCluster
 finished (Some d) = with_some (script_so_far d) d.members
 
+-- the script that the lines are, or the first of them with a fault and its first fault
 abbrev pub script_of_lines : List (List ℕ) → Result ScriptText (ℕ × Fault)
 script_of_lines lines = on_ok (after_lines 1 None lines) (λ d. at_line (length lines + 1) (finished d))
 

@@ -28,6 +28,7 @@ pub record ScriptText : Type 0 where
   pub head : HeadText
   pub body : List Line
 
+-- the bytes of a name, or none
 abbrev pub text_of_name : Option Name → List ℕ
 text_of_name None = []
 text_of_name (Some name) = name_bytes name
@@ -41,10 +42,12 @@ abbrev pub end_text : List Name → End → List ℕ
 end_text members ends.Store = codes "store"
 end_text members (ends.Member member) = member_text members member
 
+-- the word of a switch
 abbrev pub switch_text : Bool → List ℕ
 switch_text true = codes "on"
 switch_text false = codes "off"
 
+-- the word of a transition
 abbrev pub transition_text : Transition → List ℕ
 transition_text transitions.Stop = codes "stop"
 transition_text transitions.Start = codes "start"
@@ -53,16 +56,19 @@ transition_text transitions.Start = codes "start"
 abbrev pub two_texts : List ℕ → List ℕ → List ℕ
 two_texts first second = first ++ (32 ∷ second)
 
--- lines without their line feeds
+-- the line of a cluster; this line and those below are without their line feeds
 abbrev pub cluster_text : Name → List ℕ
 cluster_text name = spelled words.Cluster (name_bytes name)
 
+-- the line of a member
 abbrev pub member_line_text : Name → List ℕ
 member_line_text name = spelled words.Member (name_bytes name)
 
+-- the line of a base
 abbrev pub base_text : ℕ → List ℕ
 base_text base = spelled words.Base (decimal base)
 
+-- the line of a command
 abbrev pub command_text : List Name → Command → List ℕ
 command_text members (commands.Turn member) = spelled words.Turn (member_text members member)
 command_text members (commands.Deliver n) = spelled words.Deliver (decimal n)
@@ -82,6 +88,7 @@ command_text members (commands.Cut first second) = spelled words.Cut (two_texts 
 command_text members (commands.Join first second) = spelled words.Join (two_texts (end_text members first) (end_text members second))
 command_text members (commands.Trace on) = spelled words.Trace (switch_text on)
 
+-- a line of the body
 abbrev pub line_text : List Name → Line → List ℕ
 line_text members (lines.Run n) = spelled words.Run (decimal n)
 line_text members (lines.Tick n) = spelled words.Tick (decimal n)
@@ -126,9 +133,11 @@ pub record IsHeadLines (head : HeadText) (lines : List (List ℕ)) : Type 0 wher
 abbrev pub head_lines : HeadText → List (List ℕ)
 head_lines head = head_with_base head.cluster [] (base_to_say head.base) head.members
 
+-- all lines of a body, in order
 abbrev pub body_lines : List Name → List Line → List (List ℕ)
 body_lines members body = map (line_text members) body
 
+-- all lines of a script, in order: those of its head, then those of its body
 abbrev pub lines_of : ScriptText → List (List ℕ)
 lines_of s = head_lines s.head ++ body_lines s.head.members s.body
 
@@ -141,6 +150,7 @@ pub record IsInForm (line : List ℕ) : Type 0 where
   pub text : is_utf8 line ≡ true
   pub short : length line ≤ 8192
 
+-- all of these lines are such
 abbrev pub AllInForm : List (List ℕ) → Type 0
 AllInForm [] = Unit {0}
 AllInForm (line ∷ lines) = IsInForm line × AllInForm lines
@@ -152,13 +162,17 @@ pub record Spells (bytes : List ℕ) (s : ScriptText) : Type 0 where
   pub says : IsHeadLines s.head head
   pub lines : counted_lines (lines_in bytes) ≡ head ++ body_lines s.head.members s.body
 
+-- no name stands at two places
+abbrev pub AreDifferent : List Name → Type 0
+AreDifferent members = (i j : ℕ) (name : Name) → slice_get members i ≡ Some name → slice_get members j ≡ Some name → i ≡ j
+
 -- a head that a script may have
 pub record IsHead (head : HeadText) : Type 0 where
   pub base_least : 1 ≤ head.base
   pub base_most : head.base ≤ 2 ^ 40
   pub some : 0 < length head.members
   pub few : length head.members ≤ 16
-  pub different : (i j : ℕ) (name : Name) → slice_get head.members i ≡ Some name → slice_get head.members j ≡ Some name → i ≡ j
+  pub different : AreDifferent head.members
 
 -- a member that is declared
 abbrev pub IsMember : List Name → MemberId → Type 0
@@ -201,6 +215,7 @@ IsLine members (lines.Run n) = n < 2 ^ 64
 IsLine members (lines.Tick n) = n < 2 ^ 64
 IsLine members (lines.Command command) = IsCommand members command
 
+-- all of these lines are such
 abbrev pub AllAreLines : List Name → List Line → Type 0
 AllAreLines members [] = Unit {0}
 AllAreLines members (line ∷ body) = IsLine members line × AllAreLines members body

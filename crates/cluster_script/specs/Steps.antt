@@ -12,9 +12,11 @@ steps_of_line (lines.Run n) = replicate n steps.Scheduled
 steps_of_line (lines.Tick n) = replicate n steps.Tick
 steps_of_line (lines.Command command) = steps.Command command ∷ []
 
+-- the steps of a body, in order
 abbrev pub steps_of : List Line → List Step
 steps_of body = flat_map steps_of_line body
 
+-- the ticks of a line: those of 'run N' and 'tick N'
 abbrev pub ticks_of_line : Line → ℕ
 ticks_of_line (lines.Run n) = n
 ticks_of_line (lines.Tick n) = n

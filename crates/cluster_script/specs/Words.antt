@@ -46,6 +46,7 @@ keyword_of word = find (λ k. bytes_eq word (word_of k)) keywords
 abbrev pub spelled : Keyword → List ℕ → List ℕ
 spelled keyword rest = word_of keyword ++ (32 ∷ rest)
 
+-- the bytes before this place and those behind it, or all of them
 abbrev pub cut_at : List ℕ → Option ℕ → List ℕ × Option (List ℕ)
 cut_at bytes None = (bytes, None)
 cut_at bytes (Some end) = (take end bytes, Some (drop (end + 1) bytes))

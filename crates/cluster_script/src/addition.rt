@@ -5,7 +5,10 @@ use pat_base::Name;
 /// What a line behind the cluster's adds to a script.
 #[derive(Clone, Copy, Debug, PartialEq, Eq)]
 pub enum Addition {
+    /// One more member, with this name.
     Member(Name),
+    /// The base, in bytes: 1 to 2^40.
     Base(u64),
+    /// One more line of the body.
     Body(Line),
 }

@@ -19,11 +19,11 @@ pub enum Fault {
     NotBuilt,
     /// A word that has to be a name isn't one.
     BadName,
-    /// A word that has to be a number isn't one.
+    /// A word that has to be a number isn't one, or is out of its range.
     BadNumber,
-    /// A word out of its list.
+    /// A word that isn't one of those that may stand there.
     BadOption,
-    /// A cluster or a member is declared twice.
+    /// A cluster, a base or a member is declared twice.
     Duplicate,
     /// A name that no line declares as a member's.
     UnknownName,
@@ -33,7 +33,7 @@ pub enum Fault {
     HeadLate,
     /// A word is missing, or one is too many.
     WordCount,
-    /// The configuration is none.
+    /// The configuration is none. No line has one yet.
     BadConfig,
     /// The two ends of a link are one.
     SameEnds,

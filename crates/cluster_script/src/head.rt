@@ -64,7 +64,7 @@ impl Head {
         self.base
     }
 
-    /// How many members there are, 1 to 16.
+    /// How many members there are: 1 to 16.
     pub fn member_count(&self) -> usize
         ensures value { result ≡ length self.now.members }
         ensures some { 1 ≤ result }

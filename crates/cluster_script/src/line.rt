@@ -5,14 +5,18 @@ use pat_base::MemberId;
 /// One end of a link: a member, or the key store.
 #[derive(Clone, Copy, Debug, PartialEq, Eq)]
 pub enum End {
+    /// The key store, which a script calls `store`.
     Store,
+    /// The member of this number, which a script calls by its name.
     Member(MemberId),
 }
 
 /// What a line `slow` delays: the stop or the start of a server.
 #[derive(Clone, Copy, Debug, PartialEq, Eq)]
 pub enum Transition {
+    /// From a shutdown's beginning to its end.
     Stop,
+    /// From a start's beginning until the server is ready.
     Start,
 }
 
@@ -35,7 +39,7 @@ pub enum Command {
     Restart(MemberId),
     /// `promote M`: the server of this member is promoted by its operator.
     Promote(MemberId),
-    /// `crash M`: the server of this member crashes.
+    /// `crash M`: the server of this member ends without a shutdown.
     Crash(MemberId),
     /// `commit M BYTES`: a client commits so many bytes at the server of this member.
     Commit(MemberId, CommitSize),
@@ -55,13 +59,14 @@ pub enum Command {
     Trace(bool),
 }
 
-/// A line of a script's body.
+/// A line of a script's body. A line of ticks may ask for any number below 2^64, of 100 ms each.
 #[derive(Clone, Copy, Debug, PartialEq, Eq)]
 pub enum Line {
     /// `run N`: N ticks of the default schedule.
     Run(u64),
     /// `tick N`: N bare ticks.
     Tick(u64),
+    /// Any other line.
     Command(Command),
 }
 
@@ -72,5 +77,6 @@ pub enum Step {
     Scheduled,
     /// One bare tick.
     Tick,
+    /// What another line asks for.
     Command(Command),
 }

@@ -9,7 +9,8 @@ use crate::{Script, ScriptFault};
 use std::alloc::Global;
 
 /// The script that the bytes are, or the first line with a fault and its first fault. Lines are counted from 1; what is
-/// missing at the end stands one past the last line.
+/// missing at the end stands one past the last line. Limits are judged apart, by `limit_passed`. Want of memory says
+/// nothing of the bytes.
 pub fn read(alloc: Global, bytes: &[u8]) -> Result<Script, ScriptFault>
     ensures value { Gives (λ script. script) result (script_of bytes.now) }
     ensures script { IfOk result IsScript }

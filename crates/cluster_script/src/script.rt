@@ -5,7 +5,7 @@ ghost use Rattle.std.specs.Option.{option_copied};
 use crate::{Head, Line};
 use std::marker::Model;
 
-/// A script: its head, and the lines of its body.
+/// A script that was read: its head, and the lines of its body in order. Each line names declared members only.
 #[derive(Drop)]
 pub struct Script {
     head: Head,

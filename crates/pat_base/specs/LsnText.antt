@@ -18,6 +18,7 @@ is_hex_number bytes = is_text 8 is_ascii_hexdigit bytes
 abbrev pub hex_number : List ℕ → Option ℕ
 hex_number bytes = if is_hex_number bytes then Some (digits_value 16 bytes) else None
 
+-- the byte of a slash
 abbrev pub is_slash : ℕ → Bool
 is_slash byte = byte == 47
 
@@ -25,6 +26,7 @@ is_slash byte = byte == 47
 abbrev pub at_most : ℕ → ℕ → Option ℕ
 at_most most number = if nat_le number most then Some number else None
 
+-- the position of its high and its low 32 bits, if both are there and it is at most 2 ^ 63
 abbrev pub joined : Option ℕ → Option ℕ → Option ℕ
 joined (Some high) (Some low) = at_most (2 ^ 63) (high * 2 ^ 32 + low)
 joined None _ = None

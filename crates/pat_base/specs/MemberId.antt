@@ -7,6 +7,7 @@ use Rattle.pat_base.specs.declared.member_id.MemberId.{MemberId}
 pub below-from : (n : ℕ) → nat_lt n 16 ≡ true → n < 16
 below-from n is = grind (arith, nat_tests)
 
+-- the member of a number, by the test of that number
 abbrev pub member_by : (n : ℕ) (test : Bool) → nat_lt n 16 ≡ test → Option MemberId
 member_by n true is = Some (record { number = n; below = below-from n is })
 member_by n false is = None

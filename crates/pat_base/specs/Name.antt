@@ -16,6 +16,7 @@ name_from bytes is = record {
   legal = rw (take-padded 32 bytes) is;
 }
 
+-- the name of bytes, by their test
 unfoldable pub name_by : (bytes : List ℕ) (test : Bool) → is_name bytes ≡ test → Option Name
 name_by bytes true is = Some (name_from bytes is)
 name_by bytes false is = None

@@ -6,6 +6,7 @@ use Rattle.std.specs.Str.{bytes_eq}
 use Rattle.std.specs.Str.Parse.{digits_value}
 use Rattle.pat_base.specs.LsnText.{at_most}
 
+-- a byte that is no decimal digit
 abbrev pub is_no_digit : ℕ → Bool
 is_no_digit byte = not (is_ascii_digit byte)
 

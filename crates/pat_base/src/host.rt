@@ -10,7 +10,9 @@ use std::fmt;
 /// The longest host, in bytes.
 const LONGEST: usize = 40;
 
-/// Where a member is reached: 1 to 40 bytes of `a` to `z`, `A` to `Z`, `0` to `9`, `.`, `:` and `-`.
+/// Where a member is reached, which is the host of Patroni's settings `connect_address` (Patroni, "YAML Configuration
+/// Settings", under "PostgreSQL" and "REST API"): 1 to 40 bytes of `a` to `z`, `A` to `Z`, `0` to `9`, `.`, `:` and `-`.
+/// So a host name of few bytes is one, and an address of either version of IP.
 #[derive(Clone, Copy, Debug, PartialEq, Eq, PartialOrd, Ord, Hash)]
 pub struct Host {
     text: ShortText<LONGEST>,

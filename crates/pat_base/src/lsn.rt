@@ -15,15 +15,15 @@ const GREATEST: u64 = 1 << 63;
 /// The log position of the first byte of the second 4 GiB.
 const HIGH: u64 = 1 << 32;
 
-/// A position in a write-ahead log: how many bytes of the log lie before it, at most 2^63. PostgreSQL calls it a log
-/// sequence number (LSN).
+/// A position in a write-ahead log. PostgreSQL calls it a log sequence number, LSN (PostgreSQL, "WAL Internals").
 #[derive(Clone, Copy, Debug, PartialEq, Eq, PartialOrd, Ord)]
 pub struct Lsn {
+    /// How many bytes of the log lie before it: at most 2^63.
     pub position: u64,
     ghost within: { position ≤ 2 ^ 63 },
 }
 
-/// The text is no log position.
+/// A text is no log position.
 #[derive(Clone, Copy, Debug, PartialEq, Eq, Error)]
 #[error("not a log position")]
 pub struct NotLsn;
@@ -44,16 +44,16 @@ impl Lsn {
         }
     }
 
-    /// The text of the position, as PostgreSQL's type `pg_lsn` prints it: two upper-case hexadecimal numbers, the
-    /// high and the low 32 bits, with a slash between. It fails only for want of memory.
+    /// The text of the position, as PostgreSQL prints it (PostgreSQL, "pg_lsn Type"): two upper-case hexadecimal
+    /// numbers, the high and the low 32 bits, with a slash between. It fails only for want of memory.
     pub fn print(self, alloc: Global) -> Result<String, AllocError>
         ensures { IfOk result (λ text. string_bytes text ≡ lsn_text self.position) }
     {
         format!(in alloc; "{self}")
     }
 
-    /// The position that the text writes: 1 to 8 hexadecimal digits in capitals or not, a slash, and again 1 to 8, of
-    /// at most 2^63 bytes. `NotLsn` exactly for anything else.
+    /// The position that the text writes (PostgreSQL, "pg_lsn Type"): 1 to 8 hexadecimal digits in capitals or not, a
+    /// slash, and again 1 to 8, of at most 2^63 bytes. `NotLsn` exactly for anything else.
     pub fn read(bytes: &[u8]) -> Result<Lsn, NotLsn>
         ensures refused { IsErr result ↔ (lsn_of bytes.now ≡ None) }
         ensures value { IfOk result (λ lsn. lsn_of bytes.now ≡ Some lsn.position) }

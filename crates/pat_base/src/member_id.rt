@@ -4,9 +4,10 @@ ghost use Rattle.std.specs.Prelude.{◌<◌};
 /// The most members that a cluster may have.
 pub const MEMBERS: u8 = 16;
 
-/// The number of a member, in the order in which the script declares them, from 0.
+/// A member of a cluster, by its number: its place in the order in which the script declares the members.
 #[derive(Clone, Copy, Debug, PartialEq, Eq, PartialOrd, Ord)]
 pub struct MemberId {
+    /// From 0, and below 16.
     pub number: u8,
     ghost below: { number < 16 },
 }

@@ -4,10 +4,11 @@ ghost use Rattle.std.specs.Int.{bit_at};
 
 use crate::MemberId;
 
-/// A set of members, as bits: the bit at a member's number is 1 exactly where the set contains that member.
-/// Sets of the same members are equal.
+/// A set of members, as bits: the bit at a member's number is 1 exactly where the set contains that member. Sets of the
+/// same members are equal. Their order is that of their bits as numbers.
 #[derive(Clone, Copy, Debug, PartialEq, Eq, PartialOrd, Ord)]
 pub struct MemberSet {
+    /// Bit `k`, from the lowest on, is the member of number `k`.
     pub bits: u16,
 }
 
@@ -34,7 +35,7 @@ impl MemberSet {
         (self.bits >> member.number) & 1 == 1
     }
 
-    /// How many members are in it.
+    /// How many members are in it: at most 16.
     pub fn len(self) -> u32
         ensures { result ≡ count_ones self.bits }
     {

@@ -29,6 +29,7 @@ impl Model for MemorySource {
 }
 
 impl MemorySource {
+    /// A source of these bytes, of which the calls of these numbers fail.
     pub fn new(bytes: Vec<u8>, fails: Vec<u64>) -> Self
         ensures { result ≡ record { rest = bytes.items; fails = fails.items; calls = 0; faults = 0 } }
     {
@@ -101,7 +102,8 @@ impl Model for MemorySink {
 }
 
 impl MemorySink {
-    /// An empty sink with room for so many bytes. It fails only for want of memory.
+    /// An empty sink with room for so many bytes, of which the calls of these numbers fail. It fails only for want of
+    /// memory.
     pub fn new(alloc: Global, room: usize, fails: Vec<u64>) -> Result<Self, AllocError>
         ensures { IfOk result (λ sink. sink ≡ record { content = []; room = room; fails = fails.items; calls = 0; faults = 0 }) }
     {

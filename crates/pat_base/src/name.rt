@@ -10,7 +10,9 @@ use std::fmt;
 /// The longest name, in bytes.
 const LONGEST: usize = 32;
 
-/// A name: 1 to 32 bytes of `a` to `z`, `0` to `9`, `_` and `-`.
+/// The name of a cluster or of a member, which Patroni's settings `scope` and `name` give (Patroni, "YAML Configuration
+/// Settings", under "Global/Universal"): 1 to 32 bytes of `a` to `z`, `0` to `9`, `_` and `-`. Names are ordered as their
+/// bytes are, behind which zeros stand.
 #[derive(Clone, Copy, Debug, PartialEq, Eq, PartialOrd, Ord, Hash)]
 pub struct Name {
     text: ShortText<LONGEST>,

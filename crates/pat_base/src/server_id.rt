@@ -6,10 +6,11 @@ use crate::MemberId;
 /// The number of the remote primary.
 const REMOTE: u8 = 16;
 
-/// The number of a server: below 16 that of the member whose server it is, and 16 for the remote primary that a
-/// standby cluster follows.
+/// A server, by its number: below 16 that of the member whose server it is, and 16 for the remote primary that a
+/// standby cluster follows (Patroni, "Standby cluster").
 #[derive(Clone, Copy, Debug, PartialEq, Eq, PartialOrd, Ord)]
 pub struct ServerId {
+    /// From 0, and at most 16.
     pub number: u8,
     ghost within: { number ≤ 16 },
 }

@@ -1,16 +1,16 @@
 //! The states of a PostgreSQL server, and what its commits wait for.
 use crate::{MemberSet, Ticks};
 
-/// The state of a server.
+/// The state of a server. Moments are counted in ticks of 100 ms from the start of the run.
 #[derive(Clone, Copy, Debug, PartialEq, Eq)]
 pub enum State {
     /// It has no data, and waits for a copy of another server.
     Creating,
     /// It was shut down in an orderly way.
     Stopped,
-    /// It starts, and is ready at the moment `at`.
+    /// It starts, and is ready at the moment `at`: as a primary, or as a standby.
     Starting { as_primary: bool, at: Ticks },
-    /// It runs in recovery, as a standby of another server.
+    /// It runs in recovery, as a standby of another server (PostgreSQL, "Log-Shipping Standby Servers").
     Replica,
     /// It runs and accepts writes.
     Primary,
@@ -47,7 +47,7 @@ impl State {
 }
 
 /// Whose confirmation a commit of a primary waits for before it is acknowledged, as PostgreSQL's setting
-/// `synchronous_standby_names` says.
+/// `synchronous_standby_names` says (PostgreSQL, "Replication", under "Primary Server").
 #[derive(Clone, Copy, Debug, PartialEq, Eq)]
 pub enum Required {
     /// It waits for nobody.

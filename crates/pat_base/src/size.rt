@@ -11,11 +11,11 @@ use thiserror::Error;
 /// The greatest size, in bytes.
 const GREATEST: u64 = 1 << 63;
 
-/// Sizes as text, as PostgreSQL writes amounts of memory: a number, and `kB`, `MB` or `GB` for 2^10, 2^20 or 2^30
-/// bytes.
+/// Sizes as text, as PostgreSQL writes amounts of memory (PostgreSQL, "Parameter Names and Values"): a number, and `kB`,
+/// `MB` or `GB` for 2^10, 2^20 or 2^30 bytes. Without a unit it counts bytes.
 pub struct Size;
 
-/// The text is no size.
+/// A text is no size.
 #[derive(Clone, Copy, Debug, PartialEq, Eq, Error)]
 #[error("not a size")]
 pub struct NotSize;

@@ -7,7 +7,7 @@ use crate::{Failed, Sink, Source};
 use std::alloc::{AllocError, Global};
 use thiserror::Error;
 
-/// Writes all bytes of a piece. On `Failed` a front of them was written.
+/// Writes all bytes of a piece. On `Failed` a call of the sink failed, and a front of the bytes was written.
 pub fn write_all<K: Sink>(sink: &mut K, bytes: &[u8]) -> Result<(), Failed>
     ensures ok { OnOk result (Grew (K.content sink.old) (K.content sink.new) bytes.now) }
     ensures part { OnErr result (GrewByPrefix (K.content sink.old) (K.content sink.new) bytes.now) }
@@ -25,8 +25,10 @@ pub fn write_all<K: Sink>(sink: &mut K, bytes: &[u8]) -> Result<(), Failed>
 /// Why the bytes of a source couldn't be read.
 #[derive(Clone, Copy, Debug, PartialEq, Eq, Error)]
 pub enum ReadError {
+    /// Want of memory, which says nothing of the source.
     #[error("out of memory")]
     Memory,
+    /// A call of the source failed.
     #[error("read fault")]
     Fault,
 }
@@ -47,7 +49,8 @@ impl From<Failed> for ReadError {
     }
 }
 
-/// The next bytes of a source: to its end, or the first `most` of them where there are more.
+/// The next bytes of a source: to its end, or the first `most` of them where there are more. On an error a front of them
+/// may have been taken, of at most `most` bytes.
 pub fn read_at_most<S: Source>(
     alloc: Global,
     input: &mut S,

@@ -1,16 +1,21 @@
 //! The state of a server in one word.
 use std::fmt;
 
-/// The state of a server, as a member tells it in the key store and in its REST replies.
+/// The state of a server, as a member tells it in the key store and in its REST replies (Patroni, "Patroni REST API",
+/// under "Monitoring endpoint": `state`).
 #[derive(Clone, Copy, Debug, PartialEq, Eq)]
 pub enum Word {
     /// A primary, or a replica that doesn't receive.
     Running,
     /// A replica that receives.
     Streaming,
+    /// It starts, as a primary or as a replica.
     Starting,
+    /// It shuts down.
     Stopping,
+    /// It was shut down in an orderly way.
     Stopped,
+    /// It ended without a shutdown.
     Crashed,
     /// A server that has no log yet.
     CreatingReplica,
