@@ -1,8 +1,10 @@
 -- Every write keeps what holds of the pairs of a store.
-use Rattle.std.proofs.Common.{◌≡◌, ℕ, ◌+◌, ◌++◌, List, [], ◌∷◌, Option, Some, None, IsTrue, refl, sym, ap, ◌∙◌, cond, Bool, true, false, ◌&&◌, not, subst, filter, T}
+use Rattle.std.proofs.Common.{◌≡◌, ℕ, ◌+◌, ◌++◌, List, [], ◌∷◌, Option, Some, None, IsTrue, refl, sym, ap, ◌∙◌, cond, Bool, true, false, not, subst, filter, T}
 use Rattle.std.specs.declared.cmp.Ordering.{Ordering}
 use Rattle.std.specs.declared.cmp.Ordering.TheVariants.{Less, Equal, Greater}
 use Rattle.std.specs.Ordering.{is_eq, is_lt, eq_by_cmp}
+use Rattle.std.proofs.lemmas.Bool.{and_parts, and_from}
+use Rattle.std.proofs.lemmas.Option.{same_Some}
 use Rattle.std.specs.FinMap.{find, put, is_sorted}
 use Rattle.std.specs.FinMap.Entries.{by_order, below_all, is_sorted-put, find-put, find-where_key}
 use Rattle.pat_base.specs.declared.ticks.Ticks.{Ticks}
@@ -31,40 +33,28 @@ from-T : (b : Bool) → T b → IsTrue b
 from-T true h = refl
 from-T false h = absurd h
 
-and-left : (a b : Bool) → (a && b) ≡ true → a ≡ true
-and-left true b h = refl
-and-left false b h = h
-
-and-right : (a b : Bool) → (a && b) ≡ true → b ≡ true
-and-right true b h = h
-and-right false b h = cc
-
-and-both : (a b : Bool) → a ≡ true → b ≡ true → (a && b) ≡ true
-and-both true b p q = q
-and-both false b p q = p
-
 -- ---- a filter keeps the order and the kinds
 below-chosen : (b : Bool) (low : Key) (e : Key × Held) (fs : List (Key × Held)) → is_lt (key_cmp low e.0) ≡ true → IsTrue (below_all key_cmp low fs) → IsTrue (below_all key_cmp low (cond b (e ∷ fs) fs))
-below-chosen true low e fs first rest = and-both (is_lt (key_cmp low e.0)) (below_all key_cmp low fs) first rest
+below-chosen true low e fs first rest = and_from (is_lt (key_cmp low e.0)) (below_all key_cmp low fs) first rest
 below-chosen false low e fs first rest = rest
 
 below-filter : (p : Key × Held → Bool) (low : Key) (es : List (Key × Held)) → IsTrue (below_all key_cmp low es) → IsTrue (below_all key_cmp low (filter p es))
 below-filter p low [] h = refl
 below-filter p low (e ∷ es) h =
     below-chosen (p e) low e (filter p es)
-    (and-left (is_lt (key_cmp low e.0)) (below_all key_cmp low es) h)
-    (below-filter p low es (and-right (is_lt (key_cmp low e.0)) (below_all key_cmp low es) h))
+    (and_parts (is_lt (key_cmp low e.0)) (below_all key_cmp low es) h).0
+    (below-filter p low es (and_parts (is_lt (key_cmp low e.0)) (below_all key_cmp low es) h).1)
 
 order-chosen : (b : Bool) (e : Key × Held) (fs : List (Key × Held)) → below_all key_cmp e.0 fs ≡ true → IsTrue (is_sorted key_cmp fs) → IsTrue (is_sorted key_cmp (cond b (e ∷ fs) fs))
-order-chosen true e fs first rest = and-both (below_all key_cmp e.0 fs) (is_sorted key_cmp fs) first rest
+order-chosen true e fs first rest = and_from (below_all key_cmp e.0 fs) (is_sorted key_cmp fs) first rest
 order-chosen false e fs first rest = rest
 
 pub order-filter : (p : Key × Held → Bool) (es : List (Key × Held)) → IsTrue (is_sorted key_cmp es) → IsTrue (is_sorted key_cmp (filter p es))
 order-filter p [] h = refl
 order-filter p (e ∷ es) h =
     order-chosen (p e) e (filter p es)
-    (below-filter p e.0 es (and-left (below_all key_cmp e.0 es) (is_sorted key_cmp es) h))
-    (order-filter p es (and-right (below_all key_cmp e.0 es) (is_sorted key_cmp es) h))
+    (below-filter p e.0 es (and_parts (below_all key_cmp e.0 es) (is_sorted key_cmp es) h).0)
+    (order-filter p es (and_parts (below_all key_cmp e.0 es) (is_sorted key_cmp es) h).1)
 
 kinds-chosen : (b : Bool) (e : Key × Held) (fs : List (Key × Held)) → IsOfKind e.0 e.1.value → AreOfKind fs → AreOfKind (cond b (e ∷ fs) fs)
 kinds-chosen true e fs first rest = (first, rest)
@@ -96,15 +86,12 @@ equal-from Greater h = cc
 pub same_key : (a b : Key) → eq_by_cmp key_cmp a b ≡ true → a ≡ b
 same_key a b h = keys_exact a b (equal-from (key_cmp a b) h)
 
-same-some : (a b : Held) → Some a ≡ Some b → a ≡ b
-same-some a b h = cc
-
 none-some : (held : Held) → None ≡ Some held → ⊥
 none-some held e = cc
 
 kind-chosen : (key : Key) (e : Key × Held) (held : Held) (b : Bool) (rest : Option Held) → eq_by_cmp key_cmp key e.0 ≡ b → IsOfKind e.0 e.1.value → cond b (Some e.1) rest ≡ Some held → (rest ≡ Some held → IsOfKind key held.value) → IsOfKind key held.value
 kind-chosen key e held true rest same k found later =
-    subst (λ (h : Held). IsOfKind key h.value) (same-some e.1 held found) (subst (λ (other : Key). IsOfKind other e.1.value) (sym (same_key key e.0 same)) k)
+    subst (λ (h : Held). IsOfKind key h.value) (same_Some e.1 held found) (subst (λ (other : Key). IsOfKind other e.1.value) (sym (same_key key e.0 same)) k)
 kind-chosen key e held false rest same k found later = later found
 
 pub kind_found : (key : Key) (es : List (Key × Held)) (held : Held) → AreOfKind es → find key_cmp key es ≡ Some held → IsOfKind key held.value
@@ -192,12 +179,10 @@ fit by (txns.Touch info ttl) = ((tt, refl), tt)
 fit by (txns.Create info ttl failsafe) = ((tt, refl), ((tt, refl), tt))
 fit by (txns.Renew revision info ttl status row failsafe) = (refl, ((tt, refl), fit-append (status_carried status) (row_carried row ++ failsafe_carried failsafe) (fit-status status) (fit-append (row_carried row) (failsafe_carried failsafe) (fit-row row) (fit-failsafe failsafe))))
 fit by (txns.Release revision) = (refl, tt)
-fit by (txns.Claim revision sync) = (tt, tt)
-fit by (txns.SetSync revision sync standbys) = (tt, tt)
 fit by (txns.DropSync revision sync) = (refl, tt)
 fit by (txns.SetFailover failover ttl) = ((tt, refl), tt)
 fit by (txns.DropFailover revision) = (refl, tt)
-fit by (txns.SetConfig revision config) = (tt, tt)
+fit by _ = (tt, tt)
 
 -- a granted transaction keeps what holds of the pairs of a store
 pub kept_after : (revision now : ℕ) (by : MemberId) (txn : Txn) (es : List (Key × Held)) → IsKept es → IsKept (all_written revision now es (writes_of by txn))
@@ -218,7 +203,7 @@ find-filter_none p q (e ∷ es) h =
     let parts = first-none (eq_by_cmp key_cmp q e.0) e.1 (find key_cmp q es) h in
     found-none (p e) q e (filter p es) parts.0 (find-filter_none p q es parts.1)
 
-less-from : (o : Ordering) → is_lt o ≡ true → o ≡ Less
+pub less-from : (o : Ordering) → is_lt o ≡ true → o ≡ Less
 less-from Less h = refl
 less-from Equal h = cc
 less-from Greater h = cc
@@ -226,8 +211,8 @@ less-from Greater h = cc
 find-below : (q : Key) (es : List (Key × Held)) → IsTrue (below_all key_cmp q es) → find key_cmp q es ≡ None
 find-below q [] h = refl
 find-below q (e ∷ es) h =
-    ap (λ o. cond (is_eq o) (Some e.1) (find key_cmp q es)) (less-from (key_cmp q e.0) (and-left (is_lt (key_cmp q e.0)) (below_all key_cmp q es) h))
-    ∙ find-below q es (and-right (is_lt (key_cmp q e.0)) (below_all key_cmp q es) h)
+    ap (λ o. cond (is_eq o) (Some e.1) (find key_cmp q es)) (less-from (key_cmp q e.0) (and_parts (is_lt (key_cmp q e.0)) (below_all key_cmp q es) h).0)
+    ∙ find-below q es (and_parts (is_lt (key_cmp q e.0)) (below_all key_cmp q es) h).1
 
 -- the pair of the key is kept exactly where it is present
 kept-here : (now : ℕ) (q : Key) (e : Key × Held) (fs : List (Key × Held)) (b : Bool) → eq_by_cmp key_cmp q e.0 ≡ true → find key_cmp q fs ≡ None → find key_cmp q (cond b (e ∷ fs) fs) ≡ cond b (Some e.1) None
@@ -249,8 +234,8 @@ pub find_present : (now : ℕ) (q : Key) (es : List (Key × Held)) → IsTrue (i
 find_present now q [] h = refl
 find_present now q (e ∷ es) h =
     find-present_chosen now q e es (eq_by_cmp key_cmp q e.0) refl
-    (and-left (below_all key_cmp e.0 es) (is_sorted key_cmp es) h)
-    (find_present now q es (and-right (below_all key_cmp e.0 es) (is_sorted key_cmp es) h))
+    (and_parts (below_all key_cmp e.0 es) (is_sorted key_cmp es) h).0
+    (find_present now q es (and_parts (below_all key_cmp e.0 es) (is_sorted key_cmp es) h).1)
 
 lasting-present : (now : ℕ) (o : Option Held) → IsLasting o → IsLasting (present now o)
 lasting-present now None last = last

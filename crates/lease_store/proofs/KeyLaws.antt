@@ -26,14 +26,7 @@ same_parts Sync Sync p q = refl
 same_parts Status Status p q = refl
 same_parts (History m) (History n) p q = ap History q
 same_parts Failsafe Failsafe p q = refl
-same_parts Leader _ p q = absurd (omega (arith, p))
-same_parts Config _ p q = absurd (omega (arith, p))
-same_parts (Member m) _ p q = absurd (omega (arith, p))
-same_parts Failover _ p q = absurd (omega (arith, p))
-same_parts Sync _ p q = absurd (omega (arith, p))
-same_parts Status _ p q = absurd (omega (arith, p))
-same_parts (History m) _ p q = absurd (omega (arith, p))
-same_parts Failsafe _ p q = absurd (omega (arith, p))
+same_parts _ _ p q = absurd (omega (arith, p))
 
 pub keys_total : IsTotalOrder key_cmp
 keys_total = then_total (on_total kind_of nat_cmp_total) (on_total number_of nat_cmp_total)

@@ -10,11 +10,12 @@ use Rattle.lease_store.specs.declared.key.Key.TheVariants as keys
 use Rattle.lease_store.specs.declared.txn.Txn.{Txn}
 use Rattle.lease_store.specs.declared.txn.Txn.TheVariants as txns
 use Rattle.lease_store.specs.declared.value.HistoryRow.{HistoryRow}
+use Rattle.lease_store.specs.declared.value.Value.{Value}
 use Rattle.lease_store.specs.declared.value.Value.TheVariants as values
 use Rattle.lease_store.specs.Keys.{Keys}
 use Rattle.lease_store.specs.declared.value.Held.{Held}
 use Rattle.lease_store.specs.KeyOrder.{key_cmp}
-use Rattle.lease_store.specs.Writes.{Write, Sets, Leases, Extends, Deletes, later, extended, written, all_written, writes_of, keys_after, status_carried, row_carried, failsafe_carried, sync_value, nobody}
+use Rattle.lease_store.specs.Writes.{Write, Sets, Leases, Extends, Deletes, later, extended, written, all_written, writes_of, keys_after, status_carried, row_carried, failsafe_carried}
 use Rattle.lease_store.proofs.Keeping.{find_put, find_without, same_key}
 
 -- the same with an extended lease
@@ -67,27 +68,27 @@ leader_after revision now by (txns.Renew compared info ttl status row failsafe) 
 leader_after revision now by (txns.Release compared) found = None
 leader_after revision now by _ found = found
 
-carried-leader : (revision now : ℕ) (found : Option Held) (status : Option Lsn) (row : Option HistoryRow) (failsafe : Option MemberSet) → found_after_all revision now keys.Leader found (status_carried status ++ (row_carried row ++ failsafe_carried failsafe)) ≡ found
-carried-leader revision now found None None None = refl
-carried-leader revision now found None None (Some members) = refl
-carried-leader revision now found None (Some row) None = refl
-carried-leader revision now found None (Some row) (Some members) = refl
-carried-leader revision now found (Some end) None None = refl
-carried-leader revision now found (Some end) None (Some members) = refl
-carried-leader revision now found (Some end) (Some row) None = refl
-carried-leader revision now found (Some end) (Some row) (Some members) = refl
+set-other : (revision now : ℕ) (q key : Key) (value : Value) (found : Option Held) (more : List Write) → eq_by_cmp key_cmp q key ≡ false → found_after_all revision now q found (Sets key value ∷ more) ≡ found_after_all revision now q found more
+set-other revision now q key value found more other = ap (λ b. found_after_all revision now q (cond b (Some (record { value = value; revision = revision; expiry = None })) found) more) other
+
+-- what a renewal carries beside its lease leaves a key alone that is none of these
+carried : (revision now : ℕ) (q : Key) (found : Option Held) (status : Option Lsn) (row : Option HistoryRow) (failsafe : Option MemberSet) → eq_by_cmp key_cmp q keys.Status ≡ false → ((timeline : ℕ) → eq_by_cmp key_cmp q (keys.History timeline) ≡ false)
+    → found_after_all revision now q found (status_carried status ++ (row_carried row ++ failsafe_carried failsafe)) ≡ found_after_all revision now q found (failsafe_carried failsafe)
+carried revision now q found None None failsafe status row = refl
+carried revision now q found None (Some at) failsafe status row = set-other revision now q (keys.History at.timeline) (values.History at) found (failsafe_carried failsafe) (row at.timeline)
+carried revision now q found (Some end) None failsafe status row = set-other revision now q keys.Status (values.Status end) found (failsafe_carried failsafe) status
+carried revision now q found (Some end) (Some at) failsafe status row =
+    set-other revision now q keys.Status (values.Status end) found (row_carried (Some at) ++ failsafe_carried failsafe) status
+    ∙ set-other revision now q (keys.History at.timeline) (values.History at) found (failsafe_carried failsafe) (row at.timeline)
+
+leader-carried : (revision now : ℕ) (found : Option Held) (failsafe : Option MemberSet) → found_after_all revision now keys.Leader found (failsafe_carried failsafe) ≡ found
+leader-carried revision now found None = refl
+leader-carried revision now found (Some members) = refl
 
 leader-written : (revision now : ℕ) (by : MemberId) (txn : Txn) (found : Option Held) → found_after_all revision now keys.Leader found (writes_of by txn) ≡ leader_after revision now by txn found
-leader-written revision now by (txns.Touch info ttl) found = refl
-leader-written revision now by (txns.Create info ttl failsafe) found = refl
-leader-written revision now by (txns.Renew compared info ttl status row failsafe) found = carried-leader revision now (renewed revision (now + ttl.0) found) status row failsafe
-leader-written revision now by (txns.Release compared) found = refl
-leader-written revision now by (txns.Claim compared sync) found = refl
-leader-written revision now by (txns.SetSync compared sync standbys) found = refl
-leader-written revision now by (txns.DropSync compared sync) found = refl
-leader-written revision now by (txns.SetFailover failover ttl) found = refl
-leader-written revision now by (txns.DropFailover compared) found = refl
-leader-written revision now by (txns.SetConfig compared config) found = refl
+leader-written revision now by (txns.Renew compared info ttl status row failsafe) found =
+    carried revision now keys.Leader (renewed revision (now + ttl.0) found) status row failsafe refl (λ timeline. refl) ∙ leader-carried revision now (renewed revision (now + ttl.0) found) failsafe
+leader-written revision now by _ found = refl
 
 -- what a granted transaction leaves at the leader key
 pub find_leader_after : (store : Keys) (now : ℕ) (by : MemberId) (txn : Txn) → find key_cmp keys.Leader (keys_after store now by txn).pairs ≡ leader_after (store.revision + 1) now by txn (find key_cmp keys.Leader store.pairs)
@@ -104,65 +105,17 @@ abbrev pub failsafe_after : ℕ → Txn → Option Held → Option Held
 failsafe_after revision (txns.Renew compared info ttl status row failsafe) found = failsafe_written revision failsafe found
 failsafe_after revision _ found = found
 
-carried-failsafe : (revision now : ℕ) (found : Option Held) (status : Option Lsn) (row : Option HistoryRow) (failsafe : Option MemberSet) → found_after_all revision now keys.Failsafe found (status_carried status ++ (row_carried row ++ failsafe_carried failsafe)) ≡ failsafe_written revision failsafe found
-carried-failsafe revision now found None None None = refl
-carried-failsafe revision now found None None (Some members) = refl
-carried-failsafe revision now found None (Some row) None = refl
-carried-failsafe revision now found None (Some row) (Some members) = refl
-carried-failsafe revision now found (Some end) None None = refl
-carried-failsafe revision now found (Some end) None (Some members) = refl
-carried-failsafe revision now found (Some end) (Some row) None = refl
-carried-failsafe revision now found (Some end) (Some row) (Some members) = refl
+failsafe-carried : (revision now : ℕ) (found : Option Held) (failsafe : Option MemberSet) → found_after_all revision now keys.Failsafe found (failsafe_carried failsafe) ≡ failsafe_written revision failsafe found
+failsafe-carried revision now found None = refl
+failsafe-carried revision now found (Some members) = refl
 
 failsafe-written : (revision now : ℕ) (by : MemberId) (txn : Txn) (found : Option Held) → found_after_all revision now keys.Failsafe found (writes_of by txn) ≡ failsafe_after revision txn found
-failsafe-written revision now by (txns.Touch info ttl) found = refl
-failsafe-written revision now by (txns.Create info ttl failsafe) found = refl
-failsafe-written revision now by (txns.Renew compared info ttl status row failsafe) found = carried-failsafe revision now found status row failsafe
-failsafe-written revision now by (txns.Release compared) found = refl
-failsafe-written revision now by (txns.Claim compared sync) found = refl
-failsafe-written revision now by (txns.SetSync compared sync standbys) found = refl
-failsafe-written revision now by (txns.DropSync compared sync) found = refl
-failsafe-written revision now by (txns.SetFailover failover ttl) found = refl
-failsafe-written revision now by (txns.DropFailover compared) found = refl
-failsafe-written revision now by (txns.SetConfig compared config) found = refl
+failsafe-written revision now by (txns.Renew compared info ttl status row failsafe) found =
+    carried revision now keys.Failsafe found status row failsafe refl (λ timeline. refl) ∙ failsafe-carried revision now found failsafe
+failsafe-written revision now by _ found = refl
 
 -- what a granted transaction leaves at the failsafe key
 pub find_failsafe_after : (store : Keys) (now : ℕ) (by : MemberId) (txn : Txn) → find key_cmp keys.Failsafe (keys_after store now by txn).pairs ≡ failsafe_after (store.revision + 1) txn (find key_cmp keys.Failsafe store.pairs)
 find_failsafe_after store now by txn =
     find_all_written (store.revision + 1) now keys.Failsafe store.pairs (writes_of by txn)
     ∙ failsafe-written (store.revision + 1) now by txn (find key_cmp keys.Failsafe store.pairs)
-
--- ---- the sync key
-abbrev pub sync_after : ℕ → MemberId → Txn → Option Held → Option Held
-sync_after revision by (txns.Claim compared sync) found = Some (record { value = sync_value by nobody; revision = revision; expiry = None })
-sync_after revision by (txns.SetSync compared sync standbys) found = Some (record { value = sync_value by standbys; revision = revision; expiry = None })
-sync_after revision by (txns.DropSync compared sync) found = None
-sync_after revision by _ found = found
-
-carried-sync : (revision now : ℕ) (found : Option Held) (status : Option Lsn) (row : Option HistoryRow) (failsafe : Option MemberSet) → found_after_all revision now keys.Sync found (status_carried status ++ (row_carried row ++ failsafe_carried failsafe)) ≡ found
-carried-sync revision now found None None None = refl
-carried-sync revision now found None None (Some members) = refl
-carried-sync revision now found None (Some row) None = refl
-carried-sync revision now found None (Some row) (Some members) = refl
-carried-sync revision now found (Some end) None None = refl
-carried-sync revision now found (Some end) None (Some members) = refl
-carried-sync revision now found (Some end) (Some row) None = refl
-carried-sync revision now found (Some end) (Some row) (Some members) = refl
-
-sync-written : (revision now : ℕ) (by : MemberId) (txn : Txn) (found : Option Held) → found_after_all revision now keys.Sync found (writes_of by txn) ≡ sync_after revision by txn found
-sync-written revision now by (txns.Touch info ttl) found = refl
-sync-written revision now by (txns.Create info ttl failsafe) found = refl
-sync-written revision now by (txns.Renew compared info ttl status row failsafe) found = carried-sync revision now found status row failsafe
-sync-written revision now by (txns.Release compared) found = refl
-sync-written revision now by (txns.Claim compared sync) found = refl
-sync-written revision now by (txns.SetSync compared sync standbys) found = refl
-sync-written revision now by (txns.DropSync compared sync) found = refl
-sync-written revision now by (txns.SetFailover failover ttl) found = refl
-sync-written revision now by (txns.DropFailover compared) found = refl
-sync-written revision now by (txns.SetConfig compared config) found = refl
-
--- what a granted transaction leaves at the sync key
-pub find_sync_after : (store : Keys) (now : ℕ) (by : MemberId) (txn : Txn) → find key_cmp keys.Sync (keys_after store now by txn).pairs ≡ sync_after (store.revision + 1) by txn (find key_cmp keys.Sync store.pairs)
-find_sync_after store now by txn =
-    find_all_written (store.revision + 1) now keys.Sync store.pairs (writes_of by txn)
-    ∙ sync-written (store.revision + 1) now by txn (find key_cmp keys.Sync store.pairs)

@@ -1,8 +1,8 @@
 -- Looking for the place of a key.
-use Rattle.std.proofs.Common.{◌≡◌, ℕ, suc, ◌+◌, ◌≤◌, ◌<◌, ◌++◌, List, [], ◌∷◌, length, take, drop, Option, Some, None, IsTrue, slice_index_or, slice_set, refl, sym, ap, ◌∙◌, cond, Bool, true, false, ◌&&◌, subst, add-one, drop-cons}
-use Rattle.std.specs.declared.cmp.Ordering.{Ordering}
-use Rattle.std.specs.declared.cmp.Ordering.TheVariants.{Less, Equal, Greater}
+use Rattle.std.proofs.Common.{◌≡◌, ℕ, suc, ◌+◌, ◌≤◌, ◌<◌, ◌++◌, List, [], ◌∷◌, length, take, drop, Option, Some, None, IsTrue, slice_index_or, slice_set, refl, sym, ap, ◌∙◌, cond, true, ◌&&◌, subst, add-one, drop-cons}
+use Rattle.std.specs.declared.cmp.Ordering.TheVariants.{Less, Equal}
 use Rattle.std.specs.Ordering.{is_eq, is_lt}
+use Rattle.std.proofs.lemmas.Bool.{and_parts}
 use Rattle.std.proofs.lemmas.List.{get_or_default, set_split}
 use Rattle.std.specs.FinMap.{find, put, is_sorted}
 use Rattle.std.specs.FinMap.Entries.{by_order, below_all}
@@ -13,6 +13,7 @@ use Rattle.lease_store.specs.KeyOrder.{key_cmp}
 use Rattle.lease_store.specs.Writes.{extended, later}
 use Rattle.lease_store.specs.Places.{IsPlaceOf, IsGapFor}
 use Rattle.lease_store.proofs.KeyLaws.{keys_total, keys_exact}
+use Rattle.lease_store.proofs.Keeping.{less-from}
 
 -- the keys in front of this place come before the key
 pub record Passed (key : Key) (pairs : List (Key × Held)) (at : ℕ) : Type 0 where
@@ -39,25 +40,12 @@ put-equal key held es e left is equal =
 find-equal : (key : Key) (es : List (Key × Held)) (e : Key × Held) (left : List (Key × Held)) → es ≡ e ∷ left → key_cmp key e.0 ≡ Equal → find key_cmp key es ≡ Some e.1
 find-equal key es e left is equal = ap (find key_cmp key) is ∙ ap (λ o. cond (is_eq o) (Some e.1) (find key_cmp key left)) equal
 
-and-left : (a b : Bool) → (a && b) ≡ true → a ≡ true
-and-left true b h = refl
-and-left false b h = h
-
-and-right : (a b : Bool) → (a && b) ≡ true → b ≡ true
-and-right true b h = h
-and-right false b h = cc
-
-is-less : (o : Ordering) → is_lt o ≡ true → o ≡ Less
-is-less Less h = refl
-is-less Equal h = cc
-is-less Greater h = cc
-
 find-below : (key low : Key) (es : List (Key × Held)) → key_cmp key low ≡ Less → IsTrue (below_all key_cmp low es) → find key_cmp key es ≡ None
 find-below key low [] less h = refl
 find-below key low (e ∷ es) less h =
-    let below = keys_total.trans key low e.0 less (is-less (key_cmp low e.0) (and-left (is_lt (key_cmp low e.0)) (below_all key_cmp low es) h)) in
+    let below = keys_total.trans key low e.0 less (less-from (key_cmp low e.0) (and_parts (is_lt (key_cmp low e.0)) (below_all key_cmp low es) h).0) in
     ap (λ o. cond (is_eq o) (Some e.1) (find key_cmp key es)) below
-    ∙ find-below key low es less (and-right (is_lt (key_cmp low e.0)) (below_all key_cmp low es) h)
+    ∙ find-below key low es less (and_parts (is_lt (key_cmp low e.0)) (below_all key_cmp low es) h).1
 
 -- a key before the first of pairs in order isn't among them
 find-less : (key : Key) (es : List (Key × Held)) (e : Key × Held) (left : List (Key × Held)) → es ≡ e ∷ left → key_cmp key e.0 ≡ Less → IsTrue (is_sorted key_cmp es) → find key_cmp key es ≡ None
@@ -65,7 +53,7 @@ find-less key es e left is less sorted =
     let order : (below_all key_cmp e.0 left && is_sorted key_cmp left) ≡ true = subst (λ (t : List (Key × Held)). is_sorted key_cmp t ≡ true) is sorted in
     ap (find key_cmp key) is
     ∙ ap (λ o. cond (is_eq o) (Some e.1) (find key_cmp key left)) less
-    ∙ find-below key e.0 left less (and-left (below_all key_cmp e.0 left) (is_sorted key_cmp left) order)
+    ∙ find-below key e.0 left less (and_parts (below_all key_cmp e.0 left) (is_sorted key_cmp left) order).0
 
 pub gap_here : (key : Key) (pairs : List (Key × Held)) (at : ℕ) (pair : Key × Held) → at < length pairs → pair ≡ slice_index_or pairs at pair → Less ≡ key_cmp key pair.0 → Passed key pairs at → IsGapFor key pairs at
 gap_here key pairs at pair h is less passed =

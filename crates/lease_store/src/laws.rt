@@ -8,6 +8,13 @@ ghost use Rattle.lease_store.specs.Kept.{IsKept};
 ghost use Rattle.lease_store.specs.Settings.{Settings};
 ghost use Rattle.lease_store.specs.Writes.{is_lease};
 
+/// What holds of the pairs of a new store holds after all calls: the keys strictly rise, each value is of its key's kind,
+/// and the configuration is there for good.
+pub fn stores_are_kept()
+    ensures first { (config : Settings) → IsKept (first_keys config).pairs }
+    ensures calls { (store : Keys) (calls : List Call) → IsKept store.pairs → IsKept (states_after store calls).pairs }
+{}
+
 /// Fencing: once a member was granted the lease of the leader key, by a Create or by a Renew, no transaction that
 /// compares an earlier revision of that key is granted from then on, whatever is asked of the store in between, by
 /// whom, and at which moments, and whether or not expired keys are dropped. Revisions only grow.

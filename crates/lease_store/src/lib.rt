@@ -25,7 +25,7 @@ pub use config::Config;
 pub use config_value::ConfigValue;
 pub use granted::Granted;
 pub use key::Key;
-pub use laws::fencing;
+pub use laws::{fencing, stores_are_kept};
 pub use refusal::StoreRefusal;
 pub use store::Store;
 pub use txn::{Expected, Txn};

@@ -6,7 +6,7 @@ ghost use Rattle.lease_store.specs.declared.txn.Expected.{Expected};
 ghost use Rattle.lease_store.specs.Decision.{Grant, Refusal, decision_on};
 ghost use Rattle.lease_store.specs.KeyOrder.{key_cmp};
 ghost use Rattle.lease_store.specs.Keys.{Keys, key_at, first_keys};
-ghost use Rattle.lease_store.specs.Kept.{AreOfKind, IsKept};
+ghost use Rattle.lease_store.specs.Kept.{AreOfKind};
 ghost use Rattle.lease_store.specs.Kinds.{IsOfKind};
 ghost use Rattle.lease_store.specs.Writes.{keys_after, is_lease, ttl_of};
 
@@ -56,13 +56,6 @@ impl Store {
         ensures { result ≡ self.now.revision }
     {
         self.revision
-    }
-
-    /// What holds of the pairs of every store: proofs learn it by this call, which does nothing.
-    pub fn known(&self)
-        ensures { IsKept self.now.pairs }
-    {
-        let _ = &self.pairs;
     }
 
     /// What is held at a key that is present at this moment. `None` exactly where the key is absent.
@@ -144,8 +137,5 @@ fn expired_holder(pairs: &[(Key, Held)], now: Ticks) -> Option<MemberId>
     if is_present(now, held.expiry) {
         return None;
     }
-    match &held.value {
-        Value::Leader(member) => Some(*member),
-        _ => None,
-    }
+    held.value.holder()
 }

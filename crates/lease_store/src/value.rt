@@ -1,5 +1,6 @@
 //! The values of keys.
 ghost use Rattle.std.specs.Prelude.{◌≡◌, IfOk};
+ghost use Rattle.lease_store.specs.Answers.{holder_of};
 
 use crate::ConfigValue;
 use pat_base::{Host, Lsn, MemberId, MemberSet, Tags, Ticks, Word};
@@ -62,6 +63,16 @@ pub struct Held {
 }
 
 impl Value {
+    /// The member that the leader key names. `None` exactly for a value of another key.
+    pub fn holder(&self) -> Option<MemberId>
+        ensures { result ≡ holder_of self.now }
+    {
+        match self {
+            Value::Leader(member) => Some(*member),
+            _ => None,
+        }
+    }
+
     /// Another value alike. It fails only for want of memory.
     pub fn copy(&self) -> Result<Value, AllocError>
         ensures { IfOk result (λ value. value ≡ self.now) }

@@ -3,6 +3,7 @@ use Rattle.std.proofs.Common.{◌≡◌, ℕ, zero, suc, ◌+◌, ◌<◌, ◌==
 use Rattle.std.specs.Prelude.{Any}
 use Rattle.std.specs.List.{list_any}
 use Rattle.std.specs.Int.{bit_at}
+use Rattle.std.proofs.lemmas.Bool.{and_parts, and_from}
 use Rattle.std.proofs.lemmas.Bool.Decides.{nat_tests}
 use Rattle.std.proofs.lemmas.List.Folds.{Any-from_list_any, list_any-from_Any}
 use Rattle.pat_base.specs.declared.lsn.Lsn.{Lsn}
@@ -30,20 +31,6 @@ any-to end cs h =
 any-from : (end : Lsn) (cs : List (Option Lsn)) → Any (Reaches end) cs → list_any (reaches end) cs ≡ true
 any-from end cs found = list_any-from_Any (reaches end) cs (found.0, found.1, found.2, found.3, reaches-from end found.1 found.4)
 
-and-first : (a b : Bool) → (a && b) ≡ true → a ≡ true
-and-first true b h = refl
-and-first false b h = h
-
-and-second : (a b : Bool) → (a && b) ≡ true → b ≡ true
-and-second true b h = h
-and-second false b h = absurd (clash h)
-  where
-    clash : false ≡ true → ⊥
-    clash h = cc
-
-both : (a b : Bool) → a ≡ true → b ≡ true → (a && b) ≡ true
-both a b p q = rw (p, q) refl
-
 -- a member of the set is free only where it has confirmed the end
 free-to : (bit : ℕ) (reached : Bool) → bit ≡ 1 → (not (bit == 1) || reached) ≡ true → reached ≡ true
 free-to bit true e h = refl
@@ -60,10 +47,10 @@ free-from bit false h = grind (arith, nat_tests)
 all-to : (number : ℕ) (members : MemberSet) (end : Lsn) (cs : List (Option Lsn)) → all_reach number members end cs ≡ true → (k : ℕ) → k < length cs → bit_at members.bits (number + k) ≡ 1 → Reaches end (get_or cs k None)
 all-to number members end (c ∷ cs) h zero lt bit =
     let here : bit_at members.bits number ≡ 1 = subst (λ (n : ℕ). bit_at members.bits n ≡ 1) (omega arith) bit in
-    reaches-to end c (free-to (bit_at members.bits number) (reaches end c) here (and-first (is_free members number end c) (all_reach (number + 1) members end cs) h))
+    reaches-to end c (free-to (bit_at members.bits number) (reaches end c) here (and_parts (is_free members number end c) (all_reach (number + 1) members end cs) h).0)
 all-to number members end (c ∷ cs) h (suc k) lt bit =
     let there : bit_at members.bits ((number + 1) + k) ≡ 1 = subst (λ (n : ℕ). bit_at members.bits n ≡ 1) (omega arith) bit in
-    all-to (number + 1) members end cs (and-second (is_free members number end c) (all_reach (number + 1) members end cs) h) k (omega (arith, lt)) there
+    all-to (number + 1) members end cs (and_parts (is_free members number end c) (all_reach (number + 1) members end cs) h).1 k (omega (arith, lt)) there
 all-to number members end [] h k lt bit = absurd (omega (arith, lt))
 
 all-from : (number : ℕ) (members : MemberSet) (end : Lsn) (cs : List (Option Lsn)) → ((k : ℕ) → k < length cs → bit_at members.bits (number + k) ≡ 1 → Reaches end (get_or cs k None)) → all_reach number members end cs ≡ true
@@ -71,7 +58,7 @@ all-from number members end [] h = refl
 all-from number members end (c ∷ cs) h =
     let here : is_free members number end c ≡ true = free-from (bit_at members.bits number) (reaches end c) (λ bit. reaches-from end c (h 0 (omega arith) (subst (λ (n : ℕ). bit_at members.bits n ≡ 1) (omega arith) bit))) in
     let there : all_reach (number + 1) members end cs ≡ true = all-from (number + 1) members end cs (λ k lt bit. h (suc k) (omega (arith, lt)) (subst (λ (n : ℕ). bit_at members.bits n ≡ 1) (omega arith) bit)) in
-    both (is_free members number end c) (all_reach (number + 1) members end cs) here there
+    and_from (is_free members number end c) (all_reach (number + 1) members end cs) here there
 
 pub is_met-to : (list : Required) (end : Lsn) (cs : List (Option Lsn)) → IsTrue (is_met list end cs) → MeetsRequired list end cs
 is_met-to required.Nobody end cs h = tt

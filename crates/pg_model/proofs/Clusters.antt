@@ -3,9 +3,9 @@ use Rattle.std.proofs.Common.{◌≡◌, ℕ, ◌<◌, ◌≤◌, ◌==◌, ◌&
 use Rattle.std.specs.Prelude.{slice_get, slice_set, IfSome}
 use Rattle.std.specs.Option.{option_map}
 use Rattle.std.proofs.lemmas.Bool.Decides.{nat_tests}
-use Rattle.std.proofs.lemmas.Bool.{cases_eq}
+use Rattle.std.proofs.lemmas.Bool.{cases_eq, and_parts}
 use Rattle.std.proofs.lemmas.List.{map-set, length-map}
-use Rattle.std.proofs.lemmas.Option.{slice_get-map, slice_get_within, slice_get_past, get_or_from_slice_get}
+use Rattle.std.proofs.lemmas.Option.{same_Some, slice_get-map, slice_get_within, slice_get_past, get_or_from_slice_get}
 use Rattle.std.proofs.Math.Seq.{map-set_same}
 use Rattle.wal_model.specs.declared.entry.Entry.{Entry}
 use Rattle.wal_model.specs.Log.{IsPrefixOf}
@@ -25,9 +25,6 @@ got-set_other (x ∷ xs) zero zero y h = absurd (h refl)
 got-set_other (x ∷ xs) zero (suc k) y h = refl
 got-set_other (x ∷ xs) (suc i) zero y h = refl
 got-set_other (x ∷ xs) (suc i) (suc k) y h = got-set_other xs i k y (λ e. h (ap suc e))
-
-pub same-some : {X : Type 0} (x y : X) → Some x ≡ Some y → x ≡ y
-same-some x y e = cc
 
 -- a server, as others see it
 pub seen-at : (xs list : List ServerFacts) (place : ℕ) (x : ServerFacts) → map seen xs ≡ list → slice_get xs place ≡ Some x → slice_get list place ≡ Some (seen x)
@@ -80,17 +77,6 @@ behind-trans s t u p q = record {
 pub standing-at : (xs : List ServerFacts) (place : ℕ) (x : ServerFacts) → slice_get xs place ≡ Some x → slice_get (map standing_of xs) place ≡ Some (standing_of x)
 standing-at xs place x found = slice_get-map standing_of xs place ∙ ap (option_map standing_of) found
 
-pub and-first : (a b : Bool) → (a && b) ≡ true → a ≡ true
-and-first true b h = refl
-and-first false b h = h
-
-pub and-second : (a b : Bool) → (a && b) ≡ true → b ≡ true
-and-second true b h = h
-and-second false b h = absurd (clash h)
-  where
-    clash : false ≡ true → ⊥
-    clash h = cc
-
 -- the same log, timeline and history with another upstream
 abbrev pub with_number : Standing → Option ℕ → Standing
 with_number s number = record s { upstream = number }
@@ -107,7 +93,7 @@ still ss place s s' t found ahead old = by-place (cases_eq old.number place)
   where
     by-place : (old.number ≡ place) ⊎ (old.number ≡ place → ⊥) → IsInStep (slice_set ss place s') t
     by-place (inl e) =
-        let leader : old.leader ≡ s = same-some old.leader s (sym old.found ∙ ap (slice_get ss) e ∙ found) in
+        let leader : old.leader ≡ s = same_Some old.leader s (sym old.found ∙ ap (slice_get ss) e ∙ found) in
         record {
           number = old.number;
           follows = old.follows;
@@ -133,8 +119,8 @@ moved marks ss place s s' m hold found ahead own = record {
     by-place : (k : ℕ) (t : Standing) → slice_get (slice_set marks place m) k ≡ Some true → slice_get (slice_set ss place s') k ≡ Some t → (k ≡ place) ⊎ (k ≡ place → ⊥) → IsInStep (slice_set ss place s') t
     by-place k t mark there (inl e) =
         let within : place < length ss = slice_get_within ss place s found in
-        let marked : m ≡ true = same-some m true (sym (got-set_same marks place m (omega (arith, hold.one_each, within))) ∙ ap (slice_get (slice_set marks place m)) (sym e) ∙ mark) in
-        let is : s' ≡ t = same-some s' t (sym (got-set_same ss place s' within) ∙ ap (slice_get (slice_set ss place s')) (sym e) ∙ there) in
+        let marked : m ≡ true = same_Some m true (sym (got-set_same marks place m (omega (arith, hold.one_each, within))) ∙ ap (slice_get (slice_set marks place m)) (sym e) ∙ mark) in
+        let is : s' ≡ t = same_Some s' t (sym (got-set_same ss place s' within) ∙ ap (slice_get (slice_set ss place s')) (sym e) ∙ there) in
         subst (IsInStep (slice_set ss place s')) is (own marked)
     by-place k t mark there (inr ne) =
         still ss place s s' t found ahead (hold.in_step k t (sym (got-set_other marks place k m ne) ∙ mark) (sym (got-set_other ss place k s' ne) ∙ there))
@@ -172,8 +158,8 @@ marked marks ss place s m hold found own = record {
     by-place : (k : ℕ) (t : Standing) → slice_get (slice_set marks place m) k ≡ Some true → slice_get ss k ≡ Some t → (k ≡ place) ⊎ (k ≡ place → ⊥) → IsInStep ss t
     by-place k t mark there (inl e) =
         let within : place < length ss = slice_get_within ss place s found in
-        let set : m ≡ true = same-some m true (sym (got-set_same marks place m (omega (arith, hold.one_each, within))) ∙ ap (slice_get (slice_set marks place m)) (sym e) ∙ mark) in
-        let is : s ≡ t = same-some s t (sym found ∙ ap (slice_get ss) (sym e) ∙ there) in
+        let set : m ≡ true = same_Some m true (sym (got-set_same marks place m (omega (arith, hold.one_each, within))) ∙ ap (slice_get (slice_set marks place m)) (sym e) ∙ mark) in
+        let is : s ≡ t = same_Some s t (sym found ∙ ap (slice_get ss) (sym e) ∙ there) in
         subst (IsInStep ss) is (own set)
     by-place k t mark there (inr ne) = hold.in_step k t (sym (got-set_other marks place k m ne) ∙ mark) there
 
@@ -190,9 +176,9 @@ followed-at marks xs place x y number b same hold found mark is equal =
   where
     own : (b && same) ≡ true → IsInStep (map standing_of (slice_set xs place y)) (standing_of y)
     own e =
-        let as-before : standing_of y ≡ standing_of x = is ∙ ap (with_number (standing_of x)) (sym (equal (and-second b same e))) in
+        let as-before : standing_of y ≡ standing_of x = is ∙ ap (with_number (standing_of x)) (sym (equal (and_parts b same e).1)) in
         let list : map standing_of (slice_set xs place y) ≡ map standing_of xs = map-set_same standing_of xs place y x (as-before ∙ ap standing_of (sym (get_or_from_slice_get xs place x x found))) in
-        let old : IsInStep (map standing_of xs) (standing_of x) = hold.in_step place (standing_of x) (mark ∙ ap (λ t. Some t) (and-first b same e)) (standing-at xs place x found) in
+        let old : IsInStep (map standing_of xs) (standing_of x) = hold.in_step place (standing_of x) (mark ∙ ap (λ t. Some t) (and_parts b same e).0) (standing-at xs place x found) in
         subst (λ (t : List Standing). IsInStep t (standing_of y)) (sym list) (subst (IsInStep (map standing_of xs)) (sym as-before) old)
 
 pub is_place-number : (place : ℕ) (upstream : Option ℕ) → is_place place upstream ≡ true → upstream ≡ Some place

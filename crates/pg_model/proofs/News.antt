@@ -1,7 +1,9 @@
 -- What a standby gets from its upstream, and what it is then.
 use Rattle.std.proofs.Common.{◌≡◌, ℕ, ◌-◌, ◌==◌, ◌&&◌, Bool, true, false, cond, min, List, [], ◌++◌, length, take, drop, Option, Some, None, refl, sym, ap, subst, ◌∙◌, arith, append-nil, append_assoc, length-drop, take-append-drop}
-use Rattle.std.specs.Prelude.{slice_get, IsSome}
+use Rattle.std.specs.Prelude.{slice_get, IsSome, IsTrue}
+use Rattle.std.proofs.lemmas.Bool.{and_parts, and_from}
 use Rattle.std.proofs.lemmas.Bool.Decides.{nat_tests}
+use Rattle.std.proofs.lemmas.Option.{same_Some}
 use Rattle.std.proofs.lemmas.List.{take_min, drop_at}
 use Rattle.wal_model.specs.declared.entry.Entry.{Entry}
 use Rattle.wal_model.specs.declared.entry.HistoryPoint.{HistoryPoint}
@@ -13,39 +15,24 @@ use Rattle.pat_base.specs.Lsn.{lsn_at}
 use Rattle.pg_model.specs.declared.answers.Streamed.{Streamed}
 use Rattle.pg_model.specs.declared.answers.Streamed.TheVariants as streams
 use Rattle.pg_model.specs.Facts.{ServerFacts, entries_of}
-use Rattle.pg_model.specs.Replication.{stream_by, stream_of, streamed_by, streamed, received_from, is_current, news_by, news_of, told, after_news}
-use Rattle.pg_model.specs.InStep.{standing_of, IsBehind}
+use Rattle.pg_model.specs.Replication.{stream_by, stream_of, streamed, received_from, is_current, news_where, news_by, news_of, told, after_news}
+use Rattle.pg_model.specs.declared.server.hearing.Met.{Met}
+use Rattle.pg_model.specs.declared.server.hearing.Met.TheVariants as mets
+use Rattle.pg_model.specs.InStep.{standing_of, IsBehind, Hears, answer_of, has_received}
 use Rattle.pg_model.specs.Servers.{with_server, news_between, news_at, told_from, after_news_at, streamed_at}
+use Rattle.wal_model.proofs.Entries.{is_prefix-to}
 use Rattle.wal_model.proofs.Points.{same-points-to, same-points-from}
 
 received-count : (log from : List Entry) (most : ℕ) → received log from most ≡ received log from (min most (length from - length log))
 received-count log from most =
     ap (λ t. log ++ t) (sym (take_min most (drop (length log) from)) ∙ ap (λ n. take (min most n) (drop (length log) from)) (length-drop (length log) from))
 
-told-count : (s upstream : ServerFacts) (most : ℕ) → streamed_by (streams.Received (min most (length (entries_of upstream.log) - length (entries_of s.log)))) s upstream most ≡ received_from (min most (length (entries_of upstream.log) - length (entries_of s.log))) s upstream
-told-count s upstream most = ap (λ log. record s { log = Some log; timeline = upstream.timeline; history = upstream.history }) (received-count (entries_of s.log) (entries_of upstream.log) most)
-
-told-by-test : (prefix : Bool) (at : Lsn) (s upstream : ServerFacts) (most : ℕ) → streamed_by (cond prefix (streams.Received (min most (length (entries_of upstream.log) - length (entries_of s.log)))) (streams.Diverged at)) s upstream most ≡ told (cond prefix (streams.Received (min most (length (entries_of upstream.log) - length (entries_of s.log)))) (streams.Diverged at)) s upstream
-told-by-test true at s upstream most = told-count s upstream most
-told-by-test false at s upstream most = refl
-
-told-by : (writes : Bool) (s upstream : ServerFacts) (most : ℕ) → streamed_by (stream_by writes (entries_of s.log) (entries_of upstream.log) most) s upstream most ≡ told (stream_by writes (entries_of s.log) (entries_of upstream.log) most) s upstream
-told-by false s upstream most = refl
-told-by true s upstream most = told-by-test (is_prefix (entries_of s.log) (entries_of upstream.log)) (lsn_at (fork_of (entries_of s.log) (entries_of upstream.log))) s upstream most
-
--- what streaming makes of a standby is what its answer tells
-pub streamed-told : (s upstream : ServerFacts) (most : ℕ) → streamed s upstream most ≡ told (stream_of s upstream most) s upstream
-streamed-told s upstream most = told-by (writes upstream.state) s upstream most
-
-same-some : {X : Type 0} (x y : X) → Some x ≡ Some y → x ≡ y
-same-some x y e = cc
-
 no-some : {X : Type 0} (x : X) → None ≡ Some x → ⊥
 no-some x e = cc
 
 only-some : {X : Type 0} (b : Bool) (x y : X) → cond b None (Some x) ≡ Some y → x ≡ y
 only-some true x y e = absurd (no-some y e)
-only-some false x y e = same-some x y e
+only-some false x y e = same_Some x y e
 
 only-none : {X : Type 0} (b : Bool) (x : X) → cond b None (Some x) ≡ None → b ≡ true
 only-none true x e = refl
@@ -62,18 +49,7 @@ news-answer s upstream most news e = answer-by (stream_of s upstream most) news 
 
 -- and they tell what streaming makes of the standby
 pub news-told : (s upstream : ServerFacts) (most : ℕ) (news : Streamed) → news_of s upstream most ≡ Some news → streamed s upstream most ≡ told news s upstream
-news-told s upstream most news e = streamed-told s upstream most ∙ ap (λ answer. told answer s upstream) (news-answer s upstream most news e)
-
-and-first : (a b : Bool) → (a && b) ≡ true → a ≡ true
-and-first true b h = refl
-and-first false b h = h
-
-and-second : (a b : Bool) → (a && b) ≡ true → b ≡ true
-and-second true b h = h
-and-second false b h = absurd (clash h)
-  where
-    clash : false ≡ true → ⊥
-    clash h = cc
+news-told s upstream most news e = ap (λ answer. told answer s upstream) (news-answer s upstream most news e)
 
 is-zero : (n : ℕ) → (n == 0) ≡ true → n ≡ 0
 is-zero n e = grind (arith, nat_tests)
@@ -82,19 +58,16 @@ same-number : (m n : ℕ) → (m == n) ≡ true → m ≡ n
 same-number m n e = grind (arith, nat_tests)
 
 pub current-timeline : (s upstream : ServerFacts) → is_current s upstream ≡ true → s.timeline ≡ upstream.timeline
-current-timeline s upstream e = same-number s.timeline upstream.timeline (and-first _ _ e)
+current-timeline s upstream e = same-number s.timeline upstream.timeline (and_parts _ _ e).0
 
 pub current-history : (s upstream : ServerFacts) → is_current s upstream ≡ true → s.history ≡ upstream.history
-current-history s upstream e = same-points-to s.history upstream.history (and-second _ _ e)
+current-history s upstream e = same-points-to s.history upstream.history (and_parts _ _ e).1
 
 pub is_current-from : (s upstream : ServerFacts) → s.timeline ≡ upstream.timeline → s.history ≡ upstream.history → is_current s upstream ≡ true
-is_current-from s upstream timeline history = both (s.timeline == upstream.timeline) (same_points s.history upstream.history) (number s.timeline upstream.timeline timeline) (same-points-from s.history upstream.history history)
+is_current-from s upstream timeline history = and_from (s.timeline == upstream.timeline) (same_points s.history upstream.history) (number s.timeline upstream.timeline timeline) (same-points-from s.history upstream.history history)
   where
     number : (m n : ℕ) → m ≡ n → (m == n) ≡ true
     number m n e = grind (arith, nat_tests)
-
-    both : (a b : Bool) → a ≡ true → b ≡ true → (a && b) ≡ true
-    both a b p q = rw (p, q) refl
 
 -- a standby that has the timeline and the history takes only the log
 pub taken-current : (s upstream : ServerFacts) (log : Option (List Entry)) → is_current s upstream ≡ true → record s { log = log } ≡ record s { log = log; timeline = upstream.timeline; history = upstream.history }
@@ -114,17 +87,10 @@ pub received-nothing : (s upstream : ServerFacts) → IsSome s.log → is_curren
 received-nothing s upstream there e =
     sym (taken-current s upstream (Some (entries_of s.log ++ [])) e) ∙ ap (λ log. record s { log = log }) (same-log s.log there)
 
--- a standby that has the timeline and the history, after it received
-pub after-current : (s upstream : ServerFacts) (mine from : List Entry) (count most : ℕ) (log : Option (List Entry)) → is_current s upstream ≡ true → IsSome s.log → mine ≡ entries_of s.log → from ≡ entries_of upstream.log → count ≡ min most (length from - length mine) → log ≡ Some (received mine from most) → record s { log = log } ≡ after_news (cond (count == 0) None (Some (streams.Received count))) s upstream
-after-current s upstream mine from count most log current there p q counted logged =
-    ap (λ (t : Option (List Entry)). record s { log = t }) taken ∙ taken-current s upstream _ current ∙ by-test (count == 0) refl
-  where
-    taken : log ≡ Some (received (entries_of s.log) (entries_of upstream.log) count)
-    taken = logged ∙ ap (λ t. Some t) (received-count mine from most ∙ ap (received mine from) (sym counted) ∙ ap (λ t. received t from count) p ∙ ap (λ t. received (entries_of s.log) t count) q)
-
-    by-test : (b : Bool) → (count == 0) ≡ b → received_from count s upstream ≡ after_news (cond b None (Some (streams.Received count))) s upstream
-    by-test true e = ap (λ n. received_from n s upstream) (is-zero count e) ∙ received-nothing s upstream there current
-    by-test false e = refl
+-- a log after it received, by how many entries there were
+pub received-taken : (s upstream : ServerFacts) (mine from : List Entry) (count most : ℕ) (log : Option (List Entry)) → mine ≡ entries_of s.log → from ≡ entries_of upstream.log → count ≡ min most (length from - length mine) → log ≡ Some (received mine from most) → log ≡ Some (received (entries_of s.log) (entries_of upstream.log) count)
+received-taken s upstream mine from count most log p q counted logged =
+    logged ∙ ap (λ t. Some t) (received-count mine from most ∙ ap (received mine from) (sym counted) ∙ ap (λ t. received t from count) p ∙ ap (λ t. received (entries_of s.log) t count) q)
 
 received-prefix : (mine from : List Entry) (most : ℕ) → IsPrefixOf mine from → IsPrefixOf (received mine from most) from
 received-prefix mine from most p =
@@ -135,26 +101,82 @@ received-prefix mine from most p =
       whole = is ∙ ap (λ t. mine ++ t) (sym (take-append-drop most rest)) ∙ sym (append_assoc mine (take most rest) (drop most rest));
     }
 
--- a standby that received is behind its upstream
-pub behind-received : (s upstream : ServerFacts) (mine from : List Entry) (most : ℕ) (log : Option (List Entry)) (timeline : ℕ) (history : List HistoryPoint) (number : Option ℕ) → mine ≡ entries_of s.log → from ≡ entries_of upstream.log → log ≡ Some (received mine from most) → IsPrefixOf (entries_of s.log) (entries_of upstream.log) → timeline ≡ upstream.timeline → history ≡ upstream.history → IsBehind (record { log = entries_of log; timeline = timeline; history = history; upstream = number }) (standing_of upstream)
-behind-received s upstream mine from most log timeline history number p q logged prefix timelines histories =
-    let is : entries_of log ≡ received (entries_of s.log) (entries_of upstream.log) most = ap entries_of logged ∙ ap (λ t. received t from most) p ∙ ap (λ t. received (entries_of s.log) t most) q in
-    record {
-      log = subst (λ (t : List Entry). IsPrefixOf t (entries_of upstream.log)) (sym is) (received-prefix (entries_of s.log) (entries_of upstream.log) most prefix);
-      timeline = timelines;
-      history = histories;
-    }
-
 told-none : (answer : Streamed) (s upstream : ServerFacts) → IsSome s.log → news_by answer s upstream ≡ None → told answer s upstream ≡ s
 told-none streams.NotConnected s upstream there e = refl
 told-none (streams.Diverged at) s upstream there e = ap (λ diverged. record s { diverged = diverged }) (sym (only-none s.diverged (streams.Diverged at) e))
 told-none (streams.Received count) s upstream there e =
     let nothing : ((count == 0) && is_current s upstream) ≡ true = only-none _ (streams.Received count) e in
-    ap (λ n. received_from n s upstream) (is-zero count (and-first _ _ nothing)) ∙ received-nothing s upstream there (and-second _ _ nothing)
+    let parts = and_parts _ _ nothing in
+    ap (λ n. received_from n s upstream) (is-zero count parts.0) ∙ received-nothing s upstream there parts.1
 
 -- where there are no news, streaming changes nothing
 pub no-news : (s upstream : ServerFacts) (most : ℕ) → IsSome s.log → news_of s upstream most ≡ None → streamed s upstream most ≡ s
-no-news s upstream most there e = streamed-told s upstream most ∙ told-none (stream_of s upstream most) s upstream there e
+no-news s upstream most there e = told-none (stream_of s upstream most) s upstream there e
+
+-- an answer makes of a standby what its news make of it
+told-news : (answer : Streamed) (s upstream : ServerFacts) (news : Option Streamed) → IsSome s.log → news_by answer s upstream ≡ news → told answer s upstream ≡ after_news news s upstream
+told-news answer s upstream None there e = told-none answer s upstream there e
+told-news answer s upstream (Some news) there e = ap (λ t. told t s upstream) (answer-by answer news s upstream e)
+
+-- ---- what a standby met
+-- what it answers once it has changed
+pub answer-told : (met : Met) (s upstream : ServerFacts) → answer_of met (told (answer_of met s upstream) s upstream) upstream ≡ answer_of met s upstream
+answer-told mets.Nothing s upstream = refl
+answer-told mets.Parted s upstream = refl
+answer-told (mets.Received count) s upstream = refl
+
+standing-met : (met : Met) (s upstream : ServerFacts) → has_received met ≡ false → standing_of (told (answer_of met s upstream) s upstream) ≡ standing_of s
+standing-met mets.Nothing s upstream e = refl
+standing-met mets.Parted s upstream e = refl
+standing-met (mets.Received count) s upstream e = absurd (clash e)
+  where
+    clash : true ≡ false → ⊥
+    clash e = cc
+
+-- logs of which the answer says that they parted, or that entries came
+parted-by : (writing : Bool) (mine theirs : List Entry) (most : ℕ) (at : Lsn) → streams.Diverged at ≡ stream_by writing mine theirs most → writing ≡ true
+parted-by true mine theirs most at e = refl
+parted-by false mine theirs most at e = cc
+
+pub parted-writes : (met : Met) (s upstream : ServerFacts) (most : ℕ) → answer_of met s upstream ≡ stream_of s upstream most → met ≡ mets.Parted → IsTrue (writes upstream.state)
+parted-writes met s upstream most is e =
+    parted-by (writes upstream.state) (entries_of s.log) (entries_of upstream.log) most (lsn_at (fork_of (entries_of s.log) (entries_of upstream.log)))
+    (ap (λ m. answer_of m s upstream) (sym e) ∙ is)
+
+prefix-by : (prefix : Bool) (count received : ℕ) (at : Lsn) → streams.Received count ≡ cond prefix (streams.Received received) (streams.Diverged at) → prefix ≡ true
+prefix-by true count received at e = refl
+prefix-by false count received at e = cc
+
+front-by : (writing : Bool) (mine theirs : List Entry) (most count : ℕ) → streams.Received count ≡ stream_by writing mine theirs most → is_prefix mine theirs ≡ true
+front-by false mine theirs most count e = cc
+front-by true mine theirs most count e = prefix-by (is_prefix mine theirs) count _ _ e
+
+behind-met : (met : Met) (s upstream : ServerFacts) (most : ℕ) → answer_of met s upstream ≡ stream_of s upstream most → has_received met ≡ true → IsBehind (standing_of (told (answer_of met s upstream) s upstream)) (standing_of upstream)
+behind-met mets.Nothing s upstream most is e = absurd (clash e)
+  where
+    clash : false ≡ true → ⊥
+    clash e = cc
+behind-met mets.Parted s upstream most is e = absurd (clash e)
+  where
+    clash : false ≡ true → ⊥
+    clash e = cc
+behind-met (mets.Received count) s upstream most is e = record {
+  log = received-prefix (entries_of s.log) (entries_of upstream.log) count (is_prefix-to _ _ (front-by (writes upstream.state) (entries_of s.log) (entries_of upstream.log) most count is));
+  timeline = refl;
+  history = refl;
+}
+
+-- what it heard
+pub heard : (met : Met) (s upstream after : ServerFacts) (most : ℕ) (news : Option Streamed) (diverged current received : Bool) → IsSome s.log → answer_of met s upstream ≡ stream_of s upstream most → after ≡ told (answer_of met s upstream) s upstream → diverged ≡ s.diverged → current ≡ is_current s upstream → news ≡ news_where (answer_of met after upstream) diverged current → received ≡ has_received met → Hears s upstream most after news received
+heard met s upstream after most news diverged current received there is changed known had told_is got =
+    let answer : answer_of met after upstream ≡ answer_of met s upstream = ap (λ (t : ServerFacts). answer_of met t upstream) changed ∙ answer-told met s upstream in
+    let by : news ≡ news_by (answer_of met s upstream) s upstream = told_is ∙ ap (λ t. news_where t diverged current) answer ∙ ap (λ t. news_where (answer_of met s upstream) t current) known ∙ ap (news_where (answer_of met s upstream) s.diverged) had in
+    record {
+      news_are = by ∙ ap (λ t. news_by t s upstream) is;
+      after_is = changed ∙ told-news (answer_of met s upstream) s upstream news there (sym by);
+      behind = λ e. subst (λ (t : ServerFacts). IsBehind (standing_of t) (standing_of upstream)) (sym changed) (behind-met met s upstream most is (sym got ∙ e));
+      standing = λ e. ap standing_of changed ∙ standing-met met s upstream (sym got ∙ e);
+    }
 
 -- the servers after news of one at another
 pub streamed_at-told : (servers : List ServerFacts) (place from most : ℕ) (upstream : ServerFacts) (news : Streamed) → slice_get servers from ≡ Some upstream → news_at servers place from most ≡ Some news → streamed_at servers place from most ≡ with_server servers place (λ s. told news s upstream)

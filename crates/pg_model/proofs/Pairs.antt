@@ -2,11 +2,10 @@
 use Rattle.std.proofs.Common.{◌≡◌, ℕ, ◌-◌, Bool, List, [], ◌∷◌, ◌++◌, length, zero, suc, Option, Some, None, refl, sym, ap, subst, ◌∙◌, arith}
 use Rattle.std.specs.Prelude.{slice_get, slice_set}
 use Rattle.std.proofs.lemmas.List.{set-append_left, set-append_right}
-use Rattle.std.proofs.lemmas.Option.{slice_get_within}
+use Rattle.std.proofs.lemmas.Option.{same_Some, slice_get_within}
 use Rattle.pg_model.specs.declared.answers.Streamed.{Streamed}
 use Rattle.pg_model.specs.Facts.{ServerFacts}
 use Rattle.pg_model.specs.InStep.{Hears, HearsAt}
-use Rattle.pg_model.proofs.Clusters.{same-some}
 
 got-append_left : {X : Type 0} (xs ys : List X) (k : ℕ) (x : X) → slice_get xs k ≡ Some x → slice_get (xs ++ ys) k ≡ Some x
 got-append_left [] ys k x e = absurd (none x e)
@@ -29,8 +28,8 @@ got-high xs low high place x whole long found =
 
 hears : (xs ys : List ServerFacts) (place from most : ℕ) (s upstream s' : ServerFacts) (news : Option Streamed) (received : Bool) → slice_get xs place ≡ Some s → slice_get xs from ≡ Some upstream → ys ≡ slice_set xs place s' → Hears s upstream most s' news received → HearsAt xs ys place from most news received
 hears xs ys place from most s upstream s' news received at_place at_from is heard = λ t u found found'.
-    let first : s ≡ t = same-some s t (sym at_place ∙ found) in
-    let second : upstream ≡ u = same-some upstream u (sym at_from ∙ found') in
+    let first : s ≡ t = same_Some s t (sym at_place ∙ found) in
+    let second : upstream ≡ u = same_Some upstream u (sym at_from ∙ found') in
     (s', is, subst (λ (a : ServerFacts). Hears a u most s' news received) first (subst (λ (b : ServerFacts). Hears s b most s' news received) second heard))
 
 -- the standby is in the first part, and its upstream begins the second

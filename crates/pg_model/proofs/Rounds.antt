@@ -1,15 +1,15 @@
 -- Loops over the servers of a cluster.
 use Rattle.std.proofs.Common.{◌≡◌, ℕ, ◌+◌, ◌<◌, ◌==◌, ◌&&◌, ◌||◌, not, Bool, true, false, List, [], ◌∷◌, ◌++◌, length, map, replicate, zero, suc, get_or, set, take, drop, Some, ◌⊎◌, inl, inr, refl, sym, ap, ◌∙◌, arith, append_assoc, append-nil, length-take-le, length-set}
 use Rattle.std.specs.Prelude.{slice_get, slice_set}
-use Rattle.std.proofs.lemmas.Bool.{cases_eq}
+use Rattle.std.proofs.lemmas.Bool.{cases_eq, not-true, and_parts, or_parts}
 use Rattle.std.proofs.lemmas.Bool.Decides.{nat_tests}
 use Rattle.std.proofs.lemmas.List.{length-map, drop_more, map_more, get_or_at, set_at, take_all, drop_all}
-use Rattle.std.proofs.lemmas.Option.{slice_get_within}
+use Rattle.std.proofs.lemmas.Option.{same_Some, slice_get_within}
 use Rattle.pat_base.specs.declared.ticks.Ticks.{Ticks}
 use Rattle.pg_model.specs.Facts.{ServerFacts, fresh}
 use Rattle.pg_model.specs.Servers.{seen, quietly_ticked}
 use Rattle.pg_model.specs.InStep.{Standing, standing_of, is_place, Forgets}
-use Rattle.pg_model.proofs.Clusters.{got-set_same, got-set_other, same-some, and-first, and-second}
+use Rattle.pg_model.proofs.Clusters.{got-set_same, got-set_other}
 use Rattle.pg_model.proofs.Sights.{seen-quietly_ticked, standing-quietly_ticked}
 
 -- one more of them is changed
@@ -59,21 +59,6 @@ forgets-start marks servers place = record {
   followers = λ k s h _ _. absurd (omega arith);
 }
 
-or-first : (a b : Bool) → (a || b) ≡ false → a ≡ false
-or-first true b h = h
-or-first false b h = refl
-
-or-second : (a b : Bool) → (a || b) ≡ false → b ≡ false
-or-second true b h = absurd (clash h)
-  where
-    clash : true ≡ false → ⊥
-    clash h = cc
-or-second false b h = h
-
-not-true : (b : Bool) → not b ≡ true → b ≡ false
-not-true true h = sym h
-not-true false h = refl
-
 not-own : (place : ℕ) → (place == place) ≡ false → ⊥
 not-own place h = grind (arith, nat_tests)
 
@@ -89,28 +74,28 @@ forgets-more old new servers place end b concerned s below mark there is = recor
     set_here = got-set_same new end (b && not concerned) (slice_get_within new end b mark)
 
     marked : slice_get (slice_set new end (b && not concerned)) end ≡ Some true → (b && not concerned) ≡ true
-    marked h = same-some (b && not concerned) true (sym set_here ∙ h)
+    marked h = same_Some (b && not concerned) true (sym set_here ∙ h)
 
     apart : slice_get (slice_set new end (b && not concerned)) end ≡ Some true → ((end == place) || is_place place s.upstream) ≡ false
-    apart h = sym is ∙ not-true concerned (and-second b (not concerned) (marked h))
+    apart h = sym is ∙ not-true concerned (and_parts b (not concerned) (marked h)).1
 
     kept : (k : ℕ) → slice_get (slice_set new end (b && not concerned)) k ≡ Some true → (k ≡ end) ⊎ (k ≡ end → ⊥) → slice_get old k ≡ Some true
     kept k h (inl e) =
         let here : slice_get (slice_set new end (b && not concerned)) end ≡ Some true = ap (slice_get (slice_set new end (b && not concerned))) (sym e) ∙ h in
-        below.kept k (ap (slice_get new) e ∙ mark ∙ ap (λ t. Some t) (and-first b (not concerned) (marked here)))
+        below.kept k (ap (slice_get new) e ∙ mark ∙ ap (λ t. Some t) (and_parts b (not concerned) (marked here)).0)
     kept k h (inr ne) = below.kept k (sym (got-set_other new end k (b && not concerned) ne) ∙ h)
 
     own : place < end + 1 → slice_get (slice_set new end (b && not concerned)) place ≡ Some true → (place ≡ end) ⊎ (place ≡ end → ⊥) → ⊥
     own lt h (inl e) =
         let here : slice_get (slice_set new end (b && not concerned)) end ≡ Some true = ap (slice_get (slice_set new end (b && not concerned))) (sym e) ∙ h in
-        not-own place (ap (λ t. t == place) e ∙ or-first (end == place) (is_place place s.upstream) (apart here))
+        not-own place (ap (λ t. t == place) e ∙ (or_parts (end == place) (is_place place s.upstream) (apart here)).0)
     own lt h (inr ne) = below.own (omega arith) (sym (got-set_other new end place (b && not concerned) ne) ∙ h)
 
     followers : (k : ℕ) (t : Standing) → k < end + 1 → slice_get (slice_set new end (b && not concerned)) k ≡ Some true → slice_get servers k ≡ Some t → (k ≡ end) ⊎ (k ≡ end → ⊥) → is_place place t.upstream ≡ false
     followers k t lt h at (inl e) =
         let here : slice_get (slice_set new end (b && not concerned)) end ≡ Some true = ap (slice_get (slice_set new end (b && not concerned))) (sym e) ∙ h in
-        let same : t ≡ s = same-some t s (sym at ∙ ap (slice_get servers) e ∙ there) in
-        ap (λ (u : Standing). is_place place u.upstream) same ∙ or-second (end == place) (is_place place s.upstream) (apart here)
+        let same : t ≡ s = same_Some t s (sym at ∙ ap (slice_get servers) e ∙ there) in
+        ap (λ (u : Standing). is_place place u.upstream) same ∙ (or_parts (end == place) (is_place place s.upstream) (apart here)).1
     followers k t lt h at (inr ne) = below.followers k t (omega arith) (sym (got-set_other new end k (b && not concerned) ne) ∙ h) at
 
 pub forgets-all : (old new : List Bool) (servers : List Standing) (place end : ℕ) → ForgetsBelow old new servers place end → end ≡ length old → Forgets old new servers place

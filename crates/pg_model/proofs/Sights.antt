@@ -47,22 +47,14 @@ standing-started true s = refl
 standing-started false s = refl
 
 seen-completed : (now : Ticks) (state : State) (s : ServerFacts) → seen (completed now state s) ≡ completed now state (seen s)
-seen-completed now states.Creating s = refl
-seen-completed now states.Stopped s = refl
 seen-completed now (states.Starting as_primary at) s = seen-cond (nat_le at.0 now.0) (started as_primary s) s ∙ ap (λ (t : ServerFacts). cond (nat_le at.0 now.0) t (seen s)) (seen-started as_primary s)
-seen-completed now states.Replica s = refl
-seen-completed now states.Primary s = refl
 seen-completed now (states.Stopping was_primary at) s = seen-cond (nat_le at.0 now.0) (stopped s) s
-seen-completed now states.Crashed s = refl
+seen-completed now _ s = refl
 
 standing-completed : (now : Ticks) (state : State) (s : ServerFacts) → standing_of (completed now state s) ≡ standing_of s
-standing-completed now states.Creating s = refl
-standing-completed now states.Stopped s = refl
 standing-completed now (states.Starting as_primary at) s = standing-cond (nat_le at.0 now.0) (started as_primary s) s _ (standing-started as_primary s) refl
-standing-completed now states.Replica s = refl
-standing-completed now states.Primary s = refl
 standing-completed now (states.Stopping was_primary at) s = standing-cond (nat_le at.0 now.0) (stopped s) s _ refl refl
-standing-completed now states.Crashed s = refl
+standing-completed now _ s = refl
 
 pub seen-ticked : (now : Ticks) (s : ServerFacts) → seen (ticked now s) ≡ ticked now (seen s)
 seen-ticked now s = seen-completed now s.state s
@@ -92,7 +84,7 @@ seen-quietly_ticked now s = seen-cond (live s.state) s (ticked now s) ∙ ap (co
 pub standing-quietly_ticked : (now : Ticks) (s : ServerFacts) → standing_of (quietly_ticked now s) ≡ standing_of s
 standing-quietly_ticked now s = standing-cond (live s.state) s (ticked now s) _ refl (standing-completed now s.state s)
 
-same-behind : (s : Standing) → IsBehind s s
+pub same-behind : (s : Standing) → IsBehind s s
 same-behind s = record { log = record { rest = []; whole = sym (append-nil s.log) }; timeline = refl; history = refl }
 
 -- a log that grew by an entry

@@ -1,8 +1,9 @@
 -- A standby of a cluster that receives from another of its servers.
 use Rattle.std.proofs.Common.{◌≡◌, ℕ, ◌&&◌, Bool, true, false, not, List, [], length, map, take, drop, Option, Some, None, refl, sym, ap, subst, ◌∙◌, append-nil}
 use Rattle.std.specs.Prelude.{slice_get, slice_set}
+use Rattle.std.proofs.lemmas.Bool.{and_parts}
 use Rattle.std.proofs.lemmas.List.{set-get_or}
-use Rattle.std.proofs.lemmas.Option.{slice_get_within, get_or_from_slice_get}
+use Rattle.std.proofs.lemmas.Option.{same_Some, slice_get_within, get_or_from_slice_get}
 use Rattle.std.proofs.Math.Seq.{map-set_same}
 use Rattle.pg_model.specs.declared.answers.Streamed.{Streamed}
 use Rattle.pg_model.specs.declared.answers.Streamed.TheVariants as streams
@@ -10,15 +11,16 @@ use Rattle.pg_model.specs.Facts.{ServerFacts, entries_of}
 use Rattle.pg_model.specs.Replication.{stream_of, news_by, told, after_news}
 use Rattle.pg_model.specs.Servers.{seen, news_between, news_at, told_from, after_news_at, streamed_at}
 use Rattle.pg_model.specs.InStep.{Standing, standing_of, number_of, is_place, IsBehind, IsInStep, MarksHold, Renews, Hears, HearsAt, AreInStep}
-use Rattle.pg_model.proofs.Clusters.{got-set_same, got-set_other, same-some, and-first, and-second, seen-at, changed, kept, standing-at, moved-at, marked, forgotten-at, is_place-number}
+use Rattle.pg_model.proofs.Sights.{same-behind}
+use Rattle.pg_model.proofs.Clusters.{got-set_same, got-set_other, seen-at, changed, kept, standing-at, moved-at, marked, forgotten-at, is_place-number}
 
 -- a marked standby that follows a server is behind it
 pub in-step-pair : (marks : List Bool) (xs : List ServerFacts) (place from : ℕ) (s : ServerFacts) (b is_upstream : Bool) → MarksHold marks (map standing_of xs) → slice_get xs place ≡ Some s → slice_get marks place ≡ Some b → is_upstream ≡ is_place from (number_of s.upstream) → (b && is_upstream) ≡ true → AreInStep xs place from
 in-step-pair marks xs place from s b is_upstream hold found mark is e = λ t u found_t found_u.
-    let old : IsInStep (map standing_of xs) (standing_of s) = hold.in_step place (standing_of s) (mark ∙ ap (λ m. Some m) (and-first b is_upstream e)) (standing-at xs place s found) in
-    let number : old.number ≡ from = same-some old.number from (sym old.follows ∙ is_place-number from (number_of s.upstream) (sym is ∙ and-second b is_upstream e)) in
-    let leader : old.leader ≡ standing_of u = same-some old.leader (standing_of u) (sym old.found ∙ ap (slice_get (map standing_of xs)) number ∙ standing-at xs from u found_u) in
-    let same : s ≡ t = same-some s t (sym found ∙ found_t) in
+    let old : IsInStep (map standing_of xs) (standing_of s) = hold.in_step place (standing_of s) (mark ∙ ap (λ m. Some m) (and_parts b is_upstream e).0) (standing-at xs place s found) in
+    let number : old.number ≡ from = same_Some old.number from (sym old.follows ∙ is_place-number from (number_of s.upstream) (sym is ∙ (and_parts b is_upstream e).1)) in
+    let leader : old.leader ≡ standing_of u = same_Some old.leader (standing_of u) (sym old.found ∙ ap (slice_get (map standing_of xs)) number ∙ standing-at xs from u found_u) in
+    let same : s ≡ t = same_Some s t (sym found ∙ found_t) in
     subst (λ (a : ServerFacts). IsBehind (standing_of a) (standing_of u)) same (subst (IsBehind (standing_of s)) leader old.behind)
 
 -- news keep whom a standby follows
@@ -30,9 +32,6 @@ upstream-told (streams.Received count) s u = refl
 upstream-after : (news : Option Streamed) (s u : ServerFacts) → (after_news news s u).upstream ≡ s.upstream
 upstream-after None s u = refl
 upstream-after (Some news) s u = upstream-told news s u
-
-same-behind : (s : Standing) → IsBehind s s
-same-behind s = record { log = record { rest = []; whole = sym (append-nil s.log) }; timeline = refl; history = refl }
 
 -- a standby that was behind its upstream is ahead of what it was
 ahead-told : (news : Streamed) (s u : ServerFacts) → IsBehind (standing_of s) (standing_of u) → IsBehind (standing_of s) (standing_of (told news s u))
@@ -59,7 +58,7 @@ renewed marks marks' xs place from most s u s' b is_upstream false known news ho
 renewed marks marks' xs place from most s u s' b is_upstream true true news hold found found' apart mark is heard is_known renews =
     let behind : IsBehind (standing_of s) (standing_of u) = in-step-pair marks xs place from s b is_upstream hold found mark is is_known s u found found' in
     let ahead : IsBehind (standing_of s) (standing_of s') = subst (λ (t : ServerFacts). IsBehind (standing_of s) (standing_of t)) (sym heard.after_is) (ahead-after news s u behind) in
-    let follows : number_of s.upstream ≡ Some from = is_place-number from (number_of s.upstream) (sym is ∙ and-second b is_upstream is_known) in
+    let follows : number_of s.upstream ≡ Some from = is_place-number from (number_of s.upstream) (sym is ∙ (and_parts b is_upstream is_known).1) in
     let own = own-step xs place from s u s' apart found' (ap (λ (t : ServerFacts). t.upstream) heard.after_is ∙ upstream-after news s u) follows (heard.behind refl) in
     let same : slice_set marks place b ≡ marks = ap (slice_set marks place) (sym (get_or_from_slice_get marks place b b mark)) ∙ set-get_or marks place b in
     subst (λ m. MarksHold m (map standing_of (slice_set xs place s'))) (same ∙ sym renews) (moved-at marks xs place s s' b hold found ahead (λ _. own))

@@ -3,8 +3,12 @@ use Rattle.std.specs.Prelude.{◌≡◌, ℕ, ◌==◌, Bool, true, false, List,
 use Rattle.pat_base.specs.declared.server_id.ServerId.{ServerId}
 use Rattle.wal_model.specs.declared.entry.Entry.{Entry}
 use Rattle.wal_model.specs.declared.entry.HistoryPoint.{HistoryPoint}
-use Rattle.wal_model.specs.Log.{IsPrefixOf}
+use Rattle.wal_model.specs.Log.{IsPrefixOf, fork_of}
+use Rattle.pat_base.specs.Lsn.{lsn_at}
 use Rattle.pg_model.specs.declared.answers.Streamed.{Streamed}
+use Rattle.pg_model.specs.declared.answers.Streamed.TheVariants as streams
+use Rattle.pg_model.specs.declared.server.hearing.Met.{Met}
+use Rattle.pg_model.specs.declared.server.hearing.Met.TheVariants as mets
 use Rattle.pg_model.specs.Facts.{ServerFacts, entries_of}
 use Rattle.pg_model.specs.Replication.{news_of, after_news}
 
@@ -57,6 +61,17 @@ pub record Forgets (old new : List Bool) (servers : List Standing) (place : ℕ)
 abbrev pub Renews : Bool → Bool → List Bool → List Bool → List Standing → ℕ → Type 0
 Renews false mark old new servers place = new ≡ old
 Renews true mark old new servers place = (cleared : List Bool) × Forgets old cleared servers place × (new ≡ slice_set cleared place mark)
+
+-- what a standby met at its upstream, as its answer
+abbrev pub answer_of : Met → ServerFacts → ServerFacts → Streamed
+answer_of mets.Nothing s upstream = streams.NotConnected
+answer_of mets.Parted s upstream = streams.Diverged (lsn_at (fork_of (entries_of s.log) (entries_of upstream.log)))
+answer_of (mets.Received count) s upstream = streams.Received count
+
+-- it received from its upstream
+abbrev pub has_received : Met → Bool
+has_received (mets.Received count) = true
+has_received _ = false
 
 -- a standby is this one after it heard of its upstream, with these news; where it is told to have received, it is behind
 -- the upstream, and else it stands as before

@@ -44,19 +44,6 @@ stream_by true mine theirs most = if is_prefix mine theirs then streams.Received
 abbrev pub stream_of : ServerFacts → ServerFacts → ℕ → Streamed
 stream_of s upstream most = stream_by (writes upstream.state) (entries_of s.log) (entries_of upstream.log) most
 
-abbrev pub streamed_by : Streamed → ServerFacts → ServerFacts → ℕ → ServerFacts
-streamed_by streams.NotConnected s upstream most = s
-streamed_by (streams.Diverged at) s upstream most = record s { diverged = true }
-streamed_by (streams.Received count) s upstream most = record s {
-  log = Some (received (entries_of s.log) (entries_of upstream.log) most);
-  timeline = upstream.timeline;
-  history = upstream.history;
-}
-
--- the standby after that
-abbrev pub streamed : ServerFacts → ServerFacts → ℕ → ServerFacts
-streamed s upstream most = streamed_by (stream_of s upstream most) s upstream most
-
 -- the standby has so many more entries of its upstream's log, and its timeline and history
 abbrev pub received_from : ℕ → ServerFacts → ServerFacts → ServerFacts
 received_from count s upstream = record s {
@@ -65,24 +52,34 @@ received_from count s upstream = record s {
   history = upstream.history;
 }
 
+-- the standby after such an answer
+abbrev pub told : Streamed → ServerFacts → ServerFacts → ServerFacts
+told streams.NotConnected s upstream = s
+told (streams.Diverged at) s upstream = record s { diverged = true }
+told (streams.Received count) s upstream = received_from count s upstream
+
+-- the standby after it got what it gets
+abbrev pub streamed : ServerFacts → ServerFacts → ℕ → ServerFacts
+streamed s upstream most = told (stream_of s upstream most) s upstream
+
 -- its timeline and its history are the upstream's
 abbrev pub is_current : ServerFacts → ServerFacts → Bool
 is_current s upstream = (s.timeline == upstream.timeline) && same_points s.history upstream.history
 
+-- what of an answer changes anything: by whether the logs were known to have parted, and whether the standby had the
+-- timeline and the history
+abbrev pub news_where : Streamed → Bool → Bool → Option Streamed
+news_where streams.NotConnected diverged current = None
+news_where (streams.Diverged at) diverged current = if diverged then None else Some (streams.Diverged at)
+news_where (streams.Received count) diverged current = if (count == 0) && current then None else Some (streams.Received count)
+
 abbrev pub news_by : Streamed → ServerFacts → ServerFacts → Option Streamed
-news_by streams.NotConnected s upstream = None
-news_by (streams.Diverged at) s upstream = if s.diverged then None else Some (streams.Diverged at)
-news_by (streams.Received count) s upstream = if (count == 0) && is_current s upstream then None else Some (streams.Received count)
+news_by answer s upstream = news_where answer s.diverged (is_current s upstream)
 
 -- what a standby gets from its upstream, where that changes anything: a divergence that wasn't found before, an entry,
 -- or another timeline or history
 abbrev pub news_of : ServerFacts → ServerFacts → ℕ → Option Streamed
 news_of s upstream most = news_by (stream_of s upstream most) s upstream
-
-abbrev pub told : Streamed → ServerFacts → ServerFacts → ServerFacts
-told streams.NotConnected s upstream = s
-told (streams.Diverged at) s upstream = record s { diverged = true }
-told (streams.Received count) s upstream = received_from count s upstream
 
 -- the standby after such news
 abbrev pub after_news : Option Streamed → ServerFacts → ServerFacts → ServerFacts

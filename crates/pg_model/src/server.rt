@@ -446,23 +446,9 @@ impl Server {
         let State::Replica = self.state else {
             return Err(StreamFault::InState(self.state));
         };
-        if !upstream.state.writes() {
-            return Ok(Streamed::NotConnected);
-        }
-        let from = wal(&upstream.log);
-        if !wal(&self.log).is_prefix(from) {
-            self.diverged = true;
-            return Ok(Streamed::Diverged(wal(&self.log).fork(from)));
-        }
-        let count = receive(
-            &mut self.log,
-            &mut self.history,
-            from,
-            &upstream.history,
-            most,
-        )?;
-        self.timeline = upstream.timeline;
-        Ok(Streamed::Received(count))
+        let current = self.is_current(upstream, false);
+        let met = self.meet(upstream, most, false, current)?;
+        Ok(self.answer(upstream, met))
     }
 
     /// Records the position up to which a member has flushed the log.
@@ -539,35 +525,6 @@ fn append(log: &mut Option<Wal>, entry: Entry) -> Result<Lsn, AllocError>
         Ok(()) => Ok(log.end()),
         Err(_) => Err(AllocError),
     }
-}
-
-/// Appends the next entries of another log that begins with this one, at most so many, and takes the points of its
-/// history. It fails only for want of memory, and then both stay as they were.
-fn receive(
-    log: &mut Option<Wal>,
-    history: &mut History,
-    from: &Wal,
-    points: &History,
-    most: usize,
-) -> Result<usize, AllocError>
-    requires there { IsSome log.old }
-    requires prefix { IsPrefixOf (entries_of log.old) from.now }
-    ensures count { IfOk result (λ count. count ≡ min most (length from.now - length (entries_of log.old))) }
-    ensures log { OnOk result (log.new ≡ Some (received (entries_of log.old) from.now most)) }
-    ensures history { OnOk result (history.new ≡ record history.old { points = points.now.points }) }
-    ensures log_stays { OnErr result (log.new ≡ log.old) }
-    ensures history_stays { OnErr result (history.new ≡ history.old) }
-{
-    let Some(log) = log else {
-        unreachable!();
-    };
-    let had = log.len();
-    let count = log.receive(from, most)?;
-    if let Err(failed) = history.copy_from(points) {
-        log.cut(had);
-        return Err(failed);
-    }
-    Ok(count)
 }
 
 /// The position that a member confirmed.

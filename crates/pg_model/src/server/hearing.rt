@@ -4,14 +4,25 @@ ghost use Rattle.pat_base.specs.Lsn.{lsn_at};
 ghost use Rattle.pat_base.specs.ServerState.{writes};
 ghost use Rattle.wal_model.specs.Log.{IsPrefixOf, is_prefix, fork_of, received};
 ghost use Rattle.pg_model.specs.Facts.{entries_of, is_replica};
-ghost use Rattle.pg_model.specs.InStep.{Hears, IsBehind, standing_of};
-ghost use Rattle.pg_model.specs.Replication.{is_current, news_by, after_news};
-ghost use Rattle.pg_model.specs.declared.answers.Streamed.TheVariants as streams;
+ghost use Rattle.pg_model.specs.InStep.{Hears, IsBehind, standing_of, answer_of, has_received};
+ghost use Rattle.pg_model.specs.Replication.{is_current, stream_of, news_where, told, received_from};
+ghost use Rattle.pg_model.specs.declared.server.hearing.Met.TheVariants as mets;
 
-use super::{receive, wal};
+use super::wal;
 use crate::{Server, Streamed};
 use std::alloc::AllocError;
-use wal_model::Wal;
+use wal_model::{History, Wal};
+
+/// How a standby stands to its upstream once it has looked there.
+#[derive(Clone, Copy, Debug, PartialEq, Eq)]
+pub(crate) enum Met {
+    /// The upstream doesn't accept writes.
+    Nothing,
+    /// The upstream's log doesn't begin with its own.
+    Parted,
+    /// It received so many entries.
+    Received(usize),
+}
 
 /// What a standby heard: its news, and whether it received from its upstream, and so is in step with it.
 #[derive(Clone, Copy, Debug, PartialEq, Eq)]
@@ -21,10 +32,8 @@ pub(crate) struct Heard {
 }
 
 impl Server {
-    /// Receives the next entries from the upstream, at most so many, with its timeline and history, or notes that the
-    /// logs parted, and answers what changed. A standby that is known to be in step isn't compared with its upstream,
-    /// and one that is known to have diverged is compared, but the place where the logs part isn't sought again. It
-    /// fails only for want of memory, and then stays as it was.
+    /// Receives from the upstream as `meet` does, and answers what changed. Where the logs are known to have parted, the
+    /// place isn't sought again. It fails only for want of memory, and then stays as it was.
     pub(crate) fn hear(
         &mut self,
         upstream: &Server,
@@ -36,25 +45,41 @@ impl Server {
         ensures ok { IfOk result (λ heard. Hears self.old upstream.now most self.new heard.news heard.received) }
         ensures err { OnErr result (self.new ≡ self.old) }
     {
+        let diverged = self.diverged;
+        let current = self.is_current(upstream, in_step);
+        let met = self.meet(upstream, most, in_step, current)?;
+        Ok(Heard {
+            news: self.news(upstream, met, diverged, current),
+            received: has_received(met),
+        })
+    }
+
+    /// The one way in which a standby receives: the next entries of the upstream's log, at most so many, with its timeline
+    /// and history unless it has them; or it notes that the logs parted. One that is known to be in step isn't compared
+    /// with its upstream. It fails only for want of memory, and then stays as it was.
+    pub(super) fn meet(
+        &mut self,
+        upstream: &Server,
+        most: usize,
+        in_step: bool,
+        current: bool,
+    ) -> Result<Met, AllocError>
+        requires replica { IsTrue (is_replica self.old.state) }
+        requires in_step { IsTrue in_step → IsBehind (standing_of self.old) (standing_of upstream.now) }
+        requires current { current ≡ is_current self.old upstream.now }
+        ensures met { IfOk result (λ met. answer_of met self.old upstream.now ≡ stream_of self.old upstream.now most) }
+        ensures ok { IfOk result (λ met. self.new ≡ told (answer_of met self.old upstream.now) self.old upstream.now) }
+        ensures err { OnErr result (self.new ≡ self.old) }
+    {
         if !upstream.state.writes() {
-            return Ok(Heard {
-                news: None,
-                received: false,
-            });
+            return Ok(Met::Nothing);
         }
         if !self.is_front_of(upstream, in_step) {
-            let news = self.note_divergence(upstream);
-            return Ok(Heard {
-                news,
-                received: false,
-            });
+            self.diverged = true;
+            return Ok(Met::Parted);
         }
-        let current = self.is_current(upstream, in_step);
-        let news = self.hear_entries(upstream, most, current)?;
-        Ok(Heard {
-            news,
-            received: true,
-        })
+        let count = self.receive(upstream, most, current)?;
+        Ok(Met::Received(count))
     }
 
     /// Whether the upstream's log begins with its own. Nothing is compared where it is known to be in step.
@@ -68,7 +93,7 @@ impl Server {
     }
 
     /// Whether it has the upstream's timeline and history. Nothing is compared where it is known to be in step.
-    fn is_current(&self, upstream: &Server, in_step: bool) -> bool
+    pub(super) fn is_current(&self, upstream: &Server, in_step: bool) -> bool
         requires { IsTrue in_step → IsBehind (standing_of self.now) (standing_of upstream.now) }
         ensures { result ≡ is_current self.now upstream.now }
     {
@@ -76,42 +101,25 @@ impl Server {
             || (self.timeline == upstream.timeline && self.history.same_points(&upstream.history))
     }
 
-    /// Notes that the logs parted, and answers where, unless that was known.
-    fn note_divergence(&mut self, upstream: &Server) -> Option<Streamed>
-        requires replica { IsTrue (is_replica self.old.state) }
-        requires writing { IsTrue (writes upstream.now.state) }
-        ensures news { result ≡ news_by (streams.Diverged (lsn_at (fork_of (entries_of self.old.log) (entries_of upstream.now.log)))) self.old upstream.now }
-        ensures after { self.new ≡ after_news result self.old upstream.now }
-        ensures standing { standing_of self.new ≡ standing_of self.old }
-    {
-        if self.diverged {
-            return None;
-        }
-        self.diverged = true;
-        Some(Streamed::Diverged(wal(&self.log).fork(wal(&upstream.log))))
-    }
-
-    /// Receives the next entries, at most so many, with the timeline and the history unless it has them, and answers
-    /// what changed. It fails only for want of memory, and then stays as it was.
-    fn hear_entries(
+    /// Appends the next entries, at most so many, takes the timeline and the history unless it has them, and answers how
+    /// many entries there were. It fails only for want of memory, and then stays as it was.
+    fn receive(
         &mut self,
         upstream: &Server,
         most: usize,
         current: bool,
-    ) -> Result<Option<Streamed>, AllocError>
+    ) -> Result<usize, AllocError>
         requires replica { IsTrue (is_replica self.old.state) }
         requires writing { IsTrue (writes upstream.now.state) }
         requires prefix { IsPrefixOf (entries_of self.old.log) (entries_of upstream.now.log) }
         requires current { current ≡ is_current self.old upstream.now }
-        ensures news { IfOk result (λ news. news ≡ news_by (streams.Received (min most (length (entries_of upstream.now.log) - length (entries_of self.old.log)))) self.old upstream.now) }
-        ensures ok { IfOk result (λ news. self.new ≡ after_news news self.old upstream.now) }
-        ensures behind { OnOk result (IsBehind (standing_of self.new) (standing_of upstream.now)) }
+        ensures count { IfOk result (λ count. count ≡ min most (length (entries_of upstream.now.log) - length (entries_of self.old.log))) }
+        ensures ok { IfOk result (λ count. self.new ≡ received_from count self.old upstream.now) }
         ensures err { OnErr result (self.new ≡ self.old) }
     {
         let from = wal(&upstream.log);
         if current {
-            let count = receive_entries(&mut self.log, from, most)?;
-            return Ok(news_unless_empty(count));
+            return receive_entries(&mut self.log, from, most);
         }
         let count = receive(
             &mut self.log,
@@ -121,19 +129,42 @@ impl Server {
             most,
         )?;
         self.timeline = upstream.timeline;
-        Ok(Some(Streamed::Received(count)))
+        Ok(count)
+    }
+
+    /// The answer to what it met: where the logs parted, the place.
+    pub(super) fn answer(&self, upstream: &Server, met: Met) -> Streamed
+        requires replica { IsTrue (is_replica self.now.state) }
+        requires parted { met ≡ mets.Parted → IsTrue (writes upstream.now.state) }
+        ensures { result ≡ answer_of met self.now upstream.now }
+    {
+        match met {
+            Met::Nothing => Streamed::NotConnected,
+            Met::Parted => Streamed::Diverged(wal(&self.log).fork(wal(&upstream.log))),
+            Met::Received(count) => Streamed::Received(count),
+        }
+    }
+
+    /// What of that is new to it.
+    fn news(&self, upstream: &Server, met: Met, diverged: bool, current: bool) -> Option<Streamed>
+        requires replica { IsTrue (is_replica self.now.state) }
+        requires parted { met ≡ mets.Parted → IsTrue (writes upstream.now.state) }
+        ensures { result ≡ news_where (answer_of met self.now upstream.now) diverged current }
+    {
+        match met {
+            Met::Nothing => None,
+            Met::Parted if diverged => None,
+            Met::Received(0) if current => None,
+            _ => Some(self.answer(upstream, met)),
+        }
     }
 }
 
-/// What so many entries are as news.
-fn news_unless_empty(count: usize) -> Option<Streamed>
-    ensures { result ≡ (if count == 0 then None else Some (streams.Received count)) }
+/// Whether it received from its upstream.
+fn has_received(met: Met) -> bool
+    ensures { result ≡ has_received met }
 {
-    if count == 0 {
-        None
-    } else {
-        Some(Streamed::Received(count))
-    }
+    matches!(met, Met::Received(_))
 }
 
 /// Appends the next entries of another log that begins with this one, at most so many. It fails only for want of memory,
@@ -149,4 +180,33 @@ fn receive_entries(log: &mut Option<Wal>, from: &Wal, most: usize) -> Result<usi
         unreachable!();
     };
     log.receive(from, most)
+}
+
+/// Appends the next entries of another log that begins with this one, at most so many, and takes the points of its
+/// history. It fails only for want of memory, and then both stay as they were.
+fn receive(
+    log: &mut Option<Wal>,
+    history: &mut History,
+    from: &Wal,
+    points: &History,
+    most: usize,
+) -> Result<usize, AllocError>
+    requires there { IsSome log.old }
+    requires prefix { IsPrefixOf (entries_of log.old) from.now }
+    ensures count { IfOk result (λ count. count ≡ min most (length from.now - length (entries_of log.old))) }
+    ensures log { OnOk result (log.new ≡ Some (received (entries_of log.old) from.now most)) }
+    ensures history { OnOk result (history.new ≡ record history.old { points = points.now.points }) }
+    ensures log_stays { OnErr result (log.new ≡ log.old) }
+    ensures history_stays { OnErr result (history.new ≡ history.old) }
+{
+    let Some(log) = log else {
+        unreachable!();
+    };
+    let had = log.len();
+    let count = log.receive(from, most)?;
+    if let Err(failed) = history.copy_from(points) {
+        log.cut(had);
+        return Err(failed);
+    }
+    Ok(count)
 }

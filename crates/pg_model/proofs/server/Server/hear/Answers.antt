@@ -1,10 +1,10 @@
-use Rattle.std.proofs.Common.{rules, ◌≡◌, true}
-use Rattle.wal_model.specs.Log.{is_prefix}
-use Rattle.wal_model.proofs.Entries.{is_prefix-to}
-use Rattle.pg_model.specs.Facts.{entries_of}
+use Rattle.std.proofs.Common.{rules, ◌≡◌, IsSome, ap}
+use Rattle.pg_model.specs.Facts.{ServerFacts}
+use Rattle.pg_model.proofs.News.{heard}
 use Rattle.pg_model.proofs.server.Server.hear.Goals as goal
 
-pub hear_entries-requires-clause-prefix : goal.hear_entries-requires-clause-prefix
-hear_entries-requires-clause-prefix c =
-    let e : is_prefix (entries_of c.args.self.now.log) (entries_of c.args.upstream.now.log) ≡ true = search rules in
-    is_prefix-to _ _ e
+pub returns-clause-ok : goal.returns-clause-ok
+returns-clause-ok c =
+    let there : IsSome c.args.self.now.log = search rules in
+    heard c.in_ok-met.met c.args.self.now c.args.upstream.now c.meet.new.self c.args.most c.news.result c.self.inside.diverged c.is_current-current.result c.has_received.result there c.in_ok-met.ensures.met c.in_ok-met.ensures.ok
+    (ap (λ (s : ServerFacts). s.diverged) c.self.view_is) c.is_current-current.ensures c.news.ensures c.has_received.ensures
