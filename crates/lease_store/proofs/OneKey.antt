@@ -62,7 +62,7 @@ find_all_written revision now q es (write ∷ writes) =
 
 -- ---- the leader key
 abbrev pub leader_after : ℕ → ℕ → MemberId → Txn → Option Held → Option Held
-leader_after revision now by (txns.Create info ttl failsafe) found = Some (record { value = values.Leader by; revision = revision; expiry = Some (record { 0 = now + ttl.0 }) })
+leader_after revision now by (txns.Create info ttl failsafe sync) found = Some (record { value = values.Leader by; revision = revision; expiry = Some (record { 0 = now + ttl.0 }) })
 leader_after revision now by (txns.Renew compared info ttl status row failsafe) found = renewed revision (now + ttl.0) found
 leader_after revision now by (txns.Release compared) found = None
 leader_after revision now by _ found = found
@@ -79,7 +79,7 @@ carried-leader revision now found (Some end) (Some row) (Some members) = refl
 
 leader-written : (revision now : ℕ) (by : MemberId) (txn : Txn) (found : Option Held) → found_after_all revision now keys.Leader found (writes_of by txn) ≡ leader_after revision now by txn found
 leader-written revision now by (txns.Touch info ttl) found = refl
-leader-written revision now by (txns.Create info ttl failsafe) found = refl
+leader-written revision now by (txns.Create info ttl failsafe sync) found = refl
 leader-written revision now by (txns.Renew compared info ttl status row failsafe) found = carried-leader revision now (renewed revision (now + ttl.0) found) status row failsafe
 leader-written revision now by (txns.Release compared) found = refl
 leader-written revision now by (txns.Claim compared sync) found = refl
@@ -116,7 +116,7 @@ carried-failsafe revision now found (Some end) (Some row) (Some members) = refl
 
 failsafe-written : (revision now : ℕ) (by : MemberId) (txn : Txn) (found : Option Held) → found_after_all revision now keys.Failsafe found (writes_of by txn) ≡ failsafe_after revision txn found
 failsafe-written revision now by (txns.Touch info ttl) found = refl
-failsafe-written revision now by (txns.Create info ttl failsafe) found = refl
+failsafe-written revision now by (txns.Create info ttl failsafe sync) found = refl
 failsafe-written revision now by (txns.Renew compared info ttl status row failsafe) found = carried-failsafe revision now found status row failsafe
 failsafe-written revision now by (txns.Release compared) found = refl
 failsafe-written revision now by (txns.Claim compared sync) found = refl
@@ -151,7 +151,7 @@ carried-sync revision now found (Some end) (Some row) (Some members) = refl
 
 sync-written : (revision now : ℕ) (by : MemberId) (txn : Txn) (found : Option Held) → found_after_all revision now keys.Sync found (writes_of by txn) ≡ sync_after revision by txn found
 sync-written revision now by (txns.Touch info ttl) found = refl
-sync-written revision now by (txns.Create info ttl failsafe) found = refl
+sync-written revision now by (txns.Create info ttl failsafe sync) found = refl
 sync-written revision now by (txns.Renew compared info ttl status row failsafe) found = carried-sync revision now found status row failsafe
 sync-written revision now by (txns.Release compared) found = refl
 sync-written revision now by (txns.Claim compared sync) found = refl
