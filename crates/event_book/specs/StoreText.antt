@@ -19,7 +19,7 @@ request_line tick name _ = None
 
 -- the line of a granted write of the member of this name, which stands at its grant
 abbrev pub granted_line : ℕ → List ℕ → Txn → List Name → Option (List ℕ)
-granted_line tick name (txns.Create info ttl failsafe) standbys = Some (decimal tick ++ (codes " " ++ (name ++ codes " takes the leader key\n")))
+granted_line tick name (txns.Create info ttl failsafe sync) standbys = Some (decimal tick ++ (codes " " ++ (name ++ codes " takes the leader key\n")))
 granted_line tick name (txns.Release revision) standbys = Some (decimal tick ++ (codes " " ++ (name ++ codes " releases the leader key\n")))
 granted_line tick name (txns.Claim revision sync) standbys = Some (decimal tick ++ (codes " " ++ (name ++ codes " claims the sync key\n")))
 granted_line tick name (txns.SetSync revision sync members) standbys =

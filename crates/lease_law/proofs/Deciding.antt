@@ -1,5 +1,5 @@
 -- The key store's decision and the law's outcome are one.
-use Rattle.std.proofs.Common.{◌≡◌, ◌⊎◌, ℕ, ◌<◌, ◌==◌, nat_lt, Bool, true, false, cond, List, Option, Some, None, IsSome, refl, ◌∙◌, ap, sym, subst, arith, inl, inr}
+use Rattle.std.proofs.Common.{◌≡◌, ◌⊎◌, ℕ, ◌<◌, ◌==◌, ◌&&◌, ◌++◌, nat_lt, Bool, true, false, cond, List, [], ◌∷◌, Option, Some, None, IsSome, refl, ◌∙◌, ap, sym, subst, arith, inl, inr}
 use Rattle.std.proofs.lemmas.Bool.Decides.{nat_tests}
 use Rattle.std.specs.FinMap.{find}
 use Rattle.pat_base.specs.declared.ticks.Ticks.{Ticks}
@@ -17,7 +17,7 @@ use Rattle.lease_store.specs.declared.value.Value.TheVariants as values
 use Rattle.lease_store.specs.Kinds.{IsOfKind}
 use Rattle.lease_store.specs.KeyOrder.{key_cmp}
 use Rattle.lease_store.specs.Keys.{key_in, present}
-use Rattle.lease_store.specs.Decision.{Decision, Grant as Granting, Refusal as Refusing, compares_of, failsafe_compare, found_in, is_as_expected, decided, decision_by, decision_on}
+use Rattle.lease_store.specs.Decision.{Decision, Grant as Granting, Refusal as Refusing, compares_of, compare_if, found_in, is_as_expected, decided, decision_by, decision_on}
 use Rattle.lease_store.proofs.Keeping.{kind_found}
 use Rattle.event_book.specs.Facts.{Facts}
 use Rattle.lease_law.specs.Leases.{LeaderKey, FailsafeKey, Create, Renew, Release, Write}
@@ -85,9 +85,9 @@ failsafe-cases (Some held) kind = inr (set-value held.value held.revision held.e
 abbrev by_leader : Option Held → Expected → Decision → Decision
 by_leader found expected rest = decided (is_as_expected expected (found_in found)) keys.Leader (found_in found) rest
 
-abbrev by_failsafe : Option Held → Option Expected → Decision
-by_failsafe found None = Granting
-by_failsafe found (Some expected) = decided (is_as_expected expected (found_in found)) keys.Failsafe (found_in found) Granting
+abbrev by_failsafe : Option Held → Option Expected → Decision → Decision
+by_failsafe found None rest = rest
+by_failsafe found (Some expected) rest = decided (is_as_expected expected (found_in found)) keys.Failsafe (found_in found) rest
 
 -- a release and a renewal
 release-if : (b : Bool) (clock revision by sent compared : ℕ) (key : LeaderKey) (failsafe : Option FailsafeKey) (found : Expected) → release_if b key failsafe revision ≡ outcome_by (decided b keys.Leader found Granting) clock (Some key) failsafe revision by sent (Release compared)
@@ -117,20 +117,29 @@ as-read-is Absent found (inr f) = subst (λ (o : Option Held). is_as_read (Some 
 as-read-is (Revision r) found (inl e) = subst (λ (o : Option Held). is_as_read (Some (Revision r)) (failsafe_held o) ≡ is_as_expected (Revision r) (found_in o)) e refl
 as-read-is (Revision r) found (inr f) = subst (λ (o : Option Held). is_as_read (Some (Revision r)) (failsafe_held o) ≡ is_as_expected (Revision r) (found_in o)) f.is (turned f.revision r)
 
-create-if : (b : Bool) (clock revision by sent ttl : ℕ) (expected : Option Expected) (failsafe : Option FailsafeKey) (found : Expected) → create_if b clock failsafe revision by sent ttl ≡ outcome_by (decided b keys.Failsafe found Granting) clock None failsafe revision by sent (Create ttl expected)
-create-if true clock revision by sent ttl expected failsafe found = refl
-create-if false clock revision by sent ttl expected failsafe found = refl
+-- where the keys of the lease are as expected, what is compared besides decides
+create-rest : (rest : Decision) (clock revision by sent ttl : ℕ) (expected : Option Expected) (failsafe : Option FailsafeKey) → create_if (is_granted rest) clock failsafe revision by sent ttl ≡ outcome_by rest clock None failsafe revision by sent (Create ttl expected)
+create-rest Granting clock revision by sent ttl expected failsafe = refl
+create-rest (Refusing key found) clock revision by sent ttl expected failsafe = refl
 
-create-absent : (clock revision by sent ttl : ℕ) (expected : Option Expected) (found : Option Held) → (None ≡ found) ⊎ IsSet found → create_if (is_as_read expected (failsafe_held found)) clock (failsafe_held found) revision by sent ttl ≡ outcome_by (by_failsafe found expected) clock None (failsafe_held found) revision by sent (Create ttl expected)
-create-absent clock revision by sent ttl None found cases = refl
-create-absent clock revision by sent ttl (Some expected) found cases =
-    ap (λ (b : Bool). create_if b clock (failsafe_held found) revision by sent ttl) (as-read-is expected found cases)
-    ∙ create-if (is_as_expected expected (found_in found)) clock revision by sent ttl (Some expected) (failsafe_held found) (found_in found)
+create-if : (b : Bool) (rest : Decision) (clock revision by sent ttl : ℕ) (expected : Option Expected) (failsafe : Option FailsafeKey) (found : Expected) → create_if (b && is_granted (decided b keys.Failsafe found rest)) clock failsafe revision by sent ttl ≡ outcome_by (decided b keys.Failsafe found rest) clock None failsafe revision by sent (Create ttl expected)
+create-if true rest clock revision by sent ttl expected failsafe found = create-rest rest clock revision by sent ttl expected failsafe
+create-if false rest clock revision by sent ttl expected failsafe found = refl
 
-create-decided : (clock revision by sent ttl : ℕ) (expected : Option Expected) (found listed : Option Held) → (None ≡ found) ⊎ IsLease found → (None ≡ listed) ⊎ IsSet listed → create_on clock (leader_held found) (failsafe_held listed) revision by sent ttl expected ≡ outcome_by (by_leader found Absent (by_failsafe listed expected)) clock (leader_held found) (failsafe_held listed) revision by sent (Create ttl expected)
-create-decided clock revision by sent ttl expected found listed (inl e) cases = subst (λ (o : Option Held). create_on clock (leader_held o) (failsafe_held listed) revision by sent ttl expected ≡ outcome_by (by_leader o Absent (by_failsafe listed expected)) clock (leader_held o) (failsafe_held listed) revision by sent (Create ttl expected)) e
-    (create-absent clock revision by sent ttl expected listed cases)
-create-decided clock revision by sent ttl expected found listed (inr l) cases = subst (λ (o : Option Held). create_on clock (leader_held o) (failsafe_held listed) revision by sent ttl expected ≡ outcome_by (by_leader o Absent (by_failsafe listed expected)) clock (leader_held o) (failsafe_held listed) revision by sent (Create ttl expected)) l.is refl
+create-absent : (rest : Decision) (clock revision by sent ttl : ℕ) (expected : Option Expected) (found : Option Held) → (None ≡ found) ⊎ IsSet found → create_if (is_as_read expected (failsafe_held found) && is_granted (by_failsafe found expected rest)) clock (failsafe_held found) revision by sent ttl ≡ outcome_by (by_failsafe found expected rest) clock None (failsafe_held found) revision by sent (Create ttl expected)
+create-absent rest clock revision by sent ttl None found cases = create-rest rest clock revision by sent ttl None (failsafe_held found)
+create-absent rest clock revision by sent ttl (Some expected) found cases =
+    ap (λ (b : Bool). create_if (b && is_granted (by_failsafe found (Some expected) rest)) clock (failsafe_held found) revision by sent ttl) (as-read-is expected found cases)
+    ∙ create-if (is_as_expected expected (found_in found)) rest clock revision by sent ttl (Some expected) (failsafe_held found) (found_in found)
+
+abbrev CreateDecided : Decision → ℕ → ℕ → ℕ → ℕ → ℕ → Option Expected → Option Held → Option Held → Type 0
+CreateDecided rest clock revision by sent ttl expected found listed =
+    let decision : Decision = by_leader found Absent (by_failsafe listed expected rest) in
+    create_on (is_granted decision) clock (leader_held found) (failsafe_held listed) revision by sent ttl expected ≡ outcome_by decision clock (leader_held found) (failsafe_held listed) revision by sent (Create ttl expected)
+
+create-decided : (rest : Decision) (clock revision by sent ttl : ℕ) (expected : Option Expected) (found listed : Option Held) → (None ≡ found) ⊎ IsLease found → (None ≡ listed) ⊎ IsSet listed → CreateDecided rest clock revision by sent ttl expected found listed
+create-decided rest clock revision by sent ttl expected found listed (inl e) cases = subst (λ (o : Option Held). CreateDecided rest clock revision by sent ttl expected o listed) e (create-absent rest clock revision by sent ttl expected listed cases)
+create-decided rest clock revision by sent ttl expected found listed (inr l) cases = subst (λ (o : Option Held). CreateDecided rest clock revision by sent ttl expected o listed) l.is refl
 
 -- what the store decides, by what it finds
 abbrev Finds : List (Key × Held) → ℕ → Option Held → Option Held → Type 0
@@ -139,9 +148,9 @@ Finds pairs now found listed = (key_in pairs now keys.Leader ≡ found) × (key_
 leader-decision : (pairs : List (Key × Held)) (now : ℕ) (found : Option Held) (expected : Expected) (rest : Decision) → key_in pairs now keys.Leader ≡ found → decided (is_as_expected expected (found_in (key_in pairs now keys.Leader))) keys.Leader (found_in (key_in pairs now keys.Leader)) rest ≡ by_leader found expected rest
 leader-decision pairs now found expected rest e = ap (λ (o : Option Held). by_leader o expected rest) e
 
-failsafe-decision : (pairs : List (Key × Held)) (now : ℕ) (listed : Option Held) (expected : Option Expected) → key_in pairs now keys.Failsafe ≡ listed → decision_by pairs now (failsafe_compare expected) ≡ by_failsafe listed expected
-failsafe-decision pairs now listed None e = refl
-failsafe-decision pairs now listed (Some expected) e = ap (λ (o : Option Held). by_failsafe o (Some expected)) e
+failsafe-decision : (pairs : List (Key × Held)) (now : ℕ) (listed : Option Held) (expected : Option Expected) (compares : List (Key × Expected)) → key_in pairs now keys.Failsafe ≡ listed → decision_by pairs now (compare_if keys.Failsafe expected ++ compares) ≡ by_failsafe listed expected (decision_by pairs now compares)
+failsafe-decision pairs now listed None compares e = refl
+failsafe-decision pairs now listed (Some expected) compares e = ap (λ (o : Option Held). by_failsafe o (Some expected) (decision_by pairs now compares)) e
 
 write-decided : (d : Decision) (clock revision by sent : ℕ) (leader : Option LeaderKey) (failsafe : Option FailsafeKey) → outcome_of clock leader failsafe revision by sent (is_granted d) Write ≡ outcome_by d clock leader failsafe revision by sent Write
 write-decided Granting clock revision by sent leader failsafe = refl
@@ -149,10 +158,12 @@ write-decided (Refusing key found) clock revision by sent leader failsafe = refl
 
 found-decided : (pairs : List (Key × Held)) (now revision by sent : ℕ) (found listed : Option Held) (txn : Txn) → Finds pairs now found listed → (None ≡ found) ⊎ IsLease found → (None ≡ listed) ⊎ IsSet listed →
     outcome_of now (leader_held found) (failsafe_held listed) revision by sent (is_granted (decision_by pairs now (compares_of txn))) (query_of txn) ≡ outcome_by (decision_by pairs now (compares_of txn)) now (leader_held found) (failsafe_held listed) revision by sent (query_of txn)
-found-decided pairs now revision by sent found listed (txns.Create info ttl failsafe) finds leads sets =
-    create-decided now revision by sent ttl.0 failsafe found listed leads sets
-    ∙ ap (λ (d : Decision). outcome_by d now (leader_held found) (failsafe_held listed) revision by sent (Create ttl.0 failsafe))
-    (sym (leader-decision pairs now found Absent (decision_by pairs now (failsafe_compare failsafe)) finds.0 ∙ ap (λ (d : Decision). by_leader found Absent d) (failsafe-decision pairs now listed failsafe finds.1)))
+found-decided pairs now revision by sent found listed (txns.Create info ttl failsafe sync) finds leads sets =
+    let others : List (Key × Expected) = compare_if keys.Sync sync in
+    let is : decision_by pairs now (compares_of (txns.Create info ttl failsafe sync)) ≡ by_leader found Absent (by_failsafe listed failsafe (decision_by pairs now others)) =
+    leader-decision pairs now found Absent (decision_by pairs now (compare_if keys.Failsafe failsafe ++ others)) finds.0 ∙ ap (λ (d : Decision). by_leader found Absent d) (failsafe-decision pairs now listed failsafe others finds.1) in
+    subst (λ (d : Decision). create_on (is_granted d) now (leader_held found) (failsafe_held listed) revision by sent ttl.0 failsafe ≡ outcome_by d now (leader_held found) (failsafe_held listed) revision by sent (Create ttl.0 failsafe))
+    (sym is) (create-decided (decision_by pairs now others) now revision by sent ttl.0 failsafe found listed leads sets)
 found-decided pairs now revision by sent found listed (txns.Renew compared info ttl status row failsafe) finds leads sets =
     renew-decided now revision by sent compared ttl.0 (members_if failsafe) found (failsafe_held listed) leads
     ∙ ap (λ (d : Decision). outcome_by d now (leader_held found) (failsafe_held listed) revision by sent (Renew compared ttl.0 (members_if failsafe))) (sym (leader-decision pairs now found (Revision compared) Granting finds.0))

@@ -1,5 +1,5 @@
 -- The key store decides on a question.
-use Rattle.std.proofs.Common.{◌≡◌, ◌⊎◌, ℕ, ◌+◌, ◌≤◌, ◌<◌, ◌==◌, Bool, true, false, Option, Some, None, max, refl, ◌∙◌, ap, sym, subst, arith, inl, inr}
+use Rattle.std.proofs.Common.{◌≡◌, ◌⊎◌, ℕ, ◌+◌, ◌≤◌, ◌<◌, ◌==◌, ◌&&◌, Bool, true, false, Option, Some, None, max, refl, ◌∙◌, ap, sym, subst, arith, inl, inr}
 use Rattle.lease_store.specs.declared.txn.Expected.{Expected}
 use Rattle.lease_store.specs.declared.txn.Expected.TheVariants.{Absent, Revision}
 use Rattle.event_book.specs.Functions.{put_at}
@@ -7,7 +7,7 @@ use Rattle.lease_law.specs.Leases.{LeaderKey, LeaderSeen, FailsafeKey, Query, Cr
 use Rattle.lease_law.specs.States.{Machine, State, Acts}
 use Rattle.lease_law.specs.Outcomes.{seen_of, Outcome, is_as_read, create_if, create_on, failsafe_carried, renew_if, renew_on, release_if, release_on, write_if, outcome_of, told_if, answer_to, with_outcome, with_question, delivered}
 use Rattle.lease_law.specs.Inputs.{Waits}
-use Rattle.lease_law.proofs.Tools.{some-is, none-some, both, not-false, eq-from, put-all, dropped, answered-requested, answered-begged, answered-acknowledged, answered-is}
+use Rattle.lease_law.proofs.Tools.{some-is, none-some, both, not-false, and-first, eq-from, put-all, dropped, answered-requested, answered-begged, answered-acknowledged, answered-is}
 use Rattle.lease_law.specs.Carried.{Covers, Spans, HoldsCover, IsGuarded, IsVouched, IsAtRest, IsQueryKept, IsRequestKept, IsAnswerKept, IsPresent, IsFresh, IsToken, IsSound}
 use Rattle.lease_law.proofs.Onward.{KeyAfter, FAfter, f-same, request-after, answer-after, agent-after, present-fewer, spans-fewer}
 
@@ -78,7 +78,7 @@ create-lists s m ttl None f inv a e is = absurd (none-some f (sym (inv.off a) �
 create-lists s m ttl (Some Absent) f inv a e is = absurd (as-absent s.failsafe f e is)
 create-lists s m ttl (Some (Revision r)) f inv a e is = a.lists f is (as-revision s.failsafe f r e is)
 
-create-if-ok : (b : Bool) (s : State) (q : Request) (ttl : ℕ) (expected : Option Expected) → is_as_read expected s.failsafe ≡ b → IsSound s → s.leader ≡ None → IsQueryKept s.declared.failsafe s.leader s.failsafe s.revision s.members q.member (Create ttl expected) → OutcomeOk s q (create_if b s.clock s.failsafe s.revision q.member q.sent ttl)
+create-if-ok : (b : Bool) (s : State) (q : Request) (ttl : ℕ) (expected : Option Expected) → (b ≡ true → is_as_read expected s.failsafe ≡ true) → IsSound s → s.leader ≡ None → IsQueryKept s.declared.failsafe s.leader s.failsafe s.revision s.members q.member (Create ttl expected) → OutcomeOk s q (create_if b s.clock s.failsafe s.revision q.member q.sent ttl)
 create-if-ok false s q ttl expected e inv is a = same-ok s q None s.revision false inv is (omega arith)
 create-if-ok true s q ttl expected e inv is a =
     let new : LeaderKey = record { holder = q.member; revision = s.revision + 1; expiry = s.clock + ttl } in
@@ -95,7 +95,7 @@ create-if-ok true s q ttl expected e inv is a =
         h.f,
         h.is,
         λ k n.
-            let mine : h.f.members q.member ≡ true = create-lists s q.member ttl expected h.f inv a e h.is in
+            let mine : h.f.members q.member ≡ true = create-lists s q.member ttl expected h.f inv a (e refl) h.is in
             inr (ap (λ (x : LeaderKey). h.f.members x.holder) (sym (some-is new k n)) ∙ mine),
       );
       presents = λ m grant p none. absurd (none-some p.held (sym is ∙ p.key_is));
@@ -103,9 +103,9 @@ create-if-ok true s q ttl expected e inv is a =
           (record { revision = refl; risen = omega arith; held = new; key_is = refl; held_revision = refl; holder = refl; lasts = omega arith; sent = refl; moment = refl; listed = refl });
     }
 
-create-ok : (s : State) (q : Request) (key : Option LeaderKey) (ttl : ℕ) (expected : Option Expected) → IsSound s → s.leader ≡ key → IsQueryKept s.declared.failsafe s.leader s.failsafe s.revision s.members q.member (Create ttl expected) → OutcomeOk s q (create_on s.clock key s.failsafe s.revision q.member q.sent ttl expected)
-create-ok s q (Some key) ttl expected inv is a = same-ok s q (Some key) s.revision false inv is (omega arith)
-create-ok s q None ttl expected inv is a = create-if-ok (is_as_read expected s.failsafe) s q ttl expected refl inv is a
+create-ok : (granted : Bool) (s : State) (q : Request) (key : Option LeaderKey) (ttl : ℕ) (expected : Option Expected) → IsSound s → s.leader ≡ key → IsQueryKept s.declared.failsafe s.leader s.failsafe s.revision s.members q.member (Create ttl expected) → OutcomeOk s q (create_on granted s.clock key s.failsafe s.revision q.member q.sent ttl expected)
+create-ok granted s q (Some key) ttl expected inv is a = same-ok s q (Some key) s.revision false inv is (omega arith)
+create-ok granted s q None ttl expected inv is a = create-if-ok (is_as_read expected s.failsafe && granted) s q ttl expected (λ e. and-first (is_as_read expected s.failsafe) granted e) inv is a
 
 carry-after : (s : State) (carried : Option (ℕ → Bool)) → FAfter s.failsafe s.revision (failsafe_carried (s.revision + 1) carried s.failsafe) (s.revision + 1)
 carry-after s None = f-same s.failsafe s.revision (s.revision + 1) (omega arith)
@@ -191,7 +191,7 @@ write-ok true s q inv = same-ok s q s.leader (s.revision + 1) true inv refl (ome
 write-ok false s q inv = same-ok s q s.leader s.revision false inv refl (omega arith)
 
 outcome-ok : (s : State) (i : ℕ) (granted : Bool) (q : Request) (query : Query) → IsSound s → s.flight i ≡ Some (Requested q) → q.query ≡ query → IsQueryKept s.declared.failsafe s.leader s.failsafe s.revision s.members q.member query → OutcomeOk s q (outcome_of s.clock s.leader s.failsafe s.revision q.member q.sent granted query)
-outcome-ok s i granted q (Create ttl expected) inv at is ok = create-ok s q s.leader ttl expected inv refl ok
+outcome-ok s i granted q (Create ttl expected) inv at is ok = create-ok granted s q s.leader ttl expected inv refl ok
 outcome-ok s i granted q (Renew compared ttl carried) inv at is ok = renew-ok s i q s.leader compared ttl carried inv refl at is ok
 outcome-ok s i granted q (Release compared) inv at is ok = release-ok s i q s.leader compared inv refl at is ok.0 ok.1
 outcome-ok s i granted q Write inv at is ok = write-ok granted s q inv

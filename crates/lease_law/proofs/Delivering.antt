@@ -121,7 +121,7 @@ parts-told declared book minds page = λ clock leader failsafe revision flight t
 
 -- ---- a delivery
 granted-grant : (past : Past) (member run sequence sent : ℕ) (txn : Txn) → grant_of (is_lease txn) past (Some (record { member = member; run = run; sequence = sequence; sent = sent; query = query_of txn })) ≡ lease_given past.clock past.revision past.failsafe sent (query_of txn)
-granted-grant past member run sequence sent (txns.Create info ttl failsafe) = refl
+granted-grant past member run sequence sent (txns.Create info ttl failsafe sync) = refl
 granted-grant past member run sequence sent (txns.Renew compared info ttl status row failsafe) = refl
 granted-grant past member run sequence sent _ = refl
 

@@ -42,7 +42,7 @@ abbrev at0 : Kind → Event
 at0 kind = record { tick = record { 0 = 0 }; kind = kind }
 
 abbrev create : MemberInfo → Txn
-create info = txns.Create info (record { 0 = 300 }) None
+create info = txns.Create info (record { 0 = 300 }) None None
 
 abbrev asking : Name → MemberInfo → List Event
 asking name info = at0 (kinds.Message (messages.Sent 1 (record { from = ends.Member (member name); to = ends.Store; run = 1; sequence = 1; body = bodies.Request (create info) }))) ∷ []

@@ -96,7 +96,7 @@ extended-leader now revision ttl None = refl
 extended-leader now revision ttl (Some held) = extended-value now revision ttl held.revision held.value held.expiry
 
 granted-leader : (now revision : ℕ) (by : MemberId) (txn : Txn) (found : Option Held) → leader_granted now revision (leader_held found) by.number (query_of txn) ≡ leader_held (leader_after (revision + 1) now by txn found)
-granted-leader now revision by (txns.Create info ttl failsafe) found = refl
+granted-leader now revision by (txns.Create info ttl failsafe sync) found = refl
 granted-leader now revision by (txns.Renew compared info ttl status row failsafe) found = extended-leader now (revision + 1) ttl.0 found
 granted-leader now revision by _ found = refl
 
@@ -109,7 +109,7 @@ leased-renewed revision until None e = tt
 leased-renewed revision until (Some held) e = later-some until held.expiry e
 
 granted-leased : (now revision : ℕ) (by : MemberId) (txn : Txn) (found : Option Held) → IsLeased found → IsLeased (leader_after revision now by txn found)
-granted-leased now revision by (txns.Create info ttl failsafe) found e = refl
+granted-leased now revision by (txns.Create info ttl failsafe sync) found e = refl
 granted-leased now revision by (txns.Renew compared info ttl status row failsafe) found e = leased-renewed revision (now + ttl.0) found e
 granted-leased now revision by (txns.Release compared) found e = tt
 granted-leased now revision by _ found e = e
@@ -136,7 +136,7 @@ extended-present clock revision ttl None old k e = absurd (none-some k e)
 extended-present clock revision ttl (Some key) old k e = omega (arith, old key refl, ap (λ (x : LeaderKey). x.expiry) (some-is (renewed clock revision ttl key) k e))
 
 granted-present : (clock revision by : ℕ) (leader : Option LeaderKey) (txn : Txn) → IsSpannedTxn txn → ((k : LeaderKey) → leader ≡ Some k → clock < k.expiry) → (k : LeaderKey) → leader_granted clock revision leader by (query_of txn) ≡ Some k → clock < k.expiry
-granted-present clock revision by leader (txns.Create info ttl failsafe) span old k e = omega (arith, span, ap (λ (x : LeaderKey). x.expiry) (some-is (record { holder = by; revision = revision + 1; expiry = clock + ttl.0 }) k e))
+granted-present clock revision by leader (txns.Create info ttl failsafe sync) span old k e = omega (arith, span, ap (λ (x : LeaderKey). x.expiry) (some-is (record { holder = by; revision = revision + 1; expiry = clock + ttl.0 }) k e))
 granted-present clock revision by leader (txns.Renew compared info ttl status row failsafe) span old k e = extended-present clock (revision + 1) ttl.0 leader old k e
 granted-present clock revision by leader (txns.Release compared) span old k e = absurd (none-some k e)
 granted-present clock revision by leader _ span old k e = old k e

@@ -1,5 +1,5 @@
 -- Small tools.
-use Rattle.std.proofs.Common.{◌≡◌, ◌⊎◌, ℕ, ◌≤◌, ◌<◌, ◌==◌, nat_le, Bool, true, false, cond, Option, Some, None, refl, ◌∙◌, sym, subst, arith, inl, inr}
+use Rattle.std.proofs.Common.{◌≡◌, ◌⊎◌, ℕ, ◌≤◌, ◌<◌, ◌==◌, ◌&&◌, nat_le, Bool, true, false, cond, Option, Some, None, refl, ◌∙◌, sym, subst, arith, inl, inr}
 use Rattle.std.proofs.lemmas.Bool.Decides.{nat_tests}
 use Rattle.event_book.specs.Functions.{put_at}
 use Rattle.lease_law.specs.Leases.{Request, Answer, Beg, Acknowledgement, Flying, Requested, Answered, Begged, Acknowledged}
@@ -15,6 +15,10 @@ both e = cc
 
 pub not-false : (b : Bool) → b ≡ false → b ≡ true → ⊥
 not-false b e f = both (sym e ∙ f)
+
+pub and-first : (a b : Bool) → (a && b) ≡ true → a ≡ true
+and-first true b e = refl
+and-first false b e = e
 
 pub eq-from : (m k : ℕ) → (m == k) ≡ true → m ≡ k
 eq-from m k e = grind (arith, nat_tests)

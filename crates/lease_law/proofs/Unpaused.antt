@@ -64,7 +64,7 @@ carried-config revision now found (Some end) (Some row) (Some members) = refl
 
 config-written : (revision now : ℕ) (by : MemberId) (txn : Txn) (found : Option Held) → IsUnpaused txn → IsUnpausedHeld found → IsUnpausedHeld (found_after_all revision now keys.Config found (writes_of by txn))
 config-written revision now by (txns.Touch info ttl) found is old = old
-config-written revision now by (txns.Create info ttl failsafe) found is old = old
+config-written revision now by (txns.Create info ttl failsafe sync) found is old = old
 config-written revision now by (txns.Renew compared info ttl status row failsafe) found is old = subst (λ (o : Option Held). IsUnpausedHeld o) (sym (carried-config revision now found status row failsafe)) old
 config-written revision now by (txns.Release compared) found is old = old
 config-written revision now by (txns.Claim compared sync) found is old = old

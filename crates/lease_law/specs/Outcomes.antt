@@ -1,5 +1,5 @@
 -- What the key store makes of a question.
-use Rattle.std.specs.Prelude.{ℕ, ◌+◌, ◌==◌, Bool, true, false, Option, Some, None, max}
+use Rattle.std.specs.Prelude.{ℕ, ◌+◌, ◌==◌, ◌&&◌, Bool, true, false, Option, Some, None, max}
 use Rattle.lease_store.specs.declared.txn.Expected.{Expected}
 use Rattle.lease_store.specs.declared.txn.Expected.TheVariants.{Absent, Revision}
 use Rattle.event_book.specs.Functions.{put_at}
@@ -39,9 +39,10 @@ create_if true clock failsafe revision by sent ttl = record {
 }
 create_if false clock failsafe revision by sent ttl = refused None failsafe revision
 
-abbrev pub create_on : ℕ → Option LeaderKey → Option FailsafeKey → ℕ → ℕ → ℕ → ℕ → Option Expected → Outcome
-create_on clock None failsafe revision by sent ttl expected = create_if (is_as_read expected failsafe) clock failsafe revision by sent ttl
-create_on clock (Some key) failsafe revision by sent ttl expected = refused (Some key) failsafe revision
+-- a create may compare the sync key too, which is no key of the lease: it may be refused where the keys of the lease are as expected
+abbrev pub create_on : Bool → ℕ → Option LeaderKey → Option FailsafeKey → ℕ → ℕ → ℕ → ℕ → Option Expected → Outcome
+create_on granted clock None failsafe revision by sent ttl expected = create_if (is_as_read expected failsafe && granted) clock failsafe revision by sent ttl
+create_on granted clock (Some key) failsafe revision by sent ttl expected = refused (Some key) failsafe revision
 
 -- the failsafe key after a renewal of this revision that carries these members
 abbrev pub failsafe_carried : ℕ → Option (ℕ → Bool) → Option FailsafeKey → Option FailsafeKey
@@ -79,9 +80,10 @@ abbrev pub write_if : Bool → Option LeaderKey → Option FailsafeKey → ℕ �
 write_if true leader failsafe revision = record { leader = leader; failsafe = failsafe; revision = revision + 1; snapshot = true; grant = None }
 write_if false leader failsafe revision = refused leader failsafe revision
 
--- what a question of this member, sent at this moment, leaves; `granted` tells whether another write was granted
+-- what a question of this member, sent at this moment, leaves; `granted` tells whether it was granted, where the keys of the lease
+-- don't tell that: of a create that compares the sync key, and of another write
 abbrev pub outcome_of : ℕ → Option LeaderKey → Option FailsafeKey → ℕ → ℕ → ℕ → Bool → Query → Outcome
-outcome_of clock leader failsafe revision by sent granted (Create ttl expected) = create_on clock leader failsafe revision by sent ttl expected
+outcome_of clock leader failsafe revision by sent granted (Create ttl expected) = create_on granted clock leader failsafe revision by sent ttl expected
 outcome_of clock leader failsafe revision by sent granted (Renew compared ttl carried) = renew_on clock leader failsafe revision compared sent ttl carried
 outcome_of clock leader failsafe revision by sent granted (Release compared) = release_on leader failsafe revision compared
 outcome_of clock leader failsafe revision by sent granted Write = write_if granted leader failsafe revision

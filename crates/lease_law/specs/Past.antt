@@ -35,7 +35,7 @@ members_if (Some set) = Some (members_in set)
 
 -- what the lease reads of a transaction
 abbrev pub query_of : Txn → Query
-query_of (txns.Create info ttl failsafe) = Create ttl.0 failsafe
+query_of (txns.Create info ttl failsafe sync) = Create ttl.0 failsafe
 query_of (txns.Renew revision info ttl status row failsafe) = Renew revision ttl.0 (members_if failsafe)
 query_of (txns.Release revision) = Release revision
 query_of _ = Write

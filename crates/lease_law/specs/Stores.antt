@@ -45,7 +45,7 @@ IsEndless None = Unit {0}
 IsEndless (Some held) = held.expiry ≡ None
 
 abbrev pub IsSpannedTxn : Txn → Type 0
-IsSpannedTxn (txns.Create info ttl failsafe) = 0 < ttl.0
+IsSpannedTxn (txns.Create info ttl failsafe sync) = 0 < ttl.0
 IsSpannedTxn _ = Unit {0}
 
 -- a leader key that this event creates isn't absent at once

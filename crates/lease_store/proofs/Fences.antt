@@ -78,7 +78,7 @@ later-renewal revision by until es None is h = subst (Later revision) (sym is) (
 later-renewal revision by until es (Some held) is h = later-lease revision (record held { revision = by; expiry = later until held.expiry }) es h
 
 later-leased : (revision by now : ℕ) (member : MemberId) (txn : Txn) (es : List (Key × Held)) → is_lease txn ≡ true → revision < by → Later revision (find key_cmp keys.Leader (all_written by now es (writes_of member txn)))
-later-leased revision by now member (txns.Create info ttl failsafe) es is h =
+later-leased revision by now member (txns.Create info ttl failsafe sync) es is h =
     let held : Held = record { value = values.Leader member; revision = by; expiry = Some (record { 0 = now + ttl.0 }) } in
     later-all revision by now (Leases (keys.Member member) (values.Member info) ttl ∷ []) (put key_cmp keys.Leader held es) h (later-lease revision held es h)
 later-leased revision by now member (txns.Renew compared info ttl status row failsafe) es is h =

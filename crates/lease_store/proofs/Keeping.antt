@@ -176,7 +176,7 @@ fit-failsafe (Some members) = (tt, tt)
 
 fit : (by : MemberId) (txn : Txn) → AllFit (writes_of by txn)
 fit by (txns.Touch info ttl) = ((tt, refl), tt)
-fit by (txns.Create info ttl failsafe) = ((tt, refl), ((tt, refl), tt))
+fit by (txns.Create info ttl failsafe sync) = ((tt, refl), ((tt, refl), tt))
 fit by (txns.Renew revision info ttl status row failsafe) = (refl, ((tt, refl), fit-append (status_carried status) (row_carried row ++ failsafe_carried failsafe) (fit-status status) (fit-append (row_carried row) (failsafe_carried failsafe) (fit-row row) (fit-failsafe failsafe))))
 fit by (txns.Release revision) = (refl, tt)
 fit by (txns.DropSync revision sync) = (refl, tt)

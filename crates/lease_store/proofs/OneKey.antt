@@ -63,7 +63,7 @@ find_all_written revision now q es (write ∷ writes) =
 
 -- ---- the leader key
 abbrev pub leader_after : ℕ → ℕ → MemberId → Txn → Option Held → Option Held
-leader_after revision now by (txns.Create info ttl failsafe) found = Some (record { value = values.Leader by; revision = revision; expiry = Some (record { 0 = now + ttl.0 }) })
+leader_after revision now by (txns.Create info ttl failsafe sync) found = Some (record { value = values.Leader by; revision = revision; expiry = Some (record { 0 = now + ttl.0 }) })
 leader_after revision now by (txns.Renew compared info ttl status row failsafe) found = renewed revision (now + ttl.0) found
 leader_after revision now by (txns.Release compared) found = None
 leader_after revision now by _ found = found
@@ -119,3 +119,25 @@ pub find_failsafe_after : (store : Keys) (now : ℕ) (by : MemberId) (txn : Txn)
 find_failsafe_after store now by txn =
     find_all_written (store.revision + 1) now keys.Failsafe store.pairs (writes_of by txn)
     ∙ failsafe-written (store.revision + 1) now by txn (find key_cmp keys.Failsafe store.pairs)
+
+-- ---- the sync key
+abbrev pub sync_after : ℕ → MemberId → Txn → Option Held → Option Held
+sync_after revision by (txns.Claim compared sync) found = Some (record { value = sync_value by nobody; revision = revision; expiry = None })
+sync_after revision by (txns.SetSync compared sync standbys) found = Some (record { value = sync_value by standbys; revision = revision; expiry = None })
+sync_after revision by (txns.DropSync compared sync) found = None
+sync_after revision by _ found = found
+
+sync-carried : (revision now : ℕ) (found : Option Held) (failsafe : Option MemberSet) → found_after_all revision now keys.Sync found (failsafe_carried failsafe) ≡ found
+sync-carried revision now found None = refl
+sync-carried revision now found (Some members) = refl
+
+sync-written : (revision now : ℕ) (by : MemberId) (txn : Txn) (found : Option Held) → found_after_all revision now keys.Sync found (writes_of by txn) ≡ sync_after revision by txn found
+sync-written revision now by (txns.Renew compared info ttl status row failsafe) found =
+    carried revision now keys.Sync found status row failsafe refl (λ timeline. refl) ∙ sync-carried revision now found failsafe
+sync-written revision now by _ found = refl
+
+-- what a granted transaction leaves at the sync key
+pub find_sync_after : (store : Keys) (now : ℕ) (by : MemberId) (txn : Txn) → find key_cmp keys.Sync (keys_after store now by txn).pairs ≡ sync_after (store.revision + 1) by txn (find key_cmp keys.Sync store.pairs)
+find_sync_after store now by txn =
+    find_all_written (store.revision + 1) now keys.Sync store.pairs (writes_of by txn)
+    ∙ sync-written (store.revision + 1) now by txn (find key_cmp keys.Sync store.pairs)

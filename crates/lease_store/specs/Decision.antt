@@ -1,5 +1,5 @@
 -- The decision on a request.
-use Rattle.std.specs.Prelude.{ℕ, ◌==◌, Bool, true, false, List, [], ◌∷◌, Option, Some, None}
+use Rattle.std.specs.Prelude.{ℕ, ◌==◌, Bool, true, false, List, [], ◌∷◌, ◌++◌, Option, Some, None}
 use Rattle.lease_store.specs.declared.key.Key.{Key}
 use Rattle.lease_store.specs.declared.key.Key.TheVariants as keys
 use Rattle.lease_store.specs.declared.value.Held.{Held}
@@ -9,15 +9,15 @@ use Rattle.lease_store.specs.declared.txn.Txn.{Txn}
 use Rattle.lease_store.specs.declared.txn.Txn.TheVariants as txns
 use Rattle.lease_store.specs.Keys.{Keys, key_in}
 
--- what a transaction compares besides the leader key when it creates that key
-abbrev pub failsafe_compare : Option Expected → List (Key × Expected)
-failsafe_compare None = []
-failsafe_compare (Some failsafe) = (keys.Failsafe, failsafe) ∷ []
+-- what is compared of a key, if something is expected of it
+abbrev pub compare_if : Key → Option Expected → List (Key × Expected)
+compare_if key None = []
+compare_if key (Some expected) = (key, expected) ∷ []
 
 -- what a transaction compares, in this order
 abbrev pub compares_of : Txn → List (Key × Expected)
 compares_of (txns.Touch info ttl) = []
-compares_of (txns.Create info ttl failsafe) = (keys.Leader, Absent) ∷ failsafe_compare failsafe
+compares_of (txns.Create info ttl failsafe sync) = (keys.Leader, Absent) ∷ (compare_if keys.Failsafe failsafe ++ compare_if keys.Sync sync)
 compares_of (txns.Renew revision info ttl status row failsafe) = (keys.Leader, Revision revision) ∷ []
 compares_of (txns.Release revision) = (keys.Leader, Revision revision) ∷ []
 compares_of (txns.Claim revision sync) = (keys.Leader, Revision revision) ∷ (keys.Sync, sync) ∷ []

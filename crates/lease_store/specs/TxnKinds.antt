@@ -6,7 +6,7 @@ use Rattle.lease_store.specs.declared.txn_kind.TxnKind.TheVariants.{Touch, Creat
 
 abbrev pub kind_of : Txn → TxnKind
 kind_of (txns.Touch info ttl) = Touch
-kind_of (txns.Create info ttl failsafe) = Create
+kind_of (txns.Create info ttl failsafe sync) = Create
 kind_of (txns.Renew revision info ttl status row failsafe) = Renewal
 kind_of (txns.Release revision) = Release
 kind_of (txns.Claim revision sync) = Claim

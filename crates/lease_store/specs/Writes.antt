@@ -45,7 +45,7 @@ nobody = record { bits = 0 }
 -- what a transaction of a member writes
 abbrev pub writes_of : MemberId → Txn → List Write
 writes_of by (txns.Touch info ttl) = Leases (keys.Member by) (values.Member info) ttl ∷ []
-writes_of by (txns.Create info ttl failsafe) = Leases keys.Leader (values.Leader by) ttl ∷ Leases (keys.Member by) (values.Member info) ttl ∷ []
+writes_of by (txns.Create info ttl failsafe sync) = Leases keys.Leader (values.Leader by) ttl ∷ Leases (keys.Member by) (values.Member info) ttl ∷ []
 writes_of by (txns.Renew revision info ttl status row failsafe) = Extends keys.Leader ttl ∷ Leases (keys.Member by) (values.Member info) ttl ∷ (status_carried status ++ (row_carried row ++ failsafe_carried failsafe))
 writes_of by (txns.Release revision) = Deletes keys.Leader ∷ []
 writes_of by (txns.Claim revision sync) = Sets keys.Sync (sync_value by nobody) ∷ []
@@ -57,14 +57,14 @@ writes_of by (txns.SetConfig revision config) = Sets keys.Config (values.Config 
 
 -- whether a transaction gives its sender the lease of the leader key
 abbrev pub is_lease : Txn → Bool
-is_lease (txns.Create info ttl failsafe) = true
+is_lease (txns.Create info ttl failsafe sync) = true
 is_lease (txns.Renew revision info ttl status row failsafe) = true
 is_lease _ = false
 
 -- the span of its leases, if it writes any
 abbrev pub ttl_of : Txn → ℕ
 ttl_of (txns.Touch info ttl) = ttl.0
-ttl_of (txns.Create info ttl failsafe) = ttl.0
+ttl_of (txns.Create info ttl failsafe sync) = ttl.0
 ttl_of (txns.Renew revision info ttl status row failsafe) = ttl.0
 ttl_of (txns.SetFailover failover ttl) = ttl.0
 ttl_of _ = 0

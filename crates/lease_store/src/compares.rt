@@ -1,9 +1,9 @@
 //! What transactions compare.
-ghost use Rattle.std.specs.Prelude.{◌≡◌, ◌∷◌, [], option_copied};
+ghost use Rattle.std.specs.Prelude.{◌≡◌, ◌++◌, ◌∷◌, [], option_copied};
 ghost use Rattle.std.specs.FinMap.{find};
 ghost use Rattle.lease_store.specs.KeyOrder.{key_cmp};
 ghost use Rattle.lease_store.specs.Keys.{is_present, key_in};
-ghost use Rattle.lease_store.specs.Decision.{found_in, failsafe_compare, decision_by, compares_of};
+ghost use Rattle.lease_store.specs.Decision.{found_in, compare_if, decision_by, compares_of};
 ghost use Rattle.lease_store.specs.Answers.{answer_to};
 
 use crate::order::compare;
@@ -85,19 +85,33 @@ fn compare_sync(
     compare_key(pairs, now, Key::Sync, sync)
 }
 
-/// Refuses a leader key that is present, and then a failsafe key that isn't as it was read.
+/// Refuses a key that isn't as it was read, where it was.
+fn compare_read(
+    pairs: &[(Key, Held)],
+    now: Ticks,
+    key: Key,
+    read: Option<Expected>,
+) -> Result<(), StoreRefusal>
+    ensures { result ≡ answer_to (decision_by pairs.now now.0 (compare_if key read)) }
+{
+    match read {
+        None => Ok(()),
+        Some(expected) => compare_key(pairs, now, key, expected),
+    }
+}
+
+/// Refuses a leader key that is present, then a failsafe key and then a sync key that isn't as it was read.
 fn compare_absent(
     pairs: &[(Key, Held)],
     now: Ticks,
     failsafe: Option<Expected>,
+    sync: Option<Expected>,
 ) -> Result<(), StoreRefusal>
-    ensures { result ≡ answer_to (decision_by pairs.now now.0 ((Key.Leader, Expected.Absent) ∷ failsafe_compare failsafe)) }
+    ensures { result ≡ answer_to (decision_by pairs.now now.0 ((Key.Leader, Expected.Absent) ∷ (compare_if Key.Failsafe failsafe ++ compare_if Key.Sync sync))) }
 {
     compare_key(pairs, now, Key::Leader, Expected::Absent)?;
-    match failsafe {
-        None => Ok(()),
-        Some(expected) => compare_key(pairs, now, Key::Failsafe, expected),
-    }
+    compare_read(pairs, now, Key::Failsafe, failsafe)?;
+    compare_read(pairs, now, Key::Sync, sync)
 }
 
 /// Refuses a transaction by the first key that isn't as it expects.
@@ -106,7 +120,7 @@ pub fn check(pairs: &[(Key, Held)], now: Ticks, txn: &Txn) -> Result<(), StoreRe
 {
     match txn {
         Txn::Touch { .. } => Ok(()),
-        Txn::Create { failsafe, .. } => compare_absent(pairs, now, *failsafe),
+        Txn::Create { failsafe, sync, .. } => compare_absent(pairs, now, *failsafe, *sync),
         Txn::Renew { revision, .. } | Txn::Release { revision } | Txn::DropFailover { revision } =>
             { compare_key(pairs, now, Key::Leader, Expected::Revision(*revision)) }
         Txn::Claim { revision, sync } | Txn::SetSync { revision, sync, .. } => {

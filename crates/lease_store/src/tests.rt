@@ -75,10 +75,15 @@ fn mismatch(key: Key, found: Expected) -> Result<u64, StoreRefusal> {
 }
 
 fn create(rt: &impl Abort, failsafe: Option<Expected>) -> Txn {
+    create_as_read(rt, failsafe, None)
+}
+
+fn create_as_read(rt: &impl Abort, failsafe: Option<Expected>, sync: Option<Expected>) -> Txn {
     Txn::Create {
         info: info(rt),
         ttl: TTL,
         failsafe,
+        sync,
     }
 }
 
@@ -201,10 +206,12 @@ fn carries_all(rt: &impl Abort, revision: u64) -> Txn {
 }
 
 /// Requests of a cluster whose leader key is absent: all but the first and the last are refused.
-fn before_the_lease(rt: &impl Abort) -> [Row; 9] {
+fn before_the_lease(rt: &impl Abort) -> [Row; 11] {
     let (a, b) = (member(rt, 0), member(rt, 1));
     let none = mismatch(Key::Leader, Expected::Absent);
     let differs = mismatch(Key::Failsafe, Expected::Absent);
+    let claimed = mismatch(Key::Sync, Expected::Absent);
+    let (absent, first) = (Some(Expected::Absent), Some(Expected::Revision(1)));
     let touch = Txn::Touch {
         info: info(rt),
         ttl: TTL,
@@ -217,8 +224,10 @@ fn before_the_lease(rt: &impl Abort) -> [Row; 9] {
         Row::new(a, set_sync(1, Expected::Absent, MemberSet::empty()), none),
         Row::new(a, drop_sync(1, 1), none),
         Row::new(a, drop_failover(1), none),
-        Row::new(a, create(rt, Some(Expected::Revision(1))), differs),
-        Row::new(a, create(rt, Some(Expected::Absent)), Ok(3)),
+        Row::new(a, create(rt, first), differs),
+        Row::new(a, create_as_read(rt, first, first), differs),
+        Row::new(a, create_as_read(rt, absent, first), claimed),
+        Row::new(a, create_as_read(rt, absent, absent), Ok(3)),
     ]
 }
 

@@ -36,11 +36,13 @@ pub enum Txn {
         info: MemberInfo,
         ttl: Ticks,
     },
-    /// The member takes the leader key, where that is absent. With failsafe mode the failsafe key is as it was read.
+    /// The member takes the leader key, where that is absent. With failsafe mode the failsafe key is as it was read, and in quorum
+    /// mode with failsafe mode the sync key too.
     Create {
         info: MemberInfo,
         ttl: Ticks,
         failsafe: Option<Expected>,
+        sync: Option<Expected>,
     },
     /// The member's lease is extended, and what the leader tells is written with it.
     Renew {
@@ -101,10 +103,12 @@ impl Txn {
                 info,
                 ttl,
                 failsafe,
+                sync,
             } => Txn::Create {
                 info: *info,
                 ttl: *ttl,
                 failsafe: *failsafe,
+                sync: *sync,
             },
             Txn::Renew {
                 revision,

@@ -113,7 +113,7 @@ lease phase = record { 0 = 10 * phase.settings.ttl }
 
 -- the leader key is absent: the agent has no lease, and asks for the key
 abbrev pub creating : ℕ → Phase → Reaction
-creating now phase = asking Creating (seconds_after now phase.settings.retry_timeout) (bodies.Request (txns.Create bare_info (lease phase) None)) (record phase { role = Follower })
+creating now phase = asking Creating (seconds_after now phase.settings.retry_timeout) (bodies.Request (txns.Create bare_info (lease phase) None None)) (record phase { role = Follower })
 
 -- the leader key is its own: it asks for the renewal of what it read
 abbrev pub renewing : ℕ → Phase → Reaction

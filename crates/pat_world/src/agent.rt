@@ -214,6 +214,7 @@ fn creating(now: Ticks, phase: Phase) -> Reaction
         info: bare_info(),
         ttl: phase.settings.ttl_ticks(),
         failsafe: None,
+        sync: None,
     };
     let until = now + phase.settings.retry_timeout_ticks();
     let follower = Phase {
