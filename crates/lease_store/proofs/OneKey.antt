@@ -15,7 +15,7 @@ use Rattle.lease_store.specs.declared.value.Value.TheVariants as values
 use Rattle.lease_store.specs.Keys.{Keys}
 use Rattle.lease_store.specs.declared.value.Held.{Held}
 use Rattle.lease_store.specs.KeyOrder.{key_cmp}
-use Rattle.lease_store.specs.Writes.{Write, Sets, Leases, Extends, Deletes, later, extended, written, all_written, writes_of, keys_after, status_carried, row_carried, failsafe_carried}
+use Rattle.lease_store.specs.Writes.{Write, Sets, Leases, Extends, Deletes, later, extended, written, all_written, writes_of, keys_after, status_carried, row_carried, failsafe_carried, sync_value, nobody}
 use Rattle.lease_store.proofs.Keeping.{find_put, find_without, same_key}
 
 -- the same with an extended lease
