@@ -1,8 +1,9 @@
 -- Commits that are acknowledged, one event at a time.
-use Rattle.std.proofs.Common.{◌≡◌, ℕ, suc, zero, ◌+◌, ◌-◌, ◌<◌, ◌≤◌, ◌&&◌, Bool, true, false, List, [], ◌∷◌, ◌++◌, length, map, drop, Option, Some, None, ◌⊎◌, inl, inr, arith, refl, ◌∙◌, ap, sym, subst}
+use Rattle.std.proofs.Common.{◌≡◌, ℕ, suc, zero, ◌+◌, ◌<◌, ◌&&◌, Bool, true, false, List, [], ◌∷◌, ◌++◌, length, map, drop, All, Option, Some, None, ◌⊎◌, inl, inr, arith, refl, ◌∙◌, ap, sym, subst}
 use Rattle.std.specs.Prelude.{slice_get, slice_set, option_and_then, if◌then◌else◌}
 use Rattle.std.proofs.lemmas.Bool.{cases_eq}
-use Rattle.std.proofs.lemmas.Option.{slice_get_within, slice_get-get_or}
+use Rattle.std.proofs.lemmas.List.Elements.{All-nil, All-cons}
+use Rattle.std.proofs.lemmas.Option.{slice_get_within}
 use Rattle.pat_base.specs.declared.server_state.Required.{Required}
 use Rattle.pat_base.specs.declared.lsn.Lsn.{Lsn}
 use Rattle.pat_base.specs.declared.ticks.Ticks.{Ticks}
@@ -21,7 +22,7 @@ use Rattle.event_book.specs.declared.member.ServerOf.{ServerOf}
 use Rattle.event_book.specs.Members.{server_of}
 use Rattle.pat_world.specs.Acknowledging.{acknowledge_kinds, acknowledgement, confirmed_front, ready_commits, AreAcknowledged, IsDone}
 use Rattle.pat_world.specs.Cluster.{Cluster, moved, moved_all}
-use Rattle.pat_world.specs.Next.{acknowledges, acknowledges_at, acknowledges_for, all_happen, followed, happens}
+use Rattle.pat_world.specs.Next.{acknowledges, all_happen, each, followed, happens}
 use Rattle.pat_world.specs.Room.{HasRoom}
 use Rattle.pat_world.specs.Took.{Took}
 use Rattle.pat_world.proofs.Deciding.{stamped-is}
@@ -146,7 +147,7 @@ acknowledged-one cluster member commit s server known told tick has longer there
 
 -- the first of what is left is acknowledged
 pub acknowledged-rest : (cluster : Cluster) (member : Member) (commit : ℕ) (s : ServerFacts) → slice_get cluster.book.servers member.id.number ≡ Some s → next_acknowledged s ≡ Some commit
-    → acknowledges_for cluster (Some member) ≡ followed cluster (happens cluster (acknowledgement member commit)) (λ later. acknowledges_for later (Some member))
+    → acknowledges cluster member ≡ followed cluster (happens cluster (acknowledgement member commit)) (λ later. acknowledges later member)
 acknowledged-rest cluster member commit s there next =
     let place = member.id.number in
     let kind : Kind = acknowledgement member commit in
@@ -155,13 +156,13 @@ acknowledged-rest cluster member commit s there next =
     ∙ ap (λ (o : Option ServerFacts). happens cluster kind ++ all_happen (moved cluster kind) (acknowledge_kinds member o)) (sym (got-with cluster.book.servers place s one_told there))
 
 pub acknowledge-more : (start cluster : Cluster) (member : Member) (commit : ℕ) (server : ServerOf) (known : List ServerFacts) (told : List ℕ) (tick : Ticks) (had has longer whole : List Event)
-    → Left start cluster had has whole (acknowledges_for cluster (Some member)) 0 0 → option_and_then next_acknowledged (slice_get cluster.book.servers member.id.number) ≡ Some commit
+    → Left start cluster had has whole (acknowledges cluster member) 0 0 → option_and_then next_acknowledged (slice_get cluster.book.servers member.id.number) ≡ Some commit
     → known ≡ with_server cluster.book.servers member.id.number acknowledged → told ≡ cluster.book.acknowledged ++ commit ∷ [] → server ≡ server_of member → tick.0 ≡ cluster.book.clock
     → longer ≡ has ++ record { tick = tick; kind = kinds.Replication (replications.Acknowledged server commit) } ∷ []
-    → Left start (telling cluster known told) had longer whole (acknowledges_for (telling cluster known told) (Some member)) 0 0
+    → Left start (telling cluster known told) had longer whole (acknowledges (telling cluster known told) member) 0 0
 acknowledge-more start cluster member commit server known told tick had has longer whole left is known_is told_is server_is at longer_is =
     let found = found-next (slice_get cluster.book.servers member.id.number) commit is in
-    Left-more start cluster (telling cluster known told) had has longer whole (happens cluster (acknowledgement member commit)) (λ later. acknowledges_for later (Some member)) _ 0 0 0 0 left
+    Left-more start cluster (telling cluster known told) had has longer whole (happens cluster (acknowledgement member commit)) (λ later. acknowledges later member) _ 0 0 0 0 left
     (acknowledged-rest cluster member commit found.0 found.1 found.2)
     (acknowledged-one cluster member commit found.0 server known told tick has longer found.1 found.2 known_is told_is server_is at longer_is) (omega arith)
 
@@ -186,26 +187,13 @@ no-kinds member (Some s) is = ap (map (acknowledgement member)) (ready-none s is
 
 -- none is left
 pub acknowledge-end : (start cluster : Cluster) (member : Member) (known : List ServerFacts) (had has whole : List Event)
-    → Left start cluster had has whole (acknowledges_for cluster (Some member)) 0 0 → option_and_then next_acknowledged (slice_get cluster.book.servers member.id.number) ≡ None
+    → Left start cluster had has whole (acknowledges cluster member) 0 0 → option_and_then next_acknowledged (slice_get cluster.book.servers member.id.number) ≡ None
     → known ≡ with_server cluster.book.servers member.id.number acknowledged → Took start (telling cluster known cluster.book.acknowledged) had has whole 0
 acknowledge-end start cluster member known had has whole left none known_is =
     let place = member.id.number in
     let same : known ≡ cluster.book.servers = known_is ∙ none-left cluster.book.servers place (slice_get cluster.book.servers place) refl none in
     subst (λ (xs : List ServerFacts). Took start (telling cluster xs cluster.book.acknowledged) had has whole 0) (sym same)
     (Left-end start cluster had has whole _ 0 0 left (ap (all_happen cluster) (no-kinds member (slice_get cluster.book.servers place) none)))
-
-next-one : (cluster : Cluster) (place n k : ℕ) → n ≡ suc k → acknowledges cluster place n ≡ followed cluster (acknowledges_at cluster place) (λ later. acknowledges later (place + 1) k)
-next-one cluster place n k e = rw e refl
-
-pub acknowledges-next : (cluster : Cluster) (place count : ℕ) → place < count
-    → acknowledges cluster place (count - place) ≡ followed cluster (acknowledges_at cluster place) (λ later. acknowledges later (place + 1) (count - (place + 1)))
-acknowledges-next cluster place count h = next-one cluster place (count - place) (count - (place + 1)) (omega arith)
-
-next-none : (cluster : Cluster) (place n : ℕ) → n ≡ 0 → acknowledges cluster place n ≡ []
-next-none cluster place n e = rw e refl
-
-pub acknowledges-end : (cluster : Cluster) (place count : ℕ) → count ≤ place → acknowledges cluster place (count - place) ≡ []
-acknowledges-end cluster place count h = next-none cluster place (count - place) (omega arith)
 
 cons-met : (met : Bool) (serial commit : ℕ) (rest more : List ℕ) → (if met then serial ∷ rest else []) ≡ commit ∷ more → (met ≡ true) × (rest ≡ more)
 cons-met true serial commit rest more is = (refl, inner rest more serial commit is)
@@ -267,49 +255,21 @@ done-for : (cluster : Cluster) (member : Member) (found : Option ServerFacts) �
 done-for cluster member None there = (record { members = refl; done = λ place done. done }, subst IsDone (sym there) tt)
 done-for cluster member (Some s) there = done-there cluster member s (ready_commits s) there refl
 
--- the server of the member at a place is done, if there is one
-abbrev DoneOf : Cluster → Option Member → Type 0
-DoneOf cluster None = Unit {0}
-DoneOf cluster (Some member) = DoneAt cluster member.id.number
-
-keeps-of : (before after : Cluster) (member : Option Member) → Keeps before after → DoneOf before member → DoneOf after member
-keeps-of before after None keeps done = done
-keeps-of before after (Some member) keeps done = keeps.done member.id.number done
-
-done-at : (cluster : Cluster) (member : Option Member) → let after = moved_all cluster (acknowledges_for cluster member) in Keeps cluster after × DoneOf after member
-done-at cluster None = (record { members = refl; done = λ place done. done }, tt)
-done-at cluster (Some member) = done-for cluster member (slice_get cluster.book.servers member.id.number) refl
-
--- the servers of the first so many members are done
-abbrev DoneBelow : Cluster → List Member → ℕ → Type 0
-DoneBelow cluster members place = (k : ℕ) → k < place → DoneOf cluster (slice_get members k)
-
-done-from : (cluster : Cluster) (place count : ℕ) → DoneBelow cluster cluster.book.members place
-    → let after = moved_all cluster (acknowledges cluster place count) in (after.book.members ≡ cluster.book.members) × DoneBelow after cluster.book.members (place + count)
-done-from cluster place zero below = (refl, λ k h. below k (omega (arith, h)))
-done-from cluster place (suc count) below =
-    let next = moved_all cluster (acknowledges_at cluster place) in
-    let one = done-at cluster (slice_get cluster.book.members place) in
-    let below_next : DoneBelow next cluster.book.members (place + 1) = λ k h. one-more cluster next place k one.0 one.1 below (cases_eq k place) h in
-    let rest = done-from next (place + 1) count (subst (λ (ms : List Member). DoneBelow next ms (place + 1)) (sym one.0.members) below_next) in
-    let joined = moved_all-append cluster (acknowledges_at cluster place) (acknowledges next (place + 1) count) in
-    let end : Cluster = moved_all next (acknowledges next (place + 1) count) in
-    let ends : DoneBelow end cluster.book.members (place + suc count) = λ k h. subst (λ (ms : List Member). DoneOf end (slice_get ms k)) one.0.members (rest.1 k (omega (arith, h))) in
-    (ap (λ (c : Cluster). c.book.members) joined ∙ rest.0 ∙ one.0.members, subst (λ (c : Cluster). DoneBelow c cluster.book.members (place + suc count)) (sym joined) ends)
-  where
-    one-more : (before after : Cluster) (place k : ℕ) → Keeps before after → DoneOf after (slice_get before.book.members place) → DoneBelow before before.book.members place
-        → (k ≡ place) ⊎ (k ≡ place → ⊥) → k < place + 1 → DoneOf after (slice_get before.book.members k)
-    one-more before after place k keeps here below (inl e) h = subst (λ (n : ℕ). DoneOf after (slice_get before.book.members n)) (sym e) here
-    one-more before after place k keeps here below (inr other) h = keeps-of before after (slice_get before.book.members k) keeps (below k (omega (arith, h, other)))
+-- once those of these members are acknowledged, they are done
+done-each : (cluster : Cluster) (members : List Member) → let after = moved_all cluster (each acknowledges cluster members) in Keeps cluster after × All (λ member. DoneAt after member.id.number) members
+done-each cluster [] = (record { members = refl; done = λ place done. done }, All-nil (λ (member : Member). DoneAt cluster member.id.number))
+done-each cluster (member ∷ more) =
+    let next = moved_all cluster (acknowledges cluster member) in
+    let end : Cluster = moved_all next (each acknowledges next more) in
+    let one = done-for cluster member (slice_get cluster.book.servers member.id.number) refl in
+    let rest = done-each next more in
+    let P : Cluster → Type 0 = λ after. Keeps cluster after × All (λ m. DoneAt after m.id.number) (member ∷ more) in
+    subst P (sym (moved_all-append cluster (acknowledges cluster member) (each acknowledges next more)))
+    (Keeps-then cluster next end one.0 rest.0, All-cons (λ (m : Member). DoneAt end m.id.number) member more (rest.0.done member.id.number one.1) rest.1)
 
 -- after that no commit is left that may be acknowledged
-pub acknowledges-all : (cluster : Cluster) → let after = moved_all cluster (acknowledges cluster 0 (length cluster.book.members)) in AreAcknowledged after.book.members after.book.servers
-acknowledges-all cluster =
-    let after = moved_all cluster (acknowledges cluster 0 (length cluster.book.members)) in
-    let all = done-from cluster 0 (length cluster.book.members) (λ k h. absurd (omega (arith, h))) in
-    subst (λ (ms : List Member). AreAcknowledged ms after.book.servers) (sym all.0)
-    (λ k d h. subst (DoneOf after) (slice_get-get_or cluster.book.members k d h) (all.1 k (omega (arith, h))))
-
--- and so it is where a part of a step took this
-pub acknowledged-all : (before after : Cluster) (had has : List Event) (cost : ℕ) → Took before after had has (acknowledges before 0 (length before.book.members)) cost → AreAcknowledged after.book.members after.book.servers
-acknowledged-all before after had has cost took = subst (λ (c : Cluster). AreAcknowledged c.book.members c.book.servers) (sym took.state) (acknowledges-all before)
+pub acknowledged-all : (before after : Cluster) (had has : List Event) (cost : ℕ) → Took before after had has (each acknowledges before before.book.members) cost → AreAcknowledged after.book.members after.book.servers
+acknowledged-all before after had has cost took =
+    let all = done-each before before.book.members in
+    let end : Cluster = moved_all before (each acknowledges before before.book.members) in
+    subst (λ (c : Cluster). AreAcknowledged c.book.members c.book.servers) (sym took.state) (subst (λ (ms : List Member). AreAcknowledged ms end.book.servers) (sym all.0.members) all.1)

@@ -21,18 +21,8 @@ use Rattle.pat_world.proofs.Taking.{Took-one}
 
 -- what sends no message leaves the number of the last one
 pub sent-same : (last : ℕ) (kind : Kind) → IsBare kind → sent_after last kind ≡ last
-sent-same last kinds.Tick bare = refl
 sent-same last (kinds.Message (messages.Sent number message)) bare = absurd bare
-sent-same last (kinds.Message (messages.Delivered number)) bare = refl
-sent-same last (kinds.Message (messages.Lost number)) bare = refl
-sent-same last (kinds.Store happening) bare = refl
-sent-same last (kinds.Watchdog happening) bare = refl
-sent-same last (kinds.Server happening) bare = refl
-sent-same last (kinds.Log happening) bare = refl
-sent-same last (kinds.Replication happening) bare = refl
-sent-same last (kinds.Agent happening) bare = refl
-sent-same last (kinds.Link happening) bare = refl
-sent-same last (kinds.Note note) bare = refl
+sent-same last _ bare = refl
 
 -- a mark is as it was, or nothing
 pub record IsMarked (old new : ℕ) (before after : Flight) (agents states : List AgentState) (cuts links : List Link) : Type 0 where
@@ -49,14 +39,7 @@ same-mark mark before after agents cuts = record { below = omega arith; kept = �
 pub marked : (mark : ℕ) (before after : Flight) (agents : List AgentState) (cuts : List Link) (kind : Kind) → IsMarked mark (settled_after mark kind) before after agents (agents_after agents kind) cuts (cuts_after cuts kind)
 marked mark before after agents cuts (kinds.Agent happening) = cleared mark before after agents _ cuts cuts
 marked mark before after agents cuts (kinds.Link happening) = cleared mark before after agents agents cuts _
-marked mark before after agents cuts kinds.Tick = same-mark mark before after agents cuts
-marked mark before after agents cuts (kinds.Message happening) = same-mark mark before after agents cuts
-marked mark before after agents cuts (kinds.Store happening) = same-mark mark before after agents cuts
-marked mark before after agents cuts (kinds.Watchdog happening) = same-mark mark before after agents cuts
-marked mark before after agents cuts (kinds.Server happening) = same-mark mark before after agents cuts
-marked mark before after agents cuts (kinds.Log happening) = same-mark mark before after agents cuts
-marked mark before after agents cuts (kinds.Replication happening) = same-mark mark before after agents cuts
-marked mark before after agents cuts (kinds.Note note) = same-mark mark before after agents cuts
+marked mark before after agents cuts _ = same-mark mark before after agents cuts
 
 -- one thing happened, and was written down
 pub Took-told : (before after : Cluster) (tick : Ticks) (kind : Kind) (had has : List Event) → Counts before kind → after ≡ moved before kind → tick.0 ≡ after.book.clock → has ≡ had ++ record { tick = tick; kind = kind } ∷ []

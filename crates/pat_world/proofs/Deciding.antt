@@ -1,6 +1,5 @@
 -- What the store decides on, and what comes to its receiver.
 use Rattle.std.proofs.Common.{◌≡◌, ℕ, ◌+◌, ◌≤◌, List, [], ◌∷◌, ◌++◌, Option, Some, None, arith, refl, ◌∙◌, ap, sym, subst}
-use Rattle.std.specs.Prelude.{slice_get}
 use Rattle.pat_base.specs.declared.name.Name.{Name}
 use Rattle.pat_base.specs.declared.ticks.Ticks.{Ticks}
 use Rattle.lease_store.specs.declared.key.Key.{Key}
@@ -17,13 +16,12 @@ use Rattle.event_book.specs.declared.event.StoreEvent.TheVariants as stores
 use Rattle.event_book.specs.declared.link.LinkEnd.{LinkEnd}
 use Rattle.event_book.specs.declared.link.LinkEnd.TheVariants as link_ends
 use Rattle.event_book.specs.declared.member.Member.{Member}
-use Rattle.event_book.specs.declared.agent_state.AgentState.{AgentState}
-use Rattle.event_book.specs.declared.message.Body.{Body}
 use Rattle.event_book.specs.declared.message.Body.TheVariants as bodies
 use Rattle.event_book.specs.declared.message.Message.{Message}
 use Rattle.event_book.specs.Flight.{InFlightFacts, in_flight, landed}
 use Rattle.pat_world.specs.Cluster.{Cluster, moved, phases_told}
-use Rattle.pat_world.specs.Next.{happens, asked, asked_in, question, sends, answer_to, answers, decides, listened, reacts, comes_to, comes_found}
+use Rattle.pat_world.specs.Next.{happens, for_some, sends, answer_to, answers, decides, listened, reacts, comes, comes_to}
+use Rattle.pat_world.specs.Room.{decision_cost, message_cost, reaction_cost, sending_cost}
 use Rattle.pat_world.specs.Took.{Took}
 use Rattle.pat_world.specs.Comes.{Counts}
 use Rattle.pat_world.proofs.Taking.{Took-nothing, Took-one, Took-then}
@@ -41,35 +39,35 @@ Took-after first second third had mid has tick kind more cost whole counts at st
 
 decides-is : (cluster after : Cluster) (number : ℕ) (by : Member) (message : Message) (txn : Txn) (decision : Decision) (had has : List Event)
     → message.from ≡ link_ends.Member by → decision_on cluster.book.keys cluster.book.clock txn ≡ decision
-    → Took cluster after had has (decides cluster number message txn decision (link_ends.Member by)) 3
-    → Took cluster after had has (decides cluster number message txn (decision_on cluster.book.keys cluster.book.clock txn) message.from) 3
+    → Took cluster after had has (decides cluster number message txn decision (link_ends.Member by)) decision_cost
+    → Took cluster after had has (decides cluster number message txn (decision_on cluster.book.keys cluster.book.clock txn) message.from) decision_cost
 decides-is cluster after number by message txn decision had has from is took =
-    subst (λ (d : Decision). Took cluster after had has (decides cluster number message txn d message.from) 3) (sym is)
-    (subst (λ (e : LinkEnd). Took cluster after had has (decides cluster number message txn decision e) 3) (sym from) took)
+    subst (λ (d : Decision). Took cluster after had has (decides cluster number message txn d message.from) decision_cost) (sym is)
+    (subst (λ (e : LinkEnd). Took cluster after had has (decides cluster number message txn decision e) decision_cost) (sym from) took)
 
 comes-is : (cluster after : Cluster) (number : ℕ) (message : InFlightFacts) (to : LinkEnd) (had has : List Event) → in_flight cluster.book.flight number ≡ Some message → message.message.to ≡ to
-    → Took cluster after had has (comes_to cluster number message to) 5 → Took cluster after had has (comes_found cluster number (in_flight cluster.book.flight number)) 5
+    → Took cluster after had has (comes_to cluster number message to) message_cost → Took cluster after had has (for_some (in_flight cluster.book.flight number) (comes cluster number)) message_cost
 comes-is cluster after number message to had has is receiver took =
-    subst (λ (o : Option InFlightFacts). Took cluster after had has (comes_found cluster number o) 5) (sym is)
-    (subst (λ (e : LinkEnd). Took cluster after had has (comes_to cluster number message e) 5) (sym receiver) took)
+    subst (λ (o : Option InFlightFacts). Took cluster after had has (for_some o (comes cluster number)) message_cost) (sym is)
+    (subst (λ (e : LinkEnd). Took cluster after had has (comes_to cluster number message e) message_cost) (sym receiver) took)
 
 pub granted-took : (cluster granting after : Cluster) (number : ℕ) (by : Member) (message : Message) (txn : Txn) (tick : Ticks) (had mid has : List Event)
     → message.from ≡ link_ends.Member by → tick.0 ≡ cluster.book.clock → decision_on cluster.book.keys cluster.book.clock txn ≡ Grant
     → granting ≡ moved cluster (kinds.Store (stores.Granted number by txn [])) → mid ≡ had ++ record { tick = tick; kind = kinds.Store (stores.Granted number by txn []) } ∷ []
-    → Took granting after mid has (sends granting (answer_to message (bodies.Granted number (is_lease txn)))) 2
-    → Took cluster after had has (decides cluster number message txn (decision_on cluster.book.keys cluster.book.clock txn) message.from) 3
+    → Took granting after mid has (sends granting (answer_to message (bodies.Granted number (is_lease txn)))) sending_cost
+    → Took cluster after had has (decides cluster number message txn (decision_on cluster.book.keys cluster.book.clock txn) message.from) decision_cost
 granted-took cluster granting after number by message txn tick had mid has from at decision state mid_is rest =
     decides-is cluster after number by message txn Grant had has from decision
-    (Took-after cluster granting after had mid has tick (kinds.Store (stores.Granted number by txn [])) (λ later. sends later (answer_to message (bodies.Granted number (is_lease txn)))) 2 3 tt at state mid_is rest (omega arith))
+    (Took-after cluster granting after had mid has tick (kinds.Store (stores.Granted number by txn [])) (λ later. sends later (answer_to message (bodies.Granted number (is_lease txn)))) sending_cost decision_cost tt at state mid_is rest (omega arith))
 
 pub refused-took : (cluster after : Cluster) (number : ℕ) (by : Member) (message : Message) (txn : Txn) (key : Key) (found : Expected) (tick : Ticks) (had mid has : List Event)
     → message.from ≡ link_ends.Member by → tick.0 ≡ cluster.book.clock → decision_on cluster.book.keys cluster.book.clock txn ≡ Refusal key found
     → mid ≡ had ++ record { tick = tick; kind = kinds.Store (stores.Refused number by (kind_of txn) key found) } ∷ []
-    → Took cluster after mid has (sends cluster (answer_to message (bodies.Refused number key found))) 2
-    → Took cluster after had has (decides cluster number message txn (decision_on cluster.book.keys cluster.book.clock txn) message.from) 3
+    → Took cluster after mid has (sends cluster (answer_to message (bodies.Refused number key found))) sending_cost
+    → Took cluster after had has (decides cluster number message txn (decision_on cluster.book.keys cluster.book.clock txn) message.from) decision_cost
 refused-took cluster after number by message txn key found tick had mid has from at decision mid_is rest =
     decides-is cluster after number by message txn (Refusal key found) had has from decision
-    (Took-after cluster cluster after had mid has tick (kinds.Store (stores.Refused number by (kind_of txn) key found)) (λ later. sends later (answer_to message (bodies.Refused number key found))) 2 3 tt at refl mid_is rest (omega arith))
+    (Took-after cluster cluster after had mid has tick (kinds.Store (stores.Refused number by (kind_of txn) key found)) (λ later. sends later (answer_to message (bodies.Refused number key found))) sending_cost decision_cost tt at refl mid_is rest (omega arith))
 
 -- a message that came isn't in flight any more, and its agent has heard it
 pub arrived : (cluster : Cluster) (number : ℕ) (message : InFlightFacts) → in_flight cluster.book.flight number ≡ Some message
@@ -79,38 +77,26 @@ arrived cluster number message is = rw is refl
 
 pub stored-took : (cluster stored after : Cluster) (number : ℕ) (message : InFlightFacts) (tick : Ticks) (had mid has : List Event)
     → in_flight cluster.book.flight number ≡ Some message → message.message.to ≡ link_ends.Store → tick.0 ≡ cluster.book.clock → stored ≡ moved cluster (kinds.Message (Delivered number))
-    → mid ≡ had ++ record { tick = tick; kind = kinds.Message (Delivered number) } ∷ [] → Took stored after mid has (answers stored number message.message) 3
-    → Took cluster after had has (comes_found cluster number (in_flight cluster.book.flight number)) 5
+    → mid ≡ had ++ record { tick = tick; kind = kinds.Message (Delivered number) } ∷ [] → Took stored after mid has (answers stored number message.message) decision_cost
+    → Took cluster after had has (for_some (in_flight cluster.book.flight number) (comes cluster number)) message_cost
 stored-took cluster stored after number message tick had mid has is to at state mid_is rest =
     comes-is cluster after number message link_ends.Store had has is to
-    (Took-after cluster stored after had mid has tick (kinds.Message (Delivered number)) (λ later. answers later number message.message) 3 5 tt at state mid_is rest (omega arith))
+    (Took-after cluster stored after had mid has tick (kinds.Message (Delivered number)) (λ later. answers later number message.message) decision_cost message_cost tt at state mid_is rest (omega arith))
 
 pub heard-took : (cluster hearing after : Cluster) (number : ℕ) (message : InFlightFacts) (member : Member) (tick : Ticks) (had mid has : List Event)
     → in_flight cluster.book.flight number ≡ Some message → message.message.to ≡ link_ends.Member member → tick.0 ≡ cluster.book.clock → hearing ≡ moved cluster (kinds.Message (Delivered number))
-    → mid ≡ had ++ record { tick = tick; kind = kinds.Message (Delivered number) } ∷ [] → Took hearing after mid has (reacts hearing member (listened cluster.book.clock cluster.phases message member)) 4
-    → Took cluster after had has (comes_found cluster number (in_flight cluster.book.flight number)) 5
+    → mid ≡ had ++ record { tick = tick; kind = kinds.Message (Delivered number) } ∷ [] → Took hearing after mid has (reacts hearing member (listened cluster.book.clock cluster.phases message member)) reaction_cost
+    → Took cluster after had has (for_some (in_flight cluster.book.flight number) (comes cluster number)) message_cost
 heard-took cluster hearing after number message member tick had mid has is to at state mid_is rest =
     comes-is cluster after number message (link_ends.Member member) had has is to
-    (Took-after cluster hearing after had mid has tick (kinds.Message (Delivered number)) (λ later. reacts later member (listened cluster.book.clock cluster.phases message member)) 4 5 tt at state mid_is rest (omega arith))
+    (Took-after cluster hearing after had mid has tick (kinds.Message (Delivered number)) (λ later. reacts later member (listened cluster.book.clock cluster.phases message member)) reaction_cost message_cost tt at state mid_is rest (omega arith))
 
 -- the event of a grant, with what was copied into it
 pub granted-event : (tick : Ticks) (number : ℕ) (by : Member) (copy txn : Txn) (names : List Name) → copy ≡ txn → names ≡ []
     → ◌≡◌ {A = List Event} ((record { tick = tick; kind = kinds.Store (stores.Granted number by copy names) }) ∷ []) ((record { tick = tick; kind = kinds.Store (stores.Granted number by txn []) }) ∷ [])
 granted-event tick number by copy txn names same none = rw (same, none) refl
 
-pub nothing-took : (cluster after : Cluster) (number : ℕ) (had : List Event) → in_flight cluster.book.flight number ≡ None → after ≡ cluster → Took cluster after had had (comes_found cluster number (in_flight cluster.book.flight number)) 5
+pub nothing-took : (cluster after : Cluster) (number : ℕ) (had : List Event) → in_flight cluster.book.flight number ≡ None → after ≡ cluster → Took cluster after had had (for_some (in_flight cluster.book.flight number) (comes cluster number)) message_cost
 nothing-took cluster after number had is same =
-    subst (λ (o : Option InFlightFacts). Took cluster after had had (comes_found cluster number o) 5) (sym is)
-    (subst (λ (a : Cluster). Took cluster a had had [] 5) (sym same) (Took-nothing cluster had 5))
-
-pub asks-nothing : (cluster : Cluster) (member : Member) (sequence : ℕ) (asks : Option Body) (body : Body) (had : List Event) → asks ≡ Some body → slice_get cluster.book.agents member.id.number ≡ None
-    → Took cluster cluster had had (asked cluster member sequence asks) 2
-asks-nothing cluster member sequence asks body had is none =
-    subst (λ (o : Option Body). Took cluster cluster had had (asked cluster member sequence o) 2) (sym is)
-    (subst (λ (o : Option AgentState). Took cluster cluster had had (asked_in cluster member sequence body o) 2) (sym none) (Took-nothing cluster had 2))
-
-pub asks-took : (cluster after : Cluster) (member : Member) (sequence : ℕ) (asks : Option Body) (body : Body) (state : AgentState) (had has : List Event) → asks ≡ Some body → slice_get cluster.book.agents member.id.number ≡ Some state
-    → Took cluster after had has (sends cluster (question member state.run sequence body)) 2 → Took cluster after had has (asked cluster member sequence asks) 2
-asks-took cluster after member sequence asks body state had has is there took =
-    subst (λ (o : Option Body). Took cluster after had has (asked cluster member sequence o) 2) (sym is)
-    (subst (λ (o : Option AgentState). Took cluster after had has (asked_in cluster member sequence body o) 2) (sym there) took)
+    subst (λ (o : Option InFlightFacts). Took cluster after had had (for_some o (comes cluster number)) message_cost) (sym is)
+    (subst (λ (a : Cluster). Took cluster a had had [] message_cost) (sym same) (Took-nothing cluster had message_cost))

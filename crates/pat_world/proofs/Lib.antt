@@ -2,12 +2,12 @@ pub mod Acknowledgements
 pub mod Changing
 pub mod Comings
 pub mod Deciding
+pub mod Declaring
 pub mod Expiring
 pub mod Flights
 pub mod Reacting
 pub mod Rest
 pub mod Rooms
-pub mod Seats
 pub mod Sending
 pub mod ServerCommanding
 pub mod ServerRooms

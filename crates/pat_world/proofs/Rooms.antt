@@ -38,50 +38,23 @@ changed-all X P Q xs member change all weaker at = changed-all_at X P Q xs membe
 
 now-more : (now : ℕ) (kind : Kind) → (now_after now kind ≤ now + 1) × (now ≤ now_after now kind)
 now-more now kinds.Tick = (omega arith, omega arith)
-now-more now (kinds.Message happening) = (omega arith, omega arith)
-now-more now (kinds.Store happening) = (omega arith, omega arith)
-now-more now (kinds.Watchdog happening) = (omega arith, omega arith)
-now-more now (kinds.Server happening) = (omega arith, omega arith)
-now-more now (kinds.Log happening) = (omega arith, omega arith)
-now-more now (kinds.Replication happening) = (omega arith, omega arith)
-now-more now (kinds.Agent happening) = (omega arith, omega arith)
-now-more now (kinds.Link happening) = (omega arith, omega arith)
-now-more now (kinds.Note note) = (omega arith, omega arith)
+now-more now _ = (omega arith, omega arith)
 
 store-more : (now : ℕ) (known : Keys) (happening : StoreEvent) → (keys_at now known (kinds.Store happening)).revision ≤ known.revision + 1
 store-more now known (stores.Granted number by txn standbys) = omega arith
-store-more now known (stores.Refused number by request key found) = omega arith
-store-more now known (stores.LeaderExpired holder) = omega arith
-store-more now known (stores.Expired key) = omega arith
+store-more now known _ = omega arith
 
 revision-more : (now : ℕ) (known : Keys) (kind : Kind) → (keys_at now known kind).revision ≤ known.revision + 1
-revision-more now known kinds.Tick = omega arith
-revision-more now known (kinds.Message happening) = omega arith
 revision-more now known (kinds.Store happening) = store-more now known happening
-revision-more now known (kinds.Watchdog happening) = omega arith
-revision-more now known (kinds.Server happening) = omega arith
-revision-more now known (kinds.Log happening) = omega arith
-revision-more now known (kinds.Replication happening) = omega arith
-revision-more now known (kinds.Agent happening) = omega arith
-revision-more now known (kinds.Link happening) = omega arith
-revision-more now known (kinds.Note note) = omega arith
+revision-more now known _ = omega arith
 
 message-more : (sent : ℕ) (happening : MessageEvent) → CountsMessage sent happening → sent_after sent (kinds.Message happening) ≤ sent + 1
 message-more sent (messages.Sent number message) counts = counts
-message-more sent (messages.Delivered number) counts = omega arith
-message-more sent (messages.Lost number) counts = omega arith
+message-more sent _ counts = omega arith
 
 sent-more : (cluster : Cluster) (kind : Kind) → Counts cluster kind → sent_after cluster.book.sent kind ≤ cluster.book.sent + 1
-sent-more cluster kinds.Tick counts = omega arith
 sent-more cluster (kinds.Message happening) counts = message-more cluster.book.sent happening counts
-sent-more cluster (kinds.Store happening) counts = omega arith
-sent-more cluster (kinds.Watchdog happening) counts = omega arith
-sent-more cluster (kinds.Server happening) counts = omega arith
-sent-more cluster (kinds.Log happening) counts = omega arith
-sent-more cluster (kinds.Replication happening) counts = omega arith
-sent-more cluster (kinds.Agent happening) counts = omega arith
-sent-more cluster (kinds.Link happening) counts = omega arith
-sent-more cluster (kinds.Note note) counts = omega arith
+sent-more cluster _ counts = omega arith
 
 abbrev HasRun : ℕ → AgentState → Type 0
 HasRun events state = state.run + events < 2 ^ 60
@@ -94,21 +67,11 @@ agents-room states events (agents.Suspended agent) counts all = changed-all Agen
 agents-room states events (agents.Resumed agent) counts all = changed-all AgentState _ _ states agent _ all (run-fewer events) (λ state is. run-fewer events state)
 agents-room states events (agents.Killed agent) counts all = changed-all AgentState _ _ states agent _ all (run-fewer events) (λ state is. run-fewer events state)
 agents-room states events (agents.Started agent run) counts all = changed-all AgentState _ _ states agent _ all (run-fewer events) (λ state is room. omega (arith, room, counts state is))
-agents-room states events (agents.Woken agent) counts all = All-weaker AgentState _ _ states (run-fewer events) all
-agents-room states events (agents.Operated agent action) counts all = All-weaker AgentState _ _ states (run-fewer events) all
-agents-room states events (agents.Passed agent) counts all = All-weaker AgentState _ _ states (run-fewer events) all
+agents-room states events _ counts all = All-weaker AgentState _ _ states (run-fewer events) all
 
 runs-room : (cluster : Cluster) (events : ℕ) (kind : Kind) → Counts cluster kind → All (HasRun (1 + events)) cluster.book.agents → All (HasRun events) (agents_after cluster.book.agents kind)
-runs-room cluster events kinds.Tick counts all = All-weaker AgentState _ _ cluster.book.agents (run-fewer events) all
-runs-room cluster events (kinds.Message happening) counts all = All-weaker AgentState _ _ cluster.book.agents (run-fewer events) all
-runs-room cluster events (kinds.Store happening) counts all = All-weaker AgentState _ _ cluster.book.agents (run-fewer events) all
-runs-room cluster events (kinds.Watchdog happening) counts all = All-weaker AgentState _ _ cluster.book.agents (run-fewer events) all
-runs-room cluster events (kinds.Server happening) counts all = All-weaker AgentState _ _ cluster.book.agents (run-fewer events) all
-runs-room cluster events (kinds.Log happening) counts all = All-weaker AgentState _ _ cluster.book.agents (run-fewer events) all
-runs-room cluster events (kinds.Replication happening) counts all = All-weaker AgentState _ _ cluster.book.agents (run-fewer events) all
 runs-room cluster events (kinds.Agent happening) counts all = agents-room cluster.book.agents events happening counts all
-runs-room cluster events (kinds.Link happening) counts all = All-weaker AgentState _ _ cluster.book.agents (run-fewer events) all
-runs-room cluster events (kinds.Note note) counts all = All-weaker AgentState _ _ cluster.book.agents (run-fewer events) all
+runs-room cluster events _ counts all = All-weaker AgentState _ _ cluster.book.agents (run-fewer events) all
 
 abbrev Roomy : ℕ → ℕ → List Phase → Type 0
 Roomy clock events phases = All (PhaseHasRoom clock events) phases
@@ -119,11 +82,7 @@ fewer clock later events phases h = All-weaker Phase _ _ phases (PhaseHasRoom-fe
 phases-room_by : (now events : ℕ) (phases : List Phase) (happening : AgentEvent) → Roomy now (1 + events) phases → Roomy now events (phases_by now phases happening)
 phases-room_by now events phases (agents.Woken agent) all = changed-all Phase _ _ phases agent _ all (PhaseHasRoom-fewer now now events (omega arith)) (λ phase is. woken-room now events phase)
 phases-room_by now events phases (agents.Started agent run) all = changed-all Phase _ _ phases agent _ all (PhaseHasRoom-fewer now now events (omega arith)) (λ phase is room. fresh-room now events phase room)
-phases-room_by now events phases (agents.Suspended agent) all = fewer now now events phases (omega arith) all
-phases-room_by now events phases (agents.Resumed agent) all = fewer now now events phases (omega arith) all
-phases-room_by now events phases (agents.Killed agent) all = fewer now now events phases (omega arith) all
-phases-room_by now events phases (agents.Operated agent action) all = fewer now now events phases (omega arith) all
-phases-room_by now events phases (agents.Passed agent) all = fewer now now events phases (omega arith) all
+phases-room_by now events phases _ all = fewer now now events phases (omega arith) all
 
 phases-room_told : (now events : ℕ) (phases : List Phase) (message : InFlightFacts) (to : LinkEnd) → Roomy now (1 + events) phases → Roomy now events (phases_told now phases message to)
 phases-room_told now events phases message link_ends.Store all = fewer now now events phases (omega arith) all
@@ -135,33 +94,18 @@ phases-room_heard now events phases None all = fewer now now events phases (omeg
 phases-room_heard now events phases (Some message) all = phases-room_told now events phases message message.message.to all
 
 phases-room_reached : (now events : ℕ) (flight : Flight) (phases : List Phase) (happening : MessageEvent) → Roomy now (1 + events) phases → Roomy now events (phases_reached now flight phases happening)
-phases-room_reached now events flight phases (messages.Sent number message) all = fewer now now events phases (omega arith) all
 phases-room_reached now events flight phases (messages.Delivered number) all = phases-room_heard now events phases (in_flight flight number) all
-phases-room_reached now events flight phases (messages.Lost number) all = fewer now now events phases (omega arith) all
+phases-room_reached now events flight phases _ all = fewer now now events phases (omega arith) all
 
 phases-room : (now events : ℕ) (flight : Flight) (phases : List Phase) (kind : Kind) → Roomy now (1 + events) phases → Roomy (now_after now kind) events (phases_after now flight phases kind)
 phases-room now events flight phases kinds.Tick all = fewer now (now + 1) events phases (omega arith) all
 phases-room now events flight phases (kinds.Message happening) all = phases-room_reached now events flight phases happening all
-phases-room now events flight phases (kinds.Store happening) all = fewer now now events phases (omega arith) all
-phases-room now events flight phases (kinds.Watchdog happening) all = fewer now now events phases (omega arith) all
-phases-room now events flight phases (kinds.Server happening) all = fewer now now events phases (omega arith) all
-phases-room now events flight phases (kinds.Log happening) all = fewer now now events phases (omega arith) all
-phases-room now events flight phases (kinds.Replication happening) all = fewer now now events phases (omega arith) all
 phases-room now events flight phases (kinds.Agent happening) all = phases-room_by now events phases happening all
-phases-room now events flight phases (kinds.Link happening) all = fewer now now events phases (omega arith) all
-phases-room now events flight phases (kinds.Note note) all = fewer now now events phases (omega arith) all
+phases-room now events flight phases _ all = fewer now now events phases (omega arith) all
 
 commit-counts : (cluster : Cluster) (kind : Kind) → Counts cluster kind → CountsCommit cluster.book.commits kind
-commit-counts cluster kinds.Tick counts = tt
-commit-counts cluster (kinds.Message happening) counts = tt
-commit-counts cluster (kinds.Store happening) counts = tt
-commit-counts cluster (kinds.Watchdog happening) counts = tt
-commit-counts cluster (kinds.Server happening) counts = tt
 commit-counts cluster (kinds.Log happening) counts = counts
-commit-counts cluster (kinds.Replication happening) counts = tt
-commit-counts cluster (kinds.Agent happening) counts = tt
-commit-counts cluster (kinds.Link happening) counts = tt
-commit-counts cluster (kinds.Note note) counts = tt
+commit-counts cluster _ counts = tt
 
 -- one more event takes the room of one
 pub HasRoom-moved : (cluster : Cluster) (kind : Kind) (events : ℕ) → Counts cluster kind → HasRoom cluster (1 + events) → HasRoom (moved cluster kind) events

@@ -12,7 +12,8 @@ use Rattle.event_book.specs.declared.message.Message.{Message}
 use Rattle.event_book.specs.Flight.{Flight, InFlightFacts, launched, snapshot_for, grant_for}
 use Rattle.pat_world.specs.Cluster.{Cluster, moved}
 use Rattle.pat_world.specs.Launches.{launched_into}
-use Rattle.pat_world.specs.Next.{happens, all_happen, stamped, lost_at_once, most_in_flight, sends}
+use Rattle.pat_world.specs.Next.{happens, all_happen, stamped, lost_at_once, sends}
+use Rattle.pat_world.specs.Room.{most_in_flight}
 use Rattle.pat_world.specs.Took.{Took}
 use Rattle.pat_world.proofs.Taking.{Took-nothing, Took-one, Took-then}
 

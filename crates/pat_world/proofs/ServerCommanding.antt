@@ -1,6 +1,6 @@
 -- What commands do at servers.
 use Rattle.std.proofs.Common.{◌≡◌, ℕ, ◌+◌, ◌^◌, ◌<◌, ◌&&◌, nat_le, Bool, true, false, List, Option, Some, None, IsTrue, arith, refl, ◌∙◌, ap, sym, subst}
-use Rattle.std.specs.Prelude.{slice_get, slice_set, if◌then◌else◌, IfSome}
+use Rattle.std.specs.Prelude.{option_and_then, slice_get, slice_set, if◌then◌else◌, IfSome}
 use Rattle.std.proofs.lemmas.List.{set-get_or}
 use Rattle.std.proofs.lemmas.Option.{get_or_from_slice_get, none-some, same_Some}
 use Rattle.pat_base.specs.ServerState.{writes}
@@ -22,7 +22,7 @@ use Rattle.pat_world.specs.declared.follow_row.FollowRow.TheVariants as rows
 use Rattle.pat_world.specs.Cluster.{Cluster, moved}
 use Rattle.pat_world.specs.Comes.{MayCome}
 use Rattle.pat_world.specs.FollowRows.{follow_kinds, follow_row_of}
-use Rattle.pat_world.specs.Next.{all_happen, follows, happens}
+use Rattle.pat_world.specs.Next.{all_happen, follows, for_some, happens}
 use Rattle.pat_world.specs.Room.{HasRoom}
 use Rattle.pat_world.specs.ServerCommands.{commit_of, promoted_timeline}
 use Rattle.pat_world.specs.Took.{Took}
@@ -67,17 +67,17 @@ standby-if : (replica : Bool) (next timeline : ℕ) → (if replica then Some ne
 standby-if true next timeline is = (refl, same_Some next timeline is)
 standby-if false next timeline is = absurd (none-some timeline is)
 
-promotable-at : (found : Option ServerFacts) (timeline : ℕ) → promoted_timeline found ≡ Some timeline → IfSome found (λ s. s.timeline < 2 ^ 60) → IfSome found (λ s. IsTrue (is_replica s.state) × (s.timeline < 2 ^ 60))
+promotable-at : (found : Option ServerFacts) (timeline : ℕ) → option_and_then promoted_timeline found ≡ Some timeline → IfSome found (λ s. s.timeline < 2 ^ 60) → IfSome found (λ s. IsTrue (is_replica s.state) × (s.timeline < 2 ^ 60))
 promotable-at None timeline is below = tt
 promotable-at (Some s) timeline is below = ((standby-if (is_replica s.state) (s.timeline + 1) timeline is).0, below)
 
 -- a server that has a timeline to be promoted to is a standby
-pub promotable : (cluster : Cluster) (place timeline : ℕ) → promoted_timeline (slice_get cluster.book.servers place) ≡ Some timeline → HasRoom cluster 2
+pub promotable : (cluster : Cluster) (place timeline : ℕ) → option_and_then promoted_timeline (slice_get cluster.book.servers place) ≡ Some timeline → HasRoom cluster 2
     → IfSome (slice_get cluster.book.servers place) (λ s. IsTrue (is_replica s.state) × (s.timeline < 2 ^ 60))
 promotable cluster place timeline is room = promotable-at (slice_get cluster.book.servers place) timeline is (timeline-below cluster place room)
 
 -- a standby that its operator promoted may begin
-pub promoted-comes : (cluster : Cluster) (member : Member) (timeline : ℕ) (server : ServerOf) → server ≡ server_of member → promoted_timeline (slice_get cluster.book.servers member.id.number) ≡ Some timeline → HasRoom cluster 2
+pub promoted-comes : (cluster : Cluster) (member : Member) (timeline : ℕ) (server : ServerOf) → server ≡ server_of member → option_and_then promoted_timeline (slice_get cluster.book.servers member.id.number) ≡ Some timeline → HasRoom cluster 2
     → MayCome (moved cluster (kinds.Server (servers.Promoted server))) (kinds.Server (servers.Began server timeline))
 promoted-comes cluster member timeline server server_is is room = rw server_is (record { bare = tt; counts = tt; serves = promotable cluster member.id.number timeline is room })
 
@@ -92,9 +92,9 @@ not-down known place now s there up =
 
 -- the server of a member, a standby, follows that of a leader
 pub follow-took : (cluster after : Cluster) (read : Option Member) (member leader : Member) (server upstream : ServerOf) (had has : List Event) → read ≡ Some leader → server ≡ server_of member → upstream ≡ server_of leader
-    → follow_row_of leader (slice_get cluster.book.servers member.id.number) ≡ Some rows.Follow → Took cluster after had has (happens cluster (kinds.Server (servers.Follows server upstream))) 1 → Took cluster after had has (follows cluster member read) 2
+    → option_and_then (follow_row_of leader) (slice_get cluster.book.servers member.id.number) ≡ Some rows.Follow → Took cluster after had has (happens cluster (kinds.Server (servers.Follows server upstream))) 1 → Took cluster after had has (for_some read (follows cluster member)) 2
 follow-took cluster after read member leader server upstream had has read_is server_is upstream_is row took =
-    subst (λ (o : Option Member). Took cluster after had has (follows cluster member o) 2) (sym read_is)
+    subst (λ (o : Option Member). Took cluster after had has (for_some o (follows cluster member)) 2) (sym read_is)
     (subst (λ (o : Option FollowRow). Took cluster after had has (all_happen cluster (follow_kinds member leader o)) 2) (sym row)
     (subst (λ (s : ServerOf). Took cluster after had has (happens cluster (kinds.Server (servers.Follows s (server_of leader)))) 2) server_is
     (subst (λ (u : ServerOf). Took cluster after had has (happens cluster (kinds.Server (servers.Follows server u))) 2) upstream_is

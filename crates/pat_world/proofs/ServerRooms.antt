@@ -57,12 +57,7 @@ timeline-as events s t same room = omega (arith, room, same)
 
 begun-timeline : (state : State) (s : ServerFacts) → (begun_in state s).timeline ≤ s.timeline + 1
 begun-timeline states.Replica s = omega arith
-begun-timeline states.Creating s = omega arith
-begun-timeline states.Stopped s = omega arith
-begun-timeline (states.Starting as_primary at) s = omega arith
-begun-timeline states.Primary s = omega arith
-begun-timeline (states.Stopping was_primary at) s = omega arith
-begun-timeline states.Crashed s = omega arith
+begun-timeline _ s = omega arith
 
 started-timeline : (as_primary : Bool) (s : ServerFacts) → (started as_primary s).timeline ≡ s.timeline
 started-timeline true s = refl
@@ -85,13 +80,9 @@ stopped-if s true = refl
 stopped-if s false = refl
 
 completed-timeline : (now : Ticks) (state : State) (s : ServerFacts) → (completed now state s).timeline ≡ s.timeline
-completed-timeline now states.Replica s = refl
-completed-timeline now states.Creating s = refl
-completed-timeline now states.Stopped s = refl
 completed-timeline now (states.Starting as_primary at) s = completed-if as_primary s (nat_le at.0 now.0)
-completed-timeline now states.Primary s = refl
 completed-timeline now (states.Stopping was_primary at) s = stopped-if s (nat_le at.0 now.0)
-completed-timeline now states.Crashed s = refl
+completed-timeline now _ s = refl
 
 quiet-if : (now : Ticks) (s : ServerFacts) (is_live : Bool) → (if is_live then s else ticked now s).timeline ≡ s.timeline
 quiet-if now s true = refl
@@ -112,13 +103,11 @@ room-by now events known (servers.Began server timeline) all =
     with-all (HasTimeline (1 + events)) (HasTimeline events) known server.id.number (λ s. begun_in s.state s) all (timeline-fewer events) (λ s room. omega (arith, room, begun-timeline s.state s))
 room-by now events known (servers.Ended server) all = with-same events known server.id.number _ (λ s. refl) all
 room-by now events known (servers.Crashed server) all = with-same events known server.id.number _ (λ s. refl) all
-room-by now events known (servers.Promoted server) all = fewer events known all
 room-by now events known (servers.StartsAsReplica server) all = with-same events known server.id.number (starts_as_replica now) (λ s. starts-if now s (is_down s.state)) all
 room-by now events known (servers.Follows server upstream) all = with-same events known server.id.number _ (λ s. refl) all
 room-by now events known (servers.Diverged server upstream at) all = with-same events known server.id.number _ (λ s. refl) all
-room-by now events known (servers.Frozen server) all = fewer events known all
-room-by now events known (servers.Thawed server) all = fewer events known all
 room-by now events known (servers.Slowed server stop start) all = with-same events known server.id.number _ (λ s. refl) all
+room-by now events known _ all = fewer events known all
 
 room-received : (events : ℕ) (known : List ServerFacts) (number from count : ℕ) (found : Option ServerFacts) → slice_get known from ≡ found → Roomy (1 + events) known → Roomy events (received_by known number count found)
 room-received events known number from count None is all = fewer events known all
@@ -143,45 +132,27 @@ room-replicated events known (replications.Confirmed server by end) all = with-s
 room-replicated events known (replications.Acknowledged server commit) all = with-same events known server.id.number _ (λ s. refl) all
 
 room-watched : (events : ℕ) (known : List ServerFacts) (happening : WatchdogEvent) → Roomy (1 + events) known → Roomy events (servers_watched known happening)
-room-watched events known (watchdogs.Armed member until answer) all = fewer events known all
-room-watched events known (watchdogs.Fed member until basis) all = fewer events known all
-room-watched events known (watchdogs.Disarmed member) all = fewer events known all
 room-watched events known (watchdogs.Reset member) all = with-same events known member.id.number _ (λ s. refl) all
-room-watched events known (watchdogs.HoldTaken member until from run sequence) all = fewer events known all
+room-watched events known _ all = fewer events known all
 
 -- one more event takes the room of one timeline
 pub servers-room : (now events : ℕ) (known : List ServerFacts) (kind : Kind) → All (HasTimeline (1 + events)) known → All (HasTimeline events) (servers_after now known kind)
 servers-room now events known kinds.Tick all =
     map-all (HasTimeline (1 + events)) (HasTimeline events) (quietly_ticked (record { 0 = now })) known all (λ s room. timeline-as events s (quietly_ticked (record { 0 = now }) s) (quiet-if (record { 0 = now }) s (live s.state)) room)
-servers-room now events known (kinds.Message happening) all = fewer events known all
-servers-room now events known (kinds.Store happening) all = fewer events known all
 servers-room now events known (kinds.Watchdog happening) all = room-watched events known happening all
 servers-room now events known (kinds.Server happening) all = room-by now events known happening all
 servers-room now events known (kinds.Log happening) all = room-logged events known happening all
 servers-room now events known (kinds.Replication happening) all = room-replicated events known happening all
-servers-room now events known (kinds.Agent happening) all = fewer events known all
-servers-room now events known (kinds.Link happening) all = fewer events known all
-servers-room now events known (kinds.Note note) all = fewer events known all
+servers-room now events known _ all = fewer events known all
 
 log-more : (last : ℕ) (happening : LogEvent) → CountsLog last happening → commits_after last (kinds.Log happening) ≤ last + 1
 log-more last (logs.Appended server entry) counts = counts
-log-more last (logs.Received server from count) counts = omega arith
-log-more last (logs.Rewound server from kept at) counts = omega arith
-log-more last (logs.Copied server from) counts = omega arith
-log-more last (logs.Wiped server) counts = omega arith
+log-more last _ counts = omega arith
 
 abbrev pub CountsCommit : ℕ → Kind → Type 0
 CountsCommit last (kinds.Log happening) = CountsLog last happening
 CountsCommit last _ = Unit {0}
 
 pub commits-more : (last : ℕ) (kind : Kind) → CountsCommit last kind → commits_after last kind ≤ last + 1
-commits-more last kinds.Tick counts = omega arith
-commits-more last (kinds.Message happening) counts = omega arith
-commits-more last (kinds.Store happening) counts = omega arith
-commits-more last (kinds.Watchdog happening) counts = omega arith
-commits-more last (kinds.Server happening) counts = omega arith
 commits-more last (kinds.Log happening) counts = log-more last happening counts
-commits-more last (kinds.Replication happening) counts = omega arith
-commits-more last (kinds.Agent happening) counts = omega arith
-commits-more last (kinds.Link happening) counts = omega arith
-commits-more last (kinds.Note note) counts = omega arith
+commits-more last _ counts = omega arith

@@ -36,12 +36,7 @@ serving-moved cluster (kinds.Server happening) is = refl
 serving-moved cluster (kinds.Log happening) is = refl
 serving-moved cluster (kinds.Replication happening) is = refl
 serving-moved cluster (kinds.Note note) is = refl
-serving-moved cluster kinds.Tick is = absurd is
-serving-moved cluster (kinds.Message happening) is = absurd is
-serving-moved cluster (kinds.Store happening) is = absurd is
-serving-moved cluster (kinds.Watchdog happening) is = absurd is
-serving-moved cluster (kinds.Agent happening) is = absurd is
-serving-moved cluster (kinds.Link happening) is = absurd is
+serving-moved cluster _ is = absurd is
 
 -- one thing happened at servers
 pub serving-took : (cluster after : Cluster) (kind : Kind) (tick : Ticks) (had has : List Event) → IsServing kind → Counts cluster kind → after ≡ served cluster kind → tick.0 ≡ cluster.book.clock

@@ -19,7 +19,7 @@ use Rattle.event_book.specs.Flight.{Flight, InFlightFacts, in_flight}
 use Rattle.pat_world.specs.declared.way.Way.{Way}
 use Rattle.pat_world.specs.declared.way.Way.TheVariants as ways
 use Rattle.pat_world.specs.Cluster.{Cluster, moved_all}
-use Rattle.pat_world.specs.Next.{comes_to, goes, moves, moves_found, all_move, round, wakes}
+use Rattle.pat_world.specs.Next.{comes_to, goes, moves, for_some, each, round, wakes}
 use Rattle.pat_world.specs.Settled.{numbers_from, AreKeptBelow}
 use Rattle.pat_world.specs.Ways.{way_of}
 
@@ -78,10 +78,10 @@ held-if cluster number message ways.Gone e = no-events _ _ e
 still-held : (cluster : Cluster) (number : ℕ) (message : InFlightFacts) → in_flight cluster.book.flight number ≡ Some message → moves cluster number ≡ [] → way_of cluster.book.cuts cluster.book.agents message.message ≡ ways.Held
 still-held cluster number message is none =
     held-if cluster number message (way_of cluster.book.cuts cluster.book.agents message.message)
-    (subst (λ (o : Option InFlightFacts). moves_found cluster number o ≡ []) is none)
+    (subst (λ (o : Option InFlightFacts). for_some o (λ m. goes cluster number m (way_of cluster.book.cuts cluster.book.agents m.message)) ≡ []) is none)
 
 still-if : (cluster : Cluster) (number : ℕ) (found : Option InFlightFacts) → in_flight cluster.book.flight number ≡ found
-    → ((message : InFlightFacts) → in_flight cluster.book.flight number ≡ Some message → way_of cluster.book.cuts cluster.book.agents message.message ≡ ways.Held) → moves_found cluster number found ≡ []
+    → ((message : InFlightFacts) → in_flight cluster.book.flight number ≡ Some message → way_of cluster.book.cuts cluster.book.agents message.message ≡ ways.Held) → for_some found (λ m. goes cluster number m (way_of cluster.book.cuts cluster.book.agents m.message)) ≡ []
 still-if cluster number None is held = refl
 still-if cluster number (Some message) is held = ap (goes cluster number message) (held message is)
 
@@ -89,8 +89,8 @@ still-if cluster number (Some message) is held = ap (goes cluster number message
 held-still : (cluster : Cluster) (mark number : ℕ) → AreKeptBelow mark cluster.book.flight cluster.book.agents cluster.book.cuts → number < mark → moves cluster number ≡ []
 held-still cluster mark number kept below = still-if cluster number (in_flight cluster.book.flight number) refl (λ message is. kept number message below is)
 
-one-still : (cluster : Cluster) (number : ℕ) (more : List ℕ) → moves cluster number ≡ [] → all_move cluster (number ∷ more) ≡ all_move cluster more
-one-still cluster number more none = ap (λ (es : List Event). es ++ all_move (moved_all cluster es) more) none
+one-still : (cluster : Cluster) (number : ℕ) (more : List ℕ) → moves cluster number ≡ [] → each moves cluster (number ∷ more) ≡ each moves cluster more
+one-still cluster number more none = ap (λ (es : List Event). es ++ each moves (moved_all cluster es) more) none
 
 no-yes : false ≡ true → ⊥
 no-yes e = cc
@@ -108,19 +108,19 @@ found-still : (cluster : Cluster) (entry : ℕ × InFlightFacts) (rest : Option 
 found-still cluster entry rest n message true at none more is = ap (moves cluster) (same-number n entry.0 true at refl) ∙ none
 found-still cluster entry rest n message false at none more is = more is
 
-entries-still : (cluster : Cluster) (entries : Flight) → all_move cluster (keys_of entries) ≡ [] → (n : ℕ) (message : InFlightFacts) → in_flight entries n ≡ Some message → moves cluster n ≡ []
+entries-still : (cluster : Cluster) (entries : Flight) → each moves cluster (keys_of entries) ≡ [] → (n : ℕ) (message : InFlightFacts) → in_flight entries n ≡ Some message → moves cluster n ≡ []
 entries-still cluster [] none n message is = absurd (none-some message is)
 entries-still cluster (entry ∷ entries) none n message is =
-    let both = first-empty (moves cluster entry.0) (all_move (moved_all cluster (moves cluster entry.0)) (keys_of entries)) none in
-    let rest : all_move cluster (keys_of entries) ≡ [] = ap (λ (es : List Event). all_move (moved_all cluster es) (keys_of entries)) (sym both.0) ∙ both.1 in
+    let both = first-empty (moves cluster entry.0) (each moves (moved_all cluster (moves cluster entry.0)) (keys_of entries)) none in
+    let rest : each moves cluster (keys_of entries) ≡ [] = ap (λ (es : List Event). each moves (moved_all cluster es) (keys_of entries)) (sym both.0) ∙ both.1 in
     found-still cluster entry (in_flight entries n) n message (is_at (nat_cmp n) entry.0) refl both.0 (λ there. entries-still cluster entries rest n message there) is
 
 -- after a round in which nothing happens all that is in flight is kept
 pub round-kept : (cluster : Cluster) → round cluster ≡ [] → (n : ℕ) (message : InFlightFacts) → in_flight cluster.book.flight n ≡ Some message → way_of cluster.book.cuts cluster.book.agents message.message ≡ ways.Held
 round-kept cluster none n message is =
-    let woken = wakes cluster 0 (length cluster.book.members) in
-    let both = first-empty woken (all_move (moved_all cluster woken) (keys_of (moved_all cluster woken).book.flight)) none in
-    let rest : all_move cluster (keys_of cluster.book.flight) ≡ [] = ap (λ (es : List Event). all_move (moved_all cluster es) (keys_of (moved_all cluster es).book.flight)) (sym both.0) ∙ both.1 in
+    let woken = each wakes cluster cluster.book.members in
+    let both = first-empty woken (each moves (moved_all cluster woken) (keys_of (moved_all cluster woken).book.flight)) none in
+    let rest : each moves cluster (keys_of cluster.book.flight) ≡ [] = ap (λ (es : List Event). each moves (moved_all cluster es) (keys_of (moved_all cluster es).book.flight)) (sym both.0) ∙ both.1 in
     still-held cluster n message is (entries-still cluster cluster.book.flight rest n message is)
 
 not-less : Equal ≡ Less → ⊥
@@ -148,14 +148,14 @@ all-above mark (entry ∷ entries) above =
     ∙ ap (λ (es : Flight). entry ∷ es) (all-above mark entries above.1)
 
 mark-if : (cluster : Cluster) (mark : ℕ) (entry : ℕ × InFlightFacts) (entries : Flight) (test : Bool) → nat_le mark entry.0 ≡ test → ByRecursion (λ y. nat_cmp entry.0 y ≡ Less) (keys_of entries)
-    → AreKeptBelow mark cluster.book.flight cluster.book.agents cluster.book.cuts → all_move cluster (keys_of entries) ≡ all_move cluster (numbers_from mark entries)
-    → all_move cluster (entry.0 ∷ keys_of entries) ≡ all_move cluster (keys_of (cond test (entry ∷ filter (λ e. nat_le mark e.0) entries) (filter (λ e. nat_le mark e.0) entries)))
-mark-if cluster mark entry entries true is above kept rest = ap (λ (es : Flight). all_move cluster (entry.0 ∷ keys_of es)) (sym (all-above mark entries (above-if mark entry.0 (keys_of entries) (grind (arith, nat_tests)) above)))
+    → AreKeptBelow mark cluster.book.flight cluster.book.agents cluster.book.cuts → each moves cluster (keys_of entries) ≡ each moves cluster (numbers_from mark entries)
+    → each moves cluster (entry.0 ∷ keys_of entries) ≡ each moves cluster (keys_of (cond test (entry ∷ filter (λ e. nat_le mark e.0) entries) (filter (λ e. nat_le mark e.0) entries)))
+mark-if cluster mark entry entries true is above kept rest = ap (λ (es : Flight). each moves cluster (entry.0 ∷ keys_of es)) (sym (all-above mark entries (above-if mark entry.0 (keys_of entries) (grind (arith, nat_tests)) above)))
 mark-if cluster mark entry entries false is above kept rest = one-still cluster entry.0 (keys_of entries) (held-still cluster mark entry.0 kept (grind (arith, nat_tests))) ∙ rest
 
 -- those below the mark needn't be looked at
 pub from-mark : (cluster : Cluster) (mark : ℕ) (entries : Flight) → IsStrictlySortedBy nat_cmp (keys_of entries) → AreKeptBelow mark cluster.book.flight cluster.book.agents cluster.book.cuts
-    → all_move cluster (keys_of entries) ≡ all_move cluster (numbers_from mark entries)
+    → each moves cluster (keys_of entries) ≡ each moves cluster (numbers_from mark entries)
 unfolding IsStrictlySortedBy
 from-mark cluster mark [] order kept = refl
 from-mark cluster mark (entry ∷ entries) order kept = mark-if cluster mark entry entries (nat_le mark entry.0) refl order.0 kept (from-mark cluster mark entries order.1 kept)

@@ -1,5 +1,5 @@
 -- What standbys receive and confirm, one event at a time.
-use Rattle.std.proofs.Common.{◌≡◌, ℕ, suc, ◌+◌, ◌-◌, ◌<◌, ◌≤◌, ◌==◌, ◌&&◌, Bool, true, false, List, [], ◌∷◌, ◌++◌, Option, Some, None, arith, refl, ◌∙◌, ap, sym, subst}
+use Rattle.std.proofs.Common.{◌≡◌, ℕ, ◌==◌, ◌&&◌, Bool, true, false, List, [], ◌∷◌, ◌++◌, Option, Some, None, arith, refl, ◌∙◌, ap, sym, subst}
 use Rattle.std.specs.Prelude.{slice_get, if◌then◌else◌}
 use Rattle.pat_base.specs.declared.lsn.Lsn.{Lsn}
 use Rattle.pat_base.specs.declared.ticks.Ticks.{Ticks}
@@ -20,7 +20,7 @@ use Rattle.event_book.specs.Members.{server_of}
 use Rattle.event_book.specs.Servers.{received_by}
 use Rattle.pat_world.specs.Cluster.{Cluster, moved}
 use Rattle.pat_world.specs.Commands.{kinds_of}
-use Rattle.pat_world.specs.Next.{all_happen, all_receive, confirms, followed, receives, receives_all, receives_at, receives_unless}
+use Rattle.pat_world.specs.Next.{all_happen, confirms, receives}
 use Rattle.pat_world.specs.Room.{HasRoom}
 use Rattle.pat_world.specs.Streaming.{confirm_of, unconfirmed_end}
 use Rattle.pat_world.specs.Took.{Took}
@@ -140,22 +140,3 @@ received-took cluster after member from most count server upstream known tick ha
     subst (λ (o : Option Streamed). Took cluster after had has (receives cluster member from o) 2) (sym news)
     (Took-after cluster (with_servers cluster known) after had mid has tick (receipt member from count) (λ later. confirms later member from) 1 2 tt moment
     (received-state cluster member from most count known news state) written rest (omega arith))
-
-receive-one : (cluster : Cluster) (place n k : ℕ) → n ≡ suc k → all_receive cluster place n ≡ followed cluster (receives_at cluster place) (λ later. all_receive later (place + 1) k)
-receive-one cluster place n k e = rw e refl
-
-pub receive-next : (cluster : Cluster) (place count : ℕ) → place < count → all_receive cluster place (count - place) ≡ followed cluster (receives_at cluster place) (λ later. all_receive later (place + 1) (count - (place + 1)))
-receive-next cluster place count h = receive-one cluster place (count - place) (count - (place + 1)) (omega arith)
-
-receive-none : (cluster : Cluster) (place n : ℕ) → n ≡ 0 → all_receive cluster place n ≡ []
-receive-none cluster place n e = rw e refl
-
-pub receive-end : (cluster : Cluster) (place count : ℕ) → count ≤ place → all_receive cluster place (count - place) ≡ []
-receive-end cluster place count h = receive-none cluster place (count - place) (omega arith)
-
--- what the server of the member at a place receives, where that is frozen or not
-pub receives-as : (cluster after : Cluster) (place : ℕ) (member : Member) (frozen : Option Bool) (had has : List Event) → slice_get cluster.book.members place ≡ Some member → slice_get cluster.book.frozen member.id.number ≡ frozen
-    → Took cluster after had has (receives_unless cluster member frozen) 2 → Took cluster after had has (receives_at cluster place) 2
-receives-as cluster after place member frozen had has there is took =
-    subst (λ (o : Option Member). Took cluster after had has (receives_all cluster o) 2) (sym there)
-    (subst (λ (o : Option Bool). Took cluster after had has (receives_unless cluster member o) 2) (sym is) took)

@@ -1,9 +1,9 @@
 -- Parts of a step, one after another.
-use Rattle.std.proofs.Common.{◌≡◌, ℕ, ◌+◌, ◌≤◌, List, [], ◌∷◌, ◌++◌, arith, append_assoc, append-nil, refl, ◌∙◌, ap, sym}
+use Rattle.std.proofs.Common.{◌≡◌, ℕ, ◌+◌, ◌≤◌, List, [], ◌∷◌, ◌++◌, Option, Some, arith, append_assoc, append-nil, refl, ◌∙◌, ap, sym, subst}
 use Rattle.event_book.specs.declared.event.Event.{Event}
 use Rattle.event_book.specs.declared.event.Kind.{Kind}
 use Rattle.pat_world.specs.Cluster.{Cluster, moved, moved_all}
-use Rattle.pat_world.specs.Next.{all_happen, happens, followed}
+use Rattle.pat_world.specs.Next.{all_happen, followed, for_some, happens}
 use Rattle.pat_world.specs.Took.{Took}
 use Rattle.pat_world.specs.Comes.{Counts}
 use Rattle.pat_world.proofs.Rooms.{HasRoom-moved, HasRoom-fewer}
@@ -11,6 +11,14 @@ use Rattle.pat_world.proofs.Rooms.{HasRoom-moved, HasRoom-fewer}
 pub moved_all-append : (cluster : Cluster) (xs ys : List Event) → moved_all cluster (xs ++ ys) ≡ moved_all (moved_all cluster xs) ys
 moved_all-append cluster [] ys = refl
 moved_all-append cluster (x ∷ xs) ys = moved_all-append (moved cluster x.kind) xs ys
+
+-- who is declared stays so
+pub members-stay : (cluster : Cluster) (events : List Event) → (moved_all cluster events).book.members ≡ cluster.book.members
+members-stay cluster [] = refl
+members-stay cluster (event ∷ events) = members-stay (moved cluster event.kind) events
+
+pub Took-members : (before after : Cluster) (had has events : List Event) (cost : ℕ) → Took before after had has events cost → after.book.members ≡ before.book.members
+Took-members before after had has events cost took = ap (λ (c : Cluster). c.book.members) took.state ∙ members-stay before events
 
 -- nothing happened
 pub Took-nothing : (cluster : Cluster) (had : List Event) (cost : ℕ) → Took cluster cluster had had [] cost
@@ -50,3 +58,7 @@ pub Took-more : (first second third : Cluster) (had mid has : List Event) (kind 
     → Took first second had mid (happens first kind) 1 → Took second third mid has (all_happen second more) cost → 1 + cost ≤ whole → Took first third had has (all_happen first (kind ∷ more)) whole
 Took-more first second third had mid has kind more cost whole one rest enough =
     Took-then first second third had mid has (happens first kind) (λ later. all_happen later more) 1 cost whole one rest enough
+
+-- what comes of something that is there
+pub found-took : (X : Type 0) (before after : Cluster) (had has : List Event) (events : X → List Event) (found : Option X) (x : X) (cost : ℕ) → found ≡ Some x → Took before after had has (events x) cost → Took before after had has (for_some found events) cost
+found-took X before after had has events found x cost is took = subst (λ (o : Option X). Took before after had has (for_some o events) cost) (sym is) took

@@ -13,20 +13,9 @@ use Rattle.pat_world.specs.Next.{next_events}
 abbrev pub left_by : Cluster → List Event → Cluster
 left_by start book = moved_all start book
 
--- each thing that a world keeps is what the book determines
+-- a world is what the book determines, and what the book alone says of servers and commits is so of those that it keeps
 pub record StandsFor (start : Cluster) (book : List Event) (world : Cluster) : Type 0 where
-  pub clock : world.book.clock ≡ (left_by start book).book.clock
-  pub store : world.book.keys ≡ (left_by start book).book.keys
-  pub members : world.book.members ≡ (left_by start book).book.members
-  pub agents : world.book.agents ≡ (left_by start book).book.agents
-  pub phases : world.phases ≡ (left_by start book).phases
-  pub links : world.book.cuts ≡ (left_by start book).book.cuts
-  pub messages : world.book.flight ≡ (left_by start book).book.flight
-  pub numbers : world.book.sent ≡ (left_by start book).book.sent
-  pub servers : world.book.servers ≡ (left_by start book).book.servers
-  pub frozen : world.book.frozen ≡ (left_by start book).book.frozen
-  pub commits : world.book.commits ≡ (left_by start book).book.commits
-  -- what the book alone says of servers and commits is so of those that the world keeps
+  pub world_is : world ≡ left_by start book
   pub logs : logs_in world.book.servers ≡ logs_after (logs_in start.book.servers) book
   pub writers : (n : ℕ) → n < length start.book.servers → writes_in world.book.servers n ≡ writes_after (writes_in start.book.servers) book n
   pub required : required_in world.book.servers ≡ required_after (required_in start.book.servers) book

@@ -1,5 +1,5 @@
 -- What commands of a script come to.
-use Rattle.std.specs.Prelude.{◌+◌, ◌&&◌, not, if◌then◌else◌, List, [], ◌∷◌, Option, Some, None, slice_get}
+use Rattle.std.specs.Prelude.{◌+◌, ◌&&◌, not, if◌then◌else◌, List, [], ◌∷◌, Option, Some, None, option_and_then, option_map, slice_get}
 use Rattle.event_book.specs.declared.event.Kind.{Kind}
 use Rattle.event_book.specs.declared.event.Kind.TheVariants as kinds
 use Rattle.event_book.specs.declared.event.AgentEvent.TheVariants.{Suspended, Resumed, Killed, Started}
@@ -15,47 +15,33 @@ use Rattle.cluster_script.specs.declared.line.End.{End}
 use Rattle.cluster_script.specs.declared.line.End.TheVariants as ends
 
 -- an agent that runs and isn't held becomes held
-abbrev pub hold_of : Option Seat → Option Kind
-hold_of None = None
-hold_of (Some seat) = if seat.state.running && not seat.state.held then Some (kinds.Agent (Suspended seat.member)) else None
+abbrev pub hold_of : Seat → Option Kind
+hold_of seat = if seat.state.running && not seat.state.held then Some (kinds.Agent (Suspended seat.member)) else None
 
 -- a held agent goes on
-abbrev pub resume_of : Option Seat → Option Kind
-resume_of None = None
-resume_of (Some seat) = if seat.state.held then Some (kinds.Agent (Resumed seat.member)) else None
+abbrev pub resume_of : Seat → Option Kind
+resume_of seat = if seat.state.held then Some (kinds.Agent (Resumed seat.member)) else None
 
 -- an agent that runs ends
-abbrev pub kill_of : Option Seat → Option Kind
-kill_of None = None
-kill_of (Some seat) = if seat.state.running then Some (kinds.Agent (Killed seat.member)) else None
-
-abbrev pub member_end : Option Member → Option LinkEnd
-member_end None = None
-member_end (Some member) = Some (link_ends.Member member)
+abbrev pub kill_of : Seat → Option Kind
+kill_of seat = if seat.state.running then Some (kinds.Agent (Killed seat.member)) else None
 
 -- an end that a script names
 abbrev pub end_of : List Member → End → Option LinkEnd
 end_of members ends.Store = Some link_ends.Store
-end_of members (ends.Member id) = member_end (slice_get members id.number)
-
-abbrev pub link_between : Option LinkEnd → Option LinkEnd → Option Link
-link_between None second = None
-link_between (Some first) None = None
-link_between (Some first) (Some second) = Some (record { first = first; second = second })
+end_of members (ends.Member id) = option_map (λ (member : Member). link_ends.Member member) (slice_get members id.number)
 
 -- the link between two ends that a script names
 abbrev pub link_of : List Member → End → End → Option Link
-link_of members first second = link_between (end_of members first) (end_of members second)
+link_of members first second = option_and_then (λ one. option_map (λ other. record { first = one; second = other }) (end_of members second)) (end_of members first)
 
 -- a link that isn't cut is cut
-abbrev pub cut_of : List Link → Option Link → Option Kind
-cut_of cuts None = None
-cut_of cuts (Some link) = if is_cut cuts link then None else Some (kinds.Link (changes.Cut link))
+abbrev pub cut_of : List Link → Link → Option Kind
+cut_of cuts link = if is_cut cuts link then None else Some (kinds.Link (changes.Cut link))
 
 -- a link that is cut is joined
-abbrev pub join_of : List Link → Option Link → Option Kind
-join_of cuts None = None
-join_of cuts (Some link) = if is_cut cuts link then Some (kinds.Link (changes.Joined link)) else None
+abbrev pub join_of : List Link → Link → Option Kind
+join_of cuts link = if is_cut cuts link then Some (kinds.Link (changes.Joined link)) else None
 
 -- what happened, if anything did
 abbrev pub kinds_of : Option Kind → List Kind
@@ -65,7 +51,3 @@ kinds_of (Some kind) = kind ∷ []
 -- an agent that doesn't run is started, in its next run; of one that runs it is said that it does
 abbrev pub restarted : Seat → Kind
 restarted seat = if seat.state.running then kinds.Note (AlreadyRunning seat.member) else kinds.Agent (Started seat.member (seat.state.run + 1))
-
-abbrev pub restart_of : Option Seat → Option Kind
-restart_of None = None
-restart_of (Some seat) = Some (restarted seat)

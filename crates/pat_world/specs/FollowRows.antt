@@ -31,9 +31,8 @@ follow_row leader states.Crashed diverged upstream = start_unless diverged
 follow_row leader states.Replica diverged upstream = follow_unless (is_upstream leader upstream)
 follow_row leader _ diverged upstream = None
 
-abbrev pub follow_row_of : Member → Option ServerFacts → Option FollowRow
-follow_row_of leader None = None
-follow_row_of leader (Some s) = follow_row leader s.state s.diverged s.upstream
+abbrev pub follow_row_of : Member → ServerFacts → Option FollowRow
+follow_row_of leader s = follow_row leader s.state s.diverged s.upstream
 
 -- what that comes to
 abbrev pub follow_kinds : Member → Member → Option FollowRow → List Kind

@@ -12,6 +12,7 @@ pub mod Room
 pub mod ServerCommands
 pub mod Settled
 pub mod Short
+pub mod Steps
 pub mod Streaming
 pub mod Took
 pub mod Turns

@@ -1,5 +1,6 @@
 -- What happens in a step.
 use Rattle.std.specs.Prelude.{ℕ, ◌+◌, ◌-◌, ◌^◌, ◌&&◌, not, nat_le, Bool, true, false, if◌then◌else◌, List, [], ◌∷◌, ◌++◌, map, Option, Some, None, option_and_then, option_map, slice_get, length, zero, suc}
+use Rattle.std.specs.Option.{option_map_or}
 use Rattle.std.specs.Map.{keys_of}
 use Rattle.pat_base.specs.declared.member_id.MemberId.{MemberId}
 use Rattle.pat_base.specs.declared.ticks.Ticks.{Ticks}
@@ -42,10 +43,11 @@ use Rattle.pat_world.specs.declared.phase.Seat.{Seat}
 use Rattle.pat_world.specs.declared.way.Way.{Way}
 use Rattle.pat_world.specs.declared.way.Way.TheVariants as ways
 use Rattle.pat_world.specs.Cluster.{Cluster, moved, moved_all}
-use Rattle.pat_world.specs.Commands.{kinds_of, hold_of, resume_of, kill_of, restart_of, link_of, cut_of, join_of}
+use Rattle.pat_world.specs.Commands.{kinds_of, hold_of, resume_of, kill_of, restarted, link_of, cut_of, join_of}
 use Rattle.pat_world.specs.Turns.{is_due, woken, heard}
 use Rattle.pat_world.specs.FollowRows.{follow_kinds, follow_row_of}
-use Rattle.pat_world.specs.ServerCommands.{promote_kinds, promoted_timeline, crash_of, freeze_of, thaw_of, slow_of, commit_of}
+use Rattle.pat_world.specs.Room.{most_in_flight, most_rounds}
+use Rattle.pat_world.specs.ServerCommands.{promote_kinds, promoted_timeline, crash_of, freezing_of, slow_of, commit_of}
 use Rattle.pat_world.specs.Streaming.{source_of, confirm_of, unconfirmed_end}
 use Rattle.pat_world.specs.Ways.{way_of}
 
@@ -66,9 +68,14 @@ stamped tick kinds = map (λ kind. record { tick = tick; kind = kind }) kinds
 abbrev pub followed : Cluster → List Event → (Cluster → List Event) → List Event
 followed cluster events more = events ++ more (moved_all cluster events)
 
--- so many messages may be in flight
-abbrev pub most_in_flight : ℕ
-most_in_flight = 65536
+-- what comes of something, where there is something
+abbrev pub for_some : {X : Type 0} → Option X → (X → List Event) → List Event
+for_some found events = option_map_or events found []
+
+-- what comes of each of these, one after another
+abbrev pub each : {X : Type 0} → (Cluster → X → List Event) → Cluster → List X → List Event
+each events cluster [] = []
+each events cluster (x ∷ more) = followed cluster (events cluster x) (λ later. each events later more)
 
 abbrev pub lost_at_once : Bool → ℕ → List Kind
 lost_at_once true number = kinds.Message (Lost number) ∷ []
@@ -87,39 +94,28 @@ seat_of member _ _ = None
 abbrev pub seat_for : Cluster → Member → Option Seat
 seat_for cluster member = seat_of member (slice_get cluster.book.agents member.id.number) (slice_get cluster.phases member.id.number)
 
-abbrev pub seat_if : Cluster → Option Member → Option Seat
-seat_if cluster None = None
-seat_if cluster (Some member) = seat_for cluster member
-
--- the declared member of this number with its agent
-abbrev pub seat_at : Cluster → ℕ → Option Seat
-seat_at cluster place = seat_if cluster (slice_get cluster.book.members place)
-
 -- what an agent asks of the store in its run of this number
 abbrev pub question : Member → ℕ → ℕ → Body → Message
 question member run sequence body = record { from = link_ends.Member member; to = link_ends.Store; run = run; sequence = sequence; body = body }
 
-abbrev pub asked_in : Cluster → Member → ℕ → Body → Option AgentState → List Event
-asked_in cluster member sequence body None = []
-asked_in cluster member sequence body (Some state) = sends cluster (question member state.run sequence body)
-
-abbrev pub asked : Cluster → Member → ℕ → Option Body → List Event
-asked cluster member sequence None = []
-asked cluster member sequence (Some body) = asked_in cluster member sequence body (slice_get cluster.book.agents member.id.number)
+-- what an agent asks, in the run in which it is
+abbrev pub asked : Cluster → Member → ℕ → Body → List Event
+asked cluster member sequence body = for_some (slice_get cluster.book.agents member.id.number) (λ state. sends cluster (question member state.run sequence body))
 
 abbrev pub declared_member : List Member → Option MemberId → Option Member
-declared_member members None = None
-declared_member members (Some id) = slice_get members id.number
+declared_member members id = option_and_then (λ (member : MemberId). slice_get members member.number) id
 
--- the server of a member follows this leader, where it doesn't already
-abbrev pub follows : Cluster → Member → Option Member → List Event
-follows cluster member None = []
-follows cluster member (Some leader) = all_happen cluster (follow_kinds member leader (follow_row_of leader (slice_get cluster.book.servers member.id.number)))
+-- the server of a member follows this leader's, where it doesn't already
+abbrev pub follows : Cluster → Member → Member → List Event
+follows cluster member leader = all_happen cluster (follow_kinds member leader (option_and_then (follow_row_of leader) (slice_get cluster.book.servers member.id.number)))
 
 -- the server of a member follows whom its agent's reaction says, and the agent sends what it asks
+abbrev pub does : Cluster → Member → Reaction → List Event
+does cluster member reaction =
+    followed cluster (for_some (declared_member cluster.book.members reaction.follows) (follows cluster member)) (λ later. for_some reaction.asks (asked later member reaction.phase.sequence))
+
 abbrev pub reacts : Cluster → Member → Option Reaction → List Event
-reacts cluster member None = []
-reacts cluster member (Some reaction) = followed cluster (follows cluster member (declared_member cluster.book.members reaction.follows)) (λ later. asked later member reaction.phase.sequence reaction.asks)
+reacts cluster member reaction = for_some reaction (does cluster member)
 
 -- an agent that runs, isn't held and has something to do
 abbrev pub is_ready : ℕ → Seat → Bool
@@ -132,18 +128,9 @@ roused now phases member = option_map (woken now) (slice_get phases member.id.nu
 abbrev pub woken_at : Cluster → Member → List Event
 woken_at cluster member = followed cluster (happens cluster (kinds.Agent (Woken member))) (λ later. reacts later member (roused cluster.book.clock cluster.phases member))
 
-abbrev pub wake : Cluster → Option Seat → List Event
-wake cluster None = []
-wake cluster (Some seat) = if is_ready cluster.book.clock seat then woken_at cluster seat.member else []
-
 -- the agent of a member is woken, where it has something to do
-abbrev pub wake_at : Cluster → ℕ → List Event
-wake_at cluster place = wake cluster (seat_at cluster place)
-
--- the agents of so many members from a place on are woken, in script order
-abbrev pub wakes : Cluster → ℕ → ℕ → List Event
-wakes cluster place zero = []
-wakes cluster place (suc count) = followed cluster (wake_at cluster place) (λ later. wakes later (place + 1) count)
+abbrev pub wakes : Cluster → Member → List Event
+wakes cluster member = for_some (seat_for cluster member) (λ seat. if is_ready cluster.book.clock seat then woken_at cluster member else [])
 
 -- an answer of the store
 abbrev pub answer_to : Message → Body → Message
@@ -190,32 +177,19 @@ comes_to cluster number message (link_ends.Member member) = hears cluster number
 abbrev pub comes : Cluster → ℕ → InFlightFacts → List Event
 comes cluster number message = comes_to cluster number message message.message.to
 
-abbrev pub comes_found : Cluster → ℕ → Option InFlightFacts → List Event
-comes_found cluster number None = []
-comes_found cluster number (Some message) = comes cluster number message
-
 abbrev pub goes : Cluster → ℕ → InFlightFacts → Way → List Event
 goes cluster number message ways.Open = comes cluster number message
 goes cluster number message ways.Cut = happens cluster (kinds.Message (Lost number))
 goes cluster number message ways.Held = []
 goes cluster number message ways.Gone = happens cluster (kinds.Message (Lost number))
 
-abbrev pub moves_found : Cluster → ℕ → Option InFlightFacts → List Event
-moves_found cluster number None = []
-moves_found cluster number (Some message) = goes cluster number message (way_of cluster.book.cuts cluster.book.agents message.message)
-
 -- a message in flight comes to its receiver, is lost, or is kept for a receiver that is held
 abbrev pub moves : Cluster → ℕ → List Event
-moves cluster number = moves_found cluster number (in_flight cluster.book.flight number)
+moves cluster number = for_some (in_flight cluster.book.flight number) (λ message. goes cluster number message (way_of cluster.book.cuts cluster.book.agents message.message))
 
--- these messages, one after another
-abbrev pub all_move : Cluster → List ℕ → List Event
-all_move cluster [] = []
-all_move cluster (number ∷ more) = followed cluster (moves cluster number) (λ later. all_move later more)
-
--- each due agent is woken, and then each message that is in flight at that point moves, in the order of numbers
+-- each due agent is woken, in script order, and then each message that is in flight at that point moves, in the order of numbers
 abbrev pub round : Cluster → List Event
-round cluster = followed cluster (wakes cluster 0 (length cluster.book.members)) (λ later. all_move later (keys_of later.book.flight))
+round cluster = followed cluster (each wakes cluster cluster.book.members) (λ later. each moves later (keys_of later.book.flight))
 
 abbrev pub is_empty : List Event → Bool
 is_empty [] = true
@@ -225,9 +199,6 @@ is_empty (event ∷ events) = false
 unfoldable pub rounds : Cluster → ℕ → List Event
 rounds cluster zero = []
 rounds cluster (suc count) = if is_empty (round cluster) then [] else followed cluster (round cluster) (λ later. rounds later count)
-
-abbrev pub most_rounds : ℕ
-most_rounds = 40
 
 abbrev pub leader_expiry : Option Member → List Kind
 leader_expiry None = []
@@ -275,80 +246,62 @@ receives cluster member from (Some (streams.Diverged at)) = happens cluster (kin
 receives cluster member from (Some (streams.Received count)) =
     followed cluster (happens cluster (kinds.Log (logs.Received (server_of member) (server_of from) count))) (λ later. confirms later member from)
 
-abbrev pub receives_from : Cluster → Member → ℕ → Option Member → List Event
-receives_from cluster member most None = []
-receives_from cluster member most (Some from) = receives cluster member from (news_at cluster.book.servers member.id.number from.id.number most)
-
 -- the server of a member receives at most so many entries
-abbrev pub receives_at_most : Cluster → ℕ → Option Member → List Event
-receives_at_most cluster most None = []
-receives_at_most cluster most (Some member) = receives_from cluster member most (source_of cluster.book.members cluster.book.servers cluster.book.cuts member)
+abbrev pub receives_at_most : Cluster → ℕ → Member → List Event
+receives_at_most cluster most member =
+    for_some (source_of cluster.book.members cluster.book.servers cluster.book.cuts member) (λ from. receives cluster member from (news_at cluster.book.servers member.id.number from.id.number most))
 
 -- more entries than a log has
 abbrev pub all_entries : ℕ
 all_entries = 2 ^ 64 - 1
 
-abbrev pub receives_unless : Cluster → Member → Option Bool → List Event
-receives_unless cluster member None = []
-receives_unless cluster member (Some frozen) = if frozen then [] else receives_at_most cluster all_entries (Some member)
+-- the server of a member receives all, unless it is frozen
+abbrev pub receives_all : Cluster → Member → List Event
+receives_all cluster member = for_some (slice_get cluster.book.frozen member.id.number) (λ frozen. if frozen then [] else receives_at_most cluster all_entries member)
 
-abbrev pub receives_all : Cluster → Option Member → List Event
-receives_all cluster None = []
-receives_all cluster (Some member) = receives_unless cluster member (slice_get cluster.book.frozen member.id.number)
+-- the commits of the server of a member are acknowledged, as far as they may be
+abbrev pub acknowledges : Cluster → Member → List Event
+acknowledges cluster member = all_happen cluster (acknowledge_kinds member (slice_get cluster.book.servers member.id.number))
 
--- the server of the member at a place receives all, unless it is frozen
-abbrev pub receives_at : Cluster → ℕ → List Event
-receives_at cluster place = receives_all cluster (slice_get cluster.book.members place)
+-- a standby is promoted by its operator, and begins on the next timeline
+abbrev pub promotes : Cluster → Member → List Event
+promotes cluster member = for_some (option_and_then promoted_timeline (slice_get cluster.book.servers member.id.number)) (λ timeline. all_happen cluster (promote_kinds member timeline))
 
--- so many servers from a place on receive, in script order
-abbrev pub all_receive : Cluster → ℕ → ℕ → List Event
-all_receive cluster place zero = []
-all_receive cluster place (suc count) = followed cluster (receives_at cluster place) (λ later. all_receive later (place + 1) count)
+-- the declared member of this number
+abbrev pub declared : Cluster → MemberId → Option Member
+declared cluster id = slice_get cluster.book.members id.number
 
-abbrev pub acknowledges_for : Cluster → Option Member → List Event
-acknowledges_for cluster None = []
-acknowledges_for cluster (Some member) = all_happen cluster (acknowledge_kinds member (slice_get cluster.book.servers member.id.number))
-
--- the commits of the server of the member at a place are acknowledged, as far as they may be
-abbrev pub acknowledges_at : Cluster → ℕ → List Event
-acknowledges_at cluster place = acknowledges_for cluster (slice_get cluster.book.members place)
-
--- those of so many servers from a place on, in script order
-abbrev pub acknowledges : Cluster → ℕ → ℕ → List Event
-acknowledges cluster place zero = []
-acknowledges cluster place (suc count) = followed cluster (acknowledges_at cluster place) (λ later. acknowledges later (place + 1) count)
-
-abbrev pub promotes : Cluster → Option Member → List Event
-promotes cluster None = []
-promotes cluster (Some member) = all_happen cluster (promote_kinds member (promoted_timeline (slice_get cluster.book.servers member.id.number)))
+-- with its agent
+abbrev pub seat_at : Cluster → MemberId → Option Seat
+seat_at cluster id = option_and_then (seat_for cluster) (declared cluster id)
 
 -- what a command comes to that brings one event at most
 abbrev pub ordered : Cluster → Command → Option Kind
-ordered cluster (commands.Hold member) = hold_of (seat_at cluster member.number)
-ordered cluster (commands.Resume member) = resume_of (seat_at cluster member.number)
-ordered cluster (commands.Kill member) = kill_of (seat_at cluster member.number)
-ordered cluster (commands.Restart member) = restart_of (seat_at cluster member.number)
-ordered cluster (commands.Crash member) = option_and_then (λ m. crash_of m (slice_get cluster.book.servers m.id.number)) (slice_get cluster.book.members member.number)
-ordered cluster (commands.Commit member size) = option_map (λ m. commit_of m (entry_for cluster.book.servers m.id.number (cluster.book.commits + 1) size.bytes)) (slice_get cluster.book.members member.number)
-ordered cluster (commands.Freeze member) = option_and_then (λ m. freeze_of m (slice_get cluster.book.frozen m.id.number)) (slice_get cluster.book.members member.number)
-ordered cluster (commands.Thaw member) = option_and_then (λ m. thaw_of m (slice_get cluster.book.frozen m.id.number)) (slice_get cluster.book.members member.number)
-ordered cluster (commands.Slow member transition delay) = option_and_then (λ m. slow_of m transition delay (slice_get cluster.book.servers m.id.number)) (slice_get cluster.book.members member.number)
-ordered cluster (commands.Cut first second) = cut_of cluster.book.cuts (link_of cluster.book.members first second)
-ordered cluster (commands.Join first second) = join_of cluster.book.cuts (link_of cluster.book.members first second)
+ordered cluster (commands.Hold id) = option_and_then hold_of (seat_at cluster id)
+ordered cluster (commands.Resume id) = option_and_then resume_of (seat_at cluster id)
+ordered cluster (commands.Kill id) = option_and_then kill_of (seat_at cluster id)
+ordered cluster (commands.Restart id) = option_map restarted (seat_at cluster id)
+ordered cluster (commands.Crash id) = option_and_then (λ m. option_and_then (crash_of m) (slice_get cluster.book.servers m.id.number)) (declared cluster id)
+ordered cluster (commands.Commit id size) = option_map (λ m. commit_of m (entry_for cluster.book.servers m.id.number (cluster.book.commits + 1) size.bytes)) (declared cluster id)
+ordered cluster (commands.Freeze id) = option_and_then (λ m. option_and_then (freezing_of true m) (slice_get cluster.book.frozen m.id.number)) (declared cluster id)
+ordered cluster (commands.Thaw id) = option_and_then (λ m. option_and_then (freezing_of false m) (slice_get cluster.book.frozen m.id.number)) (declared cluster id)
+ordered cluster (commands.Slow id transition delay) = option_and_then (λ m. option_and_then (slow_of m transition delay) (slice_get cluster.book.servers m.id.number)) (declared cluster id)
+ordered cluster (commands.Cut first second) = option_and_then (cut_of cluster.book.cuts) (link_of cluster.book.members first second)
+ordered cluster (commands.Join first second) = option_and_then (join_of cluster.book.cuts) (link_of cluster.book.members first second)
 ordered cluster _ = None
 
 -- the events of a command
 abbrev pub command_events : Cluster → Command → List Event
-command_events cluster (commands.Turn member) = wake_at cluster member.number
+command_events cluster (commands.Turn id) = for_some (declared cluster id) (wakes cluster)
 command_events cluster (commands.Deliver number) = delivers cluster number (in_flight cluster.book.flight number)
 command_events cluster (commands.Lose number) = loses cluster number (in_flight cluster.book.flight number)
-command_events cluster (commands.Promote member) = promotes cluster (slice_get cluster.book.members member.number)
-command_events cluster (commands.Stream member most) = receives_at_most cluster most (slice_get cluster.book.members member.number)
+command_events cluster (commands.Promote id) = for_some (declared cluster id) (promotes cluster)
+command_events cluster (commands.Stream id most) = for_some (declared cluster id) (receives_at_most cluster most)
 command_events cluster command = all_happen cluster (kinds_of (ordered cluster command))
 
--- a tick of the default schedule: standbys receive, and then agents are woken and messages come
+-- a tick of the default schedule: standbys receive, in script order, and then agents are woken and messages come
 abbrev pub scheduled : Cluster → List Event
-scheduled cluster = followed cluster (all_receive cluster 0 (length cluster.book.members)) (λ later. rounds later most_rounds)
+scheduled cluster = followed cluster (each receives_all cluster cluster.book.members) (λ later. rounds later most_rounds)
 
 abbrev pub taken : Cluster → Step → List Event
 taken cluster steps.Scheduled = followed cluster (ticks cluster) scheduled
@@ -357,7 +310,7 @@ taken cluster (steps.Command command) = command_events cluster command
 
 -- the events of a step; after each the commits that may be are acknowledged
 abbrev pub next_events : Cluster → Step → List Event
-next_events cluster step = followed cluster (taken cluster step) (λ later. acknowledges later 0 (length later.book.members))
+next_events cluster step = followed cluster (taken cluster step) (λ later. each acknowledges later later.book.members)
 
 -- the events of these steps, one after another
 abbrev pub run_from : Cluster → List Step → List Event

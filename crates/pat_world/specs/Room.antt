@@ -1,4 +1,4 @@
--- How far a cluster may go.
+-- How far a cluster may go, and how many events its parts bring at most.
 use Rattle.std.specs.Prelude.{ℕ, ◌+◌, ◌*◌, ◌^◌, ◌<◌, ◌≤◌, All}
 use Rattle.pat_world.specs.Cluster.{Cluster}
 use Rattle.pat_world.specs.declared.phase.Phase.{Phase}
@@ -18,9 +18,80 @@ pub record HasRoom (cluster : Cluster) (events : ℕ) : Type 0 where
   pub timelines : All (λ s. s.timeline + events < 2 ^ 60) cluster.book.servers
   pub commits : cluster.book.commits + events < 2 ^ 60
 
--- more than the events of any step
+-- so many members may be declared
+abbrev pub most_members : ℕ
+most_members = 16
+
+-- so many messages may be in flight
+abbrev pub most_in_flight : ℕ
+most_in_flight = 65536
+
+-- so many rounds may come in one tick
+abbrev pub most_rounds : ℕ
+most_rounds = 40
+
+-- a message that is sent may be lost at once
+abbrev pub sending_cost : ℕ
+sending_cost = 1 + 1
+
+-- a server starts and follows another one
+abbrev pub following_cost : ℕ
+following_cost = 1 + 1
+
+-- what an agent does on an input: its server follows a leader, and it asks
+abbrev pub reaction_cost : ℕ
+reaction_cost = following_cost + sending_cost
+
+-- an agent is woken, and does that
+abbrev pub input_cost : ℕ
+input_cost = 1 + reaction_cost
+
+-- the store decides, and answers
+abbrev pub decision_cost : ℕ
+decision_cost = 1 + sending_cost
+
+-- a message comes, and an agent does that; what the store does is less
+abbrev pub message_cost : ℕ
+message_cost = 1 + reaction_cost
+
+-- a standby receives, and confirms
+abbrev pub streaming_cost : ℕ
+streaming_cost = 1 + 1
+
+-- an operator promotes a standby, and it begins
+abbrev pub promotion_cost : ℕ
+promotion_cost = 1 + 1
+
+-- no command brings more than a turn, or a message that is delivered
+abbrev pub command_cost : ℕ
+command_cost = input_cost
+
+-- each agent is woken
+abbrev pub wakes_cost : ℕ
+wakes_cost = most_members * input_cost
+
+-- and then each message in flight moves
+abbrev pub round_cost : ℕ
+round_cost = wakes_cost + most_in_flight * message_cost
+
+abbrev pub rounds_cost : ℕ
+rounds_cost = most_rounds * round_cost
+
+-- each standby receives
+abbrev pub receiving_cost : ℕ
+receiving_cost = most_members * streaming_cost
+
+-- and then come the rounds
+abbrev pub schedule_cost : ℕ
+schedule_cost = receiving_cost + rounds_cost
+
+-- the clock grows by one; expiries take no room
+abbrev pub tick_cost : ℕ
+tick_cost = 1
+
+-- no step brings more than a tick of the default schedule; acknowledgements take no room
 abbrev pub step_cost : ℕ
-step_cost = 16777216
+step_cost = tick_cost + schedule_cost
 
 -- so many more steps can't bring a counter to its end
 pub record HasRoomFor (cluster : Cluster) (steps : ℕ) : Type 0 where

@@ -17,14 +17,12 @@ use Rattle.cluster_script.specs.declared.line.Transition.TheVariants as transiti
 use Rattle.cluster_script.specs.declared.ranges.Delay.{Delay}
 
 -- a standby may be promoted, to the next timeline
-abbrev pub promoted_timeline : Option ServerFacts → Option ℕ
-promoted_timeline None = None
-promoted_timeline (Some s) = if is_replica s.state then Some (s.timeline + 1) else None
+abbrev pub promoted_timeline : ServerFacts → Option ℕ
+promoted_timeline s = if is_replica s.state then Some (s.timeline + 1) else None
 
 -- a standby is promoted by its operator, and accepts writes on this timeline
-abbrev pub promote_kinds : Member → Option ℕ → List Kind
-promote_kinds member None = []
-promote_kinds member (Some timeline) = kinds.Server (servers.Promoted (server_of member)) ∷ kinds.Server (servers.Began (server_of member) timeline) ∷ []
+abbrev pub promote_kinds : Member → ℕ → List Kind
+promote_kinds member timeline = kinds.Server (servers.Promoted (server_of member)) ∷ kinds.Server (servers.Began (server_of member) timeline) ∷ []
 
 -- it crashed, or waits for a copy
 abbrev pub is_gone : State → Bool
@@ -33,19 +31,14 @@ is_gone states.Creating = true
 is_gone _ = false
 
 -- a server that isn't gone already crashes
-abbrev pub crash_of : Member → Option ServerFacts → Option Kind
-crash_of member None = None
-crash_of member (Some s) = if is_gone s.state then None else Some (kinds.Server (servers.Crashed (server_of member)))
+abbrev pub crash_of : Member → ServerFacts → Option Kind
+crash_of member s = if is_gone s.state then None else Some (kinds.Server (servers.Crashed (server_of member)))
 
--- a server that isn't frozen is
-abbrev pub freeze_of : Member → Option Bool → Option Kind
-freeze_of member None = None
-freeze_of member (Some frozen) = if frozen then None else Some (kinds.Server (servers.Frozen (server_of member)))
-
--- a frozen server isn't any more
-abbrev pub thaw_of : Member → Option Bool → Option Kind
-thaw_of member None = None
-thaw_of member (Some frozen) = if frozen then Some (kinds.Server (servers.Thawed (server_of member))) else None
+-- a server becomes frozen, or isn't any more, where that is a change
+abbrev pub freezing_of : Bool → Member → Bool → Option Kind
+freezing_of true member false = Some (kinds.Server (servers.Frozen (server_of member)))
+freezing_of false member true = Some (kinds.Server (servers.Thawed (server_of member)))
+freezing_of to member frozen = None
 
 abbrev pub ticks_of : Delay → Ticks
 ticks_of delay = record { 0 = delay.ticks }
@@ -55,9 +48,8 @@ abbrev pub slow_by : Member → Transition → Delay → Ticks → Ticks → Opt
 slow_by member transitions.Stop delay stop start = if stop.0 == delay.ticks then None else Some (kinds.Server (servers.Slowed (server_of member) (Some (ticks_of delay)) None))
 slow_by member transitions.Start delay stop start = if start.0 == delay.ticks then None else Some (kinds.Server (servers.Slowed (server_of member) None (Some (ticks_of delay))))
 
-abbrev pub slow_of : Member → Transition → Delay → Option ServerFacts → Option Kind
-slow_of member transition delay None = None
-slow_of member transition delay (Some s) = slow_by member transition delay s.stop_delay s.start_delay
+abbrev pub slow_of : Member → Transition → Delay → ServerFacts → Option Kind
+slow_of member transition delay s = slow_by member transition delay s.stop_delay s.start_delay
 
 -- a commit stands in the log of a server as this entry, or is refused
 abbrev pub commit_of : Member → Option Entry → Kind

@@ -3,7 +3,7 @@ ghost use Rattle.std.specs.Prelude.{◌≡◌, ◌<◌, ◌^◌, slice_get, true
 ghost use Rattle.event_book.specs.Agents.{agents_by, changed, running_in};
 ghost use Rattle.pat_world.specs.Cluster.{Cluster};
 ghost use Rattle.pat_world.specs.Comes.{MayCome};
-ghost use Rattle.pat_world.specs.Commands.{hold_of, resume_of, kill_of, restart_of};
+ghost use Rattle.pat_world.specs.Commands.{hold_of, resume_of, kill_of, restarted};
 ghost use Rattle.pat_world.specs.Next.{is_ready, seat_of, roused, listened};
 ghost use Rattle.pat_world.specs.Room.{PhaseHasRoom};
 ghost use Rattle.pat_world.specs.Short.{AsksShortly};
@@ -37,11 +37,10 @@ pub fn is_ready(now: Ticks, seat: &Seat) -> bool
 }
 
 /// A hold: what happens where the agent runs and isn't held.
-pub fn hold_of(seat: Option<Seat>) -> Option<Kind>
+pub fn hold_of(seat: Seat) -> Option<Kind>
     ensures kind { result ≡ hold_of seat }
     ensures comes { (cluster : Cluster) → IfSome result (MayCome cluster) }
 {
-    let seat = seat?;
     if seat.state.running && !seat.state.held {
         Some(Kind::Agent(AgentEvent::Suspended { agent: seat.member }))
     } else {
@@ -50,11 +49,10 @@ pub fn hold_of(seat: Option<Seat>) -> Option<Kind>
 }
 
 /// The end of a hold: what happens where the agent is held.
-pub fn resume_of(seat: Option<Seat>) -> Option<Kind>
+pub fn resume_of(seat: Seat) -> Option<Kind>
     ensures kind { result ≡ resume_of seat }
     ensures comes { (cluster : Cluster) → IfSome result (MayCome cluster) }
 {
-    let seat = seat?;
     if seat.state.held {
         Some(Kind::Agent(AgentEvent::Resumed { agent: seat.member }))
     } else {
@@ -63,11 +61,10 @@ pub fn resume_of(seat: Option<Seat>) -> Option<Kind>
 }
 
 /// The end of an agent: what happens where it runs.
-pub fn kill_of(seat: Option<Seat>) -> Option<Kind>
+pub fn kill_of(seat: Seat) -> Option<Kind>
     ensures kind { result ≡ kill_of seat }
     ensures comes { (cluster : Cluster) → IfSome result (MayCome cluster) }
 {
-    let seat = seat?;
     if seat.state.running {
         Some(Kind::Agent(AgentEvent::Killed { agent: seat.member }))
     } else {
@@ -76,17 +73,16 @@ pub fn kill_of(seat: Option<Seat>) -> Option<Kind>
 }
 
 /// The start of an agent: it is in its next run then. Of one that runs it is said that it does.
-pub fn restart_of(seat: Option<Seat>) -> Option<Kind>
-    requires { IfSome seat (λ s. s.state.run < 2 ^ 60) }
-    ensures { result ≡ restart_of seat }
+pub fn restarted(seat: Seat) -> Kind
+    requires { seat.state.run < 2 ^ 60 }
+    ensures { result ≡ restarted seat }
 {
-    let seat = seat?;
     let agent = seat.member;
     if seat.state.running {
-        Some(Kind::Note(Note::AlreadyRunning { agent }))
+        Kind::Note(Note::AlreadyRunning { agent })
     } else {
         let run = seat.state.run + 1;
-        Some(Kind::Agent(AgentEvent::Started { agent, run }))
+        Kind::Agent(AgentEvent::Started { agent, run })
     }
 }
 

@@ -5,8 +5,8 @@ ghost use Rattle.std.specs.Map.{keys_of};
 ghost use Rattle.std.specs.List.Sorted.{IsStrictlySortedBy};
 ghost use Rattle.std.specs.Ordering.{nat_cmp};
 ghost use Rattle.event_book.specs.Flight.{InFlightFacts, in_flight, landed};
-ghost use Rattle.pat_world.specs.Next.{most_in_flight};
 ghost use Rattle.pat_world.specs.Launches.{launched_into};
+ghost use Rattle.pat_world.specs.Room.{most_in_flight};
 ghost use Rattle.pat_world.specs.Settled.{numbers_from};
 ghost use Rattle.pat_world.specs.Short.{IsShort};
 
@@ -45,13 +45,14 @@ pub struct Flight {
 impl Model for Flight {
     ghost use Rattle.std.specs.Prelude.{◌≤◌, length};
     ghost use Rattle.event_book.specs.Flight.{Flight};
+    ghost use Rattle.pat_world.specs.Room.{most_in_flight};
     ghost use Rattle.pat_world.specs.Short.{AllShort};
 
     ghost Value = { Flight };
 
     ghost view = { λ f. f.messages.entries };
 
-    ghost invariant = { λ f. (length f.messages.entries ≤ 65536) × AllShort f.messages.entries };
+    ghost invariant = { λ f. (length f.messages.entries ≤ most_in_flight) × AllShort f.messages.entries };
 }
 
 impl Flight {
@@ -108,7 +109,7 @@ impl Flight {
     /// The numbers of the messages in flight from this number on, in order. It fails only for want of memory.
     pub fn numbers_from(&self, alloc: Global, mark: u64) -> Result<Vec<u64>, AllocError>
         ensures numbers { IfOk result (λ numbers. numbers.items ≡ numbers_from mark self.now) }
-        ensures few { IfOk result (λ numbers. length numbers.items ≤ 65536) }
+        ensures few { IfOk result (λ numbers. length numbers.items ≤ most_in_flight) }
         ensures order { IsStrictlySortedBy nat_cmp (keys_of self.now) }
     {
         let mut numbers = Vec::new(alloc);

@@ -1,5 +1,5 @@
 //! What the server of a member does under another leader.
-ghost use Rattle.std.specs.Prelude.{◌≡◌, slice_get};
+ghost use Rattle.std.specs.Prelude.{◌≡◌, option_and_then, slice_get};
 ghost use Rattle.pat_world.specs.FollowRows.{is_upstream, follow_row, follow_row_of};
 
 use crate::follow_row::FollowRow;
@@ -9,7 +9,7 @@ use pg_model::Servers;
 
 /// What the server of a member does under this leader, if anything.
 pub fn follow_row_of(servers: &Servers, member: Member, leader: Member) -> Option<FollowRow>
-    ensures { result ≡ follow_row_of leader (slice_get servers.now member.id.number) }
+    ensures { result ≡ option_and_then (follow_row_of leader) (slice_get servers.now member.id.number) }
 {
     let server = servers.get(member.id.number as usize)?;
     follow_row(leader, server.state(), server.diverged(), server.upstream())

@@ -10,6 +10,7 @@ mod following;
 mod info;
 mod laws;
 mod links;
+mod members;
 mod phase;
 mod server_changes;
 mod server_commands;

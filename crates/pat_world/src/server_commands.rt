@@ -1,9 +1,9 @@
 //! What commands of a script come to at servers.
-ghost use Rattle.std.specs.Prelude.{◌≡◌, ◌<◌, ◌^◌, IfSome, slice_get};
+ghost use Rattle.std.specs.Prelude.{◌≡◌, ◌<◌, ◌^◌, IfSome, option_and_then, slice_get};
 ghost use Rattle.pg_model.specs.Servers.{entry_for};
 ghost use Rattle.pat_world.specs.Cluster.{Cluster};
 ghost use Rattle.pat_world.specs.Comes.{MayCome};
-ghost use Rattle.pat_world.specs.ServerCommands.{promoted_timeline, is_gone, commit_of, crash_of, freeze_of, thaw_of, slow_by, slow_of};
+ghost use Rattle.pat_world.specs.ServerCommands.{promoted_timeline, is_gone, commit_of, crash_of, freezing_of, slow_by, slow_of};
 
 use cluster_script::{Delay, Transition};
 use event_book::{Kind, LogEvent, Member, Note, ServerEvent, ServerOf};
@@ -14,7 +14,7 @@ use wal_model::Entry;
 /// The timeline to which the server of a member is promoted, if it is a standby.
 pub fn promoted_timeline(servers: &Servers, member: Member) -> Option<u64>
     requires { IfSome (slice_get servers.now member.id.number) (λ s. s.timeline < 2 ^ 60) }
-    ensures { result ≡ promoted_timeline (slice_get servers.now member.id.number) }
+    ensures { result ≡ option_and_then promoted_timeline (slice_get servers.now member.id.number) }
 {
     let server = servers.get(member.id.number as usize)?;
     match server.state() {
@@ -25,7 +25,7 @@ pub fn promoted_timeline(servers: &Servers, member: Member) -> Option<u64>
 
 /// A crash: what happens where the server isn't gone already.
 pub fn crash_of(servers: &Servers, member: Member) -> Option<Kind>
-    ensures kind { result ≡ crash_of member (slice_get servers.now member.id.number) }
+    ensures kind { result ≡ option_and_then (crash_of member) (slice_get servers.now member.id.number) }
     ensures comes { (cluster : Cluster) → IfSome result (MayCome cluster) }
 {
     let server = servers.get(member.id.number as usize)?;
@@ -45,33 +45,17 @@ fn is_gone(state: State) -> bool
     matches!(state, State::Crashed | State::Creating)
 }
 
-/// What happens where the server isn't frozen.
-pub fn freeze_of(frozen: &[bool], member: Member) -> Option<Kind>
-    ensures kind { result ≡ freeze_of member (slice_get frozen.now member.id.number) }
+/// A freeze, or the end of one: what happens where the server is the other.
+pub fn freezing_of(frozen: &[bool], member: Member, to: bool) -> Option<Kind>
+    ensures kind { result ≡ option_and_then (freezing_of to member) (slice_get frozen.now member.id.number) }
     ensures comes { (cluster : Cluster) → IfSome result (MayCome cluster) }
 {
     let is_frozen = *frozen.get(member.id.number as usize)?;
-    if is_frozen {
-        None
-    } else {
-        Some(Kind::Server(ServerEvent::Frozen {
-            server: ServerOf::of(member),
-        }))
-    }
-}
-
-/// What happens where the server is frozen.
-pub fn thaw_of(frozen: &[bool], member: Member) -> Option<Kind>
-    ensures kind { result ≡ thaw_of member (slice_get frozen.now member.id.number) }
-    ensures comes { (cluster : Cluster) → IfSome result (MayCome cluster) }
-{
-    let is_frozen = *frozen.get(member.id.number as usize)?;
-    if is_frozen {
-        Some(Kind::Server(ServerEvent::Thawed {
-            server: ServerOf::of(member),
-        }))
-    } else {
-        None
+    let server = ServerOf::of(member);
+    match (to, is_frozen) {
+        (true, false) => Some(Kind::Server(ServerEvent::Frozen { server })),
+        (false, true) => Some(Kind::Server(ServerEvent::Thawed { server })),
+        _ => None,
     }
 }
 
@@ -82,7 +66,7 @@ pub fn slow_of(
     transition: Transition,
     delay: Delay,
 ) -> Option<Kind>
-    ensures kind { result ≡ slow_of member transition delay (slice_get servers.now member.id.number) }
+    ensures kind { result ≡ option_and_then (slow_of member transition delay) (slice_get servers.now member.id.number) }
     ensures comes { (cluster : Cluster) → IfSome result (MayCome cluster) }
 {
     let server = servers.get(member.id.number as usize)?;

@@ -1,6 +1,7 @@
 //! The world: it takes the steps of a script and hands out what happens.
-ghost use Rattle.std.specs.Prelude.{ℕ, List, ◌≡◌, ◌<◌, ◌≤◌, ◌+◌, ◌*◌, ◌^◌, ◌++◌, ◌∷◌, [], length, OnOk, IfOk, IfSome, slice_get, Some};
+ghost use Rattle.std.specs.Prelude.{ℕ, List, ◌≡◌, ◌<◌, ◌≤◌, ◌+◌, ◌*◌, ◌^◌, ◌++◌, ◌∷◌, [], length, OnOk, OnErr, IfOk, IfSome, slice_get, Some};
 ghost use Rattle.pat_base.specs.MemberId.{member_of};
+ghost use Rattle.cluster_script.specs.Script.{IsCommand, IsLink, IsMember};
 ghost use Rattle.event_book.specs.declared.event.Event.{Event};
 ghost use Rattle.event_book.specs.Agents.{first_agents};
 ghost use Rattle.event_book.specs.Members.{members_from};
@@ -9,8 +10,9 @@ ghost use Rattle.pat_world.specs.Book.{StandsFor, next_of};
 ghost use Rattle.pat_world.specs.Cluster.{Cluster, cluster_of, first_phases};
 ghost use Rattle.pat_world.specs.Comes.{MayCome};
 ghost use Rattle.pat_world.specs.Commands.{link_of};
-ghost use Rattle.pat_world.specs.Next.{stamped, round, rounds, most_rounds, declared_member, expiry_of, expiries_of, ticks, command_events, ordered, scheduled, taken, next_events};
-ghost use Rattle.pat_world.specs.Room.{HasRoom, HasRoomFor};
+ghost use Rattle.pat_world.specs.Steps.{IsStep, names_in};
+ghost use Rattle.pat_world.specs.Next.{stamped, round, rounds, declared, declared_member, expiry_of, expiries_of, ticks, command_events, ordered, scheduled, taken, next_events};
+ghost use Rattle.pat_world.specs.Room.{HasRoom, HasRoomFor, command_cost, most_rounds, round_cost, rounds_cost, schedule_cost, step_cost, tick_cost};
 ghost use Rattle.pat_world.specs.Took.{Took};
 
 mod acknowledging;
@@ -21,11 +23,12 @@ mod servers;
 mod streaming;
 
 use crate::agent::fresh_phase;
-use crate::agents::{hold_of, kill_of, restart_of, resume_of};
+use crate::agents::{hold_of, kill_of, restarted, resume_of};
 use crate::flight::Flight;
 use crate::links::{cut_of, join_of, link_of};
+use crate::members;
 use crate::phase::Phase;
-use crate::server_commands::{commit_of, crash_of, freeze_of, slow_of, thaw_of};
+use crate::server_commands::{commit_of, crash_of, freezing_of, slow_of};
 use cluster_script::{Command, End, Head, Step};
 use event_book::{AgentState, Event, Kind, Link, Member, StoreEvent};
 use lease_store::{ConfigValue, Key, Store};
@@ -63,6 +66,7 @@ pub struct World {
 impl Model for World {
     ghost use Rattle.std.specs.Prelude.{◌≤◌, ◌+◌, length};
     ghost use Rattle.pat_world.specs.Cluster.{Cluster};
+    ghost use Rattle.pat_world.specs.Room.{most_members};
     ghost use Rattle.pat_world.specs.Settled.{AreKeptBelow};
 
     ghost Value = { Cluster };
@@ -84,7 +88,7 @@ impl Model for World {
       phases = w.phases.items;
     } };
 
-    ghost invariant = { λ w. (length w.members.items ≤ 16) × (w.settled ≤ w.sent + 1) × AreKeptBelow w.settled w.flight w.agents.items w.cuts.items };
+    ghost invariant = { λ w. (length w.members.items ≤ most_members) × (w.settled ≤ w.sent + 1) × AreKeptBelow w.settled w.flight w.agents.items w.cuts.items };
 }
 
 impl World {
@@ -126,14 +130,32 @@ impl World {
         self.clock
     }
 
-    /// One step. On Ok the events are those that come next, and the world is what they leave: a world that stood for a
-    /// book stands for that book with them at its end. No commit is left that may be acknowledged. On Err, want of
-    /// memory, the world and the events aren't to be used any more.
+    /// One step of a script with these members, into an empty list. On Ok the events are those that come next, and the
+    /// world is what they leave: a world that stood for a book stands for that book with them at its end. No commit is
+    /// left that may be acknowledged. On Err, want of memory, the list is as it was, and the world isn't to be used any
+    /// more.
     pub fn step(&mut self, step: &Step, events: &mut Vec<Event>) -> Result<(), AllocError>
-        requires { HasRoomFor self.old 1 }
-        ensures took { OnOk result (Took self.old self.new events.old.items events.new.items (next_events self.old step.now) 16777216) }
+        requires room { HasRoomFor self.old 1 }
+        requires declared { IsStep self.old.book.members step.now }
+        requires empty { events.old.items ≡ [] }
+        ensures took { OnOk result (Took self.old self.new events.old.items events.new.items (next_events self.old step.now) step_cost) }
         ensures book { OnOk result ((start : Cluster) (book : List Event) → StandsFor start book self.old
             → (events.new.items ≡ events.old.items ++ next_of start book step.now) × StandsFor start (book ++ next_of start book step.now) self.new) }
+        ensures acknowledged { OnOk result (AreAcknowledged self.new.book.members self.new.book.servers) }
+        ensures refused { OnErr result (events.new.items ≡ events.old.items) }
+    {
+        let taken = self.play(step, events);
+        if taken.is_err() {
+            events.clear();
+        }
+        taken
+    }
+
+    /// What happens in a step, and then the acknowledgements.
+    fn play(&mut self, step: &Step, events: &mut Vec<Event>) -> Result<(), AllocError>
+        requires room { HasRoomFor self.old 1 }
+        requires declared { IsStep self.old.book.members step.now }
+        ensures took { OnOk result (Took self.old self.new events.old.items events.new.items (next_events self.old step.now) step_cost) }
         ensures acknowledged { OnOk result (AreAcknowledged self.new.book.members self.new.book.servers) }
     {
         self.take(step, events)?;
@@ -142,8 +164,9 @@ impl World {
 
     /// What happens in a step.
     fn take(&mut self, step: &Step, events: &mut Vec<Event>) -> Result<(), AllocError>
-        requires { HasRoomFor self.old 1 }
-        ensures { OnOk result (Took self.old self.new events.old.items events.new.items (taken self.old step.now) 16777216) }
+        requires room { HasRoomFor self.old 1 }
+        requires declared { IsStep self.old.book.members step.now }
+        ensures { OnOk result (Took self.old self.new events.old.items events.new.items (taken self.old step.now) step_cost) }
     {
         match step {
             Step::Scheduled => {
@@ -157,21 +180,21 @@ impl World {
 
     /// A tick of the default schedule: standbys receive, and then agents are woken and messages come.
     fn scheduled(&mut self, events: &mut Vec<Event>) -> Result<(), AllocError>
-        requires { HasRoom self.old 13110432 }
-        ensures { OnOk result (Took self.old self.new events.old.items events.new.items (scheduled self.old) 13110432) }
+        requires { HasRoom self.old schedule_cost }
+        ensures { OnOk result (Took self.old self.new events.old.items events.new.items (scheduled self.old) schedule_cost) }
     {
-        let members = self.members.len();
-        self.all_receive(members, events)?;
+        self.all_receive(events)?;
         self.rounds(events)
     }
 
     /// What a command comes to.
     fn command(&mut self, command: &Command, events: &mut Vec<Event>) -> Result<(), AllocError>
-        requires { HasRoom self.old 5 }
-        ensures { OnOk result (Took self.old self.new events.old.items events.new.items (command_events self.old command.now) 5) }
+        requires room { HasRoom self.old command_cost }
+        requires declared { IsCommand (names_in self.old.book.members) command.now }
+        ensures { OnOk result (Took self.old self.new events.old.items events.new.items (command_events self.old command.now) command_cost) }
     {
         match *command {
-            Command::Turn(member) => self.wake(member.number as usize, events),
+            Command::Turn(id) => self.wake(self.declared(id), events),
             Command::Deliver(number) => self.deliver(number, events),
             Command::Lose(number) => self.lose(number, events),
             Command::Promote(id) => self.promote(self.declared(id), events),
@@ -182,24 +205,25 @@ impl World {
 
     /// What a command comes to that brings one event at most.
     fn ordered(&self, command: &Command) -> Option<Kind>
-        requires { HasRoom self.now 1 }
+        requires room { HasRoom self.now 1 }
+        requires declared { IsCommand (names_in self.now.book.members) command.now }
         ensures kind { result ≡ ordered self.now command.now }
         ensures comes { IfSome result (MayCome self.now) }
     {
         match *command {
-            Command::Hold(member) => hold_of(self.seat(member)),
-            Command::Resume(member) => resume_of(self.seat(member)),
-            Command::Kill(member) => kill_of(self.seat(member)),
-            Command::Restart(member) => restart_of(self.seat(member)),
-            Command::Crash(id) => crash_of(&self.servers, self.declared(id)?),
+            Command::Hold(id) => hold_of(self.seat_at(id)?),
+            Command::Resume(id) => resume_of(self.seat_at(id)?),
+            Command::Kill(id) => kill_of(self.seat_at(id)?),
+            Command::Restart(id) => Some(restarted(self.seat_at(id)?)),
+            Command::Crash(id) => crash_of(&self.servers, self.declared(id)),
             Command::Commit(id, size) => {
-                let member = self.declared(id)?;
+                let member = self.declared(id);
                 Some(commit_of(&self.servers, member, self.commits + 1, size.bytes))
             }
-            Command::Freeze(id) => freeze_of(&self.frozen, self.declared(id)?),
-            Command::Thaw(id) => thaw_of(&self.frozen, self.declared(id)?),
+            Command::Freeze(id) => freezing_of(&self.frozen, self.declared(id), true),
+            Command::Thaw(id) => freezing_of(&self.frozen, self.declared(id), false),
             Command::Slow(id, transition, delay) => {
-                slow_of(&self.servers, self.declared(id)?, transition, delay)
+                slow_of(&self.servers, self.declared(id), transition, delay)
             }
             Command::Cut(first, second) => cut_of(&self.cuts, self.link(first, second)),
             Command::Join(first, second) => join_of(&self.cuts, self.link(first, second)),
@@ -210,8 +234,8 @@ impl World {
     /// The clock grows by one, starts and stops of servers whose moment has come are complete, and the keys that have
     /// expired are dropped.
     fn tick(&mut self, events: &mut Vec<Event>) -> Result<(), AllocError>
-        requires { HasRoom self.old 1 }
-        ensures { OnOk result (Took self.old self.new events.old.items events.new.items (ticks self.old) 1) }
+        requires { HasRoom self.old tick_cost }
+        ensures { OnOk result (Took self.old self.new events.old.items events.new.items (ticks self.old) tick_cost) }
     {
         let now = Ticks(self.clock.0 + 1);
         let expired = self.store.expired(now)?;
@@ -223,8 +247,8 @@ impl World {
 
     /// The rounds of a tick. A round in which nothing happens is the last.
     fn rounds(&mut self, events: &mut Vec<Event>) -> Result<(), AllocError>
-        requires { HasRoom self.old 13110400 }
-        ensures { OnOk result (Took self.old self.new events.old.items events.new.items (rounds self.old most_rounds) 13110400) }
+        requires { HasRoom self.old rounds_cost }
+        ensures { OnOk result (Took self.old self.new events.old.items events.new.items (rounds self.old most_rounds) rounds_cost) }
     {
         for done in 0..MOST_ROUNDS {
             let before = events.len();
@@ -239,11 +263,10 @@ impl World {
 
     /// A round: each due agent is woken, and then each message that is in flight at that point moves.
     fn round(&mut self, events: &mut Vec<Event>) -> Result<(), AllocError>
-        requires { HasRoom self.old 327760 }
-        ensures { OnOk result (Took self.old self.new events.old.items events.new.items (round self.old) 327760) }
+        requires { HasRoom self.old round_cost }
+        ensures { OnOk result (Took self.old self.new events.old.items events.new.items (round self.old) round_cost) }
     {
-        let count = self.members.len();
-        self.wakes(count, events)?;
+        self.wakes(events)?;
         let numbers = self.flight.numbers_from(self.alloc, self.settled)?;
         self.all_move(&numbers, events)
     }
@@ -257,24 +280,26 @@ impl World {
         self.settled = self.sent + 1;
     }
 
-    /// The declared member at a place.
-    fn member(&self, place: usize) -> Option<Member>
-        ensures { result ≡ slice_get self.now.book.members place }
+    /// The member at a place.
+    fn member(&self, place: usize) -> Member
+        requires { place < length self.now.book.members }
+        ensures { slice_get self.now.book.members place ≡ Some result }
     {
-        let member = self.members.get(place)?;
-        Some(*member)
+        self.members[place]
     }
 
     /// The declared member of this number.
-    fn declared(&self, id: MemberId) -> Option<Member>
-        ensures { result ≡ slice_get self.now.book.members id.number }
+    fn declared(&self, id: MemberId) -> Member
+        requires { IsMember (names_in self.now.book.members) id }
+        ensures { declared self.now id ≡ Some result }
     {
-        self.member(id.number as usize)
+        members::declared(&self.members, id)
     }
 
     /// The link between two ends that a script names.
-    fn link(&self, first: End, second: End) -> Option<Link>
-        ensures { result ≡ link_of self.now.book.members first second }
+    fn link(&self, first: End, second: End) -> Link
+        requires { IsLink (names_in self.now.book.members) first second }
+        ensures { link_of self.now.book.members first second ≡ Some result }
     {
         link_of(&self.members, first, second)
     }

@@ -1,7 +1,7 @@
 //! Commits whose clients are told that they are stored.
 ghost use Rattle.std.specs.Prelude.{◌≡◌, ◌+◌, OnOk, length};
 ghost use Rattle.pat_world.specs.Acknowledging.{AreAcknowledged};
-ghost use Rattle.pat_world.specs.Next.{acknowledges, acknowledges_at, acknowledges_for};
+ghost use Rattle.pat_world.specs.Next.{acknowledges, each};
 ghost use Rattle.pat_world.specs.Took.{Took};
 
 use super::{World, note};
@@ -11,29 +11,18 @@ use std::alloc::AllocError;
 impl World {
     /// The commits of all servers are acknowledged as far as they may be, in script order. Then none is left that may be.
     pub fn acknowledge_all(&mut self, events: &mut Vec<Event>) -> Result<(), AllocError>
-        ensures took { OnOk result (Took self.old self.new events.old.items events.new.items (acknowledges self.old 0 (length self.old.book.members)) 0) }
+        ensures took { OnOk result (Took self.old self.new events.old.items events.new.items (each acknowledges self.old self.old.book.members) 0) }
         ensures done { OnOk result (AreAcknowledged self.new.book.members self.new.book.servers) }
     {
-        let count = self.members.len();
-        for place in 0..count {
-            self.acknowledge_at(place, events)?;
+        for place in 0..self.members.len() {
+            self.acknowledge(self.member(place), events)?;
         }
         Ok(())
     }
 
-    /// Those of the server of the member at a place.
-    fn acknowledge_at(&mut self, place: usize, events: &mut Vec<Event>) -> Result<(), AllocError>
-        ensures { OnOk result (Took self.old self.new events.old.items events.new.items (acknowledges_at self.old place) 0) }
-    {
-        match self.member(place) {
-            None => Ok(()),
-            Some(member) => self.acknowledge(member, events),
-        }
-    }
-
     /// Those of the server of a member.
     fn acknowledge(&mut self, member: Member, events: &mut Vec<Event>) -> Result<(), AllocError>
-        ensures { OnOk result (Took self.old self.new events.old.items events.new.items (acknowledges_for self.old (Some member)) 0) }
+        ensures { OnOk result (Took self.old self.new events.old.items events.new.items (acknowledges self.old member) 0) }
     {
         let server = ServerOf::of(member);
         let place = member.id.number as usize;

@@ -1,7 +1,9 @@
 //! Agents: how they are woken, act and are changed by commands.
 ghost use Rattle.std.specs.Prelude.{◌≡◌, ◌+◌, ◌*◌, OnOk, IfOk, IfSome, slice_get};
-ghost use Rattle.pat_world.specs.Next.{happens, roused, seat_at, reacts, asked, wake_at, wakes};
-ghost use Rattle.pat_world.specs.Room.{HasRoom};
+ghost use Rattle.cluster_script.specs.Script.{IsMember};
+ghost use Rattle.pat_world.specs.Steps.{names_in};
+ghost use Rattle.pat_world.specs.Next.{asked, does, each, follows, for_some, happens, reacts, roused, seat_at, seat_for, wakes};
+ghost use Rattle.pat_world.specs.Room.{HasRoom, input_cost, reaction_cost, sending_cost, wakes_cost};
 ghost use Rattle.pat_world.specs.Short.{AsksShortly};
 ghost use Rattle.pat_world.specs.Took.{Took};
 
@@ -14,30 +16,29 @@ use std::alloc::AllocError;
 
 impl World {
     /// The agents are woken where they have something to do, in script order.
-    pub fn wakes(&mut self, count: usize, events: &mut Vec<Event>) -> Result<(), AllocError>
-        requires { HasRoom self.old (5 * count) }
-        ensures { OnOk result (Took self.old self.new events.old.items events.new.items (wakes self.old 0 count) (5 * count)) }
+    pub fn wakes(&mut self, events: &mut Vec<Event>) -> Result<(), AllocError>
+        requires { HasRoom self.old wakes_cost }
+        ensures { OnOk result (Took self.old self.new events.old.items events.new.items (each wakes self.old self.old.book.members) wakes_cost) }
     {
-        for place in 0..count {
-            self.wake(place, events)?;
+        for place in 0..self.members.len() {
+            self.wake(self.member(place), events)?;
         }
         Ok(())
     }
 
-    /// The agent at a place is woken, where it has something to do.
-    pub fn wake(&mut self, place: usize, events: &mut Vec<Event>) -> Result<(), AllocError>
-        requires { HasRoom self.old 5 }
-        ensures { OnOk result (Took self.old self.new events.old.items events.new.items (wake_at self.old place) 5) }
+    /// The agent of a member is woken, where it has something to do.
+    pub fn wake(&mut self, member: Member, events: &mut Vec<Event>) -> Result<(), AllocError>
+        requires { HasRoom self.old input_cost }
+        ensures { OnOk result (Took self.old self.new events.old.items events.new.items (wakes self.old member) input_cost) }
     {
-        let Some(seat) = self.seat_at(place) else {
+        let Some(seat) = self.seat_for(member) else {
             return Ok(());
         };
         if !is_ready(self.clock, &seat) {
             return Ok(());
         }
-        let agent = seat.member;
-        let reaction = self.rouse(agent, events)?;
-        self.react(agent, reaction, events)
+        let reaction = self.rouse(member, events)?;
+        self.react(member, reaction, events)
     }
 
     /// The agent of a member is woken. Answers what it does, where there is one.
@@ -63,9 +64,9 @@ impl World {
         reaction: Option<Reaction>,
         events: &mut Vec<Event>,
     ) -> Result<(), AllocError>
-        requires room { HasRoom self.old 4 }
+        requires room { HasRoom self.old reaction_cost }
         requires short { IfSome reaction (λ r. AsksShortly r.asks) }
-        ensures { OnOk result (Took self.old self.new events.old.items events.new.items (reacts self.old member reaction) 4) }
+        ensures { OnOk result (Took self.old self.new events.old.items events.new.items (reacts self.old member reaction) reaction_cost) }
     {
         let Some(reaction) = reaction else {
             return Ok(());
@@ -83,9 +84,9 @@ impl World {
         asks: Option<Body>,
         events: &mut Vec<Event>,
     ) -> Result<(), AllocError>
-        requires room { HasRoom self.old 2 }
+        requires room { HasRoom self.old sending_cost }
         requires short { AsksShortly asks }
-        ensures { OnOk result (Took self.old self.new events.old.items events.new.items (asked self.old member sequence asks) 2) }
+        ensures { OnOk result (Took self.old self.new events.old.items events.new.items (for_some asks (asked self.old member sequence)) sending_cost) }
     {
         let Some(body) = asks else {
             return Ok(());
@@ -111,18 +112,18 @@ impl World {
         Some(*state)
     }
 
-    /// The declared member at a place, with its agent.
-    pub fn seat_at(&self, place: usize) -> Option<Seat>
-        ensures { result ≡ seat_at self.now place }
+    /// A member with its agent.
+    pub fn seat_for(&self, member: Member) -> Option<Seat>
+        ensures { result ≡ seat_for self.now member }
     {
-        let member = *self.members.get(place)?;
         seat_for(&self.agents, &self.phases, member)
     }
 
     /// The declared member of this number, with its agent.
-    pub fn seat(&self, id: MemberId) -> Option<Seat>
-        ensures { result ≡ seat_at self.now id.number }
+    pub fn seat_at(&self, id: MemberId) -> Option<Seat>
+        requires { IsMember (names_in self.now.book.members) id }
+        ensures { result ≡ seat_at self.now id }
     {
-        self.seat_at(id.number as usize)
+        self.seat_for(self.declared(id))
     }
 }

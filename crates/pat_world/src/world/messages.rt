@@ -4,8 +4,8 @@ ghost use Rattle.lease_store.specs.Answers.{present_pairs};
 ghost use Rattle.lease_store.specs.Decision.{decision_on};
 ghost use Rattle.lease_store.specs.Writes.{ttl_of};
 ghost use Rattle.event_book.specs.Flight.{in_flight, snapshot_for, grant_for};
-ghost use Rattle.pat_world.specs.Next.{happens, stamped, lost_at_once, sends, answer_to, answers, decides, comes_found, moves, all_move, delivers, loses};
-ghost use Rattle.pat_world.specs.Room.{HasRoom};
+ghost use Rattle.pat_world.specs.Next.{happens, stamped, lost_at_once, sends, answer_to, answers, comes, decides, delivers, each, for_some, loses, moves};
+ghost use Rattle.pat_world.specs.Room.{HasRoom, decision_cost, message_cost, sending_cost};
 ghost use Rattle.pat_world.specs.Short.{IsShort};
 ghost use Rattle.pat_world.specs.Took.{Took};
 ghost use Rattle.pat_world.specs.Ways.{way_of};
@@ -23,8 +23,8 @@ use std::alloc::AllocError;
 impl World {
     /// These messages move, one after another.
     pub fn all_move(&mut self, numbers: &[u64], events: &mut Vec<Event>) -> Result<(), AllocError>
-        requires { HasRoom self.old (5 * length numbers.now) }
-        ensures { OnOk result (Took self.old self.new events.old.items events.new.items (all_move self.old numbers.now) (5 * length numbers.now)) }
+        requires { HasRoom self.old (message_cost * length numbers.now) }
+        ensures { OnOk result (Took self.old self.new events.old.items events.new.items (each moves self.old numbers.now) (message_cost * length numbers.now)) }
     {
         for number in numbers {
             self.move_message(*number, events)?;
@@ -34,8 +34,8 @@ impl World {
 
     /// A message comes to its receiver, is lost, or is kept for a receiver that is held.
     pub fn move_message(&mut self, number: u64, events: &mut Vec<Event>) -> Result<(), AllocError>
-        requires { HasRoom self.old 5 }
-        ensures { OnOk result (Took self.old self.new events.old.items events.new.items (moves self.old number) 5) }
+        requires { HasRoom self.old message_cost }
+        ensures { OnOk result (Took self.old self.new events.old.items events.new.items (moves self.old number) message_cost) }
     {
         match self.way(number) {
             None | Some(Way::Held) => Ok(()),
@@ -46,8 +46,8 @@ impl World {
 
     /// A script delivers a message, where it is in flight and nothing stands in its way.
     pub fn deliver(&mut self, number: u64, events: &mut Vec<Event>) -> Result<(), AllocError>
-        requires { HasRoom self.old 5 }
-        ensures { OnOk result (Took self.old self.new events.old.items events.new.items (delivers self.old number (in_flight self.old.book.flight number)) 5) }
+        requires { HasRoom self.old message_cost }
+        ensures { OnOk result (Took self.old self.new events.old.items events.new.items (delivers self.old number (in_flight self.old.book.flight number)) message_cost) }
     {
         match self.way(number) {
             None => note(events, self.clock, Kind::Note(Note::NoMessage { number })),
@@ -92,8 +92,8 @@ impl World {
 
     /// A message in flight comes to its receiver, which acts on it.
     pub fn arrive(&mut self, number: u64, events: &mut Vec<Event>) -> Result<(), AllocError>
-        requires { HasRoom self.old 5 }
-        ensures { OnOk result (Took self.old self.new events.old.items events.new.items (comes_found self.old number (in_flight self.old.book.flight number)) 5) }
+        requires { HasRoom self.old message_cost }
+        ensures { OnOk result (Took self.old self.new events.old.items events.new.items (for_some (in_flight self.old.book.flight number) (comes self.old number)) message_cost) }
     {
         let Some(carried) = self.flight.land(number) else {
             return Ok(());
@@ -126,9 +126,9 @@ impl World {
         message: &Message,
         events: &mut Vec<Event>,
     ) -> Result<(), AllocError>
-        requires room { HasRoom self.old 3 }
+        requires room { HasRoom self.old decision_cost }
         requires short { IsShort message.now.body }
-        ensures { OnOk result (Took self.old self.new events.old.items events.new.items (answers self.old number message.now) 3) }
+        ensures { OnOk result (Took self.old self.new events.old.items events.new.items (answers self.old number message.now) decision_cost) }
     {
         match &message.body {
             Body::Read => self.send(answer_to(message, Body::Snapshot), None, events),
@@ -145,9 +145,9 @@ impl World {
         txn: &Txn,
         events: &mut Vec<Event>,
     ) -> Result<(), AllocError>
-        requires room { HasRoom self.old 3 }
+        requires room { HasRoom self.old decision_cost }
         requires span { ttl_of txn.now ≤ 2 ^ 40 }
-        ensures { OnOk result (Took self.old self.new events.old.items events.new.items (decides self.old number message.now txn.now (decision_on self.old.book.keys self.old.book.clock txn.now) message.now.from) 3) }
+        ensures { OnOk result (Took self.old self.new events.old.items events.new.items (decides self.old number message.now txn.now (decision_on self.old.book.keys self.old.book.clock txn.now) message.now.from) decision_cost) }
     {
         let LinkEnd::Member(by) = message.from else {
             return Ok(());
@@ -195,10 +195,10 @@ impl World {
         grant: Option<Granted>,
         events: &mut Vec<Event>,
     ) -> Result<(), AllocError>
-        requires room { HasRoom self.old 2 }
+        requires room { HasRoom self.old sending_cost }
         requires short { IsShort message.body }
         requires grant { grant ≡ grant_for message.body message.to self.old.book.keys.revision }
-        ensures { OnOk result (Took self.old self.new events.old.items events.new.items (sends self.old message) 2) }
+        ensures { OnOk result (Took self.old self.new events.old.items events.new.items (sends self.old message) sending_cost) }
     {
         let number = self.sent + 1;
         let carried = InFlight {

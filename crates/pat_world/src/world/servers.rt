@@ -1,7 +1,7 @@
 //! What commands and leaders do to servers.
 ghost use Rattle.std.specs.Prelude.{◌≡◌, ◌+◌, OnOk, IfSome, slice_get, Some};
-ghost use Rattle.pat_world.specs.Next.{promotes, follows};
-ghost use Rattle.pat_world.specs.Room.{HasRoom};
+ghost use Rattle.pat_world.specs.Next.{follows, for_some, promotes};
+ghost use Rattle.pat_world.specs.Room.{HasRoom, following_cost, promotion_cost};
 ghost use Rattle.pat_world.specs.Took.{Took};
 
 use super::World;
@@ -13,17 +13,10 @@ use std::alloc::AllocError;
 
 impl World {
     /// The server of a member is promoted by its operator, where it is a standby.
-    pub fn promote(
-        &mut self,
-        member: Option<Member>,
-        events: &mut Vec<Event>,
-    ) -> Result<(), AllocError>
-        requires { HasRoom self.old 2 }
-        ensures { OnOk result (Took self.old self.new events.old.items events.new.items (promotes self.old member) 2) }
+    pub fn promote(&mut self, member: Member, events: &mut Vec<Event>) -> Result<(), AllocError>
+        requires { HasRoom self.old promotion_cost }
+        ensures { OnOk result (Took self.old self.new events.old.items events.new.items (promotes self.old member) promotion_cost) }
     {
-        let Some(member) = member else {
-            return Ok(());
-        };
         let Some(timeline) = promoted_timeline(&self.servers, member) else {
             return Ok(());
         };
@@ -42,8 +35,8 @@ impl World {
         leader: Option<Member>,
         events: &mut Vec<Event>,
     ) -> Result<(), AllocError>
-        requires { HasRoom self.old 2 }
-        ensures { OnOk result (Took self.old self.new events.old.items events.new.items (follows self.old member leader) 2) }
+        requires { HasRoom self.old following_cost }
+        ensures { OnOk result (Took self.old self.new events.old.items events.new.items (for_some leader (follows self.old member)) following_cost) }
     {
         let Some(leader) = leader else {
             return Ok(());

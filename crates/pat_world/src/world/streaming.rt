@@ -1,8 +1,9 @@
 //! What standbys receive and confirm.
-ghost use Rattle.std.specs.Prelude.{◌≡◌, ◌+◌, ◌*◌, OnOk, IfSome, IsTrue, Some, slice_get};
+ghost use Rattle.std.specs.Prelude.{◌≡◌, ◌+◌, ◌*◌, OnOk, IfSome, IsTrue, slice_get};
 ghost use Rattle.pg_model.specs.Facts.{is_replica};
-ghost use Rattle.pat_world.specs.Next.{confirms, receives_from, receives_at_most, receives_at, all_receive};
-ghost use Rattle.pat_world.specs.Room.{HasRoom};
+ghost use Rattle.pg_model.specs.Servers.{news_at};
+ghost use Rattle.pat_world.specs.Next.{confirms, each, receives, receives_all, receives_at_most};
+ghost use Rattle.pat_world.specs.Room.{HasRoom, receiving_cost, streaming_cost};
 ghost use Rattle.pat_world.specs.Took.{Took};
 
 use super::{World, note};
@@ -12,48 +13,46 @@ use pg_model::Streamed;
 use std::alloc::AllocError;
 
 impl World {
-    /// So many servers receive all that they lack, in script order, but for those that are frozen.
-    pub fn all_receive(&mut self, count: usize, events: &mut Vec<Event>) -> Result<(), AllocError>
-        requires { HasRoom self.old (2 * count) }
-        ensures { OnOk result (Took self.old self.new events.old.items events.new.items (all_receive self.old 0 count) (2 * count)) }
+    /// The servers receive all that they lack, in script order, but for those that are frozen.
+    pub fn all_receive(&mut self, events: &mut Vec<Event>) -> Result<(), AllocError>
+        requires { HasRoom self.old receiving_cost }
+        ensures { OnOk result (Took self.old self.new events.old.items events.new.items (each receives_all self.old self.old.book.members) receiving_cost) }
     {
-        for place in 0..count {
-            self.receive_at(place, events)?;
+        for place in 0..self.members.len() {
+            self.receive_all(self.member(place), events)?;
         }
         Ok(())
     }
 
-    /// The server of the member at a place receives all that it lacks, unless it is frozen.
-    fn receive_at(&mut self, place: usize, events: &mut Vec<Event>) -> Result<(), AllocError>
-        requires { HasRoom self.old 2 }
-        ensures { OnOk result (Took self.old self.new events.old.items events.new.items (receives_at self.old place) 2) }
+    /// The server of a member receives all that it lacks, unless it is frozen.
+    fn receive_all(&mut self, member: Member, events: &mut Vec<Event>) -> Result<(), AllocError>
+        requires { HasRoom self.old streaming_cost }
+        ensures { OnOk result (Took self.old self.new events.old.items events.new.items (receives_all self.old member) streaming_cost) }
     {
-        let Some(member) = self.member(place) else {
-            return Ok(());
-        };
-        let Some(frozen) = self.frozen.get(member.id.number as usize) else {
-            return Ok(());
-        };
-        if *frozen {
-            Ok(())
-        } else {
-            self.receive(Some(member), u64::MAX, events)
+        match self.frozen(member) {
+            None | Some(true) => Ok(()),
+            Some(false) => self.receive(member, u64::MAX, events),
         }
+    }
+
+    /// Whether the server of a member is frozen.
+    fn frozen(&self, member: Member) -> Option<bool>
+        ensures { result ≡ slice_get self.now.book.frozen member.id.number }
+    {
+        let frozen = self.frozen.get(member.id.number as usize)?;
+        Some(*frozen)
     }
 
     /// The server of a member receives at most so many entries and confirms what it has, or finds that its log diverged.
     pub fn receive(
         &mut self,
-        member: Option<Member>,
+        member: Member,
         most: u64,
         events: &mut Vec<Event>,
     ) -> Result<(), AllocError>
-        requires { HasRoom self.old 2 }
-        ensures { OnOk result (Took self.old self.new events.old.items events.new.items (receives_at_most self.old most member) 2) }
+        requires { HasRoom self.old streaming_cost }
+        ensures { OnOk result (Took self.old self.new events.old.items events.new.items (receives_at_most self.old most member) streaming_cost) }
     {
-        let Some(member) = member else {
-            return Ok(());
-        };
         match source_of(&self.members, &self.servers, &self.cuts, member) {
             None => Ok(()),
             Some(from) => self.receive_from(member, from, most, events),
@@ -68,9 +67,9 @@ impl World {
         most: u64,
         events: &mut Vec<Event>,
     ) -> Result<(), AllocError>
-        requires room { HasRoom self.old 2 }
+        requires room { HasRoom self.old streaming_cost }
         requires standby { IfSome (slice_get self.old.book.servers member.id.number) (λ s. IsTrue (is_replica s.state)) }
-        ensures { OnOk result (Took self.old self.new events.old.items events.new.items (receives_from self.old member most (Some from)) 2) }
+        ensures { OnOk result (Took self.old self.new events.old.items events.new.items (receives self.old member from (news_at self.old.book.servers member.id.number from.id.number most)) streaming_cost) }
     {
         let (place, upstream) = (member.id.number as usize, from.id.number as usize);
         match self.servers.stream(place, upstream, most as usize)? {

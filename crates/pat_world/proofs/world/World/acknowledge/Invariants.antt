@@ -1,6 +1,7 @@
-use Rattle.std.proofs.Common.{◌+◌, ◌≤◌, length, Some}
+use Rattle.std.proofs.Common.{◌+◌, ◌≤◌, length}
 use Rattle.std.specs.Prelude.{slice_get}
-use Rattle.pat_world.specs.Next.{acknowledges_for}
+use Rattle.pat_world.specs.Next.{acknowledges}
+use Rattle.pat_world.specs.Room.{most_members}
 use Rattle.pat_world.specs.Settled.{AreKeptBelow}
 use Rattle.pat_world.proofs.Acknowledgements.{waiting_at}
 use Rattle.pat_world.proofs.Rest.{Left}
@@ -10,8 +11,8 @@ use Rattle.pat_world.proofs.world.World.acknowledge.Given as goal
 -- the commits that may be acknowledged now are still to be, and what a world keeps holds
 abbrev pub invariant-loop-commit : goal.invariant-loop-commit
 invariant-loop-commit l = record {
-  left : Left l.fn.self (seen l.self-inside) l.fn.events.items l.events.items (acknowledges_for l.fn.self (Some l.fn.member)) (acknowledges_for (seen l.self-inside) (Some l.fn.member)) 0 0;
-  members : length l.self-inside.members.items ≤ 16;
+  left : Left l.fn.self (seen l.self-inside) l.fn.events.items l.events.items (acknowledges l.fn.self l.fn.member) (acknowledges (seen l.self-inside) l.fn.member) 0 0;
+  members : length l.self-inside.members.items ≤ most_members;
   settled : l.self-inside.settled ≤ l.self-inside.sent + 1;
   kept : AreKeptBelow l.self-inside.settled l.self-inside.flight l.self-inside.agents.items l.self-inside.cuts.items;
 }

@@ -1,16 +1,26 @@
-use Rattle.std.proofs.Common.{◌+◌, ◌-◌, arith}
-use Rattle.pat_world.specs.Next.{all_receive, receives_at}
-use Rattle.pat_world.proofs.Rest.{Left-room, Left-more, Left-end}
-use Rattle.pat_world.proofs.Streams.{receive-next, receive-end}
+use Rattle.std.proofs.Common.{◌≤◌, ◌*◌, arith, ap, length}
+use Rattle.pat_world.specs.Cluster.{Cluster}
+use Rattle.pat_world.specs.Room.{most_members, receiving_cost, streaming_cost}
+use Rattle.pat_world.proofs.Rest.{EachLeft-end, EachLeft-members, EachLeft-more, EachLeft-place, EachLeft-room}
+use Rattle.pat_world.proofs.Rooms.{HasRoom-fewer}
+use Rattle.pat_world.proofs.Taking.{Took-weaker}
 use Rattle.pat_world.proofs.world.World.all_receive.Goals as goal
 
-pub receive_at-requires : goal.receive_at-requires
-receive_at-requires c = Left-room _ _ _ _ _ _ _ _ 2 c.loop-place.invariant c.requires (omega (arith, c.loop-place-test.true))
+pub member-requires : goal.member-requires
+member-requires c = omega (arith, c.loop-place-test.true, c.len-place-end.ensures, ap (λ (b : Cluster). length b.book.members) c.self.view_is, ap length (EachLeft-members _ _ _ _ _ _ _ _ _ c.loop-place.invariant))
+
+pub receive_all-requires : goal.receive_all-requires
+receive_all-requires c =
+    let few : length c.args.self.now.book.members ≤ most_members = omega (arith, c.self.invariant.0, ap (λ (b : Cluster). length b.book.members) c.self.view_is) in
+    EachLeft-room _ _ streaming_cost _ _ _ _ _ c.loop-place.place _ c.loop-place.invariant (EachLeft-place _ _ _ _ _ _ _ _ c.loop-place.invariant c.member.ensures)
+    (HasRoom-fewer _ receiving_cost (streaming_cost * length c.args.self.now.book.members) (omega (arith, few)) c.requires)
 
 pub loop-place-preserved : goal.loop-place-preserved
 loop-place-preserved c =
-    Left-more _ _ _ _ _ _ _ (receives_at c.loop-place.self c.loop-place.place) (λ later. all_receive later (c.loop-place.place + 1) (c.args.count - (c.loop-place.place + 1))) _ _ _ 2 _
-    c.loop-place.invariant (receive-next c.loop-place.self c.loop-place.place c.args.count c.loop-place-test.true) c.in_ok-receive_at.ensures (omega (arith, c.loop-place-test.true))
+    EachLeft-more _ _ _ _ _ _ _ _ _ _ c.loop-place.place _ c.loop-place.invariant (EachLeft-place _ _ _ _ _ _ _ _ c.loop-place.invariant c.member.ensures) c.in_ok-receive_all.ensures
 
 pub returns : goal.returns
-returns c = Left-end _ _ _ _ _ _ _ _ c.loop-place.invariant (receive-end c.loop-place.self c.loop-place.place c.args.count c.loop-place-test.false)
+returns c =
+    let few : length c.args.self.now.book.members ≤ most_members = omega (arith, c.self.invariant.0, ap (λ (b : Cluster). length b.book.members) c.self.view_is) in
+    let over : length c.args.self.now.book.members ≤ c.loop-place.place = omega (arith, c.loop-place-test.false, c.len-place-end.ensures, ap (λ (b : Cluster). length b.book.members) c.self.view_is) in
+    Took-weaker _ _ _ _ _ _ receiving_cost (EachLeft-end _ _ _ _ _ _ _ _ c.loop-place.place c.loop-place.invariant over) (omega (arith, few))

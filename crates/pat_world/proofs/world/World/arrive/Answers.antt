@@ -8,8 +8,8 @@ use Rattle.event_book.specs.Flight.{Flight, InFlightFacts, in_flight}
 use Rattle.pat_world.specs.declared.phase.Phase.{Phase}
 use Rattle.pat_world.specs.declared.phase.Reaction.{Reaction}
 use Rattle.pat_world.specs.Cluster.{Cluster}
-use Rattle.pat_world.specs.Next.{comes_found, answers, reacts}
-use Rattle.pat_world.specs.Room.{HasRoom}
+use Rattle.pat_world.specs.Next.{answers, comes, for_some, reacts}
+use Rattle.pat_world.specs.Room.{HasRoom, message_cost}
 use Rattle.pat_world.specs.Took.{Took}
 use Rattle.pat_world.proofs.Deciding.{nothing-took, stored-took, heard-took}
 use Rattle.pat_world.proofs.Rooms.{HasRoom-moved, HasRoom-fewer}
@@ -49,7 +49,7 @@ pub returns-in_default : goal.returns-in_default
 returns-in_default c =
     let before = seen c.self.inside in
     let state = ap (λ (f : Flight). landing before f before.phases) c.in_default.ensures.absent in
-    subst (λ (b : Cluster). Took b (landing before c.land.new.self before.phases) c.args.events.now.items c.args.events.now.items (comes_found b c.args.number (in_flight b.book.flight c.args.number)) 5) c.self.view_is
+    subst (λ (b : Cluster). Took b (landing before c.land.new.self before.phases) c.args.events.now.items c.args.events.now.items (for_some (in_flight b.book.flight c.args.number) (comes b c.args.number)) message_cost) c.self.view_is
     (nothing-took before _ c.args.number c.args.events.now.items (sym c.land.ensures.message ∙ c.in_default.is) state)
 
 pub returns-in-Store : goal.returns-in-Store
@@ -60,7 +60,7 @@ returns-in-Store c =
     let to : carried.message.to ≡ link_ends.Store = ap (λ m. m.message.to) (sym c.carried.view_is) ∙ c.in-Store.is in
     let state = hearing-is before c.args.number carried link_ends.Store c.land.new.self before.phases c.land.ensures.flight refl to found in
     on_ok_weaker c.answer.result
-    (λ took. subst (λ (b : Cluster). Took b c.answer.new.self c.args.events.now.items c.answer.new.events.items (comes_found b c.args.number (in_flight b.book.flight c.args.number)) 5) c.self.view_is
+    (λ took. subst (λ (b : Cluster). Took b c.answer.new.self c.args.events.now.items c.answer.new.events.items (for_some (in_flight b.book.flight c.args.number) (comes b c.args.number)) message_cost) c.self.view_is
     (stored-took before (landing before c.land.new.self before.phases) c.answer.new.self c.args.number carried c.self.inside.clock c.args.events.now.items c.note.new.events.items c.answer.new.events.items
     found to refl state c.in_ok-note-in-Store.ensures
     (subst (λ (m : Message). Took (landing before c.land.new.self before.phases) c.answer.new.self c.note.new.events.items c.answer.new.events.items (answers (landing before c.land.new.self before.phases) c.args.number m) 3)
@@ -101,7 +101,7 @@ returns c =
     let reaction = listened-is before.book.clock _ before.phases member _ carried _ c.listen-reaction.ensures.reaction refl refl in
     let hearing = landing before c.land.new.self stand in
     on_ok_weaker c.react.result
-    (λ took. subst (λ (b : Cluster). Took b c.react.new.self c.args.events.now.items c.react.new.events.items (comes_found b c.args.number (in_flight b.book.flight c.args.number)) 5) c.self.view_is
+    (λ took. subst (λ (b : Cluster). Took b c.react.new.self c.args.events.now.items c.react.new.events.items (for_some (in_flight b.book.flight c.args.number) (comes b c.args.number)) message_cost) c.self.view_is
     (heard-took before hearing c.react.new.self c.args.number carried member c.self.inside.clock c.args.events.now.items c.note-in-Member.new.events.items c.react.new.events.items
     found to refl state c.in_ok-note-in-Member.ensures
     (subst (λ (r : Option Reaction). Took hearing c.react.new.self c.note-in-Member.new.events.items c.react.new.events.items (reacts hearing member r) 4) reaction took)))

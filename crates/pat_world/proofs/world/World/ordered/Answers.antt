@@ -7,9 +7,9 @@ use Rattle.pat_world.specs.ServerCommands.{commit_of}
 use Rattle.pat_world.proofs.ServerCommanding.{commit-comes}
 use Rattle.pat_world.proofs.world.World.ordered.Goals as goal
 
-pub returns-in_ok-member-in-Commit-clause-comes : goal.returns-in_ok-member-in-Commit-clause-comes
-returns-in_ok-member-in-Commit-clause-comes c =
-    let member = c.in_ok-member-in-Commit.member in
+pub returns-in-Commit-clause-comes : goal.returns-in-Commit-clause-comes
+returns-in-Commit-clause-comes c =
+    let member = c.declared-member.result in
     let bytes = c.in-Commit.size.bytes in
     let is = c.commit_of.ensures ∙ ap (λ (b : Cluster). commit_of member (entry_for b.book.servers member.id.number (b.book.commits + 1) bytes)) c.self.view_is in
     subst (λ (k : Kind). MayCome c.args.self.now k) (sym is) (commit-comes c.args.self.now member bytes)

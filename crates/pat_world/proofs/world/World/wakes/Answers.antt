@@ -1,15 +1,26 @@
-use Rattle.std.proofs.Common.{◌+◌, ◌-◌, arith}
-use Rattle.pat_world.specs.Next.{wake_at, wakes}
-use Rattle.pat_world.proofs.Rest.{Left-room, Left-more, Left-end, wakes-next, wakes-end}
+use Rattle.std.proofs.Common.{◌≤◌, ◌*◌, arith, ap, length}
+use Rattle.pat_world.specs.Cluster.{Cluster}
+use Rattle.pat_world.specs.Room.{input_cost, most_members, wakes_cost}
+use Rattle.pat_world.proofs.Rest.{EachLeft-end, EachLeft-members, EachLeft-more, EachLeft-place, EachLeft-room}
+use Rattle.pat_world.proofs.Rooms.{HasRoom-fewer}
+use Rattle.pat_world.proofs.Taking.{Took-weaker}
 use Rattle.pat_world.proofs.world.World.wakes.Goals as goal
 
+pub member-requires : goal.member-requires
+member-requires c = omega (arith, c.loop-place-test.true, c.len-place-end.ensures, ap (λ (b : Cluster). length b.book.members) c.self.view_is, ap length (EachLeft-members _ _ _ _ _ _ _ _ _ c.loop-place.invariant))
+
 pub wake-requires : goal.wake-requires
-wake-requires c = Left-room _ _ _ _ _ _ _ _ 5 c.loop-place.invariant c.requires (omega (arith, c.loop-place-test.true))
+wake-requires c =
+    let few : length c.args.self.now.book.members ≤ most_members = omega (arith, c.self.invariant.0, ap (λ (b : Cluster). length b.book.members) c.self.view_is) in
+    EachLeft-room _ _ input_cost _ _ _ _ _ c.loop-place.place _ c.loop-place.invariant (EachLeft-place _ _ _ _ _ _ _ _ c.loop-place.invariant c.member.ensures)
+    (HasRoom-fewer _ wakes_cost (input_cost * length c.args.self.now.book.members) (omega (arith, few)) c.requires)
 
 pub loop-place-preserved : goal.loop-place-preserved
 loop-place-preserved c =
-    Left-more _ _ _ _ _ _ _ (wake_at c.loop-place.self c.loop-place.place) (λ later. wakes later (c.loop-place.place + 1) (c.args.count - (c.loop-place.place + 1))) _ _ _ 5 _
-    c.loop-place.invariant (wakes-next c.loop-place.self c.loop-place.place c.args.count c.loop-place-test.true) c.in_ok-wake.ensures (omega (arith, c.loop-place-test.true))
+    EachLeft-more _ _ _ _ _ _ _ _ _ _ c.loop-place.place _ c.loop-place.invariant (EachLeft-place _ _ _ _ _ _ _ _ c.loop-place.invariant c.member.ensures) c.in_ok-wake.ensures
 
 pub returns : goal.returns
-returns c = Left-end _ _ _ _ _ _ _ _ c.loop-place.invariant (wakes-end c.loop-place.self c.loop-place.place c.args.count c.loop-place-test.false)
+returns c =
+    let few : length c.args.self.now.book.members ≤ most_members = omega (arith, c.self.invariant.0, ap (λ (b : Cluster). length b.book.members) c.self.view_is) in
+    let over : length c.args.self.now.book.members ≤ c.loop-place.place = omega (arith, c.loop-place-test.false, c.len-place-end.ensures, ap (λ (b : Cluster). length b.book.members) c.self.view_is) in
+    Took-weaker _ _ _ _ _ _ wakes_cost (EachLeft-end _ _ _ _ _ _ _ _ c.loop-place.place c.loop-place.invariant over) (omega (arith, few))

@@ -1,0 +1,15 @@
+//! Declared members.
+ghost use Rattle.std.specs.Prelude.{◌≡◌, Some, slice_get};
+ghost use Rattle.cluster_script.specs.Script.{IsMember};
+ghost use Rattle.pat_world.specs.Steps.{names_in};
+
+use event_book::Member;
+use pat_base::MemberId;
+
+/// The declared member of this number.
+pub fn declared(members: &[Member], id: MemberId) -> Member
+    requires { IsMember (names_in members.now) id }
+    ensures { slice_get members.now id.number ≡ Some result }
+{
+    members[id.number as usize]
+}
