@@ -9,7 +9,7 @@ use Rattle.event_book.specs.declared.member.Member.{Member}
 use Rattle.event_book.specs.declared.link.Link.{Link}
 use Rattle.event_book.specs.declared.link.LinkEnd.{LinkEnd}
 use Rattle.event_book.specs.declared.link.LinkEnd.TheVariants as link_ends
-use Rattle.event_book.specs.Links.{is_cut}
+use Rattle.event_book.specs.Links.{CutLinks, is_cut}
 use Rattle.pat_world.specs.declared.phase.Seat.{Seat}
 use Rattle.cluster_script.specs.declared.line.End.{End}
 use Rattle.cluster_script.specs.declared.line.End.TheVariants as ends
@@ -48,12 +48,12 @@ abbrev pub link_of : List Member → End → End → Option Link
 link_of members first second = link_between (end_of members first) (end_of members second)
 
 -- a link that isn't cut is cut
-abbrev pub cut_of : List Link → Option Link → Option Kind
+abbrev pub cut_of : CutLinks → Option Link → Option Kind
 cut_of cuts None = None
 cut_of cuts (Some link) = if is_cut cuts link then None else Some (kinds.Link (changes.Cut link))
 
 -- a link that is cut is joined
-abbrev pub join_of : List Link → Option Link → Option Kind
+abbrev pub join_of : CutLinks → Option Link → Option Kind
 join_of cuts None = None
 join_of cuts (Some link) = if is_cut cuts link then Some (kinds.Link (changes.Joined link)) else None
 

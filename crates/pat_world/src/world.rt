@@ -23,7 +23,7 @@ mod streaming;
 use crate::agent::fresh_phase;
 use crate::agents::{hold_of, kill_of, restart_of, resume_of};
 use crate::flight::Flight;
-use crate::links::{cut_of, join_of, link_of};
+use crate::links::{CutLinks, cut_of, join_of, link_of};
 use crate::phase::Phase;
 use crate::server_commands::{commit_of, crash_of, freeze_of, slow_of, thaw_of};
 use cluster_script::{Command, End, Head, Step};
@@ -47,7 +47,7 @@ pub struct World {
     members: Vec<Member>,
     agents: Vec<AgentState>,
     phases: Vec<Phase>,
-    cuts: Vec<Link>,
+    cuts: CutLinks,
     flight: Flight,
     sent: u64,
     servers: Servers,
@@ -73,7 +73,7 @@ impl Model for World {
         keys = w.store;
         members = w.members.items;
         agents = w.agents.items;
-        cuts = w.cuts.items;
+        cuts = w.cuts;
         flight = w.flight;
         sent = w.sent;
         servers = w.servers;
@@ -84,7 +84,7 @@ impl Model for World {
       phases = w.phases.items;
     } };
 
-    ghost invariant = { λ w. (length w.members.items ≤ 16) × (w.settled ≤ w.sent + 1) × AreKeptBelow w.settled w.flight w.agents.items w.cuts.items };
+    ghost invariant = { λ w. (length w.members.items ≤ 16) × (w.settled ≤ w.sent + 1) × AreKeptBelow w.settled w.flight w.agents.items w.cuts };
 }
 
 impl World {
@@ -108,7 +108,7 @@ impl World {
             members,
             agents,
             phases,
-            cuts: Vec::new(alloc),
+            cuts: CutLinks::none(alloc)?,
             flight: Flight::new(alloc),
             sent: 0,
             servers,
