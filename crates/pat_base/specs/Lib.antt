@@ -1,3 +1,4 @@
+pub mod Changes
 pub mod Host
 pub mod HostText
 pub mod Lsn

@@ -1,7 +1,8 @@
 //! What a happening changes, field by field of what a book determines.
 ghost use Rattle.std.specs.Prelude.{ℕ, ◌≡◌, ◌<◌, ◌+◌, ◌^◌, OnOk, Some};
+ghost use Rattle.pat_base.specs.Changes.{changed_by};
 ghost use Rattle.event_book.specs.Acknowledged.{acknowledged_after, commits_after};
-ghost use Rattle.event_book.specs.Agents.{agents_after, changed_by};
+ghost use Rattle.event_book.specs.Agents.{agents_after};
 ghost use Rattle.event_book.specs.Clock.{now_after};
 ghost use Rattle.event_book.specs.Flight.{Flight, InFlightFacts, flight_at, in_flight, sent_after};
 ghost use Rattle.event_book.specs.Frozen.{frozen_after};

@@ -9,13 +9,14 @@ use Rattle.pat_base.specs.ServerState.{writes}
 use Rattle.wal_model.specs.History.{same_points}
 use Rattle.wal_model.specs.Log.{IsPrefixOf, is_prefix, fork_of, received}
 use Rattle.pat_base.specs.declared.lsn.Lsn.{Lsn}
+use Rattle.pat_base.specs.Changes.{changed_by}
 use Rattle.pat_base.specs.Lsn.{lsn_at}
 use Rattle.pg_model.specs.declared.answers.Streamed.{Streamed}
 use Rattle.pg_model.specs.declared.answers.Streamed.TheVariants as streams
 use Rattle.pg_model.specs.Facts.{ServerFacts, entries_of}
 use Rattle.pg_model.specs.Replication.{stream_by, stream_of, streamed_by, streamed, received_from, is_current, news_by, news_of, told, after_news}
 use Rattle.pg_model.specs.InStep.{standing_of, IsBehind}
-use Rattle.pg_model.specs.Servers.{with_server, news_between, news_at, told_from, after_news_at, streamed_at}
+use Rattle.pg_model.specs.Servers.{news_between, news_at, told_from, after_news_at, streamed_at}
 use Rattle.wal_model.proofs.Points.{same-points-to, same-points-from}
 
 received-count : (log from : List Entry) (most : ℕ) → received log from most ≡ received log from (min most (length from - length log))
@@ -157,14 +158,14 @@ pub no-news : (s upstream : ServerFacts) (most : ℕ) → IsSome s.log → news_
 no-news s upstream most there e = streamed-told s upstream most ∙ told-none (stream_of s upstream most) s upstream there e
 
 -- the servers after news of one at another
-pub streamed_at-told : (servers : List ServerFacts) (place from most : ℕ) (upstream : ServerFacts) (news : Streamed) → slice_get servers from ≡ Some upstream → news_at servers place from most ≡ Some news → streamed_at servers place from most ≡ with_server servers place (λ s. told news s upstream)
+pub streamed_at-told : (servers : List ServerFacts) (place from most : ℕ) (upstream : ServerFacts) (news : Streamed) → slice_get servers from ≡ Some upstream → news_at servers place from most ≡ Some news → streamed_at servers place from most ≡ changed_by servers place (λ s. told news s upstream)
 streamed_at-told servers place from most upstream news found e =
     ap (after_news_at servers place from) e ∙ ap (told_from servers place news) found
 
-pub streamed_at-received : (servers : List ServerFacts) (place from most : ℕ) (upstream : ServerFacts) (count : ℕ) → slice_get servers from ≡ Some upstream → news_at servers place from most ≡ Some (streams.Received count) → streamed_at servers place from most ≡ with_server servers place (λ s. received_from count s upstream)
+pub streamed_at-received : (servers : List ServerFacts) (place from most : ℕ) (upstream : ServerFacts) (count : ℕ) → slice_get servers from ≡ Some upstream → news_at servers place from most ≡ Some (streams.Received count) → streamed_at servers place from most ≡ changed_by servers place (λ s. received_from count s upstream)
 streamed_at-received servers place from most upstream count found e = streamed_at-told servers place from most upstream (streams.Received count) found e
 
-pub streamed_at-diverged : (servers : List ServerFacts) (place from most : ℕ) (upstream : ServerFacts) (at : Lsn) → slice_get servers from ≡ Some upstream → news_at servers place from most ≡ Some (streams.Diverged at) → streamed_at servers place from most ≡ with_server servers place (λ s. record s { diverged = true })
+pub streamed_at-diverged : (servers : List ServerFacts) (place from most : ℕ) (upstream : ServerFacts) (at : Lsn) → slice_get servers from ≡ Some upstream → news_at servers place from most ≡ Some (streams.Diverged at) → streamed_at servers place from most ≡ changed_by servers place (λ s. record s { diverged = true })
 streamed_at-diverged servers place from most upstream at found e = streamed_at-told servers place from most upstream (streams.Diverged at) found e
 
 pub streamed_at-none : (servers : List ServerFacts) (place from most : ℕ) → news_at servers place from most ≡ None → streamed_at servers place from most ≡ servers
