@@ -4,34 +4,33 @@ use Rattle.std.proofs.lemmas.List.{map-set}
 use Rattle.std.proofs.lemmas.Option.{slice_get-map, get_or_from_slice_get}
 use Rattle.std.proofs.Math.ListN.{length-set}
 use Rattle.std.proofs.Math.Seq.{map-set_same}
+use Rattle.pat_base.specs.Changes.{changed_at, changed_by}
 use Rattle.pg_model.specs.Facts.{ServerFacts}
-use Rattle.pg_model.specs.Servers.{with_server_at, with_server}
-use Rattle.event_book.specs.Agents.{changed_at, changed_by}
 
 module _ {B : Type 0} (f : ServerFacts → B) where
   -- the server at a place is changed, and so the part at that place
   changed-found : (servers : List ServerFacts) (n : ℕ) (change : ServerFacts → ServerFacts) (h : B → B) (found : Option ServerFacts)
       → ((s : ServerFacts) → f (change s) ≡ h (f s))
-      → map f (with_server_at servers n change found) ≡ changed_at (map f servers) n h (option_map f found)
+      → map f (changed_at servers n change found) ≡ changed_at (map f servers) n h (option_map f found)
   changed-found servers n change h None same = refl
   changed-found servers n change h (Some s) same = map-set f servers n (change s) ∙ ap (λ x. slice_set (map f servers) n x) (same s)
 
   pub changed-one : (servers : List ServerFacts) (n : ℕ) (change : ServerFacts → ServerFacts) (h : B → B)
       → ((s : ServerFacts) → f (change s) ≡ h (f s))
-      → map f (with_server servers n change) ≡ changed_by (map f servers) n h
+      → map f (changed_by servers n change) ≡ changed_by (map f servers) n h
   changed-one servers n change h same =
       changed-found servers n change h (slice_get servers n) same ∙ ap (λ o. changed_at (map f servers) n h o) (sym (slice_get-map f servers n))
 
   -- the change of one leaves the part as it was
   kept-found : (servers : List ServerFacts) (n : ℕ) (change : ServerFacts → ServerFacts) (found : Option ServerFacts)
       → slice_get servers n ≡ found → ((s : ServerFacts) → f (change s) ≡ f s)
-      → map f (with_server_at servers n change found) ≡ map f servers
+      → map f (changed_at servers n change found) ≡ map f servers
   kept-found servers n change None is same = refl
   kept-found servers n change (Some s) is same = map-set_same f servers n (change s) s (same s ∙ ap f (sym (get_or_from_slice_get servers n s s is)))
 
   pub kept-one : (servers : List ServerFacts) (n : ℕ) (change : ServerFacts → ServerFacts)
       → ((s : ServerFacts) → f (change s) ≡ f s)
-      → map f (with_server servers n change) ≡ map f servers
+      → map f (changed_by servers n change) ≡ map f servers
   kept-one servers n change same = kept-found servers n change (slice_get servers n) refl same
 
   -- and the change of each
@@ -44,9 +43,9 @@ module _ {B : Type 0} (f : ServerFacts → B) where
   same-if true s t x first second = first
   same-if false s t x first second = second
 
-length-found : (servers : List ServerFacts) (n : ℕ) (change : ServerFacts → ServerFacts) (found : Option ServerFacts) → length (with_server_at servers n change found) ≡ length servers
+length-found : (servers : List ServerFacts) (n : ℕ) (change : ServerFacts → ServerFacts) (found : Option ServerFacts) → length (changed_at servers n change found) ≡ length servers
 length-found servers n change None = refl
 length-found servers n change (Some s) = length-set servers n (change s)
 
-pub length-one : (servers : List ServerFacts) (n : ℕ) (change : ServerFacts → ServerFacts) → length (with_server servers n change) ≡ length servers
+pub length-one : (servers : List ServerFacts) (n : ℕ) (change : ServerFacts → ServerFacts) → length (changed_by servers n change) ≡ length servers
 length-one servers n change = length-found servers n change (slice_get servers n)

@@ -48,13 +48,11 @@ module _ {B : Type 0} (f : ServerFacts → B)
   others-kept now known (servers.Began server timeline) none = absurd none
   others-kept now known (servers.Ended server) none = kept-one f known _ _ (λ s. reads (stopped s) s refl refl refl)
   others-kept now known (servers.Crashed server) none = kept-one f known _ _ (λ s. reads (crashed s) s refl refl refl)
-  others-kept now known (servers.Promoted server) none = refl
   others-kept now known (servers.StartsAsReplica server) none = kept-one f known _ _ (replica-kept now)
   others-kept now known (servers.Follows server upstream) none = kept-one f known _ _ (λ s. reads (following upstream.id s) s refl refl refl)
   others-kept now known (servers.Diverged server upstream at) none = kept-one f known _ _ (λ s. reads (record s { diverged = true }) s refl refl refl)
-  others-kept now known (servers.Frozen server) none = refl
-  others-kept now known (servers.Thawed server) none = refl
   others-kept now known (servers.Slowed server stop start) none = kept-one f known _ _ (λ s. reads (delayed stop start s) s refl refl refl)
+  others-kept now known _ none = refl
 
   pub watched-kept : (known : List ServerFacts) (happening : WatchdogEvent) → map f (servers_watched known happening) ≡ map f known
   watched-kept known (watchdogs.Reset member) = kept-one f known _ _ (λ s. reads (crashed s) s refl refl refl)
@@ -72,15 +70,12 @@ module _ {B : Type 0} (f : ServerFacts → B)
   copied-kept known number (Some source) = kept-one f known _ _ (λ s. reads _ s refl refl refl)
 
   pub logged-kept : (known : List ServerFacts) (happening : LogEvent) → map f (servers_logged known happening) ≡ map f known
-  logged-kept known (logs.Appended server entry) = kept-one f known _ _ (λ s. reads _ s refl refl refl)
   logged-kept known (logs.Received server from count) = received-kept known server.id.number count (slice_get known from.id.number)
-  logged-kept known (logs.Rewound server from kept at) = kept-one f known _ _ (λ s. reads _ s refl refl refl)
   logged-kept known (logs.Copied server from) = copied-kept known server.id.number (slice_get known from.id.number)
-  logged-kept known (logs.Wiped server) = kept-one f known _ _ (λ s. reads _ s refl refl refl)
+  logged-kept known _ = kept-one f known _ _ (λ s. reads _ s refl refl refl)
 
 -- what only the state and the log determine stays where a required list, what was confirmed, or what waits for acknowledgement changes
 module _ {B : Type 0} (f : ServerFacts → B) (reads : (s t : ServerFacts) → s.state ≡ t.state → s.log ≡ t.log → f s ≡ f t) where
   pub replicated-kept : (known : List ServerFacts) (happening : ReplicationEvent) → map f (servers_replicated known happening) ≡ map f known
   replicated-kept known (replications.RequiredSet server required names) = kept-one f known _ _ (λ s. reads _ s refl refl)
-  replicated-kept known (replications.Confirmed server by end) = kept-one f known _ _ (λ s. reads _ s refl refl)
-  replicated-kept known (replications.Acknowledged server commit) = kept-one f known _ _ (λ s. reads _ s refl refl)
+  replicated-kept known _ = kept-one f known _ _ (λ s. reads _ s refl refl)

@@ -9,10 +9,11 @@ use Rattle.std.proofs.Math.ListN.{length-map}
 use Rattle.pat_base.specs.declared.server_state.State.{State}
 use Rattle.pat_base.specs.declared.server_state.State.TheVariants as states
 use Rattle.pat_base.specs.declared.ticks.Ticks.{Ticks}
+use Rattle.pat_base.specs.Changes.{changed_at, changed_by}
 use Rattle.pat_base.specs.ServerState.{writes, live}
 use Rattle.pg_model.specs.Facts.{ServerFacts, is_down, none_confirmed}
 use Rattle.pg_model.specs.Running.{completed, crashed_state, later, replica_started, started, stopped}
-use Rattle.pg_model.specs.Servers.{quietly_ticked, with_server}
+use Rattle.pg_model.specs.Servers.{quietly_ticked}
 use Rattle.event_book.specs.declared.event.Event.{Event}
 use Rattle.event_book.specs.declared.event.Kind.{Kind}
 use Rattle.event_book.specs.declared.event.Kind.TheVariants as kinds
@@ -25,7 +26,6 @@ use Rattle.event_book.specs.declared.event.ServerEvent.TheVariants as servers
 use Rattle.event_book.specs.declared.event.WatchdogEvent.{WatchdogEvent}
 use Rattle.event_book.specs.declared.event.WatchdogEvent.TheVariants as watchdogs
 use Rattle.event_book.specs.Acknowledged.{acknowledged_after, acknowledged_by, acknowledged_in}
-use Rattle.event_book.specs.Agents.{changed_at}
 use Rattle.event_book.specs.Clock.{now_after}
 use Rattle.event_book.specs.Facts.{Facts, after, after_all}
 use Rattle.event_book.specs.Functions.{put_at}
@@ -35,6 +35,17 @@ use Rattle.event_book.specs.Servers.{begun_in, servers_by, received_by, copied_b
 use Rattle.event_book.specs.Writers.{writes_now, writes_in, writes_by, writes_by_server, writes_by_watchdog, writes_after}
 use Rattle.event_book.proofs.Parts.{ticked-kept, others-kept, watched-kept, logged-kept, replicated-kept}
 use Rattle.event_book.proofs.Changed.{changed-one, kept-one, kept-each, same-if, length-one}
+
+-- a part of the servers that one event changes by itself is, after a book, what the book's events make of it, one by one
+part-told : {A : Type 0} (part : List ServerFacts → A) (one : A → Kind → A) (each : A → List Event → A)
+    → ((x : A) → each x [] ≡ x) → ((x : A) (event : Event) (events : List Event) → each x (event ∷ events) ≡ each (one x event.kind) events)
+    → ((now : ℕ) (known : List ServerFacts) (kind : Kind) → part (servers_after now known kind) ≡ one (part known) kind)
+    → (facts : Facts) (book : List Event) → part (after_all facts book).servers ≡ each (part facts.servers) book
+part-told part one each none more of facts [] = sym (none (part facts.servers))
+part-told part one each none more of facts (event ∷ events) =
+    part-told part one each none more of (after facts event.kind) events
+    ∙ ap (λ x. each x events) (of (now_after facts.clock event.kind) facts.servers event.kind)
+    ∙ sym (more (part facts.servers) event events)
 
 -- the logs
 
@@ -76,9 +87,7 @@ logs-of now known (kinds.Watchdog happening) = watched-kept (λ s. s.log) (λ s 
 logs-of now known _ = refl
 
 pub logs-told : (facts : Facts) (book : List Event) → logs_in (after_all facts book).servers ≡ logs_after (logs_in facts.servers) book
-logs-told facts [] = refl
-logs-told facts (event ∷ events) =
-    logs-told (after facts event.kind) events ∙ ap (λ known. logs_after known events) (logs-of (now_after facts.clock event.kind) facts.servers event.kind)
+logs-told = part-told logs_in logs_at logs_after (λ known. refl) (λ known event events. refl) logs-of
 
 -- whose confirmation their commits wait for
 
@@ -93,8 +102,7 @@ required-by-server now known happening = others-kept (λ s. s.required) (λ s t 
 required-replicated : (known : List ServerFacts) (happening : ReplicationEvent)
     → required_in (servers_replicated known happening) ≡ required_at (required_in known) (kinds.Replication happening)
 required-replicated known (replications.RequiredSet server required names) = changed-one (λ s. s.required) known server.id.number _ _ (λ s. refl)
-required-replicated known (replications.Confirmed server by end) = kept-one (λ s. s.required) known _ _ (λ s. refl)
-required-replicated known (replications.Acknowledged server commit) = kept-one (λ s. s.required) known _ _ (λ s. refl)
+required-replicated known _ = kept-one (λ s. s.required) known _ _ (λ s. refl)
 
 pub required-of : (now : ℕ) (known : List ServerFacts) (kind : Kind) → required_in (servers_after now known kind) ≡ required_at (required_in known) kind
 required-of now known kinds.Tick = ticked-kept (λ s. s.required) (λ s t log required confirmed. required) (record { 0 = now }) known
@@ -105,9 +113,7 @@ required-of now known (kinds.Watchdog happening) = watched-kept (λ s. s.require
 required-of now known _ = refl
 
 pub required-told : (facts : Facts) (book : List Event) → required_in (after_all facts book).servers ≡ required_after (required_in facts.servers) book
-required-told facts [] = refl
-required-told facts (event ∷ events) =
-    required-told (after facts event.kind) events ∙ ap (λ known. required_after known events) (required-of (now_after facts.clock event.kind) facts.servers event.kind)
+required-told = part-told required_in required_at required_after (λ known. refl) (λ known event events. refl) required-of
 
 -- what was confirmed to them
 
@@ -122,9 +128,8 @@ confirmed-by-server now known happening = others-kept (λ s. s.confirmed) (λ s 
 
 confirmed-replicated : (known : List ServerFacts) (happening : ReplicationEvent)
     → confirmed_in (servers_replicated known happening) ≡ confirmed_at (confirmed_in known) (kinds.Replication happening)
-confirmed-replicated known (replications.RequiredSet server required names) = kept-one (λ s. s.confirmed) known _ _ (λ s. refl)
 confirmed-replicated known (replications.Confirmed server by end) = changed-one (λ s. s.confirmed) known server.id.number _ _ (λ s. refl)
-confirmed-replicated known (replications.Acknowledged server commit) = kept-one (λ s. s.confirmed) known _ _ (λ s. refl)
+confirmed-replicated known _ = kept-one (λ s. s.confirmed) known _ _ (λ s. refl)
 
 pub confirmed-of : (now : ℕ) (known : List ServerFacts) (kind : Kind) → confirmed_in (servers_after now known kind) ≡ confirmed_at (confirmed_in known) kind
 confirmed-of now known kinds.Tick = ticked-kept (λ s. s.confirmed) (λ s t log required confirmed. confirmed) (record { 0 = now }) known
@@ -135,9 +140,7 @@ confirmed-of now known (kinds.Watchdog happening) = watched-kept (λ s. s.confir
 confirmed-of now known _ = refl
 
 pub confirmed-told : (facts : Facts) (book : List Event) → confirmed_in (after_all facts book).servers ≡ confirmed_after (confirmed_in facts.servers) book
-confirmed-told facts [] = refl
-confirmed-told facts (event ∷ events) =
-    confirmed-told (after facts event.kind) events ∙ ap (λ known. confirmed_after known events) (confirmed-of (now_after facts.clock event.kind) facts.servers event.kind)
+confirmed-told = part-told confirmed_in confirmed_at confirmed_after (λ known. refl) (λ known event events. refl) confirmed-of
 
 -- the commits that were acknowledged
 
@@ -178,8 +181,7 @@ count-of now known (kinds.Watchdog happening) = length-kept known (servers_watch
 count-of now known _ = refl
 
 pub count-told : (facts : Facts) (book : List Event) → length (after_all facts book).servers ≡ length facts.servers
-count-told facts [] = refl
-count-told facts (event ∷ events) = count-told (after facts event.kind) events ∙ count-of (now_after facts.clock event.kind) facts.servers event.kind
+count-told = part-told (λ known. length known) (λ count kind. count) (λ count events. count) (λ count. refl) (λ count event events. refl) count-of
 
 -- which of them accept writes
 
@@ -214,18 +216,18 @@ put-found xs k n value (Some b) false is e small = get_or-set_other xs k n value
 -- one server changes so that it accepts writes, or doesn't
 writes-put : (known : List ServerFacts) (k n : ℕ) (change : ServerFacts → ServerFacts) (value : Bool)
     → n < length known → ((s : ServerFacts) → writes (change s).state ≡ value)
-    → writes_in (with_server known k change) n ≡ put_at (writes_in known) k value n
+    → writes_in (changed_by known k change) n ≡ put_at (writes_in known) k value n
 writes-put known k n change value small same =
     let flags : List Bool = map (λ s. writes s.state) known in
     let few : n < length flags = rw (length-map known (λ s. writes s.state)) small in
-    writes-at (with_server known k change) n
+    writes-at (changed_by known k change) n
     ∙ ap (λ xs. get_or xs n false) (changed-one (λ s. writes s.state) known k change (λ before. value) same)
     ∙ put-found flags k n value (slice_get flags k) (n == k) refl refl few
     ∙ ap (λ b. cond (n == k) value b) (sym (writes-at known n))
 
 writes-one : (known : List ServerFacts) (k n : ℕ) (change : ServerFacts → ServerFacts)
-    → ((s : ServerFacts) → writes (change s).state ≡ writes s.state) → writes_in (with_server known k change) n ≡ writes_in known n
-writes-one known k n change same = writes-kept known (with_server known k change) n (kept-one (λ s. writes s.state) known k change same)
+    → ((s : ServerFacts) → writes (change s).state ≡ writes s.state) → writes_in (changed_by known k change) n ≡ writes_in known n
+writes-one known k n change same = writes-kept known (changed_by known k change) n (kept-one (λ s. writes s.state) known k change same)
 
 writes-completed : (now : Ticks) (state : State) (s : ServerFacts) → s.state ≡ state → writes (cond (live state) s (completed now state s)).state ≡ writes s.state
 writes-completed now (states.Starting true at) s is = refl
@@ -258,13 +260,11 @@ writes-by-server : (now : ℕ) (known : List ServerFacts) (happening : ServerEve
 writes-by-server now known (servers.Began server timeline) n small = writes-put known _ n _ true small (λ s. writes-begun s.state s)
 writes-by-server now known (servers.Ended server) n small = writes-put known _ n _ false small (λ s. refl)
 writes-by-server now known (servers.Crashed server) n small = writes-put known _ n _ false small (λ s. writes-crashed s.state)
-writes-by-server now known (servers.Promoted server) n small = refl
 writes-by-server now known (servers.StartsAsReplica server) n small = writes-one known _ n _ (λ s. writes-down now s.state s refl)
 writes-by-server now known (servers.Follows server upstream) n small = writes-one known _ n _ (λ s. refl)
 writes-by-server now known (servers.Diverged server upstream at) n small = writes-one known _ n _ (λ s. refl)
-writes-by-server now known (servers.Frozen server) n small = refl
-writes-by-server now known (servers.Thawed server) n small = refl
 writes-by-server now known (servers.Slowed server stop start) n small = writes-one known _ n _ (λ s. refl)
+writes-by-server now known _ n small = refl
 
 writes-watched : (known : List ServerFacts) (happening : WatchdogEvent) (n : ℕ) → n < length known
     → writes_in (servers_watched known happening) n ≡ writes_by_watchdog (writes_in known) happening n

@@ -1,5 +1,6 @@
 -- Which agents run, and which are held.
-use Rattle.std.specs.Prelude.{ℕ, List, [], ◌∷◌, Option, Some, None, true, false, slice_get, slice_set, zero, suc}
+use Rattle.std.specs.Prelude.{ℕ, List, [], ◌∷◌, true, false, zero, suc}
+use Rattle.pat_base.specs.Changes.{changed_by}
 use Rattle.event_book.specs.declared.event.Kind.{Kind}
 use Rattle.event_book.specs.declared.event.Kind.TheVariants as kinds
 use Rattle.event_book.specs.declared.event.AgentEvent.{AgentEvent}
@@ -15,14 +16,6 @@ running_in run = record { running = true; held = false; run = run }
 abbrev pub first_agents : ℕ → List AgentState
 first_agents zero = []
 first_agents (suc count) = running_in 1 ∷ first_agents count
-
-abbrev pub changed_at : {A : Type 0} → List A → ℕ → (A → A) → Option A → List A
-changed_at items number change None = items
-changed_at items number change (Some item) = slice_set items number (change item)
-
--- a list with the item of one number changed, if there is one
-abbrev pub changed_by : {A : Type 0} → List A → ℕ → (A → A) → List A
-changed_by items number change = changed_at items number change (slice_get items number)
 
 -- a list by members, with the item of one member changed
 abbrev pub changed : {A : Type 0} → List A → Member → (A → A) → List A

@@ -8,18 +8,17 @@ use Rattle.event_book.specs.declared.event.Event.{Event}
 use Rattle.event_book.specs.declared.event.Kind.{Kind}
 use Rattle.event_book.specs.declared.member.Member.{Member}
 use Rattle.event_book.specs.declared.agent_state.AgentState.{AgentState}
-use Rattle.event_book.specs.declared.link.Link.{Link}
 use Rattle.event_book.specs.Acknowledged.{acknowledged_after, commits_after}
 use Rattle.event_book.specs.Agents.{agents_after, first_agents}
 use Rattle.event_book.specs.Clock.{now_after}
 use Rattle.event_book.specs.Flight.{Flight, flight_at, sent_after}
 use Rattle.event_book.specs.Frozen.{frozen_after}
 use Rattle.event_book.specs.Keys.{keys_at}
-use Rattle.event_book.specs.Links.{cuts_after}
+use Rattle.event_book.specs.Links.{CutLinks, cuts_after, none_cut}
 use Rattle.event_book.specs.Members.{members_from}
 use Rattle.event_book.specs.Servers.{servers_after}
 
--- what a book determines over the declared members: the clock, the keys, which agents run, the links that are cut, the messages
+-- what a book determines over the declared members: the clock, the keys, which agents run, which links are cut, the messages
 -- in flight, the number of the message that was sent last, the servers and which of them are frozen, the number of the last
 -- commit, and the commits that were acknowledged
 pub record Facts : Type 0 where
@@ -27,7 +26,7 @@ pub record Facts : Type 0 where
   pub keys : Keys
   pub members : List Member
   pub agents : List AgentState
-  pub cuts : List Link
+  pub cuts : CutLinks
   pub flight : Flight
   pub sent : ℕ
   pub servers : List ServerFacts
@@ -63,7 +62,7 @@ start_of names base = record {
   keys = first_keys default_settings;
   members = members_from 0 names;
   agents = first_agents (length names);
-  cuts = [];
+  cuts = none_cut;
   flight = [];
   sent = 0;
   servers = replicate (length names) (fresh base);

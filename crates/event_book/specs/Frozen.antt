@@ -1,9 +1,9 @@
 -- Servers to which ticks stream nothing.
 use Rattle.std.specs.Prelude.{Bool, true, false, List}
+use Rattle.pat_base.specs.Changes.{changed_by}
 use Rattle.event_book.specs.declared.event.Kind.{Kind}
 use Rattle.event_book.specs.declared.event.Kind.TheVariants as kinds
 use Rattle.event_book.specs.declared.event.ServerEvent.TheVariants as servers
-use Rattle.event_book.specs.Agents.{changed_by}
 
 -- which servers are frozen after an event, by the number of their member
 abbrev pub frozen_after : List Bool → Kind → List Bool

@@ -1,6 +1,5 @@
 -- Links.
-use Rattle.std.specs.Prelude.{ℕ, ◌==◌, ◌&&◌, ◌||◌, not, Bool, List, [], ◌∷◌, ◌++◌, codes, filter}
-use Rattle.std.specs.List.{list_any}
+use Rattle.std.specs.Prelude.{ℕ, ◌+◌, ◌*◌, ◌==◌, ◌&&◌, ◌||◌, min, max, Bool, true, false, List, codes, replicate, slice_index_or, slice_set}
 use Rattle.pat_base.specs.Name.{name_bytes}
 use Rattle.event_book.specs.declared.link.Link.{Link}
 use Rattle.event_book.specs.declared.link.LinkEnd.{LinkEnd}
@@ -24,12 +23,32 @@ is_same_link a b =
     ((end_number a.first == end_number b.first) && (end_number a.second == end_number b.second))
     || ((end_number a.first == end_number b.second) && (end_number a.second == end_number b.first))
 
--- whether a link is among those that are cut
-abbrev pub is_cut : List Link → Link → Bool
-is_cut cuts link = list_any (λ other. is_same_link other link) cuts
+-- how many ends links may have: 16 members and the key store
+abbrev pub end_count : ℕ
+end_count = 17
 
--- the links that are cut after an event
-abbrev pub cuts_after : List Link → Kind → List Link
-cuts_after cuts (kinds.Link (links.Cut link)) = cuts ++ link ∷ []
-cuts_after cuts (kinds.Link (links.Joined link)) = filter (λ other. not (is_same_link other link)) cuts
+-- how many places a table has that has one for each two ends
+abbrev pub place_count : ℕ
+place_count = end_count * end_count
+
+-- the place of a link in such a table: the row of its end with the lower number, and in it the column of the other one
+abbrev pub link_place : Link → ℕ
+link_place link = min (end_number link.first) (end_number link.second) * end_count + max (end_number link.first) (end_number link.second)
+
+-- which links are cut, by their places
+abbrev pub CutLinks : Type 0
+CutLinks = List Bool
+
+-- before the first event no link is cut
+unfoldable pub none_cut : CutLinks
+none_cut = replicate place_count false
+
+-- whether a link is cut
+abbrev pub is_cut : CutLinks → Link → Bool
+is_cut cuts link = slice_index_or cuts (link_place link) false
+
+-- which links are cut after an event
+abbrev pub cuts_after : CutLinks → Kind → CutLinks
+cuts_after cuts (kinds.Link (links.Cut link)) = slice_set cuts (link_place link) true
+cuts_after cuts (kinds.Link (links.Joined link)) = slice_set cuts (link_place link) false
 cuts_after cuts _ = cuts

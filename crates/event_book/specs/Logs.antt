@@ -1,5 +1,6 @@
 -- The logs of servers, from the book alone.
 use Rattle.std.specs.Prelude.{ℕ, List, [], ◌∷◌, ◌++◌, Option, Some, None, map, slice_get, take}
+use Rattle.pat_base.specs.Changes.{changed_by}
 use Rattle.wal_model.specs.declared.entry.Entry.{Entry}
 use Rattle.wal_model.specs.Log.{received}
 use Rattle.pg_model.specs.Facts.{ServerFacts, entries_of}
@@ -8,7 +9,6 @@ use Rattle.event_book.specs.declared.event.Kind.{Kind}
 use Rattle.event_book.specs.declared.event.Kind.TheVariants as kinds
 use Rattle.event_book.specs.declared.event.LogEvent.{LogEvent}
 use Rattle.event_book.specs.declared.event.LogEvent.TheVariants as logs
-use Rattle.event_book.specs.Agents.{changed_by}
 
 -- logs by the numbers of their servers; a server that was wiped has none
 abbrev pub Logs : Type 0

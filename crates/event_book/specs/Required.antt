@@ -2,13 +2,13 @@
 use Rattle.std.specs.Prelude.{List, [], ◌∷◌, Option, Some, map, slice_set}
 use Rattle.pat_base.specs.declared.lsn.Lsn.{Lsn}
 use Rattle.pat_base.specs.declared.server_state.Required.{Required}
+use Rattle.pat_base.specs.Changes.{changed_by}
 use Rattle.pg_model.specs.Facts.{ServerFacts, none_confirmed}
 use Rattle.event_book.specs.declared.event.Event.{Event}
 use Rattle.event_book.specs.declared.event.Kind.{Kind}
 use Rattle.event_book.specs.declared.event.Kind.TheVariants as kinds
 use Rattle.event_book.specs.declared.event.ReplicationEvent.TheVariants as replications
 use Rattle.event_book.specs.declared.event.ServerEvent.TheVariants as servers
-use Rattle.event_book.specs.Agents.{changed_by}
 
 -- the required lists of these servers
 abbrev pub required_in : List ServerFacts → List Required

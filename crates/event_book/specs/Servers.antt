@@ -2,10 +2,11 @@
 use Rattle.std.specs.Prelude.{ℕ, if◌then◌else◌, true, List, Option, Some, None, map, take, drop, slice_get}
 use Rattle.pat_base.specs.declared.server_state.State.{State}
 use Rattle.pat_base.specs.declared.server_state.State.TheVariants as states
+use Rattle.pat_base.specs.Changes.{changed_by}
 use Rattle.pg_model.specs.Facts.{ServerFacts, none_confirmed, entries_of, is_down}
 use Rattle.pg_model.specs.Replication.{appended, confirming, following, received_from}
 use Rattle.pg_model.specs.Running.{crashed, delayed, promoted, replica_started, started, stopped}
-use Rattle.pg_model.specs.Servers.{quietly_ticked, requiring, with_server}
+use Rattle.pg_model.specs.Servers.{quietly_ticked, requiring}
 use Rattle.event_book.specs.declared.event.Kind.{Kind}
 use Rattle.event_book.specs.declared.event.Kind.TheVariants as kinds
 use Rattle.event_book.specs.declared.event.LogEvent.{LogEvent}
@@ -29,41 +30,39 @@ starts_as_replica now s = if is_down s.state then replica_started (record { 0 = 
 
 -- the servers after what happens to one at this moment
 abbrev pub servers_by : ℕ → List ServerFacts → ServerEvent → List ServerFacts
-servers_by now known (servers.Began server timeline) = with_server known server.id.number (λ s. begun_in s.state s)
-servers_by now known (servers.Ended server) = with_server known server.id.number stopped
-servers_by now known (servers.Crashed server) = with_server known server.id.number crashed
-servers_by now known (servers.Promoted server) = known
-servers_by now known (servers.StartsAsReplica server) = with_server known server.id.number (starts_as_replica now)
-servers_by now known (servers.Follows server upstream) = with_server known server.id.number (following upstream.id)
-servers_by now known (servers.Diverged server upstream at) = with_server known server.id.number (λ s. record s { diverged = true })
-servers_by now known (servers.Frozen server) = known
-servers_by now known (servers.Thawed server) = known
-servers_by now known (servers.Slowed server stop start) = with_server known server.id.number (delayed stop start)
+servers_by now known (servers.Began server timeline) = changed_by known server.id.number (λ s. begun_in s.state s)
+servers_by now known (servers.Ended server) = changed_by known server.id.number stopped
+servers_by now known (servers.Crashed server) = changed_by known server.id.number crashed
+servers_by now known (servers.StartsAsReplica server) = changed_by known server.id.number (starts_as_replica now)
+servers_by now known (servers.Follows server upstream) = changed_by known server.id.number (following upstream.id)
+servers_by now known (servers.Diverged server upstream at) = changed_by known server.id.number (λ s. record s { diverged = true })
+servers_by now known (servers.Slowed server stop start) = changed_by known server.id.number (delayed stop start)
+servers_by now known _ = known
 
 abbrev pub received_by : List ServerFacts → ℕ → ℕ → Option ServerFacts → List ServerFacts
 received_by known number count None = known
-received_by known number count (Some upstream) = with_server known number (λ s. received_from count s upstream)
+received_by known number count (Some upstream) = changed_by known number (λ s. received_from count s upstream)
 
 abbrev pub copied_by : List ServerFacts → ℕ → Option ServerFacts → List ServerFacts
 copied_by known number None = known
-copied_by known number (Some source) = with_server known number (λ s. record s { log = source.log })
+copied_by known number (Some source) = changed_by known number (λ s. record s { log = source.log })
 
 -- the servers after what happens to a log. What a rewind, a copy and a wipe change beside it is to come with them
 abbrev pub servers_logged : List ServerFacts → LogEvent → List ServerFacts
-servers_logged known (logs.Appended server entry) = with_server known server.id.number (appended entry)
+servers_logged known (logs.Appended server entry) = changed_by known server.id.number (appended entry)
 servers_logged known (logs.Received server from count) = received_by known server.id.number count (slice_get known from.id.number)
-servers_logged known (logs.Rewound server from kept at) = with_server known server.id.number (λ s. record s { log = Some (take kept (entries_of s.log)) })
+servers_logged known (logs.Rewound server from kept at) = changed_by known server.id.number (λ s. record s { log = Some (take kept (entries_of s.log)) })
 servers_logged known (logs.Copied server from) = copied_by known server.id.number (slice_get known from.id.number)
-servers_logged known (logs.Wiped server) = with_server known server.id.number (λ s. record s { log = None })
+servers_logged known (logs.Wiped server) = changed_by known server.id.number (λ s. record s { log = None })
 
 abbrev pub servers_replicated : List ServerFacts → ReplicationEvent → List ServerFacts
-servers_replicated known (replications.RequiredSet server required names) = with_server known server.id.number (requiring required)
-servers_replicated known (replications.Confirmed server by end) = with_server known server.id.number (confirming by.id end)
-servers_replicated known (replications.Acknowledged server commit) = with_server known server.id.number (λ s. record s { waiting = drop 1 s.waiting })
+servers_replicated known (replications.RequiredSet server required names) = changed_by known server.id.number (requiring required)
+servers_replicated known (replications.Confirmed server by end) = changed_by known server.id.number (confirming by.id end)
+servers_replicated known (replications.Acknowledged server commit) = changed_by known server.id.number (λ s. record s { waiting = drop 1 s.waiting })
 
 -- a reset of its machine crashes a server
 abbrev pub servers_watched : List ServerFacts → WatchdogEvent → List ServerFacts
-servers_watched known (watchdogs.Reset member) = with_server known member.id.number crashed
+servers_watched known (watchdogs.Reset member) = changed_by known member.id.number crashed
 servers_watched known _ = known
 
 -- the servers after an event of this moment: a tick completes the starts and stops that no event tells

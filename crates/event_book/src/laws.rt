@@ -1,8 +1,13 @@
 //! Laws of books.
-ghost use Rattle.std.specs.Prelude.{ℕ, ◌≡◌, ◌<◌, ◌++◌, List, length};
+ghost use Rattle.std.specs.Prelude.{ℕ, ◌≡◌, ◌<◌, ◌++◌, ◌&&◌, ◌||◌, not, false, List, length};
 ghost use Rattle.event_book.specs.declared.event.Event.{Event};
+ghost use Rattle.event_book.specs.declared.event.Kind.{Kind};
+ghost use Rattle.event_book.specs.declared.event.Kind.TheVariants as kinds;
+ghost use Rattle.event_book.specs.declared.event.LinkEvent.TheVariants as links;
+ghost use Rattle.event_book.specs.declared.link.Link.{Link};
 ghost use Rattle.event_book.specs.Acknowledged.{acknowledged_in};
 ghost use Rattle.event_book.specs.Facts.{Facts, after_all};
+ghost use Rattle.event_book.specs.Links.{CutLinks, cuts_after, is_cut, is_same_link, none_cut, place_count};
 ghost use Rattle.event_book.specs.Logs.{logs_in, logs_after};
 ghost use Rattle.event_book.specs.Required.{required_in, required_after, confirmed_in, confirmed_after};
 ghost use Rattle.event_book.specs.Writers.{writes_in, writes_after};
@@ -17,4 +22,15 @@ pub fn servers_are_told()
     ensures acknowledged { (facts : Facts) (book : List Event) → (after_all facts book).acknowledged ≡ facts.acknowledged ++ acknowledged_in book }
     // No event adds a server, or takes one away.
     ensures count { (facts : Facts) (book : List Event) → length (after_all facts book).servers ≡ length facts.servers }
+{}
+
+/// What the table of links says is what cuts and joins say: after a cut that link is cut and after a join it isn't, whichever
+/// end is named first, and any other link is as it was.
+pub fn links_are_told()
+    ensures first { (link : Link) → is_cut none_cut link ≡ false }
+    ensures cut { (cuts : CutLinks) (cut link : Link) → length cuts ≡ place_count → is_cut (cuts_after cuts (kinds.Link (links.Cut cut))) link ≡ (is_same_link cut link || is_cut cuts link) }
+    ensures joined { (cuts : CutLinks) (joined link : Link) → is_cut (cuts_after cuts (kinds.Link (links.Joined joined))) link ≡ (not (is_same_link joined link) && is_cut cuts link) }
+    // The table has a place for each link, before the first event and after each.
+    ensures whole { length none_cut ≡ place_count }
+    ensures count { (cuts : CutLinks) (kind : Kind) → length (cuts_after cuts kind) ≡ length cuts }
 {}

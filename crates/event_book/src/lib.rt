@@ -22,7 +22,7 @@ pub use event::{
     AgentEvent, Event, Kind, LinkEvent, LogEvent, MessageEvent, Note, ReplicationEvent,
     ServerEvent, StoreEvent, WatchdogEvent,
 };
-pub use laws::servers_are_told;
+pub use laws::{links_are_told, servers_are_told};
 pub use link::{Link, LinkEnd};
 pub use member::{Member, ServerOf};
 pub use message::{Body, Message};

@@ -3,6 +3,9 @@
 use crate::Member;
 use std::fmt;
 
+/// How many ends links may have: 16 members and the key store.
+const ENDS: usize = 17;
+
 /// One end of a link.
 #[derive(Clone, Copy, Debug, PartialEq, Eq)]
 pub enum LinkEnd {
@@ -18,12 +21,13 @@ pub struct Link {
 }
 
 impl LinkEnd {
-    ghost use Rattle.std.specs.Prelude.{◌≡◌};
-    ghost use Rattle.event_book.specs.Links.{end_number};
+    ghost use Rattle.std.specs.Prelude.{◌≡◌, ◌<◌};
+    ghost use Rattle.event_book.specs.Links.{end_count, end_number};
 
     /// The number of a member, or 16 for the key store.
     pub fn number(self) -> u8
-        ensures { result ≡ end_number self }
+        ensures number { result ≡ end_number self }
+        ensures within { result < end_count }
     {
         match self {
             LinkEnd::Store => 16,
@@ -47,15 +51,19 @@ impl fmt::Display for LinkEnd {
 }
 
 impl Link {
-    ghost use Rattle.std.specs.Prelude.{◌≡◌};
-    ghost use Rattle.event_book.specs.Links.{is_same_link};
+    ghost use Rattle.std.specs.Prelude.{◌≡◌, ◌<◌};
+    ghost use Rattle.event_book.specs.Links.{link_place, place_count};
 
-    /// Whether this is the link between the ends of another one, in either order.
-    pub fn is_same(self, other: Link) -> bool
-        ensures { result ≡ is_same_link self other }
+    /// How many places a table of links has.
+    pub const PLACES: usize = ENDS * ENDS;
+
+    /// The place of this link in a table of links, from 0. Links have one place where they have the same ends, whichever
+    /// end is named first.
+    pub fn place(self) -> usize
+        ensures place { result ≡ link_place self }
+        ensures within { result < place_count }
     {
-        let (first, second) = (self.first.number(), self.second.number());
-        let (third, fourth) = (other.first.number(), other.second.number());
-        (first == third && second == fourth) || (first == fourth && second == third)
+        let (first, second) = (self.first.number() as usize, self.second.number() as usize);
+        first.min(second) * ENDS + first.max(second)
     }
 }

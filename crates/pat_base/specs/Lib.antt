@@ -1,4 +1,5 @@
 pub mod Bounded
+pub mod Changes
 pub mod Host
 pub mod HostText
 pub mod Lsn

@@ -7,11 +7,11 @@ use Rattle.std.proofs.lemmas.Option.{slice_get_within}
 use Rattle.pat_base.specs.declared.server_state.Required.{Required}
 use Rattle.pat_base.specs.declared.lsn.Lsn.{Lsn}
 use Rattle.pat_base.specs.declared.ticks.Ticks.{Ticks}
+use Rattle.pat_base.specs.Changes.{changed_at, changed_by}
 use Rattle.pat_base.specs.ServerState.{writes}
 use Rattle.pg_model.specs.declared.waiting.Waiting.{Waiting}
 use Rattle.pg_model.specs.Facts.{ServerFacts}
 use Rattle.pg_model.specs.Replication.{acknowledged, first_is_met, first_serial, is_met, may_acknowledge, next_acknowledged}
-use Rattle.pg_model.specs.Servers.{with_server, with_server_at}
 use Rattle.pg_model.proofs.Clusters.{got-set_other, got-set_same}
 use Rattle.event_book.specs.declared.event.Event.{Event}
 use Rattle.event_book.specs.declared.event.Kind.{Kind}
@@ -94,9 +94,9 @@ none-of true required confirmed (first ∷ more) is = none-met (is_met required 
 pub ready-none : (s : ServerFacts) → next_acknowledged s ≡ None → (may_acknowledge s ≡ false) × (ready_commits s ≡ [])
 ready-none s is = none-of (writes s.state) s.required s.confirmed s.waiting is
 
-got-with : (known : List ServerFacts) (place : ℕ) (s : ServerFacts) (change : ServerFacts → ServerFacts) → slice_get known place ≡ Some s → slice_get (with_server known place change) place ≡ Some (change s)
+got-with : (known : List ServerFacts) (place : ℕ) (s : ServerFacts) (change : ServerFacts → ServerFacts) → slice_get known place ≡ Some s → slice_get (changed_by known place change) place ≡ Some (change s)
 got-with known place s change is =
-    ap (λ (o : Option ServerFacts). slice_get (with_server_at known place change o) place) is ∙ got-set_same known place (change s) (slice_get_within known place s is)
+    ap (λ (o : Option ServerFacts). slice_get (changed_at known place change o) place) is ∙ got-set_same known place (change s) (slice_get_within known place s is)
 
 found-next : (found : Option ServerFacts) (commit : ℕ) → option_and_then next_acknowledged found ≡ Some commit → (s : ServerFacts) × (found ≡ Some s) × (next_acknowledged s ≡ Some commit)
 found-next None commit is = absurd (no-value commit is)
@@ -128,17 +128,17 @@ HasRoom-acknowledged cluster member commit events room = record {
 
 -- what the loop does once
 pub acknowledged-one : (cluster : Cluster) (member : Member) (commit : ℕ) (s : ServerFacts) (server : ServerOf) (known : List ServerFacts) (told : List ℕ) (tick : Ticks) (has longer : List Event)
-    → slice_get cluster.book.servers member.id.number ≡ Some s → next_acknowledged s ≡ Some commit → known ≡ with_server cluster.book.servers member.id.number acknowledged
+    → slice_get cluster.book.servers member.id.number ≡ Some s → next_acknowledged s ≡ Some commit → known ≡ changed_by cluster.book.servers member.id.number acknowledged
     → told ≡ cluster.book.acknowledged ++ commit ∷ [] → server ≡ server_of member → tick.0 ≡ cluster.book.clock
     → longer ≡ has ++ record { tick = tick; kind = kinds.Replication (replications.Acknowledged server commit) } ∷ []
     → Took cluster (telling cluster known told) has longer (happens cluster (acknowledgement member commit)) 0
 acknowledged-one cluster member commit s server known told tick has longer there next known_is told_is server_is at longer_is =
     let place = member.id.number in
     let kind : Kind = acknowledgement member commit in
-    let servers : known ≡ with_server cluster.book.servers place one_told = known_is ∙ ap (with_server_at cluster.book.servers place acknowledged) there
-    ∙ ap (slice_set cluster.book.servers place) (ready-next s commit next).1 ∙ sym (ap (with_server_at cluster.book.servers place one_told) there) in
+    let servers : known ≡ changed_by cluster.book.servers place one_told = known_is ∙ ap (changed_at cluster.book.servers place acknowledged) there
+    ∙ ap (slice_set cluster.book.servers place) (ready-next s commit next).1 ∙ sym (ap (changed_at cluster.book.servers place one_told) there) in
     let state : telling cluster known told ≡ moved cluster kind = ap (λ (xs : List ServerFacts). telling cluster xs told) servers
-    ∙ ap (telling cluster (with_server cluster.book.servers place one_told)) told_is ∙ sym (serving-moved cluster kind tt) in
+    ∙ ap (telling cluster (changed_by cluster.book.servers place one_told)) told_is ∙ sym (serving-moved cluster kind tt) in
     record {
       state = state;
       event = longer_is ∙ ap (λ (x : ServerOf). has ++ record { tick = tick; kind = kinds.Replication (replications.Acknowledged x commit) } ∷ []) server_is ∙ ap (λ es. has ++ es) (stamped-is cluster tick kind at);
@@ -157,7 +157,7 @@ acknowledged-rest cluster member commit s there next =
 
 pub acknowledge-more : (start cluster : Cluster) (member : Member) (commit : ℕ) (server : ServerOf) (known : List ServerFacts) (told : List ℕ) (tick : Ticks) (had has longer whole : List Event)
     → Left start cluster had has whole (acknowledges cluster member) 0 0 → option_and_then next_acknowledged (slice_get cluster.book.servers member.id.number) ≡ Some commit
-    → known ≡ with_server cluster.book.servers member.id.number acknowledged → told ≡ cluster.book.acknowledged ++ commit ∷ [] → server ≡ server_of member → tick.0 ≡ cluster.book.clock
+    → known ≡ changed_by cluster.book.servers member.id.number acknowledged → told ≡ cluster.book.acknowledged ++ commit ∷ [] → server ≡ server_of member → tick.0 ≡ cluster.book.clock
     → longer ≡ has ++ record { tick = tick; kind = kinds.Replication (replications.Acknowledged server commit) } ∷ []
     → Left start (telling cluster known told) had longer whole (acknowledges (telling cluster known told) member) 0 0
 acknowledge-more start cluster member commit server known told tick had has longer whole left is known_is told_is server_is at longer_is =
@@ -167,7 +167,7 @@ acknowledge-more start cluster member commit server known told tick had has long
     (acknowledged-one cluster member commit found.0 server known told tick has longer found.1 found.2 known_is told_is server_is at longer_is) (omega arith)
 
 -- fewer commits wait
-pub acknowledge-fewer : (known after : List ServerFacts) (place commit : ℕ) → option_and_then next_acknowledged (slice_get known place) ≡ Some commit → after ≡ with_server known place acknowledged
+pub acknowledge-fewer : (known after : List ServerFacts) (place commit : ℕ) → option_and_then next_acknowledged (slice_get known place) ≡ Some commit → after ≡ changed_by known place acknowledged
     → waiting_at (slice_get after place) < waiting_at (slice_get known place)
 acknowledge-fewer known after place commit is after_is =
     let found = found-next (slice_get known place) commit is in
@@ -176,10 +176,10 @@ acknowledge-fewer known after place commit is after_is =
     subst (λ (o : Option ServerFacts). waiting_at o < waiting_at (slice_get known place)) (sym later)
     (subst (λ (o : Option ServerFacts). length (one_told found.0).waiting < waiting_at o) (sym found.1) ready.2)
 
-none-left : (known : List ServerFacts) (place : ℕ) (found : Option ServerFacts) → slice_get known place ≡ found → option_and_then next_acknowledged found ≡ None → with_server known place acknowledged ≡ known
-none-left known place None there is = ap (with_server_at known place acknowledged) there
+none-left : (known : List ServerFacts) (place : ℕ) (found : Option ServerFacts) → slice_get known place ≡ found → option_and_then next_acknowledged found ≡ None → changed_by known place acknowledged ≡ known
+none-left known place None there is = ap (changed_at known place acknowledged) there
 none-left known place (Some s) there is =
-    ap (with_server_at known place acknowledged) there ∙ ap (λ (b : Bool). slice_set known place (if b then one_told s else s)) (ready-none s is).0 ∙ set-same known place s there
+    ap (changed_at known place acknowledged) there ∙ ap (λ (b : Bool). slice_set known place (if b then one_told s else s)) (ready-none s is).0 ∙ set-same known place s there
 
 no-kinds : (member : Member) (found : Option ServerFacts) → option_and_then next_acknowledged found ≡ None → acknowledge_kinds member found ≡ []
 no-kinds member None is = refl
@@ -188,7 +188,7 @@ no-kinds member (Some s) is = ap (map (acknowledgement member)) (ready-none s is
 -- none is left
 pub acknowledge-end : (start cluster : Cluster) (member : Member) (known : List ServerFacts) (had has whole : List Event)
     → Left start cluster had has whole (acknowledges cluster member) 0 0 → option_and_then next_acknowledged (slice_get cluster.book.servers member.id.number) ≡ None
-    → known ≡ with_server cluster.book.servers member.id.number acknowledged → Took start (telling cluster known cluster.book.acknowledged) had has whole 0
+    → known ≡ changed_by cluster.book.servers member.id.number acknowledged → Took start (telling cluster known cluster.book.acknowledged) had has whole 0
 acknowledge-end start cluster member known had has whole left none known_is =
     let place = member.id.number in
     let same : known ≡ cluster.book.servers = known_is ∙ none-left cluster.book.servers place (slice_get cluster.book.servers place) refl none in
@@ -238,7 +238,7 @@ keeps-one cluster member commit s there may = record { members = refl; done = λ
         let here : may_acknowledge s ≡ false = subst IsDone there (subst (λ (n : ℕ). DoneAt cluster n) e done) in
         absurd (clash (sym here ∙ may))
     at place done (inr other) =
-        subst IsDone (sym (ap (λ (o : Option ServerFacts). slice_get (with_server_at cluster.book.servers member.id.number one_told o) place) there ∙ got-set_other cluster.book.servers member.id.number place (one_told s) other)) done
+        subst IsDone (sym (ap (λ (o : Option ServerFacts). slice_get (changed_at cluster.book.servers member.id.number one_told o) place) there ∙ got-set_other cluster.book.servers member.id.number place (one_told s) other)) done
 
 -- once all that may be acknowledged at a server are, it is done
 done-there : (cluster : Cluster) (member : Member) (s : ServerFacts) (commits : List ℕ) → slice_get cluster.book.servers member.id.number ≡ Some s → ready_commits s ≡ commits

@@ -6,10 +6,9 @@ use Rattle.event_book.specs.declared.event.Event.{Event}
 use Rattle.event_book.specs.declared.event.Kind.{Kind}
 use Rattle.event_book.specs.declared.event.Kind.TheVariants as kinds
 use Rattle.event_book.specs.declared.event.MessageEvent.TheVariants as messages
-use Rattle.event_book.specs.declared.link.Link.{Link}
 use Rattle.event_book.specs.Agents.{agents_after}
 use Rattle.event_book.specs.Flight.{Flight, InFlightFacts, in_flight, sent_after}
-use Rattle.event_book.specs.Links.{cuts_after}
+use Rattle.event_book.specs.Links.{CutLinks, cuts_after}
 use Rattle.pat_world.specs.Cluster.{Cluster, moved}
 use Rattle.pat_world.specs.Comes.{Counts, IsBare}
 use Rattle.pat_world.specs.Next.{happens}
@@ -25,18 +24,18 @@ sent-same last (kinds.Message (messages.Sent number message)) bare = absurd bare
 sent-same last _ bare = refl
 
 -- a mark is as it was, or nothing
-pub record IsMarked (old new : ℕ) (before after : Flight) (agents states : List AgentState) (cuts links : List Link) : Type 0 where
+pub record IsMarked (old new : ℕ) (before after : Flight) (agents states : List AgentState) (cuts links : CutLinks) : Type 0 where
   pub below : new ≤ old
   pub kept : AreKeptBelow old before agents cuts → ((n : ℕ) (message : InFlightFacts) → in_flight after n ≡ Some message → in_flight before n ≡ Some message) → AreKeptBelow new after states links
 
-cleared : (mark : ℕ) (before after : Flight) (agents states : List AgentState) (cuts links : List Link) → IsMarked mark 0 before after agents states cuts links
+cleared : (mark : ℕ) (before after : Flight) (agents states : List AgentState) (cuts links : CutLinks) → IsMarked mark 0 before after agents states cuts links
 cleared mark before after agents states cuts links = record { below = omega arith; kept = λ kept others. kept-nothing after states links }
 
-same-mark : (mark : ℕ) (before after : Flight) (agents : List AgentState) (cuts : List Link) → IsMarked mark mark before after agents agents cuts cuts
+same-mark : (mark : ℕ) (before after : Flight) (agents : List AgentState) (cuts : CutLinks) → IsMarked mark mark before after agents agents cuts cuts
 same-mark mark before after agents cuts = record { below = omega arith; kept = λ kept others. kept-fewer mark before after agents cuts kept others }
 
 -- below the mark all is kept after what sends no message
-pub marked : (mark : ℕ) (before after : Flight) (agents : List AgentState) (cuts : List Link) (kind : Kind) → IsMarked mark (settled_after mark kind) before after agents (agents_after agents kind) cuts (cuts_after cuts kind)
+pub marked : (mark : ℕ) (before after : Flight) (agents : List AgentState) (cuts : CutLinks) (kind : Kind) → IsMarked mark (settled_after mark kind) before after agents (agents_after agents kind) cuts (cuts_after cuts kind)
 marked mark before after agents cuts (kinds.Agent happening) = cleared mark before after agents _ cuts cuts
 marked mark before after agents cuts (kinds.Link happening) = cleared mark before after agents agents cuts _
 marked mark before after agents cuts _ = same-mark mark before after agents cuts

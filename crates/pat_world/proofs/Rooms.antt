@@ -2,6 +2,7 @@
 use Rattle.std.proofs.Common.{◌≡◌, ℕ, ◌+◌, ◌^◌, ◌≤◌, ◌<◌, List, All, Option, Some, None, arith, refl}
 use Rattle.std.specs.Prelude.{slice_get}
 use Rattle.std.proofs.lemmas.List.Elements.{All-set}
+use Rattle.pat_base.specs.Changes.{changed_at}
 use Rattle.lease_store.specs.Keys.{Keys}
 use Rattle.pg_model.specs.Facts.{ServerFacts}
 use Rattle.event_book.specs.declared.agent_state.AgentState.{AgentState}
@@ -16,7 +17,7 @@ use Rattle.event_book.specs.declared.event.StoreEvent.TheVariants as stores
 use Rattle.event_book.specs.declared.link.LinkEnd.{LinkEnd}
 use Rattle.event_book.specs.declared.link.LinkEnd.TheVariants as link_ends
 use Rattle.event_book.specs.declared.member.Member.{Member}
-use Rattle.event_book.specs.Agents.{changed, changed_at, agents_by, agents_after}
+use Rattle.event_book.specs.Agents.{changed, agents_by, agents_after}
 use Rattle.event_book.specs.Clock.{now_after}
 use Rattle.event_book.specs.Flight.{InFlightFacts, Flight, in_flight, sent_after}
 use Rattle.event_book.specs.Keys.{keys_at}

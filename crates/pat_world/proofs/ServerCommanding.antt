@@ -3,13 +3,14 @@ use Rattle.std.proofs.Common.{◌≡◌, ℕ, ◌+◌, ◌^◌, ◌<◌, ◌&&�
 use Rattle.std.specs.Prelude.{option_and_then, slice_get, slice_set, if◌then◌else◌, IfSome}
 use Rattle.std.proofs.lemmas.List.{set-get_or}
 use Rattle.std.proofs.lemmas.Option.{get_or_from_slice_get, none-some, same_Some}
+use Rattle.pat_base.specs.Changes.{changed_at, changed_by}
 use Rattle.pat_base.specs.ServerState.{writes}
 use Rattle.wal_model.specs.declared.entry.Entry.{Entry}
 use Rattle.wal_model.specs.Log.{end_of}
 use Rattle.pg_model.specs.Facts.{ServerFacts, entries_of, is_down, is_replica}
 use Rattle.pg_model.specs.Replication.{entry_of}
 use Rattle.pg_model.specs.Running.{replica_started}
-use Rattle.pg_model.specs.Servers.{entry_at, entry_for, with_server, with_server_at}
+use Rattle.pg_model.specs.Servers.{entry_at, entry_for}
 use Rattle.event_book.specs.declared.event.Event.{Event}
 use Rattle.event_book.specs.declared.event.Kind.TheVariants as kinds
 use Rattle.event_book.specs.declared.event.ServerEvent.TheVariants as servers
@@ -85,9 +86,9 @@ set-got : (known : List ServerFacts) (place : ℕ) (s : ServerFacts) → slice_g
 set-got known place s there = ap (λ (t : ServerFacts). slice_set known place t) (sym (get_or_from_slice_get known place s s there)) ∙ set-get_or known place s
 
 -- a server that isn't down doesn't start
-pub not-down : (known : List ServerFacts) (place now : ℕ) (s : ServerFacts) → slice_get known place ≡ Some s → is_down s.state ≡ false → known ≡ with_server known place (starts_as_replica now)
+pub not-down : (known : List ServerFacts) (place now : ℕ) (s : ServerFacts) → slice_get known place ≡ Some s → is_down s.state ≡ false → known ≡ changed_by known place (starts_as_replica now)
 not-down known place now s there up =
-    sym (ap (λ (o : Option ServerFacts). with_server_at known place (starts_as_replica now) o) there
+    sym (ap (λ (o : Option ServerFacts). changed_at known place (starts_as_replica now) o) there
     ∙ ap (λ (down : Bool). slice_set known place (if down then replica_started (record { 0 = now }) None s else s)) up ∙ set-got known place s there)
 
 -- the server of a member, a standby, follows that of a leader

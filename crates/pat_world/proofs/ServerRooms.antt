@@ -6,11 +6,12 @@ use Rattle.std.proofs.lemmas.Option.{slice_get_within, get_or_from_slice_get}
 use Rattle.pat_base.specs.declared.server_state.State.{State}
 use Rattle.pat_base.specs.declared.server_state.State.TheVariants as states
 use Rattle.pat_base.specs.declared.ticks.Ticks.{Ticks}
+use Rattle.pat_base.specs.Changes.{changed_at, changed_by}
 use Rattle.pat_base.specs.ServerState.{live}
 use Rattle.pg_model.specs.Facts.{ServerFacts, is_down}
 use Rattle.pg_model.specs.Replication.{received_from}
 use Rattle.pg_model.specs.Running.{completed, replica_started, started, ticked}
-use Rattle.pg_model.specs.Servers.{quietly_ticked, with_server, with_server_at}
+use Rattle.pg_model.specs.Servers.{quietly_ticked}
 use Rattle.event_book.specs.declared.event.Kind.{Kind}
 use Rattle.event_book.specs.declared.event.Kind.TheVariants as kinds
 use Rattle.event_book.specs.declared.event.LogEvent.{LogEvent}
@@ -33,13 +34,13 @@ pub All-weaker : (X : Type 0) (P Q : X → Type 0) (xs : List X) → ((x : X) �
 All-weaker X P Q xs so all k d h = so _ (all k d h)
 
 with-all_at : (P Q : ServerFacts → Type 0) (servers : List ServerFacts) (place : ℕ) (change : ServerFacts → ServerFacts) (found : Option ServerFacts) → slice_get servers place ≡ found → All P servers
-    → ((s : ServerFacts) → P s → Q s) → ((s : ServerFacts) → P s → Q (change s)) → All Q (with_server_at servers place change found)
+    → ((s : ServerFacts) → P s → Q s) → ((s : ServerFacts) → P s → Q (change s)) → All Q (changed_at servers place change found)
 with-all_at P Q servers place change None is all weaker at = All-weaker ServerFacts P Q servers weaker all
 with-all_at P Q servers place change (Some s) is all weaker at = All-set Q servers place (change s) (at s (All-at ServerFacts P servers place s all is)) (All-weaker ServerFacts P Q servers weaker all)
 
 -- what holds of each server holds with one changed
 pub with-all : (P Q : ServerFacts → Type 0) (servers : List ServerFacts) (place : ℕ) (change : ServerFacts → ServerFacts) → All P servers
-    → ((s : ServerFacts) → P s → Q s) → ((s : ServerFacts) → P s → Q (change s)) → All Q (with_server servers place change)
+    → ((s : ServerFacts) → P s → Q s) → ((s : ServerFacts) → P s → Q (change s)) → All Q (changed_by servers place change)
 with-all P Q servers place change all weaker at = with-all_at P Q servers place change (slice_get servers place) refl all weaker at
 
 map-all : (P Q : ServerFacts → Type 0) (change : ServerFacts → ServerFacts) (servers : List ServerFacts) → All P servers → ((s : ServerFacts) → P s → Q (change s)) → All Q (map change servers)
@@ -91,7 +92,7 @@ quiet-if now s false = completed-timeline now s.state s
 abbrev Roomy : ℕ → List ServerFacts → Type 0
 Roomy events known = All (HasTimeline events) known
 
-with-same : (events : ℕ) (known : List ServerFacts) (place : ℕ) (change : ServerFacts → ServerFacts) → ((s : ServerFacts) → (change s).timeline ≡ s.timeline) → Roomy (1 + events) known → Roomy events (with_server known place change)
+with-same : (events : ℕ) (known : List ServerFacts) (place : ℕ) (change : ServerFacts → ServerFacts) → ((s : ServerFacts) → (change s).timeline ≡ s.timeline) → Roomy (1 + events) known → Roomy events (changed_by known place change)
 with-same events known place change same all =
     with-all (HasTimeline (1 + events)) (HasTimeline events) known place change all (timeline-fewer events) (λ s room. timeline-as events s (change s) (same s) room)
 

@@ -12,10 +12,10 @@ use Rattle.std.proofs.lemmas.Cmp.{ranked}
 use Rattle.std.proofs.lemmas.Option.{none-some}
 use Rattle.event_book.specs.declared.agent_state.AgentState.{AgentState}
 use Rattle.event_book.specs.declared.event.Event.{Event}
-use Rattle.event_book.specs.declared.link.Link.{Link}
 use Rattle.event_book.specs.declared.link.LinkEnd.{LinkEnd}
 use Rattle.event_book.specs.declared.link.LinkEnd.TheVariants as link_ends
 use Rattle.event_book.specs.Flight.{Flight, InFlightFacts, in_flight}
+use Rattle.event_book.specs.Links.{CutLinks}
 use Rattle.pat_world.specs.declared.way.Way.{Way}
 use Rattle.pat_world.specs.declared.way.Way.TheVariants as ways
 use Rattle.pat_world.specs.Cluster.{Cluster, moved_all}
@@ -41,16 +41,16 @@ numbers-few mark flight done left whole =
     omega (arith, ap length whole, length-append done left, keys-long (filter (λ entry. nat_le mark entry.0) flight), filter-shorter (ℕ × InFlightFacts) (λ entry. nat_le mark entry.0) flight)
 
 -- below no mark nothing has to be kept
-pub kept-nothing : (flight : Flight) (agents : List AgentState) (cuts : List Link) → AreKeptBelow 0 flight agents cuts
+pub kept-nothing : (flight : Flight) (agents : List AgentState) (cuts : CutLinks) → AreKeptBelow 0 flight agents cuts
 kept-nothing flight agents cuts n message below is = absurd (omega (arith, below))
 
 -- of fewer messages those below the mark are kept too
-pub kept-fewer : (mark : ℕ) (old new : Flight) (agents : List AgentState) (cuts : List Link) → AreKeptBelow mark old agents cuts
+pub kept-fewer : (mark : ℕ) (old new : Flight) (agents : List AgentState) (cuts : CutLinks) → AreKeptBelow mark old agents cuts
     → ((n : ℕ) (message : InFlightFacts) → in_flight new n ≡ Some message → in_flight old n ≡ Some message) → AreKeptBelow mark new agents cuts
 kept-fewer mark old new agents cuts kept others n message below is = kept n message below (others n message is)
 
 -- a message that is sent has a number above the mark
-pub kept-sent : (mark number : ℕ) (old new : Flight) (agents : List AgentState) (cuts : List Link) → mark ≤ number → AreKeptBelow mark old agents cuts
+pub kept-sent : (mark number : ℕ) (old new : Flight) (agents : List AgentState) (cuts : CutLinks) → mark ≤ number → AreKeptBelow mark old agents cuts
     → ((n : ℕ) (message : InFlightFacts) → n ≢ number → in_flight new n ≡ Some message → in_flight old n ≡ Some message) → AreKeptBelow mark new agents cuts
 kept-sent mark number old new agents cuts above kept others n message below is = kept n message below (others n message (λ e. omega (arith, e, below, above)) is)
 

@@ -5,14 +5,13 @@ use Rattle.pg_model.specs.Facts.{ServerFacts}
 use Rattle.event_book.specs.declared.agent_state.AgentState.{AgentState}
 use Rattle.event_book.specs.declared.event.Kind.{Kind}
 use Rattle.event_book.specs.declared.event.Kind.TheVariants as kinds
-use Rattle.event_book.specs.declared.link.Link.{Link}
 use Rattle.event_book.specs.Acknowledged.{acknowledged_after, commits_after}
 use Rattle.event_book.specs.Agents.{agents_after}
 use Rattle.event_book.specs.Clock.{now_after}
 use Rattle.event_book.specs.Flight.{Flight, flight_at, sent_after}
 use Rattle.event_book.specs.Frozen.{frozen_after}
 use Rattle.event_book.specs.Keys.{keys_at}
-use Rattle.event_book.specs.Links.{cuts_after}
+use Rattle.event_book.specs.Links.{CutLinks, cuts_after}
 use Rattle.event_book.specs.Servers.{servers_after}
 use Rattle.pat_world.specs.declared.phase.Phase.{Phase}
 use Rattle.pat_world.specs.Cluster.{phases_after}
@@ -36,7 +35,7 @@ phases-stay now flight phases (kinds.Message happening) messages agents = absurd
 phases-stay now flight phases (kinds.Agent happening) messages agents = absurd (agents refl)
 phases-stay now flight phases _ messages agents = refl
 
-pub links-stay : (cuts : List Link) (kind : Kind) → concern_of kind ≢ Links → cuts_after cuts kind ≡ cuts
+pub links-stay : (cuts : CutLinks) (kind : Kind) → concern_of kind ≢ Links → cuts_after cuts kind ≡ cuts
 links-stay cuts (kinds.Link happening) other = absurd (other refl)
 links-stay cuts _ other = refl
 

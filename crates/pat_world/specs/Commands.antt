@@ -9,7 +9,7 @@ use Rattle.event_book.specs.declared.member.Member.{Member}
 use Rattle.event_book.specs.declared.link.Link.{Link}
 use Rattle.event_book.specs.declared.link.LinkEnd.{LinkEnd}
 use Rattle.event_book.specs.declared.link.LinkEnd.TheVariants as link_ends
-use Rattle.event_book.specs.Links.{is_cut}
+use Rattle.event_book.specs.Links.{CutLinks, is_cut}
 use Rattle.pat_world.specs.declared.phase.Seat.{Seat}
 use Rattle.cluster_script.specs.declared.line.End.{End}
 use Rattle.cluster_script.specs.declared.line.End.TheVariants as ends
@@ -36,11 +36,11 @@ abbrev pub link_of : List Member → End → End → Option Link
 link_of members first second = option_and_then (λ one. option_map (λ other. record { first = one; second = other }) (end_of members second)) (end_of members first)
 
 -- a link that isn't cut is cut
-abbrev pub cut_of : List Link → Link → Option Kind
+abbrev pub cut_of : CutLinks → Link → Option Kind
 cut_of cuts link = if is_cut cuts link then None else Some (kinds.Link (changes.Cut link))
 
 -- a link that is cut is joined
-abbrev pub join_of : List Link → Link → Option Kind
+abbrev pub join_of : CutLinks → Link → Option Kind
 join_of cuts link = if is_cut cuts link then Some (kinds.Link (changes.Joined link)) else None
 
 -- what happened, if anything did

@@ -4,13 +4,13 @@ use Rattle.std.specs.Map.{keys_of}
 use Rattle.event_book.specs.declared.agent_state.AgentState.{AgentState}
 use Rattle.event_book.specs.declared.event.Kind.{Kind}
 use Rattle.event_book.specs.declared.event.Kind.TheVariants as kinds
-use Rattle.event_book.specs.declared.link.Link.{Link}
 use Rattle.event_book.specs.Flight.{Flight, InFlightFacts, in_flight}
+use Rattle.event_book.specs.Links.{CutLinks}
 use Rattle.pat_world.specs.declared.way.Way.TheVariants.{Held}
 use Rattle.pat_world.specs.Ways.{way_of}
 
 -- each message in flight with a number below the mark is kept for a receiver that is held
-abbrev pub AreKeptBelow : ℕ → Flight → List AgentState → List Link → Type 0
+abbrev pub AreKeptBelow : ℕ → Flight → List AgentState → CutLinks → Type 0
 AreKeptBelow mark flight agents cuts = (n : ℕ) (message : InFlightFacts) → n < mark → in_flight flight n ≡ Some message → way_of cuts agents message.message ≡ Held
 
 -- the numbers of the messages in flight from the mark on

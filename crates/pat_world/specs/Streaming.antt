@@ -13,29 +13,29 @@ use Rattle.event_book.specs.declared.event.ReplicationEvent.TheVariants as repli
 use Rattle.event_book.specs.declared.link.Link.{Link}
 use Rattle.event_book.specs.declared.link.LinkEnd.TheVariants as link_ends
 use Rattle.event_book.specs.declared.member.Member.{Member}
-use Rattle.event_book.specs.Links.{is_cut}
+use Rattle.event_book.specs.Links.{CutLinks, is_cut}
 use Rattle.event_book.specs.Members.{server_of}
 
 -- the link between two members
 abbrev pub link_of_members : Member → Member → Link
 link_of_members member other = record { first = link_ends.Member member; second = link_ends.Member other }
 
-abbrev pub source_at : List Link → Member → Option Member → Option ServerFacts → Option Member
+abbrev pub source_at : CutLinks → Member → Option Member → Option ServerFacts → Option Member
 source_at cuts member None upstream = None
 source_at cuts member (Some from) None = None
 source_at cuts member (Some from) (Some upstream) = if writes upstream.state && not (is_cut cuts (link_of_members member from)) then Some from else None
 
-abbrev pub source_named : List Member → List ServerFacts → List Link → Member → Option ServerId → Option Member
+abbrev pub source_named : List Member → List ServerFacts → CutLinks → Member → Option ServerId → Option Member
 source_named members servers cuts member None = None
 source_named members servers cuts member (Some id) = source_at cuts member (slice_get members id.number) (slice_get servers id.number)
 
-abbrev pub source_for : List Member → List ServerFacts → List Link → Member → Option ServerFacts → Option Member
+abbrev pub source_for : List Member → List ServerFacts → CutLinks → Member → Option ServerFacts → Option Member
 source_for members servers cuts member None = None
 source_for members servers cuts member (Some s) = if is_replica s.state && not s.diverged then source_named members servers cuts member s.upstream else None
 
 -- the member from whose server that of this member receives: it is a standby whose log didn't diverge, its upstream accepts
 -- writes, and the link between the two is joined
-abbrev pub source_of : List Member → List ServerFacts → List Link → Member → Option Member
+abbrev pub source_of : List Member → List ServerFacts → CutLinks → Member → Option Member
 source_of members servers cuts member = source_for members servers cuts member (slice_get servers member.id.number)
 
 abbrev pub is_confirmed : Lsn → Option Lsn → Bool

@@ -7,7 +7,7 @@ use Rattle.event_book.specs.declared.link.LinkEnd.TheVariants as link_ends
 use Rattle.event_book.specs.declared.message.Body.{Body}
 use Rattle.event_book.specs.declared.message.Body.TheVariants as bodies
 use Rattle.event_book.specs.declared.message.Message.{Message}
-use Rattle.event_book.specs.Links.{is_cut}
+use Rattle.event_book.specs.Links.{CutLinks, is_cut}
 use Rattle.pat_world.specs.declared.way.Way.{Way}
 use Rattle.pat_world.specs.declared.way.Way.TheVariants as ways
 
@@ -37,5 +37,5 @@ way_to agents message link_ends.Store = ways.Open
 way_to agents message (link_ends.Member member) = way_to_agent message (slice_get agents member.id.number)
 
 -- what stands between a message and its receiver, the first that applies
-abbrev pub way_of : List Link → List AgentState → Message → Way
+abbrev pub way_of : CutLinks → List AgentState → Message → Way
 way_of cuts agents message = if is_cut cuts (link_of_message message) then ways.Cut else way_to agents message message.to

@@ -1,7 +1,8 @@
 //! What a happening changes, field by field of what a book determines.
-ghost use Rattle.std.specs.Prelude.{ℕ, ◌≡◌, ◌<◌, ◌+◌, ◌^◌, OnErr, OnOk, Some};
+ghost use Rattle.std.specs.Prelude.{ℕ, ◌≡◌, ◌<◌, ◌+◌, ◌^◌, OnOk, Some};
+ghost use Rattle.pat_base.specs.Changes.{changed_by};
 ghost use Rattle.event_book.specs.Acknowledged.{acknowledged_after, commits_after};
-ghost use Rattle.event_book.specs.Agents.{agents_after, changed_by};
+ghost use Rattle.event_book.specs.Agents.{agents_after};
 ghost use Rattle.event_book.specs.Clock.{now_after};
 ghost use Rattle.event_book.specs.Flight.{Flight, InFlightFacts, flight_at, in_flight, sent_after};
 ghost use Rattle.event_book.specs.Frozen.{frozen_after};
@@ -14,11 +15,10 @@ ghost use Rattle.pat_world.specs.Settled.{settled_after};
 
 use crate::agents::{change_agent, start};
 use crate::flight::Flight;
-use crate::links::change_link;
+use crate::links::CutLinks;
 use crate::phase::Phase;
 use event_book::{
-    AgentEvent, AgentState, Kind, Link, LogEvent, MessageEvent, ReplicationEvent, ServerEvent,
-    ServerOf,
+    AgentEvent, AgentState, Kind, LogEvent, MessageEvent, ReplicationEvent, ServerEvent, ServerOf,
 };
 use lease_store::Store;
 use pat_base::Ticks;
@@ -65,14 +65,12 @@ pub fn change_phases(phases: &mut Vec<Phase>, now: Ticks, kind: &Kind)
     }
 }
 
-/// The links that are cut after a happening. It fails only for want of memory.
-pub fn change_links(cuts: &mut Vec<Link>, kind: &Kind) -> Result<(), AllocError>
-    ensures ok { OnOk result (cuts.new.items ≡ cuts_after cuts.old.items kind.now) }
-    ensures err { OnErr result (cuts.new.items ≡ cuts.old.items) }
+/// Which links are cut after a happening.
+pub fn change_links(cuts: &mut CutLinks, kind: &Kind)
+    ensures { cuts.new ≡ cuts_after cuts.old kind.now }
 {
-    match kind {
-        Kind::Link(change) => change_link(cuts, change),
-        _ => Ok(()),
+    if let Kind::Link(change) = kind {
+        cuts.change(change);
     }
 }
 

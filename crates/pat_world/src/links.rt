@@ -1,7 +1,7 @@
 //! Links: which are cut, and what commands change of them.
-ghost use Rattle.std.specs.Prelude.{◌≡◌, IfSome, OnErr, OnOk, Some};
+ghost use Rattle.std.specs.Prelude.{◌≡◌, IfOk, IfSome, Some, slice_set};
 ghost use Rattle.cluster_script.specs.Script.{IsEnd};
-ghost use Rattle.event_book.specs.Links.{cuts_after, is_cut};
+ghost use Rattle.event_book.specs.Links.{cuts_after, is_cut, link_place, none_cut};
 ghost use Rattle.pat_world.specs.Cluster.{Cluster};
 ghost use Rattle.pat_world.specs.Comes.{MayCome};
 ghost use Rattle.pat_world.specs.Commands.{cut_of, join_of, end_of, link_of};
@@ -10,7 +10,58 @@ ghost use Rattle.pat_world.specs.Steps.{names_in};
 use crate::members::declared;
 use cluster_script::End;
 use event_book::{Kind, Link, LinkEnd, LinkEvent, Member};
-use std::alloc::AllocError;
+use std::alloc::{AllocError, Global};
+use std::marker::Model;
+
+/// Which links are cut: a table with a place for each link.
+#[derive(Drop)]
+pub struct CutLinks {
+    cut: Vec<bool>,
+}
+
+impl Model for CutLinks {
+    ghost use Rattle.std.specs.Prelude.{◌≡◌, length};
+    ghost use Rattle.event_book.specs.Links.{CutLinks, place_count};
+
+    ghost Value = { CutLinks };
+
+    ghost view = { λ c. c.cut.items };
+
+    ghost invariant = { λ c. length c.cut.items ≡ place_count };
+}
+
+impl CutLinks {
+    /// The table in which no link is cut. It fails only for want of memory.
+    pub fn none(alloc: Global) -> Result<CutLinks, AllocError>
+        ensures { IfOk result (λ cuts. cuts ≡ none_cut) }
+    {
+        let cut = Vec::from_elem(alloc, false, Link::PLACES)?;
+        Ok(CutLinks { cut })
+    }
+
+    /// Whether a link is cut.
+    pub fn is_cut(&self, link: Link) -> bool
+        ensures { result ≡ is_cut self.now link }
+    {
+        self.cut[link.place()]
+    }
+
+    /// What happens to one link.
+    pub fn change(&mut self, change: &LinkEvent)
+        ensures { self.new ≡ cuts_after self.old (Kind.Link change.now) }
+    {
+        match change {
+            LinkEvent::Cut(link) => self.set(*link, true),
+            LinkEvent::Joined(link) => self.set(*link, false),
+        }
+    }
+
+    fn set(&mut self, link: Link, is_cut: bool)
+        ensures { self.new ≡ slice_set self.old (link_place link) is_cut }
+    {
+        self.cut[link.place()] = is_cut;
+    }
+}
 
 /// The link between two ends that a script names.
 pub fn link_of(members: &[Member], first: End, second: End) -> Link
@@ -33,19 +84,12 @@ fn end_of(members: &[Member], end: End) -> LinkEnd
     }
 }
 
-/// Whether a link is among those that are cut.
-pub fn is_cut(cuts: &[Link], link: Link) -> bool
-    ensures { result ≡ is_cut cuts.now link }
-{
-    cuts.iter().any(|other| other.is_same(link))
-}
-
 /// A cut: what happens where the link isn't cut.
-pub fn cut_of(cuts: &[Link], link: Link) -> Option<Kind>
+pub fn cut_of(cuts: &CutLinks, link: Link) -> Option<Kind>
     ensures kind { result ≡ cut_of cuts.now link }
     ensures comes { (cluster : Cluster) → IfSome result (MayCome cluster) }
 {
-    if is_cut(cuts, link) {
+    if cuts.is_cut(link) {
         None
     } else {
         Some(Kind::Link(LinkEvent::Cut(link)))
@@ -53,30 +97,13 @@ pub fn cut_of(cuts: &[Link], link: Link) -> Option<Kind>
 }
 
 /// A join: what happens where the link is cut.
-pub fn join_of(cuts: &[Link], link: Link) -> Option<Kind>
+pub fn join_of(cuts: &CutLinks, link: Link) -> Option<Kind>
     ensures kind { result ≡ join_of cuts.now link }
     ensures comes { (cluster : Cluster) → IfSome result (MayCome cluster) }
 {
-    if is_cut(cuts, link) {
+    if cuts.is_cut(link) {
         Some(Kind::Link(LinkEvent::Joined(link)))
     } else {
         None
-    }
-}
-
-/// The links that are cut after what happens to one. It fails only for want of memory.
-pub fn change_link(cuts: &mut Vec<Link>, change: &LinkEvent) -> Result<(), AllocError>
-    ensures ok { OnOk result (cuts.new.items ≡ cuts_after cuts.old.items (Kind.Link change.now)) }
-    ensures err { OnErr result (cuts.new.items ≡ cuts.old.items) }
-{
-    match change {
-        LinkEvent::Cut(link) => {
-            cuts.push(*link)?;
-            Ok(())
-        }
-        LinkEvent::Joined(link) => {
-            cuts.retain(|other| !other.is_same(*link));
-            Ok(())
-        }
     }
 }

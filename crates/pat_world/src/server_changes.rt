@@ -1,8 +1,8 @@
 //! What a happening changes at servers.
 ghost use Rattle.std.specs.Prelude.{◌≡◌, ◌<◌, ◌^◌, OnOk};
+ghost use Rattle.pat_base.specs.Changes.{changed_by};
 ghost use Rattle.event_book.specs.Servers.{servers_after, servers_by, servers_logged, servers_replicated, servers_watched, starts_as_replica};
 ghost use Rattle.pg_model.specs.Facts.{is_down};
-ghost use Rattle.pg_model.specs.Servers.{with_server};
 ghost use Rattle.pat_world.specs.Comes.{LogComes, ReplicationComes, ServerComes, ServesAt};
 
 use event_book::{Kind, LogEvent, ReplicationEvent, ServerEvent, WatchdogEvent};
@@ -73,7 +73,7 @@ fn change_server(
 /// The server at a place starts as a standby of none, where it is down.
 fn start_replica(servers: &mut Servers, now: Ticks, place: usize)
     requires { now.0 < 2 ^ 61 }
-    ensures { servers.new ≡ with_server servers.old place (starts_as_replica now.0) }
+    ensures { servers.new ≡ changed_by servers.old place (starts_as_replica now.0) }
 {
     let Some(server) = servers.get(place) else {
         return;

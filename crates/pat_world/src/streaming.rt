@@ -4,7 +4,7 @@ ghost use Rattle.pat_world.specs.Cluster.{Cluster};
 ghost use Rattle.pat_world.specs.Comes.{MayCome};
 ghost use Rattle.pat_world.specs.Streaming.{link_of_members, source_at, source_named, source_for, source_of, confirm_of, is_confirmed, unconfirmed_end};
 
-use crate::links::is_cut;
+use crate::links::CutLinks;
 use event_book::{Link, LinkEnd, Member};
 use pat_base::{Lsn, ServerId, State};
 use pg_model::{Server, Servers};
@@ -14,7 +14,7 @@ use pg_model::{Server, Servers};
 pub fn source_of(
     members: &[Member],
     servers: &Servers,
-    cuts: &[Link],
+    cuts: &CutLinks,
     member: Member,
 ) -> Option<Member>
     ensures { result ≡ source_of members.now servers.now cuts.now member }
@@ -31,7 +31,7 @@ pub fn source_of(
 fn source_named(
     members: &[Member],
     servers: &Servers,
-    cuts: &[Link],
+    cuts: &CutLinks,
     member: Member,
     upstream: Option<ServerId>,
 ) -> Option<Member>
@@ -40,7 +40,7 @@ fn source_named(
     let place = upstream?.number as usize;
     let from = *members.get(place)?;
     let server = servers.get(place)?;
-    if server.writes() && !is_cut(cuts, link_of_members(member, from)) {
+    if server.writes() && !cuts.is_cut(link_of_members(member, from)) {
         Some(from)
     } else {
         None

@@ -2,19 +2,19 @@
 ghost use Rattle.std.specs.Prelude.{◌≡◌, slice_get};
 ghost use Rattle.pat_world.specs.Ways.{is_answer, is_stale, way_to, way_to_agent, way_of};
 
-use crate::links::is_cut;
+use crate::links::CutLinks;
 use crate::way::Way;
 use event_book::{AgentState, Body, Link, LinkEnd, Message};
 
 /// What stands between a message and its receiver.
-pub fn way_of(cuts: &[Link], agents: &[AgentState], message: &Message) -> Way
+pub fn way_of(cuts: &CutLinks, agents: &[AgentState], message: &Message) -> Way
     ensures { result ≡ way_of cuts.now agents.now message.now }
 {
     let link = Link {
         first: message.from,
         second: message.to,
     };
-    if is_cut(cuts, link) {
+    if cuts.is_cut(link) {
         Way::Cut
     } else {
         way_to(agents, message, message.to)

@@ -25,7 +25,7 @@ mod streaming;
 use crate::agent::fresh_phase;
 use crate::agents::{hold_of, kill_of, restarted, resume_of};
 use crate::flight::Flight;
-use crate::links::{cut_of, join_of, link_of};
+use crate::links::{CutLinks, cut_of, join_of, link_of};
 use crate::members;
 use crate::phase::Phase;
 use crate::server_commands::{commit_of, crash_of, freezing_of, slow_of};
@@ -50,7 +50,7 @@ pub struct World {
     members: Vec<Member>,
     agents: Vec<AgentState>,
     phases: Vec<Phase>,
-    cuts: Vec<Link>,
+    cuts: CutLinks,
     flight: Flight,
     sent: u64,
     servers: Servers,
@@ -77,7 +77,7 @@ impl Model for World {
         keys = w.store;
         members = w.members.items;
         agents = w.agents.items;
-        cuts = w.cuts.items;
+        cuts = w.cuts;
         flight = w.flight;
         sent = w.sent;
         servers = w.servers;
@@ -88,7 +88,7 @@ impl Model for World {
       phases = w.phases.items;
     } };
 
-    ghost invariant = { λ w. (length w.members.items ≤ most_members) × (w.settled ≤ w.sent + 1) × AreKeptBelow w.settled w.flight w.agents.items w.cuts.items };
+    ghost invariant = { λ w. (length w.members.items ≤ most_members) × (w.settled ≤ w.sent + 1) × AreKeptBelow w.settled w.flight w.agents.items w.cuts };
 }
 
 impl World {
@@ -112,7 +112,7 @@ impl World {
             members,
             agents,
             phases,
-            cuts: Vec::new(alloc),
+            cuts: CutLinks::none(alloc)?,
             flight: Flight::new(alloc),
             sent: 0,
             servers,

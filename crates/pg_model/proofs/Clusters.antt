@@ -7,11 +7,12 @@ use Rattle.std.proofs.lemmas.Bool.{cases_eq, and_parts}
 use Rattle.std.proofs.lemmas.List.{map-set, length-map}
 use Rattle.std.proofs.lemmas.Option.{same_Some, slice_get-map, slice_get_within, slice_get_past, get_or_from_slice_get}
 use Rattle.std.proofs.Math.Seq.{map-set_same}
+use Rattle.pat_base.specs.Changes.{changed_at, changed_by}
 use Rattle.wal_model.specs.declared.entry.Entry.{Entry}
 use Rattle.wal_model.specs.Log.{IsPrefixOf}
 use Rattle.pg_model.specs.Facts.{ServerFacts}
 use Rattle.pg_model.specs.Replication.{appended}
-use Rattle.pg_model.specs.Servers.{seen, with_server, with_server_at, entry_at, entry_for, after_entry, committed_at}
+use Rattle.pg_model.specs.Servers.{seen, entry_at, entry_for, after_entry, committed_at}
 use Rattle.pg_model.specs.InStep.{Standing, standing_of, number_of, is_place, IsBehind, IsInStep, MarksHold, Forgets}
 
 pub got-set_same : {X : Type 0} (xs : List X) (i : ℕ) (y : X) → i < length xs → slice_get (slice_set xs i y) i ≡ Some y
@@ -38,12 +39,12 @@ pub required-at : (xs list : List ServerFacts) (place : ℕ) (x : ServerFacts) (
 required-at xs list place x P view found h = subst (λ (o : Option ServerFacts). IfSome o P) (seen-at xs list place x view found) h
 
 -- one of the servers changes, as others see it
-pub changed : (xs list : List ServerFacts) (place : ℕ) (x y : ServerFacts) (change : ServerFacts → ServerFacts) → map seen xs ≡ list → slice_get xs place ≡ Some x → seen y ≡ change (seen x) → map seen (slice_set xs place y) ≡ with_server list place change
+pub changed : (xs list : List ServerFacts) (place : ℕ) (x y : ServerFacts) (change : ServerFacts → ServerFacts) → map seen xs ≡ list → slice_get xs place ≡ Some x → seen y ≡ change (seen x) → map seen (slice_set xs place y) ≡ changed_by list place change
 changed xs list place x y change view found e =
     map-set seen xs place y
     ∙ ap (λ (t : List ServerFacts). slice_set t place (seen y)) view
     ∙ ap (slice_set list place) e
-    ∙ sym (ap (with_server_at list place change) (seen-at xs list place x view found))
+    ∙ sym (ap (changed_at list place change) (seen-at xs list place x view found))
 
 appended-by : (entry : Option Entry) (xs list : List ServerFacts) (place : ℕ) (x y : ServerFacts) → map seen xs ≡ list → slice_get xs place ≡ Some x → y ≡ after_entry entry x → map seen (slice_set xs place y) ≡ committed_at list place entry
 appended-by None xs list place x y view found e = map-set_same seen xs place y x (ap seen (e ∙ sym (get_or_from_slice_get xs place x x found))) ∙ view

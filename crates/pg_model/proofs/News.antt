@@ -11,6 +11,7 @@ use Rattle.pat_base.specs.ServerState.{writes}
 use Rattle.wal_model.specs.History.{same_points}
 use Rattle.wal_model.specs.Log.{IsPrefixOf, is_prefix, fork_of, received}
 use Rattle.pat_base.specs.declared.lsn.Lsn.{Lsn}
+use Rattle.pat_base.specs.Changes.{changed_by}
 use Rattle.pat_base.specs.Lsn.{lsn_at}
 use Rattle.pg_model.specs.declared.answers.Streamed.{Streamed}
 use Rattle.pg_model.specs.declared.answers.Streamed.TheVariants as streams
@@ -19,7 +20,7 @@ use Rattle.pg_model.specs.Replication.{stream_by, stream_of, streamed, received_
 use Rattle.pg_model.specs.declared.server.hearing.Met.{Met}
 use Rattle.pg_model.specs.declared.server.hearing.Met.TheVariants as mets
 use Rattle.pg_model.specs.InStep.{standing_of, IsBehind, Hears, answer_of, has_received}
-use Rattle.pg_model.specs.Servers.{with_server, news_between, news_at, told_from, after_news_at, streamed_at}
+use Rattle.pg_model.specs.Servers.{news_between, news_at, told_from, after_news_at, streamed_at}
 use Rattle.wal_model.proofs.Entries.{is_prefix-to}
 use Rattle.wal_model.proofs.Points.{same-points-to, same-points-from}
 
@@ -179,14 +180,14 @@ heard met s upstream after most news diverged current received there is changed 
     }
 
 -- the servers after news of one at another
-pub streamed_at-told : (servers : List ServerFacts) (place from most : ℕ) (upstream : ServerFacts) (news : Streamed) → slice_get servers from ≡ Some upstream → news_at servers place from most ≡ Some news → streamed_at servers place from most ≡ with_server servers place (λ s. told news s upstream)
+pub streamed_at-told : (servers : List ServerFacts) (place from most : ℕ) (upstream : ServerFacts) (news : Streamed) → slice_get servers from ≡ Some upstream → news_at servers place from most ≡ Some news → streamed_at servers place from most ≡ changed_by servers place (λ s. told news s upstream)
 streamed_at-told servers place from most upstream news found e =
     ap (after_news_at servers place from) e ∙ ap (told_from servers place news) found
 
-pub streamed_at-received : (servers : List ServerFacts) (place from most : ℕ) (upstream : ServerFacts) (count : ℕ) → slice_get servers from ≡ Some upstream → news_at servers place from most ≡ Some (streams.Received count) → streamed_at servers place from most ≡ with_server servers place (λ s. received_from count s upstream)
+pub streamed_at-received : (servers : List ServerFacts) (place from most : ℕ) (upstream : ServerFacts) (count : ℕ) → slice_get servers from ≡ Some upstream → news_at servers place from most ≡ Some (streams.Received count) → streamed_at servers place from most ≡ changed_by servers place (λ s. received_from count s upstream)
 streamed_at-received servers place from most upstream count found e = streamed_at-told servers place from most upstream (streams.Received count) found e
 
-pub streamed_at-diverged : (servers : List ServerFacts) (place from most : ℕ) (upstream : ServerFacts) (at : Lsn) → slice_get servers from ≡ Some upstream → news_at servers place from most ≡ Some (streams.Diverged at) → streamed_at servers place from most ≡ with_server servers place (λ s. record s { diverged = true })
+pub streamed_at-diverged : (servers : List ServerFacts) (place from most : ℕ) (upstream : ServerFacts) (at : Lsn) → slice_get servers from ≡ Some upstream → news_at servers place from most ≡ Some (streams.Diverged at) → streamed_at servers place from most ≡ changed_by servers place (λ s. record s { diverged = true })
 streamed_at-diverged servers place from most upstream at found e = streamed_at-told servers place from most upstream (streams.Diverged at) found e
 
 pub streamed_at-none : (servers : List ServerFacts) (place from most : ℕ) → news_at servers place from most ≡ None → streamed_at servers place from most ≡ servers

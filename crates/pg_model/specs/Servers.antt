@@ -1,7 +1,8 @@
 -- The servers of a cluster, by the number of their member.
-use Rattle.std.specs.Prelude.{ℕ, ◌+◌, ◌^◌, ◌&&◌, nat_le, if◌then◌else◌, List, Option, Some, None, slice_get, slice_set}
+use Rattle.std.specs.Prelude.{ℕ, ◌+◌, ◌^◌, ◌&&◌, nat_le, if◌then◌else◌, List, Option, Some, None, slice_get}
 use Rattle.pat_base.specs.declared.ticks.Ticks.{Ticks}
 use Rattle.pat_base.specs.declared.server_state.Required.{Required}
+use Rattle.pat_base.specs.Changes.{changed_by}
 use Rattle.pat_base.specs.ServerState.{writes, live}
 use Rattle.wal_model.specs.declared.entry.Entry.{Entry}
 use Rattle.wal_model.specs.Log.{end_of}
@@ -13,14 +14,6 @@ use Rattle.pg_model.specs.Replication.{entry_of, appended, news_of, told}
 -- what a server is to others: without the room of its history
 abbrev pub seen : ServerFacts → ServerFacts
 seen s = record s { spare = 0 }
-
-abbrev pub with_server_at : List ServerFacts → ℕ → (ServerFacts → ServerFacts) → Option ServerFacts → List ServerFacts
-with_server_at servers place change None = servers
-with_server_at servers place change (Some s) = slice_set servers place (change s)
-
--- the servers with the one at a place changed, if there is one
-abbrev pub with_server : List ServerFacts → ℕ → (ServerFacts → ServerFacts) → List ServerFacts
-with_server servers place change = with_server_at servers place change (slice_get servers place)
 
 -- its commits wait for these
 abbrev pub requiring : Required → ServerFacts → ServerFacts
@@ -45,7 +38,7 @@ after_entry (Some entry) s = appended entry s
 -- the servers after that
 abbrev pub committed_at : List ServerFacts → ℕ → Option Entry → List ServerFacts
 committed_at servers place None = servers
-committed_at servers place (Some entry) = with_server servers place (appended entry)
+committed_at servers place (Some entry) = changed_by servers place (appended entry)
 
 abbrev pub news_between : Option ServerFacts → Option ServerFacts → ℕ → Option Streamed
 news_between None upstream most = None
@@ -58,7 +51,7 @@ news_at servers place from most = news_between (slice_get servers place) (slice_
 
 abbrev pub told_from : List ServerFacts → ℕ → Streamed → Option ServerFacts → List ServerFacts
 told_from servers place news None = servers
-told_from servers place news (Some upstream) = with_server servers place (λ s. told news s upstream)
+told_from servers place news (Some upstream) = changed_by servers place (λ s. told news s upstream)
 
 abbrev pub after_news_at : List ServerFacts → ℕ → ℕ → Option Streamed → List ServerFacts
 after_news_at servers place from None = servers

@@ -1,11 +1,12 @@
 //! The servers of a cluster.
 ghost use Rattle.std.specs.Prelude.{ℕ, ◌≡◌, ◌≤◌, ◌<◌, ◌^◌, ◌==◌, ◌&&◌, ◌||◌, ◌↔◌, [], length, map, replicate, Option, Some, slice_get, ◌≢◌, false, IsTrue, IfSome, IfOk, OnOk, OnErr, option_map, option_copied, option_and_then};
 ghost use Rattle.std.specs.Option.{ForSome};
+ghost use Rattle.pat_base.specs.Changes.{changed_by};
 ghost use Rattle.pg_model.specs.Facts.{ServerFacts, fresh, is_replica, is_down, is_up};
 ghost use Rattle.pg_model.specs.Running.{promoted, replica_started, primary_started, stopping, crashed, ticked, delayed};
 ghost use Rattle.pg_model.specs.Replication.{following, confirming, next_acknowledged, acknowledged};
 ghost use Rattle.pg_model.specs.InStep.{Forgets, Renews, HearsAt, AreInStep, standing_of, number_of, is_place};
-ghost use Rattle.pg_model.specs.Servers.{seen, with_server, requiring, quietly_ticked, entry_at, entry_for, after_entry, committed_at, news_at, streamed_at};
+ghost use Rattle.pg_model.specs.Servers.{seen, requiring, quietly_ticked, entry_at, entry_for, after_entry, committed_at, news_at, streamed_at};
 
 use crate::server::Heard;
 use crate::{CommitFault, Server, Streamed};
@@ -76,7 +77,7 @@ impl Servers {
     /// want of memory, and then all stay as they were. It costs time in the number of servers.
     pub fn promote(&mut self, place: usize, now: Ticks) -> Result<(), AllocError>
         requires { IfSome (slice_get self.old place) (λ s. IsTrue (is_replica s.state) × (s.timeline < 2 ^ 60)) }
-        ensures ok { OnOk result (self.new ≡ with_server self.old place promoted) }
+        ensures ok { OnOk result (self.new ≡ changed_by self.old place promoted) }
         ensures err { OnErr result (self.new ≡ self.old) }
     {
         if place >= self.servers.len() {
@@ -91,7 +92,7 @@ impl Servers {
 
     /// Ends the server at a place, if there is one there, without a shutdown.
     pub fn crash(&mut self, place: usize)
-        ensures { self.new ≡ with_server self.old place crashed }
+        ensures { self.new ≡ changed_by self.old place crashed }
     {
         if place < self.servers.len() {
             self.servers[place].crash();
@@ -101,7 +102,7 @@ impl Servers {
     /// Lets the server at a place, if there is one there, follow another server: a standby receives from that one from now
     /// on, and one that starts from when it runs.
     pub fn follow(&mut self, place: usize, upstream: ServerId)
-        ensures { self.new ≡ with_server self.old place (following upstream) }
+        ensures { self.new ≡ changed_by self.old place (following upstream) }
     {
         if place >= self.servers.len() {
             return;
@@ -117,7 +118,7 @@ impl Servers {
     pub fn start_replica(&mut self, place: usize, now: Ticks, upstream: Option<ServerId>)
         requires moment { now.0 ≤ 2 ^ 62 }
         requires down { IfSome (slice_get self.old place) (λ s. IsTrue (is_down s.state)) }
-        ensures { self.new ≡ with_server self.old place (replica_started now upstream) }
+        ensures { self.new ≡ changed_by self.old place (replica_started now upstream) }
     {
         if place >= self.servers.len() {
             return;
@@ -136,7 +137,7 @@ impl Servers {
     pub fn start_primary(&mut self, place: usize, now: Ticks)
         requires moment { now.0 ≤ 2 ^ 62 }
         requires down { IfSome (slice_get self.old place) (λ s. IsTrue (is_down s.state && s.was_primary)) }
-        ensures { self.new ≡ with_server self.old place (primary_started now) }
+        ensures { self.new ≡ changed_by self.old place (primary_started now) }
     {
         if place >= self.servers.len() {
             return;
@@ -149,7 +150,7 @@ impl Servers {
     pub fn stop(&mut self, place: usize, now: Ticks)
         requires moment { now.0 ≤ 2 ^ 62 }
         requires up { IfSome (slice_get self.old place) (λ s. IsTrue (is_up s.state)) }
-        ensures { self.new ≡ with_server self.old place (stopping now) }
+        ensures { self.new ≡ changed_by self.old place (stopping now) }
     {
         if place >= self.servers.len() {
             return;
@@ -160,7 +161,7 @@ impl Servers {
 
     /// Completes a start or a stop of the server at a place, if there is one there and its moment has come.
     pub fn complete(&mut self, place: usize, now: Ticks)
-        ensures { self.new ≡ with_server self.old place (ticked now) }
+        ensures { self.new ≡ changed_by self.old place (ticked now) }
     {
         if place < self.servers.len() {
             self.servers[place].tick(now);
@@ -172,7 +173,7 @@ impl Servers {
     pub fn set_delays(&mut self, place: usize, stop: Option<Ticks>, start: Option<Ticks>)
         requires stop { ForSome stop (λ delay. delay.0 ≤ 2 ^ 40) }
         requires start { ForSome start (λ delay. delay.0 ≤ 2 ^ 40) }
-        ensures { self.new ≡ with_server self.old place (delayed stop start) }
+        ensures { self.new ≡ changed_by self.old place (delayed stop start) }
     {
         if place < self.servers.len() {
             self.servers[place].set_delays(stop, start);
@@ -240,7 +241,7 @@ impl Servers {
 
     /// Records at the server at a place, if there is one there, up to where a member has flushed the log.
     pub fn confirm(&mut self, place: usize, by: MemberId, end: Lsn)
-        ensures { self.new ≡ with_server self.old place (confirming by end) }
+        ensures { self.new ≡ changed_by self.old place (confirming by end) }
     {
         if place < self.servers.len() {
             self.servers[place].confirm(by, end);
@@ -250,7 +251,7 @@ impl Servers {
     /// Takes the oldest waiting commit of the server at a place, where it may be acknowledged. `None` exactly otherwise.
     pub fn next_acknowledged(&mut self, place: usize) -> Option<u64>
         ensures commit { result ≡ option_and_then next_acknowledged (slice_get self.old place) }
-        ensures after { self.new ≡ with_server self.old place acknowledged }
+        ensures after { self.new ≡ changed_by self.old place acknowledged }
     {
         if place >= self.servers.len() {
             return None;
@@ -260,7 +261,7 @@ impl Servers {
 
     /// Sets whose confirmation the commits of the server at a place wait for, if there is one there.
     pub fn set_required(&mut self, place: usize, required: Required)
-        ensures { self.new ≡ with_server self.old place (requiring required) }
+        ensures { self.new ≡ changed_by self.old place (requiring required) }
     {
         if place < self.servers.len() {
             self.servers[place].set_required(required);

@@ -37,11 +37,11 @@ impl World {
         let now = now_after(before, kind);
         change_servers(&mut self.servers, now, kind)?;
         change_acknowledged(&mut self.acknowledged, kind)?;
-        change_links(&mut self.cuts, kind)?;
         self.clock = now;
         self.sent = sent_after(self.sent, kind);
         self.commits = commits_after(self.commits, kind);
         self.settled = settled_after(self.settled, kind);
+        change_links(&mut self.cuts, kind);
         change_keys(&mut self.store, now, kind);
         change_agents(&mut self.agents, kind);
         change_phases(&mut self.phases, before, kind);

@@ -14,7 +14,7 @@ invariant-loop-commit l = record {
   left : Left l.fn.self (seen l.self-inside) l.fn.events.items l.events.items (acknowledges l.fn.self l.fn.member) (acknowledges (seen l.self-inside) l.fn.member) 0 0;
   members : length l.self-inside.members.items ≤ most_members;
   settled : l.self-inside.settled ≤ l.self-inside.sent + 1;
-  kept : AreKeptBelow l.self-inside.settled l.self-inside.flight l.self-inside.agents.items l.self-inside.cuts.items;
+  kept : AreKeptBelow l.self-inside.settled l.self-inside.flight l.self-inside.agents.items l.self-inside.cuts;
 }
 
 abbrev pub decreases-loop-commit : goal.decreases-loop-commit

@@ -21,28 +21,28 @@ pub invariant_of-self-in_err-note-in-Store : goal.invariant_of-self-in_err-note-
 invariant_of-self-in_err-note-in-Store c = (
   c.self.invariant.0,
   c.self.invariant.1,
-  kept-fewer c.self.inside.settled c.self.inside.flight c.land.new.self c.self.inside.agents.items c.self.inside.cuts.items c.self.invariant.2 c.land.ensures.others,
+  kept-fewer c.self.inside.settled c.self.inside.flight c.land.new.self c.self.inside.agents.items c.self.inside.cuts c.self.invariant.2 c.land.ensures.others,
 )
 
 pub invariant_of-self-in-Store : goal.invariant_of-self-in-Store
 invariant_of-self-in-Store c = (
   c.self.invariant.0,
   c.self.invariant.1,
-  kept-fewer c.self.inside.settled c.self.inside.flight c.land.new.self c.self.inside.agents.items c.self.inside.cuts.items c.self.invariant.2 c.land.ensures.others,
+  kept-fewer c.self.inside.settled c.self.inside.flight c.land.new.self c.self.inside.agents.items c.self.inside.cuts c.self.invariant.2 c.land.ensures.others,
 )
 
 pub invariant_of-self-in_err-note-in-Member : goal.invariant_of-self-in_err-note-in-Member
 invariant_of-self-in_err-note-in-Member c = (
   c.self.invariant.0,
   c.self.invariant.1,
-  kept-fewer c.self.inside.settled c.self.inside.flight c.land.new.self c.self.inside.agents.items c.self.inside.cuts.items c.self.invariant.2 c.land.ensures.others,
+  kept-fewer c.self.inside.settled c.self.inside.flight c.land.new.self c.self.inside.agents.items c.self.inside.cuts c.self.invariant.2 c.land.ensures.others,
 )
 
 pub invariant_of-self-in-Member : goal.invariant_of-self-in-Member
 invariant_of-self-in-Member c = (
   c.self.invariant.0,
   c.self.invariant.1,
-  kept-fewer c.self.inside.settled c.self.inside.flight c.land.new.self c.self.inside.agents.items c.self.inside.cuts.items c.self.invariant.2 c.land.ensures.others,
+  kept-fewer c.self.inside.settled c.self.inside.flight c.land.new.self c.self.inside.agents.items c.self.inside.cuts c.self.invariant.2 c.land.ensures.others,
 )
 
 pub returns-in_default : goal.returns-in_default

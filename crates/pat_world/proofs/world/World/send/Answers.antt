@@ -13,17 +13,17 @@ use Rattle.pat_world.proofs.world.World.send.Goals as goal
 
 pub invariant_of-self : goal.invariant_of-self
 invariant_of-self c =
-    let kept = kept-sent c.self.inside.settled (c.self.inside.sent + 1) c.self.inside.flight c.launch.new.self c.self.inside.agents.items c.self.inside.cuts.items c.self.invariant.1 c.self.invariant.2 c.launch.ensures.others in
+    let kept = kept-sent c.self.inside.settled (c.self.inside.sent + 1) c.self.inside.flight c.launch.new.self c.self.inside.agents.items c.self.inside.cuts c.self.invariant.1 c.self.invariant.2 c.launch.ensures.others in
     (c.self.invariant.0, c.self.invariant.1, kept)
 
 pub invariant_of-self-in_err-note : goal.invariant_of-self-in_err-note
 invariant_of-self-in_err-note c =
-    let kept = kept-sent c.self.inside.settled (c.self.inside.sent + 1) c.self.inside.flight c.launch.new.self c.self.inside.agents.items c.self.inside.cuts.items c.self.invariant.1 c.self.invariant.2 c.launch.ensures.others in
+    let kept = kept-sent c.self.inside.settled (c.self.inside.sent + 1) c.self.inside.flight c.launch.new.self c.self.inside.agents.items c.self.inside.cuts c.self.invariant.1 c.self.invariant.2 c.launch.ensures.others in
     (c.self.invariant.0, omega (arith, c.self.invariant.1), kept)
 
 pub invariant_of-self-2 : goal.invariant_of-self-2
 invariant_of-self-2 c =
-    let kept = kept-sent c.self.inside.settled (c.self.inside.sent + 1) c.self.inside.flight c.launch.new.self c.self.inside.agents.items c.self.inside.cuts.items c.self.invariant.1 c.self.invariant.2 c.launch.ensures.others in
+    let kept = kept-sent c.self.inside.settled (c.self.inside.sent + 1) c.self.inside.flight c.launch.new.self c.self.inside.agents.items c.self.inside.cuts c.self.invariant.1 c.self.invariant.2 c.launch.ensures.others in
     (c.self.invariant.0, omega (arith, c.self.invariant.1), kept)
 
 pub returns : goal.returns

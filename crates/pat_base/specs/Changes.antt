@@ -1,0 +1,10 @@
+-- Lists of which one item changes.
+use Rattle.std.specs.Prelude.{ℕ, List, Option, Some, None, slice_get, slice_set}
+
+abbrev pub changed_at : {A : Type 0} → List A → ℕ → (A → A) → Option A → List A
+changed_at items number change None = items
+changed_at items number change (Some item) = slice_set items number (change item)
+
+-- a list with the item of one number changed, if there is one
+abbrev pub changed_by : {A : Type 0} → List A → ℕ → (A → A) → List A
+changed_by items number change = changed_at items number change (slice_get items number)
