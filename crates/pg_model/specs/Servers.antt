@@ -14,6 +14,7 @@ use Rattle.pg_model.specs.Replication.{entry_of, appended, news_of, told}
 abbrev pub seen : ServerFacts → ServerFacts
 seen s = record s { spare = 0 }
 
+-- the servers with the one at a place changed, by what stands there
 abbrev pub with_server_at : List ServerFacts → ℕ → (ServerFacts → ServerFacts) → Option ServerFacts → List ServerFacts
 with_server_at servers place change None = servers
 with_server_at servers place change (Some s) = slice_set servers place (change s)
@@ -30,6 +31,7 @@ requiring required s = record s { required = required }
 abbrev pub quietly_ticked : Ticks → ServerFacts → ServerFacts
 quietly_ticked now s = if live s.state then s else ticked now s
 
+-- the entry of a commit at this server, if there is one
 abbrev pub entry_at : Option ServerFacts → ℕ → ℕ → Option Entry
 entry_at None serial bytes = None
 entry_at (Some s) serial bytes = if writes s.state && nat_le (end_of (entries_of s.log) + bytes) (2 ^ 63) then Some (entry_of s serial bytes) else None
@@ -38,6 +40,7 @@ entry_at (Some s) serial bytes = if writes s.state && nat_le (end_of (entries_of
 abbrev pub entry_for : List ServerFacts → ℕ → ℕ → ℕ → Option Entry
 entry_for servers place serial bytes = entry_at (slice_get servers place) serial bytes
 
+-- a server with the entry, if there is one
 abbrev pub after_entry : Option Entry → ServerFacts → ServerFacts
 after_entry None s = s
 after_entry (Some entry) s = appended entry s
@@ -47,6 +50,7 @@ abbrev pub committed_at : List ServerFacts → ℕ → Option Entry → List Ser
 committed_at servers place None = servers
 committed_at servers place (Some entry) = with_server servers place (appended entry)
 
+-- what the first of these servers gets from the second, if both are there
 abbrev pub news_between : Option ServerFacts → Option ServerFacts → ℕ → Option Streamed
 news_between None upstream most = None
 news_between (Some s) None most = None
@@ -56,10 +60,12 @@ news_between (Some s) (Some upstream) most = news_of s upstream most
 abbrev pub news_at : List ServerFacts → ℕ → ℕ → ℕ → Option Streamed
 news_at servers place from most = news_between (slice_get servers place) (slice_get servers from) most
 
+-- the servers after such news from an upstream, if it is there
 abbrev pub told_from : List ServerFacts → ℕ → Streamed → Option ServerFacts → List ServerFacts
 told_from servers place news None = servers
 told_from servers place news (Some upstream) = with_server servers place (λ s. told news s upstream)
 
+-- the servers after such news, if there are any
 abbrev pub after_news_at : List ServerFacts → ℕ → ℕ → Option Streamed → List ServerFacts
 after_news_at servers place from None = servers
 after_news_at servers place from (Some news) = told_from servers place news (slice_get servers from)
