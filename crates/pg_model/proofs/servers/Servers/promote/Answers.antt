@@ -1,5 +1,5 @@
-use Rattle.std.proofs.Common.{◌≡◌, Some, map, arith, ap, rules, sym, subst}
-use Rattle.std.specs.Prelude.{slice_get, slice_set}
+use Rattle.std.proofs.Common.{◌≡◌, map, arith, ap, rules, sym, subst}
+use Rattle.std.specs.Prelude.{slice_set}
 use Rattle.std.specs.Vec.{with_items}
 use Rattle.std.proofs.lemmas.List.{with_items_is}
 use Rattle.pg_model.specs.Running.{reserved, promoted}

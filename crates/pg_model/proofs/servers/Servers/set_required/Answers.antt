@@ -1,4 +1,4 @@
-use Rattle.std.proofs.Common.{◌≡◌, Some, ap, rules}
+use Rattle.std.proofs.Common.{ap, rules}
 use Rattle.pg_model.specs.Servers.{seen}
 use Rattle.pg_model.specs.InStep.{standing_of}
 use Rattle.pg_model.proofs.Clusters.{changed-read, kept-read}

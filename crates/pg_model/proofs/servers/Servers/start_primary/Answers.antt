@@ -1,4 +1,4 @@
-use Rattle.std.proofs.Common.{◌≡◌, Some, arith, ap, rules, ◌∙◌}
+use Rattle.std.proofs.Common.{◌≡◌, arith, ap, rules, ◌∙◌}
 use Rattle.pg_model.specs.Running.{primary_started}
 use Rattle.pg_model.specs.Servers.{seen}
 use Rattle.pg_model.specs.InStep.{standing_of}
