@@ -39,6 +39,7 @@ abbrev pub holder_of : Value → Option MemberId
 holder_of (values.Leader member) = Some member
 holder_of _ = None
 
+-- the holder, where what is held at the leader key is absent
 abbrev pub holder_lost : ℕ → Option Held → Option MemberId
 holder_lost now None = None
 holder_lost now (Some held) = if is_present now held.expiry then None else holder_of held.value

@@ -32,6 +32,7 @@ abbrev pub found_in : Option Held → Expected
 found_in None = Absent
 found_in (Some held) = Revision held.revision
 
+-- what is found is what was expected
 abbrev pub is_as_expected : Expected → Expected → Bool
 is_as_expected Absent Absent = true
 is_as_expected (Revision a) (Revision b) = a == b
@@ -47,6 +48,7 @@ abbrev pub decided : Bool → Key → Expected → Decision → Decision
 decided true key found rest = rest
 decided false key found rest = Refusal key found
 
+-- the first of these compares that differs decides
 abbrev pub decision_by : List (Key × Held) → ℕ → List (Key × Expected) → Decision
 decision_by pairs now [] = Grant
 decision_by pairs now (compare ∷ compares) =

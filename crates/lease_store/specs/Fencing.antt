@@ -21,9 +21,11 @@ pub data Call : Type 0 where
   Asks : (request : Request) → Call
   Drops : (now : ℕ) → Call
 
+-- the store grants the request at its moment
 abbrev pub IsGranted : Keys → Request → Type 0
 IsGranted store request = decision_on store request.at request.txn ≡ Grant
 
+-- the store after such a decision
 abbrev pub answered : Decision → Keys → Request → Keys
 answered Grant store request = keys_after store request.at request.by request.txn
 answered (Refusal key found) store request = store
@@ -32,6 +34,7 @@ answered (Refusal key found) store request = store
 abbrev pub state_after : Keys → Request → Keys
 state_after store request = answered (decision_on store request.at request.txn) store request
 
+-- the store after a call
 abbrev pub called : Keys → Call → Keys
 called store (Asks request) = state_after store request
 called store (Drops now) = keys_kept store now

@@ -22,5 +22,6 @@ number_of (Member member) = member.number
 number_of (History timeline) = timeline
 number_of _ = 0
 
+-- how two keys stand in the order
 abbrev pub key_cmp : Key → Key → Ordering
 key_cmp a b = ordering_then (nat_cmp (kind_of a) (kind_of b)) (nat_cmp (number_of a) (number_of b))

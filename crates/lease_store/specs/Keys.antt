@@ -20,6 +20,7 @@ abbrev pub is_present : ℕ → Option Ticks → Bool
 is_present now None = true
 is_present now (Some expiry) = nat_lt now expiry.0
 
+-- what is held, where it is present
 abbrev pub present : ℕ → Option Held → Option Held
 present now None = None
 present now (Some held) = if is_present now held.expiry then Some held else None

@@ -4,6 +4,7 @@ use Rattle.lease_store.specs.declared.txn.Txn.TheVariants as txns
 use Rattle.lease_store.specs.declared.txn_kind.TxnKind.{TxnKind}
 use Rattle.lease_store.specs.declared.txn_kind.TxnKind.TheVariants.{Touch, Create, Renewal, Release, Claim, SyncWrite, FailoverWrite, FailoverRemoval, ConfigurationWrite}
 
+-- the kind of a transaction
 abbrev pub kind_of : Txn → TxnKind
 kind_of (txns.Touch info ttl) = Touch
 kind_of (txns.Create info ttl failsafe sync) = Create

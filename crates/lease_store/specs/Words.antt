@@ -8,6 +8,7 @@ use Rattle.lease_store.specs.declared.txn.Expected.TheVariants.{Absent, Revision
 use Rattle.lease_store.specs.declared.txn_kind.TxnKind.{TxnKind}
 use Rattle.lease_store.specs.declared.txn_kind.TxnKind.TheVariants as kinds
 
+-- a key: its path below that of the cluster, members by their numbers
 abbrev pub key_text : Key → List ℕ
 key_text Leader = codes "leader"
 key_text Config = codes "config"
@@ -18,10 +19,12 @@ key_text Status = codes "status"
 key_text (History timeline) = codes "history/" ++ decimal timeline
 key_text Failsafe = codes "failsafe"
 
+-- what was found at a key
 abbrev pub finding_text : Expected → List ℕ
 finding_text Absent = codes "is absent"
 finding_text (Revision revision) = codes "has revision " ++ decimal revision
 
+-- a kind of transaction
 abbrev pub kind_text : TxnKind → List ℕ
 kind_text kinds.Touch = codes "touch"
 kind_text kinds.Create = codes "create"

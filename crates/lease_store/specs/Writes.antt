@@ -24,21 +24,26 @@ pub data Write : Type 0 where
   Extends : (key : Key) (ttl : Ticks) → Write
   Deletes : (key : Key) → Write
 
+-- the writes of what a renewal carries: the end of the log, a row of the history, the members to ask
 abbrev pub status_carried : Option Lsn → List Write
 status_carried None = []
 status_carried (Some end) = Sets keys.Status (values.Status end) ∷ []
 
+-- where there is a row
 abbrev pub row_carried : Option HistoryRow → List Write
 row_carried None = []
 row_carried (Some row) = Sets (keys.History row.timeline) (values.History row) ∷ []
 
+-- where there are members
 abbrev pub failsafe_carried : Option MemberSet → List Write
 failsafe_carried None = []
 failsafe_carried (Some members) = Sets keys.Failsafe (values.Failsafe members) ∷ []
 
+-- the sync key of a leader with these standbys
 abbrev pub sync_value : MemberId → MemberSet → Value
 sync_value leader standbys = values.Sync (record { leader = leader; standbys = standbys })
 
+-- no standby
 abbrev pub nobody : MemberSet
 nobody = record { bits = 0 }
 
@@ -74,10 +79,12 @@ abbrev pub later : ℕ → Option Ticks → Option Ticks
 later until None = None
 later until (Some expiry) = Some (record { 0 = max expiry.0 until })
 
+-- the pairs with the lease of a key extended until a moment, where the key is held
 abbrev pub extended : ℕ → ℕ → List (Key × Held) → Key → Option Held → List (Key × Held)
 extended revision until pairs key None = pairs
 extended revision until pairs key (Some held) = put key_cmp key (record held { revision = revision; expiry = later until held.expiry }) pairs
 
+-- the pairs without a key
 abbrev pub without : Key → List (Key × Held) → List (Key × Held)
 without key pairs = filter (λ pair. not (eq_by_cmp key_cmp key pair.0)) pairs
 
@@ -88,6 +95,7 @@ written revision now pairs (Leases key value ttl) = put key_cmp key (record { va
 written revision now pairs (Extends key ttl) = extended revision (now + ttl.0) pairs key (find key_cmp key pairs)
 written revision now pairs (Deletes key) = without key pairs
 
+-- the pairs after these writes, in this order
 abbrev pub all_written : ℕ → ℕ → List (Key × Held) → List Write → List (Key × Held)
 all_written revision now pairs [] = pairs
 all_written revision now pairs (write ∷ writes) = all_written revision now (written revision now pairs write) writes

@@ -32,7 +32,9 @@ pub enum Bar {
 /// Which of the two requests that end in a failover key was made.
 #[derive(Clone, Copy, Debug, PartialEq, Eq)]
 pub enum Move {
+    /// The leader is to hand over to another member.
     Switchover,
+    /// Another member is to lead, whether or not there is a leader.
     Failover,
 }
 
@@ -52,6 +54,8 @@ pub enum Asked {
 /// A request of an operator that passed its checks, and its number in the run.
 #[derive(Debug, Drop)]
 pub struct Action {
+    /// Its number in the run.
     pub request: u64,
+    /// What it asks.
     pub asked: Asked,
 }

@@ -21,7 +21,8 @@ pub fn is_present(now: Ticks, expiry: Option<Ticks>) -> bool
     }
 }
 
-/// What is held at a key, among pairs in which each key stands once: those of the store, or of a snapshot of it.
+/// What is held at a key, present or not, among pairs in which each key stands once: those of the store, or of a snapshot
+/// of it. `None` exactly where it isn't among them.
 pub fn held_at(pairs: &[(Key, Held)], key: Key) -> Option<&Held>
     ensures { option_copied result ≡ find key_cmp key pairs.now }
 {

@@ -3,20 +3,33 @@ ghost use Rattle.std.specs.Prelude.{◌≡◌, ◌≤◌, ◌*◌, ◌^◌};
 
 use pat_base::Ticks;
 
-/// The settings of a cluster, by the documentation of Patroni, "Dynamic Configuration Settings". Times are in
-/// seconds, of which each is ten ticks, and the lag is in bytes. Each is within its range.
+/// The settings of a cluster, by Patroni's documentation, "Dynamic Configuration Settings". Times are in seconds, of which
+/// each is ten ticks, and the lag is in bytes. Each is within its range, so a setting outside it can't be made.
 #[derive(Clone, Copy, Debug, PartialEq, Eq)]
 pub struct Config {
+    /// The time between two turns of an agent, from 1 to 86,400 seconds.
     pub loop_wait: u64,
+    /// How long an agent waits for an answer, from 3 to 86,400 seconds.
     pub retry_timeout: u64,
+    /// How long the leader's lease lasts, from 20 to 86,400 seconds.
     pub ttl: u64,
+    /// How far behind the leader's log a member's may end that is to lead, from 0 to 2^62 bytes.
     pub maximum_lag_on_failover: u64,
+    /// How long the start of a primary may take before another member takes over, from 0 to 86,400 seconds. At 0 a
+    /// crashed primary isn't started again where another can take over.
     pub primary_start_timeout: u64,
+    /// How many standbys replicate synchronously, from 1 to 16.
     pub synchronous_node_count: u64,
+    /// Whether commits wait for synchronous standbys (Patroni's documentation, "Replication modes").
     pub synchronous_mode: bool,
+    /// Whether commits wait also while no member can be a synchronous standby.
     pub synchronous_mode_strict: bool,
+    /// Whether a leader goes on while the store is out of reach and all other members acknowledge it (Patroni's
+    /// documentation, "DCS Failsafe Mode").
     pub failsafe_mode: bool,
+    /// Whether the agents leave the cluster alone (Patroni's documentation, "Pause/Resume mode for the cluster").
     pub pause: bool,
+    /// Whether a server whose log diverged is rewound by `pg_rewind`.
     pub use_pg_rewind: bool,
     ghost loop_wait_range: { (1 ≤ loop_wait) × (loop_wait ≤ 86400) },
     ghost retry_timeout_range: { (3 ≤ retry_timeout) × (retry_timeout ≤ 86400) },
@@ -30,7 +43,7 @@ impl Config {
     ghost use Rattle.std.specs.Prelude.{◌≡◌, ◌≤◌, ◌*◌};
     ghost use Rattle.lease_store.specs.Defaults.{default_config};
 
-    /// The settings where a configuration sets nothing.
+    /// The settings where a configuration sets nothing: Patroni's defaults.
     pub fn defaults() -> Config
         ensures { result ≡ default_config }
     {

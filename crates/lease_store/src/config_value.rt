@@ -6,7 +6,8 @@ use crate::Config;
 use std::alloc::{AllocError, Global};
 use std::marker::Model;
 
-/// A configuration: its JSON text, and what that sets.
+/// A configuration as the key store has it: its JSON text, and what that sets. Keys that set nothing here are kept in the
+/// text.
 #[derive(Debug, Drop)]
 pub struct ConfigValue {
     text: String,

@@ -3,7 +3,7 @@ ghost use Rattle.std.specs.Prelude.{◌≡◌};
 
 use pat_base::MemberId;
 
-/// The store granted a request. It comes from the store alone and isn't copied, so who has one was granted its request.
+/// The store granted a request. It comes from the store alone and isn't copied, so whoever has one was granted its request.
 #[derive(Debug, Drop)]
 pub struct Granted {
     revision: u64,
@@ -23,21 +23,21 @@ impl Granted {
         }
     }
 
-    /// The revision that it has, and that every key that it wrote has.
+    /// The revision of the grant, which every key has that it wrote: 1 above that of the grant before.
     pub fn revision(&self) -> u64
         ensures { result ≡ self.now.revision }
     {
         self.revision
     }
 
-    /// Who asked.
+    /// Whose request it was.
     pub fn by(&self) -> MemberId
         ensures { result ≡ self.now.by }
     {
         self.by
     }
 
-    /// Whether it gave or extended the lease of the leader key.
+    /// Whether it gave or extended the lease of the leader key: exactly for a create and a renewal.
     pub fn leased(&self) -> bool
         ensures { result ≡ self.now.leased }
     {

@@ -6,21 +6,21 @@ use std::fmt;
 /// cluster, as `/leader` and `/members/NAME`.
 #[derive(Clone, Copy, Debug, PartialEq, Eq)]
 pub enum Key {
-    /// Which member leads.
+    /// Which member leads: `/leader`, with a lease that its holder renews.
     Leader,
-    /// The configuration of the cluster.
+    /// The configuration of the cluster: `/config`, there for good.
     Config,
-    /// What a member tells of itself.
+    /// What a member tells of itself: `/members/NAME`, with a lease.
     Member(MemberId),
-    /// A failover or a switchover that was asked for.
+    /// A failover or a switchover that was asked for: `/failover`, with a lease.
     Failover,
-    /// Which members replicate synchronously.
+    /// Which members replicate synchronously: `/sync`.
     Sync,
-    /// How far the leader's log reaches.
+    /// Where the leader's log ends: `/status`.
     Status,
-    /// How this timeline ended.
+    /// How this timeline ended, from 1: a row of `/history`.
     History(u64),
-    /// The members that the leader may ask while the store is out of reach.
+    /// The members that the leader may ask while the store is out of reach: `/failsafe`.
     Failsafe,
 }
 

@@ -1,4 +1,4 @@
-//! Laws of every run of the store.
+//! Laws of every run of the store. Each is a function without a body whose contract is what is proved.
 ghost use Rattle.std.specs.Prelude.{ℕ, ◌≤◌, List, IsTrue};
 ghost use Rattle.lease_store.specs.declared.key.Key.TheVariants.{Leader};
 ghost use Rattle.lease_store.specs.Decision.{compares_of};

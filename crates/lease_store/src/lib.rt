@@ -12,8 +12,6 @@ mod order;
 mod pairs;
 mod refusal;
 mod store;
-#[cfg(test)]
-mod tests;
 mod txn;
 mod txn_kind;
 mod value;

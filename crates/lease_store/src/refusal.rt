@@ -6,12 +6,13 @@ use crate::{Expected, Key};
 use std::alloc::AllocError;
 use thiserror::Error;
 
-/// Why a request isn't granted.
+/// Why a request isn't granted. The store is as it was then.
 #[derive(Clone, Copy, Debug, PartialEq, Eq, Error)]
 pub enum StoreRefusal {
     /// This key, the first that differs, isn't as the transaction expects it.
     #[error("a key is not as expected")]
     Mismatch { key: Key, found: Expected },
+    /// There was no memory for what the transaction writes.
     #[error("out of memory")]
     Memory,
 }

@@ -18,7 +18,10 @@ use pat_base::{MemberId, Ticks};
 use std::alloc::{AllocError, Global};
 use std::marker::Model;
 
-/// The key store: what it holds at each key, and the last revision that it granted.
+/// The key store that a cluster shares, as Patroni's distributed configuration store (DCS): what it holds at each key, and
+/// the last revision that it granted. Revisions count its granted writes, from 1.
+///
+/// A key with a lease is absent from its expiry on, by the clock of whoever calls.
 #[derive(Debug, Drop)]
 pub struct Store {
     pairs: Vec<(Key, Held)>,
@@ -58,7 +61,7 @@ impl Store {
         self.revision
     }
 
-    /// What is held at a key that is present at this moment. `None` exactly where the key is absent.
+    /// What is held at a key that is present at this moment, a value of its kind. `None` exactly where the key is absent.
     pub fn get(&self, now: Ticks, key: Key) -> Option<&Held>
         ensures value { option_copied result ≡ key_at self.now now.0 key }
         ensures kind { IfSome result (λ held. IsOfKind key held.now.value) }
@@ -66,8 +69,12 @@ impl Store {
         present_at(&self.pairs, now, key)
     }
 
-    /// Decides on a request of a member, and writes what it writes where it is granted. A refusal changes nothing.
-    /// `Mismatch` comes exactly where a compare differs, and tells the first that does; `Memory` only for want of memory.
+    /// Decides at a moment on a request of a member, and writes what it writes where it is granted, all under the next
+    /// revision. `Mismatch` comes exactly where a compare differs, and tells the first that does; `Memory` only for want
+    /// of memory. A refusal changes nothing.
+    ///
+    /// So that no sum passes 2^64, it wants fewer than 2^60 grants before, a moment of at most 2^62 ticks, and leases of
+    /// at most 2^40 ticks.
     pub fn apply(&mut self, now: Ticks, by: MemberId, txn: Txn) -> Result<Granted, StoreRefusal>
         requires revision { self.old.revision < 2 ^ 60 }
         requires moment { now.0 ≤ 2 ^ 62 }
@@ -104,7 +111,8 @@ impl Store {
         expired_holder(&self.pairs, now)
     }
 
-    /// Drops every key that is absent at this moment. Answers the holder of the leader key where that one was dropped.
+    /// Drops every key that is absent at this moment, which changes nothing of what is present from then on. Answers the
+    /// holder of the leader key where that one was dropped.
     pub fn drop_expired(&mut self, now: Ticks) -> Option<MemberId>
         ensures state { self.new ≡ keys_kept self.old now.0 }
         ensures holder { result ≡ expired_holder self.old now.0 }

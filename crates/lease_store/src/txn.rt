@@ -9,7 +9,9 @@ use std::fmt;
 /// What a transaction expects at a key, or what was found there.
 #[derive(Clone, Copy, Debug, PartialEq, Eq)]
 pub enum Expected {
+    /// The key is absent: it isn't held, or its lease has ended.
     Absent,
+    /// The key is present, and was written last by the grant of this revision.
     Revision(u64),
 }
 
@@ -28,23 +30,28 @@ impl fmt::Display for Expected {
 }
 
 /// What a member asks of the store: it is granted where each key that it compares is as expected, and then it writes.
-/// `revision` is that of the leader key, but for `SetConfig`, where it is that of the configuration. A `ttl` is the span of the leases that it writes.
+/// Patroni asks its store the same way, by compare-and-set.
+///
+/// `revision` is that of the leader key, but for `SetConfig`, where it is that of the configuration. A `ttl` is the span
+/// of the leases that it writes, in ticks, which `Store::apply` wants to be at most 2^40.
 #[derive(Debug, Drop)]
 pub enum Txn {
-    /// The member tells of itself.
+    /// The member tells of itself. It compares nothing, so only want of memory refuses it.
     Touch {
         info: MemberInfo,
         ttl: Ticks,
     },
-    /// The member takes the leader key, where that is absent. With failsafe mode the failsafe key is as it was read, and in quorum
-    /// mode with failsafe mode the sync key too.
+    /// The member takes the leader key, where that is absent, and tells of itself. Where `failsafe` says something, the
+    /// failsafe key has to be so too: as the member read it, with failsafe mode. So has the sync key where `sync` says
+    /// something: as the member read it, in quorum mode with failsafe mode.
     Create {
         info: MemberInfo,
         ttl: Ticks,
         failsafe: Option<Expected>,
         sync: Option<Expected>,
     },
-    /// The member's lease is extended, and what the leader tells is written with it.
+    /// The member's lease of the leader key is extended under a new revision, never shortened; the member tells of itself;
+    /// and what is given of the end of its log, a row of the history and the members to ask is written too.
     Renew {
         revision: u64,
         info: MemberInfo,
@@ -53,7 +60,7 @@ pub enum Txn {
         row: Option<HistoryRow>,
         failsafe: Option<MemberSet>,
     },
-    /// The leader key is given up.
+    /// The leader key is given up: it is absent at once.
     Release {
         revision: u64,
     },
@@ -62,18 +69,18 @@ pub enum Txn {
         revision: u64,
         sync: Expected,
     },
-    /// The leader names the synchronous standbys.
+    /// The leader names the synchronous standbys. The sync key is as it was read.
     SetSync {
         revision: u64,
         sync: Expected,
         standbys: MemberSet,
     },
-    /// Synchronous replication is off.
+    /// The leader removes the sync key, which is of the revision `sync`: synchronous replication is off.
     DropSync {
         revision: u64,
         sync: u64,
     },
-    /// A failover is asked for, where none is.
+    /// A failover is asked for, where none is: the failover key is absent.
     SetFailover {
         failover: FailoverKey,
         ttl: Ticks,
@@ -90,7 +97,7 @@ pub enum Txn {
 }
 
 impl Txn {
-    /// Another alike. It fails only for want of memory.
+    /// The same transaction once more. It fails only for want of memory.
     pub fn copy(&self) -> Result<Txn, AllocError>
         ensures { IfOk result (λ txn. txn ≡ self.now) }
     {

@@ -3,18 +3,26 @@
 use crate::Txn;
 use std::fmt;
 
-/// What kind of transaction a request is.
+/// What kind of transaction a request is, as printed lines name it.
 #[derive(Clone, Copy, Debug, PartialEq, Eq)]
 pub enum TxnKind {
+    /// `Txn::Touch`.
     Touch,
+    /// `Txn::Create`.
     Create,
+    /// `Txn::Renew`.
     Renewal,
+    /// `Txn::Release`.
     Release,
+    /// `Txn::Claim`.
     Claim,
-    /// A new sync key, or none.
+    /// A new sync key, or none: `Txn::SetSync` and `Txn::DropSync`.
     SyncWrite,
+    /// `Txn::SetFailover`.
     FailoverWrite,
+    /// `Txn::DropFailover`.
     FailoverRemoval,
+    /// `Txn::SetConfig`.
     ConfigurationWrite,
 }
 
@@ -43,6 +51,7 @@ impl Txn {
     ghost use Rattle.std.specs.Prelude.{◌≡◌};
     ghost use Rattle.lease_store.specs.TxnKinds.{kind_of};
 
+    /// Its kind.
     pub fn kind(&self) -> TxnKind
         ensures { result ≡ kind_of self.now }
     {

@@ -6,59 +6,86 @@ use crate::ConfigValue;
 use pat_base::{Host, Lsn, MemberId, MemberSet, Tags, Ticks, Word};
 use std::alloc::AllocError;
 
-/// What a member tells of itself. The timeline and the end of the log are there where its server runs as a replica or
-/// as a primary.
+/// What a member tells of itself, as Patroni's key `/members/NAME` has it.
 #[derive(Clone, Copy, Debug, PartialEq, Eq)]
 pub struct MemberInfo {
+    /// Where the others reach it.
     pub host: Host,
+    /// What its configuration says of its part in the cluster.
     pub tags: Tags,
+    /// What its server does.
     pub state: Word,
+    /// Whether its server accepts writes.
     pub writes: bool,
+    /// The timeline that its server is on, from 1. There exactly where it runs as a replica or as a primary.
     pub timeline: Option<u64>,
+    /// Where its server's log ends. There exactly where the timeline is.
     pub end: Option<Lsn>,
 }
 
-/// A failover or a switchover that was asked for: from which leader, and to whom.
+/// A failover or a switchover that was asked for, as Patroni's key `/failover` has it (its documentation of the REST API,
+/// "Switchover and failover endpoints").
 #[derive(Clone, Copy, Debug, PartialEq, Eq)]
 pub struct FailoverKey {
+    /// The leader that is to step down. `None`: whoever leads.
     pub leader: Option<MemberId>,
+    /// The member that is to lead. `None`: any other one that may.
     pub candidate: Option<MemberId>,
 }
 
-/// Who leads with synchronous replication, and who replicates synchronously.
+/// Who leads with synchronous replication, and who replicates synchronously, as Patroni's key `/sync` has it (its
+/// documentation, "Replication modes"). Only a member that it names may take over without losing commits.
 #[derive(Clone, Copy, Debug, PartialEq, Eq)]
 pub struct SyncKey {
+    /// The leader that wrote the key.
     pub leader: MemberId,
+    /// The standbys whose confirmation its commits wait for, without the leader itself.
     pub standbys: MemberSet,
 }
 
-/// How a timeline ended: at which position, at which moment, and who took over.
+/// How a timeline ended, as a row of Patroni's key `/history`.
 #[derive(Clone, Copy, Debug, PartialEq, Eq)]
 pub struct HistoryRow {
+    /// The timeline that ended, from 1. The row stands under the key of this one.
     pub timeline: u64,
+    /// The position at which it ended.
     pub at: Lsn,
+    /// The moment of its end, in ticks from the start of the run.
     pub tick: Ticks,
+    /// Who took over, on the next timeline.
     pub leader: MemberId,
 }
 
-/// The value of a key, with one kind for each kind of key.
+/// The value of a key, with one kind for each kind of key: `Key` says what each is for.
 #[derive(Debug, Drop)]
 pub enum Value {
+    /// The member that leads.
     Leader(MemberId),
+    /// The configuration of the cluster.
     Config(ConfigValue),
+    /// What a member tells of itself.
     Member(MemberInfo),
+    /// A failover or a switchover that was asked for.
     Failover(FailoverKey),
+    /// Which members replicate synchronously.
     Sync(SyncKey),
+    /// Where the leader's log ends.
     Status(Lsn),
+    /// How a timeline ended.
     History(HistoryRow),
+    /// The members that the leader may ask while the store is out of reach.
     Failsafe(MemberSet),
 }
 
-/// What the store holds at a key: its value, the revision that wrote it, and the tick at which it expires, if it does.
+/// What the store holds at a key.
 #[derive(Debug, Drop)]
 pub struct Held {
+    /// Its value, of the key's kind.
     pub value: Value,
+    /// The revision of the write that it comes from: what a transaction compares.
     pub revision: u64,
+    /// The moment at which its lease ends, in ticks from the start of the run: from then on the key is absent. `None`
+    /// where it has no lease.
     pub expiry: Option<Ticks>,
 }
 
@@ -73,7 +100,7 @@ impl Value {
         }
     }
 
-    /// Another value alike. It fails only for want of memory.
+    /// The same value once more. It fails only for want of memory.
     pub fn copy(&self) -> Result<Value, AllocError>
         ensures { IfOk result (λ value. value ≡ self.now) }
     {
@@ -91,7 +118,7 @@ impl Value {
 }
 
 impl Held {
-    /// Another alike. It fails only for want of memory.
+    /// The same once more, with its revision and its expiry. It fails only for want of memory.
     pub fn copy(&self) -> Result<Held, AllocError>
         ensures { IfOk result (λ held. held ≡ self.now) }
     {

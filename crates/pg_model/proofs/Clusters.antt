@@ -1,11 +1,11 @@
 -- Lists of servers with one of them changed, and the marks of those that are in step.
-use Rattle.std.proofs.Common.{◌≡◌, ℕ, ◌<◌, ◌≤◌, ◌==◌, ◌&&◌, Bool, true, false, List, [], ◌∷◌, ◌++◌, length, map, zero, suc, Option, Some, None, ◌⊎◌, inl, inr, refl, sym, ap, subst, ◌∙◌, arith, append_assoc, append-nil, length-set}
+use Rattle.std.proofs.Common.{◌≡◌, ℕ, ◌<◌, ◌≤◌, ◌==◌, ◌&&◌, Bool, true, false, List, [], ◌∷◌, ◌++◌, length, map, get_or, zero, suc, Option, Some, None, ◌⊎◌, inl, inr, refl, sym, ap, subst, ◌∙◌, arith, append_assoc, append-nil, length-set}
 use Rattle.std.specs.Prelude.{slice_get, slice_set, IfSome}
 use Rattle.std.specs.Option.{option_map}
 use Rattle.std.proofs.lemmas.Bool.Decides.{nat_tests}
 use Rattle.std.proofs.lemmas.Bool.{cases_eq, and_parts}
 use Rattle.std.proofs.lemmas.List.{map-set, length-map}
-use Rattle.std.proofs.lemmas.Option.{same_Some, slice_get-map, slice_get_within, slice_get_past, get_or_from_slice_get}
+use Rattle.std.proofs.lemmas.Option.{same_Some, slice_get-map, slice_get_within, slice_get_past, slice_get_read, get_or_from_slice_get}
 use Rattle.std.proofs.Math.Seq.{map-set_same}
 use Rattle.pat_base.specs.Changes.{changed_at, changed_by}
 use Rattle.wal_model.specs.declared.entry.Entry.{Entry}
@@ -61,6 +61,13 @@ pub kept : (marks : List Bool) (xs : List ServerFacts) (place : ℕ) (x y : Serv
 kept marks xs place x y hold found e =
     let same : map standing_of (slice_set xs place y) ≡ map standing_of xs = map-set_same standing_of xs place y x (e ∙ ap standing_of (sym (get_or_from_slice_get xs place x x found))) in
     subst (MarksHold marks) (sym same) hold
+
+-- the same two, of a server that was read at a place where there is one
+pub changed-read : (xs list : List ServerFacts) (place count : ℕ) (x y : ServerFacts) (change : ServerFacts → ServerFacts) → map seen xs ≡ list → x ≡ get_or xs place x → count ≡ length xs → place < count → seen y ≡ change (seen x) → map seen (slice_set xs place y) ≡ with_server list place change
+changed-read xs list place count x y change view read long within e = changed xs list place x y change view (slice_get_read xs count place x long within read) e
+
+pub kept-read : (marks : List Bool) (xs : List ServerFacts) (place count : ℕ) (x y : ServerFacts) → MarksHold marks (map standing_of xs) → x ≡ get_or xs place x → count ≡ length xs → place < count → standing_of y ≡ standing_of x → MarksHold marks (map standing_of (slice_set xs place y))
+kept-read marks xs place count x y hold read long within e = kept marks xs place x y hold (slice_get_read xs count place x long within read) e
 
 prefix-trans : (x y z : List Entry) → IsPrefixOf x y → IsPrefixOf y z → IsPrefixOf x z
 prefix-trans x y z p q = record {

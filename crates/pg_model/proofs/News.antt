@@ -6,7 +6,6 @@ use Rattle.std.proofs.lemmas.Bool.Decides.{nat_tests}
 use Rattle.std.proofs.lemmas.Option.{same_Some}
 use Rattle.std.proofs.lemmas.List.{take_min, drop_at}
 use Rattle.wal_model.specs.declared.entry.Entry.{Entry}
-use Rattle.wal_model.specs.declared.entry.HistoryPoint.{HistoryPoint}
 use Rattle.pat_base.specs.ServerState.{writes}
 use Rattle.wal_model.specs.History.{same_points}
 use Rattle.wal_model.specs.Log.{IsPrefixOf, is_prefix, fork_of, received}

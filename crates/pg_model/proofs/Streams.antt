@@ -1,5 +1,5 @@
 -- A standby of a cluster that receives from another of its servers.
-use Rattle.std.proofs.Common.{◌≡◌, ℕ, ◌&&◌, Bool, true, false, not, List, [], length, map, take, drop, Option, Some, None, refl, sym, ap, subst, ◌∙◌, append-nil}
+use Rattle.std.proofs.Common.{◌≡◌, ℕ, ◌&&◌, Bool, true, false, not, List, length, map, take, drop, Option, Some, None, refl, sym, ap, subst, ◌∙◌}
 use Rattle.std.specs.Prelude.{slice_get, slice_set}
 use Rattle.std.proofs.lemmas.Bool.{and_parts}
 use Rattle.std.proofs.lemmas.List.{set-get_or}
@@ -10,7 +10,7 @@ use Rattle.pg_model.specs.declared.answers.Streamed.TheVariants as streams
 use Rattle.pg_model.specs.Facts.{ServerFacts, entries_of}
 use Rattle.pg_model.specs.Replication.{stream_of, news_by, told, after_news}
 use Rattle.pg_model.specs.Servers.{seen, news_between, news_at, told_from, after_news_at, streamed_at}
-use Rattle.pg_model.specs.InStep.{Standing, standing_of, number_of, is_place, IsBehind, IsInStep, MarksHold, Renews, Hears, HearsAt, AreInStep}
+use Rattle.pg_model.specs.InStep.{standing_of, number_of, is_place, IsBehind, IsInStep, MarksHold, Renews, Hears, HearsAt, AreInStep}
 use Rattle.pg_model.proofs.Sights.{same-behind}
 use Rattle.pg_model.proofs.Clusters.{got-set_same, got-set_other, seen-at, changed, kept, standing-at, moved-at, marked, forgotten-at, is_place-number}
 

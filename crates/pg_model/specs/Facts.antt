@@ -68,10 +68,12 @@ abbrev pub entries_of : Option (List Entry) → List Entry
 entries_of None = []
 entries_of (Some entries) = entries
 
+-- it waits for a copy of another server, and has no log
 abbrev pub is_creating : State → Bool
 is_creating states.Creating = true
 is_creating _ = false
 
+-- it runs as a standby
 abbrev pub is_replica : State → Bool
 is_replica states.Replica = true
 is_replica _ = false

@@ -20,9 +20,11 @@ pub record Standing : Type 0 where
   -- the number of the server that it follows
   pub upstream : Option ℕ
 
+-- whom a server follows, by number
 abbrev pub number_of : Option ServerId → Option ℕ
 number_of upstream = option_map (λ server. server.number) upstream
 
+-- where a server stands
 abbrev pub standing_of : ServerFacts → Standing
 standing_of s = record { log = entries_of s.log; timeline = s.timeline; history = s.history; upstream = number_of s.upstream }
 

@@ -22,6 +22,7 @@ use Rattle.pg_model.specs.Facts.{ServerFacts, entries_of}
 abbrev pub following : ServerId → ServerFacts → ServerFacts
 following upstream s = record s { upstream = Some upstream; diverged = false }
 
+-- the entry of a commit of so many bytes, on the timeline of the server
 abbrev pub entry_of : ServerFacts → ℕ → ℕ → Entry
 entry_of s serial bytes = record { serial = serial; timeline = s.timeline; bytes = bytes }
 
@@ -35,6 +36,7 @@ appended entry s =
 abbrev pub committed : ℕ → ℕ → ServerFacts → ServerFacts
 committed serial bytes s = appended (entry_of s serial bytes) s
 
+-- what a standby gets, by whether the upstream writes, and by the two logs
 abbrev pub stream_by : Bool → List Entry → List Entry → ℕ → Streamed
 stream_by false mine theirs most = streams.NotConnected
 stream_by true mine theirs most = if is_prefix mine theirs then streams.Received (min most (length theirs - length mine)) else streams.Diverged (lsn_at (fork_of mine theirs))
@@ -73,6 +75,7 @@ news_where streams.NotConnected diverged current = None
 news_where (streams.Diverged at) diverged current = if diverged then None else Some (streams.Diverged at)
 news_where (streams.Received count) diverged current = if (count == 0) && current then None else Some (streams.Received count)
 
+-- what of an answer changes anything at a standby
 abbrev pub news_by : Streamed → ServerFacts → ServerFacts → Option Streamed
 news_by answer s upstream = news_where answer s.diverged (is_current s upstream)
 
@@ -110,6 +113,7 @@ is_met required.Nobody end confirmed = true
 is_met required.AnyOne end confirmed = list_any (reaches end) confirmed
 is_met (required.All members) end confirmed = all_reach 0 members end confirmed
 
+-- the oldest of these commits may be acknowledged
 abbrev pub first_is_met : Required → List (Option Lsn) → List Waiting → Bool
 first_is_met list confirmed [] = false
 first_is_met list confirmed (first ∷ more) = is_met list first.end confirmed
@@ -118,6 +122,7 @@ first_is_met list confirmed (first ∷ more) = is_met list first.end confirmed
 abbrev pub may_acknowledge : ServerFacts → Bool
 may_acknowledge s = writes s.state && first_is_met s.required s.confirmed s.waiting
 
+-- the number of the oldest of these commits
 abbrev pub first_serial : List Waiting → Option ℕ
 first_serial [] = None
 first_serial (first ∷ more) = Some first.serial

@@ -49,6 +49,7 @@ primary_started now s = starting true now (record s { confirmed = none_confirmed
 abbrev pub stopped : ServerFacts → ServerFacts
 stopped s = record s { state = states.Stopped; waiting = [] }
 
+-- it runs and accepts writes
 abbrev pub is_primary : State → Bool
 is_primary states.Primary = true
 is_primary _ = false
@@ -57,6 +58,7 @@ is_primary _ = false
 abbrev pub stopping : Ticks → ServerFacts → ServerFacts
 stopping now s = if s.stop_delay.0 == 0 then stopped s else record s { state = states.Stopping (is_primary s.state) (later now s.stop_delay) }
 
+-- the state after a crash: also a stopped server is crashed then
 abbrev pub crashed_state : State → State
 crashed_state states.Creating = states.Creating
 crashed_state _ = states.Crashed
@@ -71,9 +73,11 @@ completed now (states.Starting as_primary at) s = if nat_le at.0 now.0 then star
 completed now (states.Stopping was_primary at) s = if nat_le at.0 now.0 then stopped s else s
 completed now _ s = s
 
+-- the server at a moment
 abbrev pub ticked : Ticks → ServerFacts → ServerFacts
 ticked now s = completed now s.state s
 
+-- the delay that is set, or the one that was
 abbrev pub delay_or : Option Ticks → Ticks → Ticks
 delay_or None delay = delay
 delay_or (Some set) delay = set

@@ -23,6 +23,7 @@ requiring required s = record s { required = required }
 abbrev pub quietly_ticked : Ticks → ServerFacts → ServerFacts
 quietly_ticked now s = if live s.state then s else ticked now s
 
+-- the entry of a commit at this server, if there is one
 abbrev pub entry_at : Option ServerFacts → ℕ → ℕ → Option Entry
 entry_at None serial bytes = None
 entry_at (Some s) serial bytes = if writes s.state && nat_le (end_of (entries_of s.log) + bytes) (2 ^ 63) then Some (entry_of s serial bytes) else None
@@ -31,6 +32,7 @@ entry_at (Some s) serial bytes = if writes s.state && nat_le (end_of (entries_of
 abbrev pub entry_for : List ServerFacts → ℕ → ℕ → ℕ → Option Entry
 entry_for servers place serial bytes = entry_at (slice_get servers place) serial bytes
 
+-- a server with the entry, if there is one
 abbrev pub after_entry : Option Entry → ServerFacts → ServerFacts
 after_entry None s = s
 after_entry (Some entry) s = appended entry s
@@ -40,6 +42,7 @@ abbrev pub committed_at : List ServerFacts → ℕ → Option Entry → List Ser
 committed_at servers place None = servers
 committed_at servers place (Some entry) = changed_by servers place (appended entry)
 
+-- what the first of these servers gets from the second, if both are there
 abbrev pub news_between : Option ServerFacts → Option ServerFacts → ℕ → Option Streamed
 news_between None upstream most = None
 news_between (Some s) None most = None
@@ -49,10 +52,12 @@ news_between (Some s) (Some upstream) most = news_of s upstream most
 abbrev pub news_at : List ServerFacts → ℕ → ℕ → ℕ → Option Streamed
 news_at servers place from most = news_between (slice_get servers place) (slice_get servers from) most
 
+-- the servers after such news from an upstream, if it is there
 abbrev pub told_from : List ServerFacts → ℕ → Streamed → Option ServerFacts → List ServerFacts
 told_from servers place news None = servers
 told_from servers place news (Some upstream) = changed_by servers place (λ s. told news s upstream)
 
+-- the servers after such news, if there are any
 abbrev pub after_news_at : List ServerFacts → ℕ → ℕ → Option Streamed → List ServerFacts
 after_news_at servers place from None = servers
 after_news_at servers place from (Some news) = told_from servers place news (slice_get servers from)

@@ -7,33 +7,34 @@ use pat_base::{Lsn, State};
 use std::alloc::AllocError;
 use thiserror::Error;
 
-/// The server is in a state in which the call can't be made.
+/// The server is in this state, in which the call can't be made. It is as it was.
 #[derive(Clone, Copy, Debug, PartialEq, Eq, Error)]
 #[error("the server is in another state")]
 pub struct InState(pub State);
 
-/// What a standby got from its upstream.
+/// What a standby got from its upstream, by PostgreSQL's documentation, "Streaming Replication".
 #[derive(Clone, Copy, Debug, PartialEq, Eq)]
 pub enum Streamed {
     /// Nothing, since the upstream doesn't accept writes.
     NotConnected,
-    /// Nothing, since the logs part at this position.
+    /// Nothing, since the logs part at this position: what lies before it is all that they have in common.
     Diverged(Lsn),
-    /// The next entries of the upstream's log, so many.
+    /// The next entries of the upstream's log, so many, 0 where it has all of them; and its timeline and history.
     Received(usize),
 }
 
-/// Why a standby got no answer.
+/// Why a standby got no answer. It is as it was.
 #[derive(Clone, Copy, Debug, PartialEq, Eq, Error)]
 pub enum StreamFault {
-    /// It runs as no replica.
+    /// It is in this state, and runs as no replica.
     #[error("the server is in another state")]
     InState(State),
+    /// There was no memory for the entries or the history.
     #[error("out of memory")]
     Memory,
 }
 
-/// Why a commit was refused.
+/// Why a commit was refused. The server is as it was.
 #[derive(Clone, Copy, Debug, PartialEq, Eq, Error)]
 pub enum CommitFault {
     /// The server doesn't accept writes.
@@ -42,6 +43,7 @@ pub enum CommitFault {
     /// The log would end past 2^63 bytes.
     #[error("the log is full")]
     Full,
+    /// There was no memory for one more entry.
     #[error("out of memory")]
     Memory,
 }

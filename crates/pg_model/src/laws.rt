@@ -1,4 +1,4 @@
-//! Laws of servers, for readers of their definitions.
+//! Laws of servers, for readers of their definitions. Each is a function without a body whose contract is what is proved.
 ghost use Rattle.std.specs.Prelude.{◌≡◌, ◌↔◌, ℕ, IsTrue, IsSome, List, Option, Some, None};
 ghost use Rattle.pat_base.specs.declared.lsn.Lsn.{Lsn};
 ghost use Rattle.pat_base.specs.declared.server_state.Required.{Required};

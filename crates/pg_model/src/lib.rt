@@ -12,6 +12,3 @@ pub use laws::{news_are_streamed, required_is_met};
 pub use server::Server;
 pub use servers::Servers;
 pub use waiting::Waiting;
-
-#[cfg(test)]
-mod tests;

@@ -24,8 +24,10 @@ use wal_model::{Entry, History, HistoryPoint, Wal, WalFault};
 /// How many members may confirm positions.
 const MEMBERS: usize = 16;
 
-/// A PostgreSQL server: its state, its log (absent while it waits for a copy), its timeline with its history, whom it
-/// follows, and what its commits wait for.
+/// A PostgreSQL server: its state, its log, its timeline with its history, whom it follows, and what its commits wait for.
+///
+/// Its log is absent exactly while it is `Creating`: it waits for a copy of another server then. No call brings it there
+/// yet. Moments and delays are in ticks of 100 ms, positions and sizes in bytes.
 #[derive(Drop)]
 pub struct Server {
     state: State,
@@ -72,7 +74,8 @@ impl Model for Server {
 }
 
 impl Server {
-    /// A running standby on timeline 1, whose log begins with so many bytes of data. It fails only for want of memory.
+    /// A running standby on timeline 1, which follows nobody and whose log begins with so many bytes of data, at most 2^63.
+    /// Its starts and stops take no time. It fails only for want of memory.
     pub fn new(alloc: Global, base: u64) -> Result<Server, AllocError>
         requires { base ≤ 2 ^ 63 }
         ensures { IfOk result (λ server. server ≡ fresh base) }
@@ -95,7 +98,7 @@ impl Server {
         })
     }
 
-    /// The server's state.
+    /// Its state.
     pub fn state(&self) -> State
         ensures { result ≡ self.now.state }
     {
@@ -124,14 +127,14 @@ impl Server {
         self.log.as_ref()
     }
 
-    /// Its timeline.
+    /// Its timeline, from 1.
     pub fn timeline(&self) -> u64
         ensures { result ≡ self.now.timeline }
     {
         self.timeline
     }
 
-    /// The points at which earlier timelines were left.
+    /// The points at which earlier timelines were left, the oldest first.
     pub fn history(&self) -> &History
         ensures points { result.now.points ≡ self.now.history }
         ensures spare { result.now.spare ≡ self.now.spare }
@@ -139,49 +142,50 @@ impl Server {
         &self.history
     }
 
-    /// Whom it follows as a standby.
+    /// Whom it follows as a standby, or is to follow when it is one. A primary keeps whom it followed before.
     pub fn upstream(&self) -> Option<ServerId>
         ensures { result ≡ self.now.upstream }
     {
         self.upstream
     }
 
-    /// Whether its log was found to be no prefix of its upstream's.
+    /// Whether its log was found to be no prefix of its upstream's. It is so until it follows anew or crashes.
     pub fn diverged(&self) -> bool
         ensures { result ≡ self.now.diverged }
     {
         self.diverged
     }
 
-    /// Whether its last run was a primary.
+    /// Whether its last run was, or its present one is, that of a primary. Only such a server starts as a primary again.
     pub fn was_primary(&self) -> bool
         ensures { result ≡ self.now.was_primary }
     {
         self.was_primary
     }
 
-    /// How long its later stops take.
+    /// How long its later stops take, at most 2^40 ticks.
     pub fn stop_delay(&self) -> Ticks
         ensures { result ≡ self.now.stop_delay }
     {
         self.stop_delay
     }
 
-    /// How long its later starts take.
+    /// How long its later starts take, at most 2^40 ticks.
     pub fn start_delay(&self) -> Ticks
         ensures { result ≡ self.now.start_delay }
     {
         self.start_delay
     }
 
-    /// Whose confirmation its commits wait for.
+    /// Whose confirmation its commits wait for, as PostgreSQL's setting `synchronous_standby_names` says (its
+    /// documentation, "Synchronous Replication").
     pub fn required(&self) -> Required
         ensures { result ≡ self.now.required }
     {
         self.required
     }
 
-    /// The position that a member confirmed. `None` exactly where none is kept.
+    /// The position up to which a member told that it has flushed this server's log. `None` exactly where none is kept.
     pub fn confirmed(&self, by: MemberId) -> Option<Lsn>
         ensures { result ≡ slice_index_or self.now.confirmed by.number None }
     {
@@ -202,14 +206,15 @@ impl Server {
         self.connected
     }
 
-    /// How often it may be promoted without taking memory.
+    /// How often it may be promoted without taking memory: `promote` wants at least 1, which `reserve` brings about.
     pub fn spare(&self) -> usize
         ensures { result ≡ self.now.spare }
     {
         self.history.spare()
     }
 
-    /// Sets how long later stops and starts take, each only where it is given.
+    /// Sets how long later stops and starts take, each only where it is given, and each at most 2^40 ticks. One that is
+    /// under way ends at its moment.
     pub fn set_delays(&mut self, stop: Option<Ticks>, start: Option<Ticks>)
         requires stop { ForSome stop (λ delay. delay.0 ≤ 2 ^ 40) }
         requires start { ForSome start (λ delay. delay.0 ≤ 2 ^ 40) }
@@ -219,7 +224,7 @@ impl Server {
         self.start_delay = start.unwrap_or(self.start_delay);
     }
 
-    /// Tells it whether it receives from its upstream, and which members are connected to it.
+    /// Tells it whether it receives from its upstream, and which members are connected to it. It does nothing by that.
     pub fn set_links(&mut self, receives: bool, connected: MemberSet)
         ensures { self.new ≡ record self.old { receives = receives; connected = connected } }
     {
@@ -227,14 +232,15 @@ impl Server {
         self.connected = connected;
     }
 
-    /// Sets whose confirmation its commits wait for.
+    /// Sets whose confirmation its commits wait for, those that wait already too.
     pub fn set_required(&mut self, required: Required)
         ensures { self.new ≡ record self.old { required = required } }
     {
         self.required = required;
     }
 
-    /// Takes the memory that a promotion needs. It fails only for want of memory, and then stays as it was.
+    /// Takes the memory that a promotion needs, so that it has room for one at least. It fails only for want of memory, and
+    /// then stays as it was.
     pub fn reserve(&mut self) -> Result<(), AllocError>
         ensures ok { OnOk result (self.new ≡ reserved self.old) }
         ensures err { OnErr result (self.new ≡ self.old) }
@@ -242,8 +248,12 @@ impl Server {
         self.history.reserve(1)
     }
 
-    /// Promotes a standby, as `pg_promote` does: it accepts writes on the next timeline. Refused exactly unless it
-    /// runs as a replica, and then it stays as it was.
+    /// Promotes a standby, as `pg_promote` does (PostgreSQL's documentation, "Recovery Control Functions"): it accepts writes
+    /// at once, on the next timeline, and enters into its history where it left the one before ("Timelines"). What was
+    /// confirmed to an earlier primary is forgotten. Refused exactly unless it runs as a replica, and then it stays as it
+    /// was.
+    ///
+    /// It wants room for a promotion (`reserve`) and a timeline below 2^60, so it can't fail for want of memory.
     pub fn promote(&mut self, _now: Ticks) -> Result<(), InState>
         requires spare { 1 ≤ self.old.spare }
         requires timeline { self.old.timeline < 2 ^ 60 }
@@ -267,8 +277,8 @@ impl Server {
         Ok(())
     }
 
-    /// Starts as a standby of a server, or of none. Refused exactly unless it is stopped or crashed, and then it stays
-    /// as it was. The moment is at most 2^62 ticks.
+    /// Starts as a standby of a server, or of none: it runs at once, or after its start delay. Refused exactly unless it is
+    /// stopped or crashed, and then it stays as it was. The moment is at most 2^62 ticks.
     pub fn start_replica(&mut self, now: Ticks, upstream: Option<ServerId>) -> Result<(), InState>
         requires { now.0 ≤ 2 ^ 62 }
         ensures when { IsOk result ↔ IsTrue (is_down self.old.state) }
@@ -285,8 +295,9 @@ impl Server {
         Ok(())
     }
 
-    /// Starts as a primary again, on its timeline. Refused exactly unless it is stopped or crashed and its last run was
-    /// a primary, and then it stays as it was. The moment is at most 2^62 ticks.
+    /// Starts as a primary again, on its timeline: it accepts writes at once, or after its start delay, and what was
+    /// confirmed to it before is forgotten. Refused exactly unless it is stopped or crashed and its last run was a
+    /// primary, and then it stays as it was. The moment is at most 2^62 ticks.
     pub fn start_primary(&mut self, now: Ticks) -> Result<(), InState>
         requires { now.0 ≤ 2 ^ 62 }
         ensures when { IsOk result ↔ IsTrue (is_down self.old.state && self.old.was_primary) }
@@ -331,7 +342,8 @@ impl Server {
         }
     }
 
-    /// Shuts down, at once or after the delay. Refused exactly unless it runs or starts, and then it stays as it was.
+    /// Shuts down in an orderly way, at once or after its stop delay. A primary accepts writes until it has ended. Then no
+    /// commit waits any more; they stay in the log. Refused exactly unless it runs or starts, and then it stays as it was.
     /// The moment is at most 2^62 ticks.
     pub fn stop(&mut self, now: Ticks) -> Result<(), InState>
         requires { now.0 ≤ 2 ^ 62 }
@@ -354,8 +366,9 @@ impl Server {
         Ok(())
     }
 
-    /// Ends without a shutdown: it is crashed afterwards, also where it was stopped before. A server that waits for a
-    /// copy goes on to wait.
+    /// Ends without a shutdown, at once, from any state: it is `Crashed` afterwards, also where it was `Stopped` or had
+    /// crashed before. No commit waits any more, and a divergence that was noted is forgotten. Only a server that waits
+    /// for a copy goes on to wait.
     pub fn crash(&mut self)
         ensures { self.new ≡ crashed self.old }
     {
@@ -372,7 +385,7 @@ impl Server {
         self.waiting.clear();
     }
 
-    /// Completes a start or a stop whose moment has come.
+    /// Completes a start or a stop whose moment has come. It does nothing in any other state, or before that moment.
     pub fn tick(&mut self, now: Ticks)
         ensures { self.new ≡ ticked now self.old }
     {
@@ -384,7 +397,8 @@ impl Server {
         }
     }
 
-    /// Follows another server. Refused exactly unless it runs as a replica, and then it stays as it was.
+    /// Follows a server from now on, and forgets a divergence that was noted, also where it follows that one already.
+    /// Refused exactly unless it runs as a replica, and then it stays as it was.
     pub fn follow(&mut self, upstream: ServerId) -> Result<(), InState>
         ensures when { IsOk result ↔ IsTrue (is_replica self.old.state) }
         ensures state { IfErr result (λ refusal. refusal.0 ≡ self.old.state) }
@@ -408,8 +422,8 @@ impl Server {
     }
 
     /// Appends a commit of so many bytes, which then waits for acknowledgement. `NotPrimary` exactly where the server
-    /// doesn't accept writes, and then `Full` exactly where the log would end past 2^63 bytes. It costs constant time
-    /// beside the log's growth. A refused server stays as it was.
+    /// doesn't accept writes, and then `Full` exactly where the log would end past 2^63 bytes; `Memory` only for want of
+    /// memory. A refused server stays as it was. It costs constant time beside the log's growth.
     pub fn commit(&mut self, serial: u64, bytes: u64) -> Result<(), CommitFault>
         ensures not_primary { IsErrOf result commit_faults.NotPrimary ↔ (writes self.old.state ≡ false) }
         ensures full { IsErrOf result commit_faults.Full ↔ (IsTrue (writes self.old.state) × (2 ^ 63 < end_of (entries_of self.old.log) + bytes)) }
@@ -434,9 +448,9 @@ impl Server {
     }
 
     /// Receives the next entries from the upstream, at most so many, with its timeline and history; or finds that the
-    /// upstream doesn't accept writes, or that the own log is no prefix of its log. Refused exactly unless it runs as a
-    /// replica. A refused server stays as it was. It compares the own log with the front of the upstream's, and moves no
-    /// entry but the missing ones.
+    /// upstream doesn't accept writes, or that the own log is no prefix of its log (PostgreSQL's documentation, "Streaming
+    /// Replication"). `InState` exactly unless it runs as a replica, `Memory` only for want of memory; it stays as it was
+    /// then. It compares the own log with the front of the upstream's, and moves no entry but the missing ones.
     pub fn stream(&mut self, upstream: &Server, most: usize) -> Result<Streamed, StreamFault>
         ensures refused { IsErrOf result (stream_faults.InState self.old.state) ↔ (is_replica self.old.state ≡ false) }
         ensures answer { IfOk result (λ answer. answer ≡ stream_of self.old upstream.now most) }
@@ -451,15 +465,16 @@ impl Server {
         Ok(self.answer(upstream, met))
     }
 
-    /// Records the position up to which a member has flushed the log.
+    /// Records the position up to which a member has flushed the log, in place of the one before, whichever is greater.
     pub fn confirm(&mut self, by: MemberId, end: Lsn)
         ensures { self.new ≡ confirming by end self.old }
     {
         self.confirmed[by.number as usize] = Some(end);
     }
 
-    /// Takes the oldest waiting commit, where it may be acknowledged: where the server accepts writes, and its end is
-    /// confirmed by whom commits wait for. `None` exactly otherwise.
+    /// Takes the oldest waiting commit, where it may be acknowledged, and answers its number: where the server accepts
+    /// writes, and the commit's end is confirmed by whom commits wait for. `None` exactly otherwise, and then nothing
+    /// changes. Commits are acknowledged in the order of the log.
     pub fn next_acknowledged(&mut self) -> Option<u64>
         ensures commit { result ≡ next_acknowledged self.old }
         ensures after { self.new ≡ acknowledged self.old }

@@ -15,7 +15,7 @@ use std::alloc::{AllocError, Global};
 use std::marker::Model;
 use wal_model::Entry;
 
-/// The servers of a cluster, by the number of their member.
+/// The servers of a cluster: at each place, counted from 0, that of the member of this number.
 ///
 /// It keeps for each server whether it is known to be in step: it follows one of these servers, that one's log begins
 /// with its own, and both are on one timeline with one history. A standby in step isn't compared with its upstream:
@@ -41,8 +41,8 @@ impl Model for Servers {
 }
 
 impl Servers {
-    /// So many running standbys on timeline 1, each with a log of so many bytes of data. It fails only for want of
-    /// memory.
+    /// So many running standbys on timeline 1, which follow nobody, each with a log of so many bytes of data, at most 2^63.
+    /// It fails only for want of memory.
     pub fn new(alloc: Global, count: usize, base: u64) -> Result<Servers, AllocError>
         requires { base ≤ 2 ^ 63 }
         ensures { IfOk result (λ servers. servers ≡ replicate count (fresh base)) }
@@ -73,8 +73,9 @@ impl Servers {
         self.servers.get(place)
     }
 
-    /// Promotes the standby at a place, if there is one there: it accepts writes on the next timeline. It fails only for
-    /// want of memory, and then all stay as they were. It costs time in the number of servers.
+    /// Promotes the server at a place, if there is one there, as `Server::promote` does. That server runs as a replica on a
+    /// timeline below 2^60. It fails only for want of memory, and then all stay as they were. It costs time in the number
+    /// of servers.
     pub fn promote(&mut self, place: usize, now: Ticks) -> Result<(), AllocError>
         requires { IfSome (slice_get self.old place) (λ s. IsTrue (is_replica s.state) × (s.timeline < 2 ^ 60)) }
         ensures ok { OnOk result (self.new ≡ changed_by self.old place promoted) }
@@ -90,7 +91,8 @@ impl Servers {
         Ok(())
     }
 
-    /// Ends the server at a place, if there is one there, without a shutdown.
+    /// Ends the server at a place, if there is one there, without a shutdown, as `Server::crash` does: also a stopped one is
+    /// crashed then.
     pub fn crash(&mut self, place: usize)
         ensures { self.new ≡ changed_by self.old place crashed }
     {
@@ -100,7 +102,7 @@ impl Servers {
     }
 
     /// Lets the server at a place, if there is one there, follow another server: a standby receives from that one from now
-    /// on, and one that starts from when it runs.
+    /// on, and any other from when it runs as a standby. A divergence that was noted is forgotten.
     pub fn follow(&mut self, place: usize, upstream: ServerId)
         ensures { self.new ≡ changed_by self.old place (following upstream) }
     {
@@ -113,8 +115,8 @@ impl Servers {
         self.in_step[place] &= is_same;
     }
 
-    /// Starts the server at a place, if there is one there, as a standby of a server, or of none. The moment is at most
-    /// 2^62 ticks.
+    /// Starts the server at a place, if there is one there, as a standby of a server, or of none, as `Server::start_replica`
+    /// does. That server is stopped or crashed. The moment is at most 2^62 ticks.
     pub fn start_replica(&mut self, place: usize, now: Ticks, upstream: Option<ServerId>)
         requires moment { now.0 ≤ 2 ^ 62 }
         requires down { IfSome (slice_get self.old place) (λ s. IsTrue (is_down s.state)) }
@@ -132,8 +134,8 @@ impl Servers {
         self.in_step[place] &= is_same;
     }
 
-    /// Starts the server at a place, if there is one there, as a primary again, on its timeline. The moment is at most
-    /// 2^62 ticks.
+    /// Starts the server at a place, if there is one there, as a primary again, as `Server::start_primary` does. That server
+    /// is stopped or crashed, and its last run was a primary. The moment is at most 2^62 ticks.
     pub fn start_primary(&mut self, place: usize, now: Ticks)
         requires moment { now.0 ≤ 2 ^ 62 }
         requires down { IfSome (slice_get self.old place) (λ s. IsTrue (is_down s.state && s.was_primary)) }
@@ -146,7 +148,8 @@ impl Servers {
         server.start_primary(now).unwrap();
     }
 
-    /// Shuts down the server at a place, if there is one there. The moment is at most 2^62 ticks.
+    /// Shuts down the server at a place, if there is one there, as `Server::stop` does. That server runs or starts. The
+    /// moment is at most 2^62 ticks.
     pub fn stop(&mut self, place: usize, now: Ticks)
         requires moment { now.0 ≤ 2 ^ 62 }
         requires up { IfSome (slice_get self.old place) (λ s. IsTrue (is_up s.state)) }
@@ -169,7 +172,7 @@ impl Servers {
     }
 
     /// Sets how long later stops and starts of the server at a place take, if there is one there, each only where it is
-    /// given.
+    /// given, and each at most 2^40 ticks.
     pub fn set_delays(&mut self, place: usize, stop: Option<Ticks>, start: Option<Ticks>)
         requires stop { ForSome stop (λ delay. delay.0 ≤ 2 ^ 40) }
         requires start { ForSome start (λ delay. delay.0 ≤ 2 ^ 40) }
@@ -205,11 +208,12 @@ impl Servers {
         Ok(Some(entry))
     }
 
-    /// Lets the standby at a place receive from the server at another one at most so many entries, with the timeline and
-    /// the history, and answers what it got. `None` exactly where that changes nothing: one of the two is absent, the
-    /// upstream doesn't accept writes, a divergence was found before, or there is nothing to receive. It fails only for
-    /// want of memory, and then all stay as they were. It costs the entries that move, and time in the number of
-    /// servers; only a standby that isn't known to be in step is compared with the other server.
+    /// Lets the server at a place, if there is one there, receive from the server at another one at most so many entries,
+    /// with the timeline and the history, and answers what it got, as `Server::stream` does. The server at the first place
+    /// runs as a replica. `None` exactly where that changes nothing: one of the two is absent, the upstream doesn't accept
+    /// writes, a divergence was found before, or there is nothing to receive. It fails only for want of memory, and then
+    /// all stay as they were. It costs the entries that move, and time in the number of servers; only a standby that isn't
+    /// known to be in step is compared with the other server.
     pub fn stream(
         &mut self,
         place: usize,
@@ -239,7 +243,7 @@ impl Servers {
         Ok(heard.news)
     }
 
-    /// Records at the server at a place, if there is one there, up to where a member has flushed the log.
+    /// Records at the server at a place, if there is one there, up to where a member has flushed its log.
     pub fn confirm(&mut self, place: usize, by: MemberId, end: Lsn)
         ensures { self.new ≡ changed_by self.old place (confirming by end) }
     {
@@ -248,7 +252,8 @@ impl Servers {
         }
     }
 
-    /// Takes the oldest waiting commit of the server at a place, where it may be acknowledged. `None` exactly otherwise.
+    /// Takes the oldest waiting commit of the server at a place, where it may be acknowledged, and answers its number.
+    /// `None` exactly otherwise, and then all stay as they were.
     pub fn next_acknowledged(&mut self, place: usize) -> Option<u64>
         ensures commit { result ≡ option_and_then next_acknowledged (slice_get self.old place) }
         ensures after { self.new ≡ changed_by self.old place acknowledged }

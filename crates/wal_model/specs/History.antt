@@ -14,6 +14,7 @@ pub record Points : Type 0 where
 abbrev pub point_of : ℕ → List HistoryPoint → Option Lsn
 point_of timeline points = option_map (λ point. point.at) (find (λ point. point.timeline == timeline) points)
 
+-- two points are the same
 abbrev pub is_same_point : HistoryPoint → HistoryPoint → Bool
 is_same_point x y = (x.timeline == y.timeline) && (x.at.position == y.at.position)
 

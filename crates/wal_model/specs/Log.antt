@@ -12,6 +12,7 @@ pub record IsPrefixOf (x y : List Entry) : Type 0 where
   pub rest : List Entry
   pub whole : y ≡ x ++ rest
 
+-- two entries are the same: the same commit on the same timeline, of as many bytes
 abbrev pub is_same : Entry → Entry → Bool
 is_same x y = (x.serial == y.serial) && ((x.timeline == y.timeline) && (x.bytes == y.bytes))
 

@@ -7,8 +7,8 @@ use pat_base::Lsn;
 use std::alloc::{AllocError, Global};
 use std::marker::Model;
 
-/// The history of a server's timeline: a list of the points at which earlier timelines were left, and a promise of
-/// room for more of them.
+/// The history of a server's timeline: a list of the points at which earlier timelines were left, the oldest first, and a
+/// promise of room for more of them, so that a promotion that was decided can't fail for want of memory.
 #[derive(Drop)]
 pub struct History {
     points: Vec<HistoryPoint>,
@@ -37,8 +37,8 @@ impl History {
         }
     }
 
-    /// Adds a point behind the others. It fails only for want of memory, never where there was room, and then stays as
-    /// it was.
+    /// Adds a point behind the others, and uses up one point's room where there was room. It fails only for want of
+    /// memory, never where there was room, and then stays as it was.
     pub fn add(&mut self, point: HistoryPoint) -> Result<(), AllocError>
         ensures room { 0 < self.old.spare → IsOk result }
         ensures ok { OnOk result (self.new ≡ record { points = self.old.points ++ point ∷ []; spare = self.old.spare - 1 }) }
@@ -49,7 +49,8 @@ impl History {
         Ok(())
     }
 
-    /// Makes room for at least so many points. It fails only for want of memory, and then stays as it was.
+    /// Makes room for at least so many points more than it has. It fails only for want of memory, and then stays as it
+    /// was.
     pub fn reserve(&mut self, points: usize) -> Result<(), AllocError>
         ensures ok { OnOk result (self.new ≡ record self.old { spare = max self.old.spare points }) }
         ensures err { OnErr result (self.new ≡ self.old) }
@@ -89,7 +90,7 @@ impl History {
         self.points.get(place)
     }
 
-    /// Where the timeline was left. `None` exactly where the history doesn't list it.
+    /// Where a timeline was left, by the first point that lists it. `None` exactly where none does.
     pub fn point(&self, timeline: u64) -> Option<Lsn>
         ensures { result ≡ point_of timeline self.now.points }
     {
@@ -99,7 +100,7 @@ impl History {
             .map(|point| point.at)
     }
 
-    /// Whether the other history has the same points.
+    /// Whether the other history has the same points, whatever room either has.
     pub fn same_points(&self, other: &History) -> bool
         ensures { result ≡ same_points self.now.points other.now.points }
     {

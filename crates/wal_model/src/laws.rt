@@ -1,4 +1,4 @@
-//! Laws of logs, for readers of their definitions.
+//! Laws of logs, for readers of their definitions. Each is a function without a body whose contract is what is proved.
 ghost use Rattle.std.specs.Prelude.{◌≡◌, ◌↔◌, IsTrue, List};
 ghost use Rattle.wal_model.specs.declared.entry.Entry.{Entry};
 ghost use Rattle.wal_model.specs.Log.{IsPrefixOf, is_prefix, common_of};

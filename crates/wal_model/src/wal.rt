@@ -19,6 +19,7 @@ pub enum WalFault {
     /// The log would end past 2^63 bytes.
     #[error("the log is full")]
     Full,
+    /// There was no memory for one more entry.
     #[error("out of memory")]
     Memory,
 }
@@ -31,7 +32,8 @@ impl<T: Drop> From<AllocFailed<T>> for WalFault {
     }
 }
 
-/// A write-ahead log: a list of entries that ends at most at 2^63 bytes.
+/// A write-ahead log (PostgreSQL's documentation, "Reliability and the Write-Ahead Log"): a list of entries that ends at
+/// most at 2^63 bytes. Its end is kept beside the entries, so asking for it adds nothing up.
 #[derive(Drop)]
 pub struct Wal {
     entries: Vec<Entry>,
@@ -61,7 +63,8 @@ impl Wal {
         }
     }
 
-    /// Appends an entry. `Full` exactly where the log would end past 2^63 bytes. A refused log stays as it was.
+    /// Appends an entry. `Full` exactly where the log would end past 2^63 bytes, `Memory` only for want of memory. A
+    /// refused log stays as it was.
     pub fn append(&mut self, entry: Entry) -> Result<(), WalFault>
         ensures full { IsErrOf result faults.Full ↔ (2 ^ 63 < end_of self.old + entry.bytes) }
         ensures ok { OnOk result (self.new ≡ self.old ++ entry ∷ []) }
@@ -84,7 +87,7 @@ impl Wal {
         bytes <= GREATEST - self.end.position
     }
 
-    /// Where the log ends.
+    /// Where the log ends: behind all bytes of its entries.
     pub fn end(&self) -> Lsn
         ensures position { result.position ≡ end_of self.now }
         ensures at { result ≡ lsn_at (end_of self.now) }
@@ -138,7 +141,7 @@ impl Wal {
         }
     }
 
-    /// Where the two logs part: the end of the longest list of entries with which both begin.
+    /// Where the two logs part: the end of the longest list of entries with which both begin. It walks over that list.
     pub fn fork(&self, other: &Wal) -> Lsn
         ensures position { result.position ≡ fork_of self.now other.now }
         ensures at { result ≡ lsn_at (fork_of self.now other.now) }
@@ -149,7 +152,7 @@ impl Wal {
         }
     }
 
-    /// Keeps the first entries, so many.
+    /// Keeps the first entries, so many, of which there are at least so many, and drops the others.
     pub fn cut(&mut self, entries: usize)
         requires { entries ≤ length self.old }
         ensures { self.new ≡ take entries self.old }
@@ -161,8 +164,9 @@ impl Wal {
         };
     }
 
-    /// Appends the next entries of another log that begins with this one, at most so many, and answers how many there
-    /// were. It costs the entries that move. It fails only for want of memory, and then stays as it was.
+    /// Appends the next entries of another log, at most so many, and answers how many there were. The other log begins
+    /// with this one, which isn't tested here: the call costs the entries that move. It fails only for want of memory,
+    /// and then stays as it was.
     pub fn receive(&mut self, from: &Wal, most: usize) -> Result<usize, AllocError>
         requires { IsPrefixOf self.old from.now }
         ensures count { IfOk result (λ count. count ≡ min most (length from.now - length self.old)) }

@@ -27,7 +27,9 @@ pub(crate) enum Met {
 /// What a standby heard: its news, and whether it received from its upstream, and so is in step with it.
 #[derive(Clone, Copy, Debug, PartialEq, Eq)]
 pub(crate) struct Heard {
+    /// What changed, if anything did.
     pub news: Option<Streamed>,
+    /// Whether it received, though it may have been nothing.
     pub received: bool,
 }
 

@@ -1,4 +1,4 @@
-use Rattle.std.proofs.Common.{rules, ◌≡◌, IsSome, ap}
+use Rattle.std.proofs.Common.{rules, IsSome, ap}
 use Rattle.pg_model.specs.Facts.{ServerFacts}
 use Rattle.pg_model.proofs.News.{heard}
 use Rattle.pg_model.proofs.server.Server.hear.Goals as goal

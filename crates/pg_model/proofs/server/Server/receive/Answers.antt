@@ -1,4 +1,4 @@
-use Rattle.std.proofs.Common.{◌≡◌, Result, Ok, Err, IfOk, Some, IsSome, ap, sym, ◌∙◌, rules}
+use Rattle.std.proofs.Common.{Result, Ok, Err, IfOk, ap, sym, ◌∙◌}
 use Rattle.pg_model.specs.Facts.{ServerFacts, entries_of}
 use Rattle.pg_model.proofs.News.{received-taken, taken-current}
 use Rattle.pg_model.proofs.server.Server.receive.Goals as goal

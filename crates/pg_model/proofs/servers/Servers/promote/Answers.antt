@@ -1,12 +1,11 @@
-use Rattle.std.proofs.Common.{◌≡◌, Some, map, arith, ap, rules, sym, subst}
-use Rattle.std.specs.Prelude.{slice_get, slice_set}
+use Rattle.std.proofs.Common.{◌≡◌, map, arith, ap, rules, sym, subst}
+use Rattle.std.specs.Prelude.{slice_set}
 use Rattle.std.specs.Vec.{with_items}
 use Rattle.std.proofs.lemmas.List.{with_items_is}
-use Rattle.std.proofs.lemmas.Option.{slice_get_read}
 use Rattle.pg_model.specs.Running.{reserved, promoted}
 use Rattle.pg_model.specs.Servers.{seen}
 use Rattle.pg_model.specs.InStep.{standing_of, Forgets, MarksHold}
-use Rattle.pg_model.proofs.Clusters.{changed, forgotten-at}
+use Rattle.pg_model.proofs.Clusters.{changed-read, forgotten-at}
 use Rattle.pg_model.proofs.servers.Servers.promote.Goals as goal
 
 pub invariant_of-self-2 : goal.invariant_of-self-2
@@ -18,6 +17,5 @@ invariant_of-self-2 c =
 
 pub returns-clause-ok : goal.returns-clause-ok
 returns-clause-ok c =
-    let found : slice_get c.self.inside.servers.items c.args.place ≡ Some c.index_mut-server.result.now = slice_get_read c.self.inside.servers.items c.len.result c.args.place c.index_mut-server.result.now (search rules) (omega arith) c.index_mut-server.ensures.value in
     let after : c.promote.new.self ≡ promoted (reserved c.index_mut-server.result.now) = search rules in
-    changed _ _ _ c.index_mut-server.result.now _ _ c.self.view_is found (ap seen after)
+    changed-read _ _ _ c.len.result c.index_mut-server.result.now _ _ c.self.view_is c.index_mut-server.ensures.value (search rules) (omega arith) (ap seen after)

@@ -4,7 +4,7 @@ use Rattle.std.proofs.lemmas.Option.{slice_get_read}
 use Rattle.pg_model.specs.Running.{replica_started}
 use Rattle.pg_model.specs.Servers.{seen}
 use Rattle.pg_model.specs.InStep.{standing_of, number_of}
-use Rattle.pg_model.proofs.Clusters.{changed, followed-at, is_place-number, marks-length}
+use Rattle.pg_model.proofs.Clusters.{changed-read, followed-at, is_place-number, marks-length}
 use Rattle.pg_model.proofs.Sights.{seen-replica_started, standing-replica_started}
 use Rattle.pg_model.proofs.servers.Servers.start_replica.Goals.{in-Some, in-None}
 use Rattle.pg_model.proofs.servers.Servers.start_replica.Goals as goal
@@ -27,6 +27,5 @@ invariant_of-self c =
 
 pub returns : goal.returns
 returns c =
-    let found : slice_get c.self.inside.servers.items c.args.place ≡ Some c.index_mut-server.result.now = slice_get_read c.self.inside.servers.items c.len.result c.args.place c.index_mut-server.result.now (search rules) (omega arith) c.index_mut-server.ensures.value in
     let after : c.start_replica.new.self ≡ replica_started c.args.now c.args.upstream c.index_mut-server.result.now = search rules in
-    changed _ _ _ c.index_mut-server.result.now _ _ c.self.view_is found (ap seen after ∙ seen-replica_started c.args.now c.args.upstream c.index_mut-server.result.now)
+    changed-read _ _ _ c.len.result c.index_mut-server.result.now _ _ c.self.view_is c.index_mut-server.ensures.value (search rules) (omega arith) (ap seen after ∙ seen-replica_started c.args.now c.args.upstream c.index_mut-server.result.now)

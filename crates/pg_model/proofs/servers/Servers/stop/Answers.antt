@@ -1,21 +1,17 @@
-use Rattle.std.proofs.Common.{◌≡◌, Some, arith, ap, rules, ◌∙◌}
-use Rattle.std.specs.Prelude.{slice_get}
-use Rattle.std.proofs.lemmas.Option.{slice_get_read}
+use Rattle.std.proofs.Common.{◌≡◌, arith, ap, rules, ◌∙◌}
 use Rattle.pg_model.specs.Running.{stopping}
 use Rattle.pg_model.specs.Servers.{seen}
 use Rattle.pg_model.specs.InStep.{standing_of}
-use Rattle.pg_model.proofs.Clusters.{changed, kept}
+use Rattle.pg_model.proofs.Clusters.{changed-read, kept-read}
 use Rattle.pg_model.proofs.Sights.{seen-stopping, standing-stopping}
 use Rattle.pg_model.proofs.servers.Servers.stop.Goals as goal
 
 pub invariant_of-self : goal.invariant_of-self
 invariant_of-self c =
-    let found : slice_get c.self.inside.servers.items c.args.place ≡ Some c.index_mut-server.result.now = slice_get_read c.self.inside.servers.items c.len.result c.args.place c.index_mut-server.result.now (search rules) (omega arith) c.index_mut-server.ensures.value in
     let after : c.stop.new.self ≡ stopping c.args.now c.index_mut-server.result.now = search rules in
-    kept _ _ _ _ _ c.self.invariant found (ap standing_of after ∙ standing-stopping c.args.now c.index_mut-server.result.now)
+    kept-read _ _ _ c.len.result _ _ c.self.invariant c.index_mut-server.ensures.value (search rules) (omega arith) (ap standing_of after ∙ standing-stopping c.args.now c.index_mut-server.result.now)
 
 pub returns : goal.returns
 returns c =
-    let found : slice_get c.self.inside.servers.items c.args.place ≡ Some c.index_mut-server.result.now = slice_get_read c.self.inside.servers.items c.len.result c.args.place c.index_mut-server.result.now (search rules) (omega arith) c.index_mut-server.ensures.value in
     let after : c.stop.new.self ≡ stopping c.args.now c.index_mut-server.result.now = search rules in
-    changed _ _ _ c.index_mut-server.result.now _ _ c.self.view_is found (ap seen after ∙ seen-stopping c.args.now c.index_mut-server.result.now)
+    changed-read _ _ _ c.len.result c.index_mut-server.result.now _ _ c.self.view_is c.index_mut-server.ensures.value (search rules) (omega arith) (ap seen after ∙ seen-stopping c.args.now c.index_mut-server.result.now)

@@ -2,11 +2,12 @@
 ghost use Rattle.std.specs.Prelude.{◌≡◌};
 ghost use Rattle.lease_store.specs.Writes.{ttl_of};
 
-use crate::{
-    Config, ConfigValue, Expected, FailoverKey, Held, HistoryRow, Key, MemberInfo, Store,
-    StoreRefusal, Txn,
+use lease_store::{
+    Config, ConfigValue, Expected, FailoverKey, HistoryRow, Key, MemberInfo, Store, StoreRefusal,
+    Txn,
 };
 use pat_base::{Host, Lsn, MemberId, MemberSet, Tags, Ticks, Word};
+use std::alloc::Global;
 use std::process::Abort;
 use std::test::Fail;
 
@@ -286,29 +287,34 @@ fn about_the_rest(rt: &impl Abort, other: ConfigValue, config: ConfigValue) -> [
 }
 
 /// Asks all of these at tick 10, in order.
-fn ask_all(rt: &impl Abort, store: &mut Store, rows: Vec<Row>) {
-    for row in rows {
+fn ask_all<const COUNT: usize>(
+    rt: &impl Abort,
+    alloc: Global,
+    store: &mut Store,
+    rows: [Row; COUNT],
+) -> Result<(), Fail> {
+    for row in Vec::from_array(alloc, rows)? {
         let Row { by, txn, wanted } = row;
         assert_eq!(rt; ask(rt, store, Ticks(10), by, txn), wanted);
     }
+    Ok(())
 }
 
 #[test]
 fn each_transaction_is_granted_and_refused(rt: HostRuntime) -> Result<(), Fail> {
     let (a, b) = (member(&rt, 0), member(&rt, 1));
     let mut store = Store::new(rt.alloc(), ConfigValue::defaults(rt.alloc())?)?;
-    let rows = Vec::from_array(rt.alloc(), before_the_lease(&rt))?;
-    ask_all(&rt, &mut store, rows);
-    let rows = Vec::from_array(rt.alloc(), about_the_lease(&rt))?;
-    ask_all(&rt, &mut store, rows);
-    let rows = Vec::from_array(rt.alloc(), about_the_sync_key(&rt))?;
-    ask_all(&rt, &mut store, rows);
-    let (other, config) = (
-        ConfigValue::defaults(rt.alloc())?,
-        ConfigValue::defaults(rt.alloc())?,
-    );
-    let rows = Vec::from_array(rt.alloc(), about_the_rest(&rt, other, config))?;
-    ask_all(&rt, &mut store, rows);
+    ask_all(&rt, rt.alloc(), &mut store, before_the_lease(&rt))?;
+    ask_all(&rt, rt.alloc(), &mut store, about_the_lease(&rt))?;
+    ask_all(&rt, rt.alloc(), &mut store, about_the_sync_key(&rt))?;
+    let other = ConfigValue::defaults(rt.alloc())?;
+    let config = ConfigValue::defaults(rt.alloc())?;
+    ask_all(
+        &rt,
+        rt.alloc(),
+        &mut store,
+        about_the_rest(&rt, other, config),
+    )?;
     let wanted = [
         (Key::Config, 10),
         (Key::Member(a), 4),
@@ -325,10 +331,8 @@ fn each_transaction_is_granted_and_refused(rt: HostRuntime) -> Result<(), Fail> 
 fn entries_are_in_the_order_of_the_keys(rt: HostRuntime) -> Result<(), Fail> {
     let (a, b) = (member(&rt, 0), member(&rt, 1));
     let mut store = Store::new(rt.alloc(), ConfigValue::defaults(rt.alloc())?)?;
-    let rows = Vec::from_array(rt.alloc(), before_the_lease(&rt))?;
-    ask_all(&rt, &mut store, rows);
-    let rows = Vec::from_array(rt.alloc(), about_the_lease(&rt))?;
-    ask_all(&rt, &mut store, rows);
+    ask_all(&rt, rt.alloc(), &mut store, before_the_lease(&rt))?;
+    ask_all(&rt, rt.alloc(), &mut store, about_the_lease(&rt))?;
     assert_eq!(rt;
         ask(&rt, &mut store, Ticks(10), a, claim(4, Expected::Absent)),
         Ok(5)

@@ -1,0 +1,12 @@
+//! Worked cases of all the crates below, one file a layer: what no clause says. A crate with tests is proved twice, so they
+//! stand here and not in those crates.
+#![tactic(auto)]
+
+#[cfg(test)]
+mod logs;
+#[cfg(test)]
+mod servers;
+#[cfg(test)]
+mod store;
+#[cfg(test)]
+mod values;
