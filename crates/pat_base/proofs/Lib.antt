@@ -4,3 +4,4 @@ pub mod Hosts
 pub mod MemberBits
 pub mod Names
 pub mod Positions
+pub mod Printing

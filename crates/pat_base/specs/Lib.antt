@@ -7,6 +7,7 @@ pub mod Memory
 pub mod Name
 pub mod NameText
 pub mod Outside
+pub mod Prints
 pub mod ServerState
 pub mod SizeText
 pub mod Word
