@@ -5,4 +5,5 @@ pub mod MemberBits
 pub mod Members
 pub mod Names
 pub mod Positions
+pub mod Printing
 pub mod Texts

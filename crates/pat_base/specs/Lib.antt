@@ -9,6 +9,7 @@ pub mod Memory
 pub mod Name
 pub mod NameText
 pub mod Outside
+pub mod Prints
 pub mod ServerState
 pub mod ShortText
 pub mod SizeText

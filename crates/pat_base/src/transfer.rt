@@ -1,6 +1,7 @@
 //! All bytes of a piece, and all bytes of a source up to a limit.
 ghost use Rattle.std.specs.Prelude.{ℕ, ◌≡◌, ◌≢◌, ◌<◌, ◌≤◌, ◌+◌, ◌-◌, ◌++◌, length, take, drop, Some, IfOk, IsOk, OnErr, OnOk, IsErrOf};
-ghost use Rattle.pat_base.specs.Outside.{Told, Rose, Grew, GrewByPrefix, Consumed};
+ghost use Rattle.pat_base.specs.Outside.{Told, Rose, Consumed};
+ghost use Rattle.pat_base.specs.Prints.{Prints, failed};
 ghost use Rattle.pat_base.specs.declared.transfer.ReadError.TheVariants.{Memory, Fault};
 
 use crate::{Failed, Sink, Source};
@@ -9,11 +10,7 @@ use thiserror::Error;
 
 /// Writes all bytes of a piece. On `Failed` a call of the sink failed, and a front of the bytes was written.
 pub fn write_all<K: Sink>(sink: &mut K, bytes: &[u8]) -> Result<(), Failed>
-    ensures ok { OnOk result (Grew (K.content sink.old) (K.content sink.new) bytes.now) }
-    ensures part { OnErr result (GrewByPrefix (K.content sink.old) (K.content sink.new) bytes.now) }
-    ensures failed { OnErr result (Rose (K.faults sink.old) (K.faults sink.new)) }
-    ensures grows { K.faults sink.old ≤ K.faults sink.new }
-    ensures room { (n : ℕ) → K.can_take sink.old n → length bytes.now ≤ n → IsOk result × K.can_take sink.new (n - length bytes.now) }
+    ensures { Prints K.Sink sink.old sink.new failed result bytes.now }
 {
     let mut at = 0;
     while at < bytes.len() {

@@ -5,9 +5,9 @@ use Rattle.std.proofs.lemmas.Bool.Decides.{nat_tests}
 use Rattle.std.proofs.lemmas.Bool.{cases_lt}
 use Rattle.cluster_script.specs.Limits.{limit_of}
 use Rattle.cluster_script.specs.declared.limits.Limit.TheVariants.{Bytes}
-use Rattle.patroni_top.specs.Input.{Refuses}
-use Rattle.patroni_top.specs.declared.reading.InputError.{InputError}
-use Rattle.patroni_top.specs.declared.reading.InputError.TheVariants as refusals
+use Rattle.patroni_top.specs.declared.ending.Ending.{Ending}
+use Rattle.patroni_top.specs.declared.ending.Ending.TheVariants as endings
+use Rattle.patroni_top.specs.Status.{Says}
 
 too-long : (bytes : List ℕ) → 1048576 < length bytes → limit_of bytes ≡ Some Bytes
 too-long bytes long =
@@ -34,12 +34,11 @@ reads-all all none = elim (cases_lt 1048576 (length all)) [
   | inr short ↦ (take_all 1048577 all (omega (arith, short)), drop_all 1048577 all (omega (arith, short)))
 ]
 
-refuses-front : (e : InputError) (all : List ℕ) → Refuses e (take 1048577 all) → Refuses e all
-refuses-front refusals.Memory all h = tt
-refuses-front refusals.Fault all h = tt
-refuses-front (refusals.At line fault) all h = subst (λ (bytes : List ℕ). Refuses (refusals.At line fault) bytes) (reads-all all h.0).0 h
-refuses-front (refusals.Limit limit) all h = sym (limit_of-take all) ∙ h
+says-front : (ending : Ending) (all : List ℕ) → Says ending (take 1048577 all) → Says ending all
+says-front (endings.NotScript line fault) all h = subst (λ (bytes : List ℕ). Says (endings.NotScript line fault) bytes) (reads-all all h.0).0 h
+says-front (endings.Limit limit) all h = sym (limit_of-take all) ∙ h
+says-front _ all h = tt
 
--- a refusal says of all bytes what it says of those read
-pub refuses-all : (e : InputError) (read all : List ℕ) → read ≡ take 1048577 all → Refuses e read → Refuses e all
-refuses-all e read all is h = refuses-front e all (subst (λ (bytes : List ℕ). Refuses e bytes) is h)
+-- an ending says of all bytes what it says of those read
+pub Says-all : (ending : Ending) (read all : List ℕ) → read ≡ take 1048577 all → Says ending read → Says ending all
+Says-all ending read all is h = says-front ending all (subst (λ (bytes : List ℕ). Says ending bytes) is h)

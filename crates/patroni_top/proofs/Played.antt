@@ -1,113 +1,148 @@
--- A run on its way: what is left, from the world as it is, is the rest of the whole.
-use Rattle.std.proofs.Common.{◌≡◌, Bool, ℕ, ◌+◌, ◌-◌, ◌*◌, ◌≤◌, ◌<◌, List, [], ◌∷◌, ◌++◌, length, drop, Option, Some, Result, Ok, Err, arith, append_assoc, refl, ◌∙◌, ap, sym, subst, suc, replicate}
+-- A run on its way: what is left, from the player as it is, is the rest of the whole.
+use Rattle.std.proofs.Common.{◌≡◌, Bool, ℕ, ◌+◌, ◌-◌, ◌*◌, ◌≤◌, ◌<◌, List, [], ◌∷◌, ◌++◌, length, drop, Some, Result, Ok, Err, arith, append_assoc, append-nil, length-append, refl, ◌∙◌, ap, sym, subst, suc, replicate}
 use Rattle.std.specs.Prelude.{slice_get}
-use Rattle.pat_base.specs.Outside.{Grew, GrewByPrefix}
+use Rattle.pat_base.specs.declared.outside.Sink.{Ghosts}
+use Rattle.pat_base.specs.Prints.{Prints}
+use Rattle.pat_base.proofs.Printing.{Prints-ok, IsPrinting, IsPrinting-start, IsPrinting-more, IsPrinting-end, IsPrinting-stop}
 use Rattle.event_book.specs.declared.event.Event.{Event}
 use Rattle.event_book.specs.Text.{lines_of}
 use Rattle.cluster_script.specs.declared.line.Line.{Line}
 use Rattle.cluster_script.specs.declared.line.Step.{Step}
-use Rattle.cluster_script.specs.Steps.{steps_of, steps_of_line, total_ticks, ticks_of_line}
-use Rattle.patroni_top.specs.declared.print_error.PrintError.{PrintError}
+use Rattle.cluster_script.specs.Steps.{steps_of, steps_of_line}
 use Rattle.pat_world.specs.Cluster.{Cluster, moved_all}
 use Rattle.pat_world.specs.Next.{next_events, run_from}
-use Rattle.patroni_top.specs.Printing.{TakesAll}
-use Rattle.pat_world.specs.Room.{HasRoomFor}
-use Rattle.patroni_top.specs.Run.{printed_from, traced_after, traced_all}
+use Rattle.pat_world.specs.Room.{HasRoomFor, step_cost}
 use Rattle.pat_world.specs.Took.{Took}
-use Rattle.patroni_top.proofs.Progress.{Progress, Progress-start, Progress-more, Progress-stop, TakesAll-stop}
 use Rattle.pat_world.proofs.Rooms.{HasRoom-fewer}
 use Rattle.pat_world.proofs.Starting.{drop-get}
 use Rattle.pat_world.proofs.Taking.{moved_all-append}
+use Rattle.patroni_top.specs.declared.playing.Player.{Player}
+use Rattle.patroni_top.specs.declared.print_error.PrintError.{PrintError}
+use Rattle.patroni_top.specs.declared.print_error.PrintError.TheVariants.{Write}
+use Rattle.patroni_top.specs.Playing.{Plays}
+use Rattle.patroni_top.specs.Run.{printed_from, traced_after, traced_all}
 
 -- fewer steps have room too
 pub HasRoomFor-fewer : (cluster : Cluster) (n m : ℕ) → HasRoomFor cluster n → m ≤ n → HasRoomFor cluster m
-HasRoomFor-fewer cluster n m room fewer = record { room = HasRoom-fewer cluster (16777216 * n) (16777216 * m) (omega (arith, fewer)) room.room }
+HasRoomFor-fewer cluster n m room fewer = record { room = HasRoom-fewer cluster (step_cost * n) (step_cost * m) (omega (arith, fewer)) room.room }
 
 -- a step takes the room of one
-pub HasRoomFor-step : (cluster next : Cluster) (had has events : List Event) (steps : ℕ) → Took cluster next had has events 16777216 → HasRoomFor cluster (1 + steps) → HasRoomFor next steps
-HasRoomFor-step cluster next had has events steps took room = record {
-  room = took.room (16777216 * steps) (HasRoom-fewer cluster (16777216 * (1 + steps)) (16777216 + 16777216 * steps) (omega arith) room.room);
+HasRoomFor-step : (cluster next : Cluster) (had has events : List Event) (more : ℕ) → Took cluster next had has events step_cost → HasRoomFor cluster (1 + more) → HasRoomFor next more
+HasRoomFor-step cluster next had has events more took room = record {
+  room = took.room (step_cost * more) (HasRoom-fewer cluster (step_cost * (1 + more)) (step_cost + step_cost * more) (omega arith) room.room);
 }
 
--- a piece is printed, and what is left is the rest, from the cluster as it is then
-pub record Goes (world : Cluster) (trace : Bool) (left : List Step) (piece : List ℕ) (new : Cluster) (later : Bool) (rest : List Step) : Type 0 where
-  pub text : printed_from world trace left ≡ piece ++ printed_from new later rest
-  pub state : moved_all new (run_from new rest) ≡ moved_all world (run_from world left)
-  pub traced : traced_all later rest ≡ traced_all trace left
+-- what a step hands out into an empty buffer is all that it prints
+step-text : (before : Player) (next : Cluster) (step : Step) (had has : List Event) → Took before.world next had has (next_events before.world step) step_cost → had ≡ [] → lines_of before.trace has ≡ printed_from before.world before.trace (step ∷ [])
+step-text before next step had has took empty =
+    ap (lines_of before.trace) (took.event ∙ ap (λ l. l ++ next_events before.world step) empty) ∙ sym (append-nil (lines_of before.trace (next_events before.world step)))
 
-pub Goes-step : (world new : Cluster) (trace later : Bool) (step : Step) (rest : List Step) → new ≡ moved_all world (next_events world step) → later ≡ traced_after trace step
-    → Goes world trace (step ∷ rest) (lines_of trace (next_events world step)) new later rest
-Goes-step world new trace later step rest is next = record {
-  text = ap (λ c. lines_of trace (next_events world step) ++ printed_from c (traced_after trace step) rest) (sym is) ∙ ap (λ t. lines_of trace (next_events world step) ++ printed_from new t rest) (sym next);
-  state = ap (λ c. moved_all c (run_from c rest)) is ∙ sym (moved_all-append world (next_events world step) (run_from (moved_all world (next_events world step)) rest));
-  traced = ap (λ t. traced_all t rest) next;
+pub Plays-step : {K X : Type 0} {sink : Ghosts K} {before after : Player} {out then : K} {step : Step} {had has text : List Event} {x : X} → Took before.world after.world had has (next_events before.world step) step_cost → had ≡ [] → text ≡ has
+    → after.trace ≡ traced_after before.trace step → Prints sink out then Write (Ok x) (lines_of before.trace text) → Plays {X = Unit {0}} sink before after out then (Ok tt) (step ∷ [])
+Plays-step {sink = sink} {before = before} {after = after} {out = out} {then = then} {step = step} {had = had} {has = has} took empty same traced printed = record {
+  world = took.state ∙ ap (moved_all before.world) (sym (append-nil (next_events before.world step)));
+  trace = traced;
+  room = λ more room. HasRoomFor-step before.world after.world had has (next_events before.world step) more took room;
+  printed = subst (λ (t : List ℕ). Prints {X = Unit {0}} sink out then Write (Ok tt) t) (ap (lines_of before.trace) same ∙ step-text before after.world step had has took empty) (Prints-ok Write tt printed);
 }
 
-lines-go : (world : Cluster) (trace : Bool) (steps rest : List Step) → Goes world trace (steps ++ rest) (printed_from world trace steps) (moved_all world (run_from world steps)) (traced_all trace steps) rest
-lines-go world trace [] rest = record { text = refl; state = refl; traced = refl }
-lines-go world trace (step ∷ steps) rest =
-    let next = moved_all world (next_events world step) in
-    let more = lines-go next (traced_after trace step) steps rest in
-    let lines = lines_of trace (next_events world step) in
-    let same : moved_all world (run_from world (step ∷ steps)) ≡ moved_all next (run_from next steps) = moved_all-append world (next_events world step) (run_from next steps) in
-    record {
-      text = ap (λ t. lines ++ t) more.text ∙ sym (append_assoc lines (printed_from next (traced_after trace step) steps) (printed_from (moved_all next (run_from next steps)) (traced_all (traced_after trace step) steps) rest))
-          ∙ ap (λ c. (lines ++ printed_from next (traced_after trace step) steps) ++ printed_from c (traced_all (traced_after trace step) steps) rest) (sym same);
-      state = ap (λ c. moved_all c (run_from c rest)) same ∙ more.state ∙ sym (moved_all-append world (next_events world step) (run_from next (steps ++ rest)));
-      traced = more.traced;
-    }
+-- so is a front of it
+pub Plays-step-stop : {K X Y : Type 0} {sink : Ghosts K} {before after : Player} {out then : K} {step : Step} {had has text : List Event} {error : PrintError} (final : Result Y PrintError) → Took before.world after.world had has (next_events before.world step) step_cost → had ≡ [] → text ≡ has
+    → Prints {X = X} sink out then Write (Err error) (lines_of before.trace text) → final ≡ Err error → Plays sink before after out then final (step ∷ [])
+Plays-step-stop {Y = Y} {sink = sink} {before = before} {after = after} {out = out} {then = then} {step = step} {had = had} {has = has} {error = error} final took empty same printed stops = rw stops (record {
+  world = tt;
+  trace = tt;
+  room = tt;
+  printed = subst (λ (t : List ℕ). Prints {X = Y} sink out then Write (Err error) t) (ap (lines_of before.trace) same ∙ step-text before after.world step had has took empty)
+      (record { ok = tt; part = printed.part; write = λ e. printed.write (ap Err cc); grows = printed.grows; room = printed.room });
+})
 
-pub Goes-lines : (world new : Cluster) (trace later : Bool) (steps rest : List Step) → new ≡ moved_all world (run_from world steps) → later ≡ traced_all trace steps → Goes world trace (steps ++ rest) (printed_from world trace steps) new later rest
-Goes-lines world new trace later steps rest is next = rw (is, next) (lines-go world trace steps rest)
+-- some steps, and then others: what they leave, and what they print
+run_from-append : (world : Cluster) (steps rest : List Step) → moved_all (moved_all world (run_from world steps)) (run_from (moved_all world (run_from world steps)) rest) ≡ moved_all world (run_from world (steps ++ rest))
+run_from-append world [] rest = refl
+run_from-append world (step ∷ steps) rest =
+    let events = next_events world step in
+    let next = moved_all world events in
+    ap (λ c. moved_all c (run_from c rest)) (moved_all-append world events (run_from next steps))
+    ∙ run_from-append next steps rest
+    ∙ sym (moved_all-append world events (run_from next (steps ++ rest)))
 
-pub record Playing (before now : Option (List ℕ)) (faults after : ℕ) (CouldTake CanTake : ℕ → Type 0) (start world : Cluster) (first trace : Bool) (whole left : List Step) : Type 0 where
-  pub text : Progress before now faults after CouldTake CanTake (printed_from start first whole) (printed_from world trace left)
-  pub state : moved_all world (run_from world left) ≡ moved_all start (run_from start whole)
-  pub traced : traced_all trace left ≡ traced_all first whole
+traced_all-append : (trace : Bool) (steps rest : List Step) → traced_all trace (steps ++ rest) ≡ traced_all (traced_all trace steps) rest
+traced_all-append trace [] rest = refl
+traced_all-append trace (step ∷ steps) rest = traced_all-append (traced_after trace step) steps rest
 
-pub Playing-start : (content : Option (List ℕ)) (faults : ℕ) (CanTake : ℕ → Type 0) (start : Cluster) (first : Bool) (whole : List Step) → Playing content content faults faults CanTake CanTake start start first first whole whole
-Playing-start content faults CanTake start first whole = record { text = Progress-start content faults CanTake (printed_from start first whole); state = refl; traced = refl }
+printed_from-append : (world : Cluster) (trace : Bool) (steps rest : List Step)
+    → printed_from world trace (steps ++ rest) ≡ printed_from world trace steps ++ printed_from (moved_all world (run_from world steps)) (traced_all trace steps) rest
+printed_from-append world trace [] rest = refl
+printed_from-append world trace (step ∷ steps) rest =
+    let events = next_events world step in
+    let next = moved_all world events in
+    let lines = lines_of trace events in
+    ap (λ t. lines ++ t) (printed_from-append next (traced_after trace step) steps rest)
+    ∙ sym (append_assoc lines (printed_from next (traced_after trace step) steps) (printed_from (moved_all next (run_from next steps)) (traced_all (traced_after trace step) steps) rest))
+    ∙ ap (λ c. (lines ++ printed_from next (traced_after trace step) steps) ++ printed_from c (traced_all (traced_after trace step) steps) rest) (sym (moved_all-append world events (run_from next steps)))
 
-pub Playing-more : (before now then : Option (List ℕ)) (faults mid after : ℕ) (CouldTake CanTake CanTakeThen : ℕ → Type 0) (X : Type 0) (result : Result X PrintError) (x : X) (start world new : Cluster) (first trace later : Bool) (whole left rest : List Step) (piece : List ℕ)
-    → Playing before now faults mid CouldTake CanTake start world first trace whole left → Goes world trace left piece new later rest → Grew now then piece → mid ≤ after → TakesAll CanTake CanTakeThen result piece → result ≡ Ok x
-    → Playing before then faults after CouldTake CanTakeThen start new first later whole rest
-Playing-more before now then faults mid after CouldTake CanTake CanTakeThen X result x start world new first trace later whole left rest piece p goes grew rose takes ok = record {
-  text = Progress-more before now then faults mid after CouldTake CanTake CanTakeThen X result x (printed_from start first whole) (printed_from world trace left) piece (printed_from new later rest) p.text goes.text grew rose takes ok;
-  state = goes.state ∙ p.state;
-  traced = goes.traced ∙ p.traced;
+-- of the steps of a whole, these are left
+pub record Playing {K : Type 0} (sink : Ghosts K) (start now : Player) (out then : K) (whole left : List Step) : Type 0 where
+  pub text : IsPrinting sink out then Write (printed_from start.world start.trace whole) (printed_from now.world now.trace left)
+  pub state : moved_all now.world (run_from now.world left) ≡ moved_all start.world (run_from start.world whole)
+  pub traced : traced_all now.trace left ≡ traced_all start.trace whole
+  pub room : (more : ℕ) → HasRoomFor start.world (length whole + more) → HasRoomFor now.world (length left + more)
+
+pub Playing-start : {K : Type 0} (sink : Ghosts K) (start : Player) (out : K) (whole : List Step) → Playing sink start start out out whole whole
+Playing-start sink start out whole = record {
+  text = IsPrinting-start sink out Write (printed_from start.world start.trace whole);
+  state = refl;
+  traced = refl;
+  room = λ more room. room;
 }
 
--- a call that stops in the midst of a piece has written a front of the whole
-pub Playing-stop : (before now then : Option (List ℕ)) (faults mid : ℕ) (CouldTake CanTake : ℕ → Type 0) (start world : Cluster) (first trace : Bool) (whole left : List Step) (piece rest : List ℕ)
-    → Playing before now faults mid CouldTake CanTake start world first trace whole left → printed_from world trace left ≡ piece ++ rest → GrewByPrefix now then piece → GrewByPrefix before then (printed_from start first whole)
-Playing-stop before now then faults mid CouldTake CanTake start world first trace whole left piece rest p is part =
-    Progress-stop before now then faults mid CouldTake CanTake (printed_from start first whole) (printed_from world trace left) piece rest p.text is part
+-- there is room for the next piece
+pub Playing-room : {K : Type 0} {sink : Ghosts K} {start now : Player} {out then : K} {whole left : List Step} (piece rest : List Step) → Playing sink start now out then whole left → left ≡ piece ++ rest → HasRoomFor start.world (length whole) → HasRoomFor now.world (length piece)
+Playing-room {start = start} {now = now} {whole = whole} {left = left} piece rest p is room =
+    let all = p.room 0 (HasRoomFor-fewer start.world (length whole) (length whole + 0) room (omega arith)) in
+    HasRoomFor-fewer now.world (length left + 0) (length piece) all (omega (arith, ap length is, length-append piece rest))
 
-pub Playing-wants : (before now : Option (List ℕ)) (faults mid : ℕ) (CouldTake CanTake CanTakeThen : ℕ → Type 0) (X Y : Type 0) (result : Result X PrintError) (final : Result Y PrintError) (e : PrintError) (start world : Cluster) (first trace : Bool) (whole left : List Step) (piece rest : List ℕ)
-    → Playing before now faults mid CouldTake CanTake start world first trace whole left → printed_from world trace left ≡ piece ++ rest → TakesAll CanTake CanTakeThen result piece → result ≡ Err e → final ≡ Err e
-    → TakesAll CouldTake CanTakeThen final (printed_from start first whole)
-Playing-wants before now faults mid CouldTake CanTake CanTakeThen X Y result final e start world first trace whole left piece rest p is takes err stops =
-    TakesAll-stop before now faults mid CouldTake CanTake CanTakeThen X Y result final e (printed_from start first whole) (printed_from world trace left) piece rest p.text is takes err stops
+next-text : (before after : Player) (piece rest : List Step) → after.world ≡ moved_all before.world (run_from before.world piece) → after.trace ≡ traced_all before.trace piece
+    → printed_from before.world before.trace (piece ++ rest) ≡ printed_from before.world before.trace piece ++ printed_from after.world after.trace rest
+next-text before after piece rest world trace = printed_from-append before.world before.trace piece rest
+    ∙ ap (λ c. printed_from before.world before.trace piece ++ printed_from c (traced_all before.trace piece) rest) (sym world)
+    ∙ ap (λ t. printed_from before.world before.trace piece ++ printed_from after.world t rest) (sym trace)
 
-ticks-left : (step : Step) (i n : ℕ) → i < n → replicate (n - i) step ≡ step ∷ replicate (n - (i + 1)) step
-ticks-left step i n h =
+pub Playing-more : {K X : Type 0} {sink : Ghosts K} {start before after : Player} {out mid then : K} {x : X} {whole left piece : List Step} (rest : List Step)
+    → Playing sink start before out mid whole left → left ≡ piece ++ rest → Plays sink before after mid then (Ok x) piece → Playing sink start after out then whole rest
+Playing-more {start = start} {before = before} {after = after} {whole = whole} {left = left} {piece = piece} rest p is q = record {
+  text = IsPrinting-more (printed_from after.world after.trace rest) p.text (ap (λ s. printed_from before.world before.trace s) is ∙ next-text before after piece rest q.world q.trace) q.printed;
+  state = ap (λ c. moved_all c (run_from c rest)) q.world ∙ run_from-append before.world piece rest ∙ ap (λ s. moved_all before.world (run_from before.world s)) (sym is) ∙ p.state;
+  traced = ap (λ t. traced_all t rest) q.trace ∙ sym (traced_all-append before.trace piece rest) ∙ ap (traced_all before.trace) (sym is) ∙ p.traced;
+  room = λ more room. q.room (length rest + more)
+      (HasRoomFor-fewer before.world (length left + more) (length piece + (length rest + more)) (p.room more room) (omega (arith, ap length is, length-append piece rest)));
+}
+
+pub Playing-end : {K : Type 0} {sink : Ghosts K} {start now : Player} {out then : K} {whole left : List Step} → Playing sink start now out then whole left → left ≡ [] → Plays {X = Unit {0}} sink start now out then (Ok tt) whole
+Playing-end {start = start} {now = now} {whole = whole} p none = record {
+  world = ap (λ s. moved_all now.world (run_from now.world s)) (sym none) ∙ p.state;
+  trace = ap (traced_all now.trace) (sym none) ∙ p.traced;
+  room = λ more room. HasRoomFor-fewer now.world _ more (p.room more room) (omega arith);
+  printed = IsPrinting-end p.text (ap (printed_from now.world now.trace) none);
+}
+
+-- a call that stops in the midst of the next piece
+pub Playing-stop : {K X Y : Type 0} {sink : Ghosts K} {start before after : Player} {out mid then : K} {error : PrintError} {whole left piece : List Step} (final : Result Y PrintError) (rest : List Step)
+    → Playing sink start before out mid whole left → left ≡ piece ++ rest → Plays {X = X} sink before after mid then (Err error) piece → final ≡ Err error → Plays sink start after out then final whole
+Playing-stop {before = before} {piece = piece} final rest p is q stops = rw stops (record {
+  world = tt;
+  trace = tt;
+  room = tt;
+  printed = IsPrinting-stop _ _ p.text (ap (λ s. printed_from before.world before.trace s) is ∙ printed_from-append before.world before.trace piece rest) q.printed refl;
+})
+
+-- steps of one kind that are left, one and then the others
+pub ticks-next : (step : Step) (i n : ℕ) → i < n → replicate (n - i) step ≡ (step ∷ []) ++ replicate (n - (i + 1)) step
+ticks-next step i n h =
     let e : n - i ≡ suc (n - (i + 1)) = omega (arith, h) in
     rw e refl
 
--- steps of one kind that are left, one and then the others
-pub ticks-next : (world new : Cluster) (trace later : Bool) (step : Step) (i n : ℕ) → i < n → new ≡ moved_all world (next_events world step) → later ≡ traced_after trace step
-    → Goes world trace (replicate (n - i) step) (lines_of trace (next_events world step)) new later (replicate (n - (i + 1)) step)
-ticks-next world new trace later step i n h is next =
-    subst (λ (left : List Step). Goes world trace left (lines_of trace (next_events world step)) new later (replicate (n - (i + 1)) step)) (sym (ticks-left step i n h))
-    (Goes-step world new trace later step (replicate (n - (i + 1)) step) is next)
-
 -- lines that are left, one and then the others
-pub body-next : (world new : Cluster) (trace later : Bool) (body : List Line) (i : ℕ) (line : Line) → slice_get body i ≡ Some line → new ≡ moved_all world (run_from world (steps_of_line line)) → later ≡ traced_all trace (steps_of_line line)
-    → Goes world trace (steps_of (drop i body)) (printed_from world trace (steps_of_line line)) new later (steps_of (drop (i + 1) body))
-body-next world new trace later body i line found is next =
-    subst (λ (left : List Step). Goes world trace left (printed_from world trace (steps_of_line line)) new later (steps_of (drop (i + 1) body))) (sym (ap steps_of (drop-get Line body i line found)))
-    (Goes-lines world new trace later (steps_of_line line) (steps_of (drop (i + 1) body)) is next)
-
-pub total_ticks-next : (body : List Line) (i : ℕ) (line : Line) → slice_get body i ≡ Some line → total_ticks (drop i body) + length (drop i body) ≡ (ticks_of_line line + 1) + (total_ticks (drop (i + 1) body) + length (drop (i + 1) body))
-total_ticks-next body i line is =
-    ap (λ b. total_ticks b + length b) (drop-get Line body i line is) ∙ omega arith
+pub body-next : (body : List Line) (i : ℕ) (line : Line) → slice_get body i ≡ Some line → steps_of (drop i body) ≡ steps_of_line line ++ steps_of (drop (i + 1) body)
+body-next body i line found = ap steps_of (drop-get Line body i line found)

@@ -1,46 +1,40 @@
 -- A whole run: the lines of its book, and then the summary.
-use Rattle.std.proofs.Common.{◌≡◌, ℕ, ◌+◌, ◌-◌, ◌*◌, ◌^◌, ◌≤◌, false, ◌++◌, List, length, Result, Ok, Err, MatchResult, arith, ◌∙◌, ap, sym, subst, length-append}
+use Rattle.std.proofs.Common.{◌≡◌, ℕ, ◌+◌, ◌*◌, ◌^◌, ◌≤◌, Bool, false, ◌++◌, List, [], ◌∷◌, length, arith, ◌∙◌, ap, length-append}
+use Rattle.std.proofs.lemmas.List.{length-replicate}
 use Rattle.event_book.specs.Text.{summary_at}
+use Rattle.cluster_script.specs.declared.line.Line.{Line}
+use Rattle.cluster_script.specs.declared.line.Line.TheVariants as lines
+use Rattle.cluster_script.specs.declared.line.Step.{Step}
+use Rattle.cluster_script.specs.declared.line.Step.TheVariants as steps
 use Rattle.cluster_script.specs.Script.{ScriptText}
-use Rattle.cluster_script.specs.Steps.{steps_of, total_ticks}
-use Rattle.patroni_top.specs.declared.print_error.PrintError.{PrintError}
-use Rattle.patroni_top.specs.declared.print_error.PrintError.TheVariants.{Memory}
+use Rattle.cluster_script.specs.Steps.{steps_of, steps_of_line, ticks_of_line, total_ticks}
 use Rattle.pat_world.specs.Cluster.{Cluster, cluster_of, moved_all}
 use Rattle.pat_world.specs.Next.{run_from}
-use Rattle.patroni_top.specs.Printing.{TakesAll}
-use Rattle.patroni_top.specs.Run.{output_of, printed_from}
-use Rattle.pat_world.specs.Room.{HasRoomFor}
+use Rattle.pat_world.specs.Room.{HasRoomFor, step_cost}
 use Rattle.pat_world.proofs.Rooms.{HasRoom-fewer}
 use Rattle.pat_world.proofs.Starting.{start-room}
+use Rattle.patroni_top.specs.Run.{KeepsLimits, output_of, printed_from}
+
+-- a body has no more steps than ticks and lines
+line-steps : (line : Line) → length (steps_of_line line) ≤ ticks_of_line line + 1
+line-steps (lines.Run n) = omega (arith, length-replicate {A = Step} n steps.Scheduled)
+line-steps (lines.Tick n) = omega (arith, length-replicate {A = Step} n steps.Tick)
+line-steps (lines.Command command) = omega arith
+
+body-steps : (body : List Line) → length (steps_of body) ≤ total_ticks body + length body
+body-steps [] = omega arith
+body-steps (line ∷ body) = omega (arith, line-steps line, body-steps body, length-append (steps_of_line line) (steps_of body))
 
 -- no script within the limits brings a counter to its end
-pub has-room : (s : ScriptText) (world : Cluster) → (total_ticks s.body ≤ 1000000) × (length s.body ≤ 100000) → world ≡ cluster_of s.head → HasRoomFor world (total_ticks s.body + length s.body)
+pub has-room : (s : ScriptText) (world : Cluster) → KeepsLimits s → world ≡ cluster_of s.head → HasRoomFor world (length (steps_of s.body))
 has-room s world few start = rw start (record {
-  room = HasRoom-fewer (cluster_of s.head) (2 ^ 59) (16777216 * (total_ticks s.body + length s.body)) (omega (arith, few.0, few.1)) (start-room s.head);
+  room = HasRoom-fewer (cluster_of s.head) (2 ^ 59) (step_cost * length (steps_of s.body)) (omega (arith, few.ticks, few.lines, body-steps s.body)) (start-room s.head);
 })
 
--- the world and the clock at the end are those of the book
-pub text-is : (s : ScriptText) (world new : Cluster) (clock : ℕ) → world ≡ cluster_of s.head → new ≡ moved_all world (run_from world (steps_of s.body)) → clock ≡ new.book.clock
-    → printed_from world false (steps_of s.body) ++ summary_at clock ≡ output_of s
-text-is s world new clock start state moment =
-    ap (λ n. printed_from world false (steps_of s.body) ++ summary_at n) (moment ∙ ap (λ f. f.book.clock) state)
+-- the world, the trace and the clock are those of the book
+pub text-is : (s : ScriptText) (world : Cluster) (trace : Bool) (clock : ℕ) → world ≡ cluster_of s.head → trace ≡ false → clock ≡ (moved_all world (run_from world (steps_of s.body))).book.clock
+    → printed_from world trace (steps_of s.body) ++ summary_at clock ≡ output_of s
+text-is s world trace clock start untraced moment =
+    ap (λ n. printed_from world trace (steps_of s.body) ++ summary_at n) moment
+    ∙ ap (λ t. printed_from world t (steps_of s.body) ++ summary_at (moved_all world (run_from world (steps_of s.body))).book.clock) untraced
     ∙ ap (λ w. printed_from w false (steps_of s.body) ++ summary_at (moved_all w (run_from w (steps_of s.body))).book.clock) start
-
-pub TakesAll-then : (Could Can CanThen : ℕ → Type 0) (X Y : Type 0) (first : Result X PrintError) (x : X) (second : Result Y PrintError) (xs ys : List ℕ)
-    → TakesAll Could Can first xs → first ≡ Ok x → TakesAll Can CanThen second ys → TakesAll Could CanThen second (xs ++ ys)
-TakesAll-then Could Can CanThen X Y first x second xs ys takes ok more = record {
-  room = λ n could fits.
-      let left : length xs ≤ n = omega (arith, length-append xs ys) in
-      let can : Can (n - length xs) = subst (λ (r : Result X PrintError). MatchResult r (λ _. Can (n - length xs)) (λ e. e ≡ Memory)) ok (takes.room n could left) in
-      let fits_too : length ys ≤ n - length xs = omega (arith, length-append xs ys) in
-      let e : (n - length xs) - length ys ≡ n - length (xs ++ ys) = omega (arith, length-append xs ys) in
-      subst (λ (k : ℕ). MatchResult second (λ _. CanThen k) (λ e. e ≡ Memory)) e (more.room (n - length xs) can fits_too);
-}
-
-pub TakesAll-early : (Could Can : ℕ → Type 0) (X Y : Type 0) (first : Result X PrintError) (final : Result Y PrintError) (e : PrintError) (xs ys : List ℕ)
-    → TakesAll Could Can first xs → first ≡ Err e → final ≡ Err e → TakesAll Could Can final (xs ++ ys)
-TakesAll-early Could Can X Y first final e xs ys takes err stops = record {
-  room = λ n could fits.
-      let wanting : e ≡ Memory = subst (λ (r : Result X PrintError). MatchResult r (λ _. Can (n - length xs)) (λ e. e ≡ Memory)) err (takes.room n could (omega (arith, length-append xs ys))) in
-      subst (λ (r : Result Y PrintError). MatchResult r (λ _. Can (n - length (xs ++ ys))) (λ e. e ≡ Memory)) (sym stops) wanting;
-}

@@ -1,4 +1,4 @@
-pub mod Input
-pub mod Printing
+pub mod Ends
+pub mod Playing
 pub mod Run
 pub mod Status

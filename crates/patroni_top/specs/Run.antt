@@ -1,5 +1,5 @@
 -- The run of a script, and its text.
-use Rattle.std.specs.Prelude.{ℕ, Bool, false, List, [], ◌∷◌, ◌++◌, Option, Some, None, Result, Ok, Err}
+use Rattle.std.specs.Prelude.{ℕ, ◌≤◌, Bool, false, List, [], ◌∷◌, ◌++◌, Option, Some, None, Result, Ok, Err, length}
 use Rattle.event_book.specs.declared.event.Event.{Event}
 use Rattle.event_book.specs.Text.{lines_of, summary_at}
 use Rattle.cluster_script.specs.declared.fault.Fault.{Fault}
@@ -7,13 +7,18 @@ use Rattle.cluster_script.specs.declared.limits.Limit.{Limit}
 use Rattle.cluster_script.specs.Limits.{limit_of}
 use Rattle.cluster_script.specs.Reading.{script_of}
 use Rattle.cluster_script.specs.Script.{ScriptText}
-use Rattle.cluster_script.specs.Steps.{steps_of}
+use Rattle.cluster_script.specs.Steps.{steps_of, total_ticks}
 use Rattle.cluster_script.specs.declared.line.Command.{Command}
 use Rattle.cluster_script.specs.declared.line.Command.TheVariants as commands
 use Rattle.cluster_script.specs.declared.line.Step.{Step}
 use Rattle.cluster_script.specs.declared.line.Step.TheVariants as steps
 use Rattle.pat_world.specs.Cluster.{Cluster, cluster_of, moved_all}
 use Rattle.pat_world.specs.Next.{next_events, run_from}
+
+-- a body of a script within the limits
+pub record KeepsLimits (script : ScriptText) : Type 0 where
+  pub ticks : total_ticks script.body ≤ 1000000
+  pub lines : length script.body ≤ 100000
 
 -- the book of a script: what happens from its head on, step by step
 abbrev pub run_of : ScriptText → List Event

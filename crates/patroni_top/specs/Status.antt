@@ -1,14 +1,21 @@
 -- Exit statuses, and what is said of each on the error output.
-use Rattle.std.specs.Prelude.{ℕ, ◌≡◌, ◌≤◌, ◌⊎◌, List, [], ◌++◌, Option, Some, None, Err, length, codes}
+use Rattle.std.specs.Prelude.{ℕ, ◌≡◌, ◌≤◌, ◌⊎◌, List, [], ◌++◌, Some, None, Err, length, codes}
 use Rattle.std.specs.Fmt.{decimal}
+use Rattle.pat_base.specs.declared.outside.Sink.{Ghosts}
+use Rattle.pat_base.specs.declared.transfer.ReadError.{ReadError}
+use Rattle.pat_base.specs.declared.transfer.ReadError.TheVariants as reads
 use Rattle.pat_base.specs.Outside.{Rose, Grew, GrewByPrefix}
 use Rattle.cluster_script.specs.declared.fault.Fault.{Fault}
 use Rattle.cluster_script.specs.declared.limits.Limit.{Limit}
+use Rattle.cluster_script.specs.declared.script_fault.ScriptFault.{ScriptFault}
+use Rattle.cluster_script.specs.declared.script_fault.ScriptFault.TheVariants as faults
 use Rattle.cluster_script.specs.Faults.{text_of}
 use Rattle.cluster_script.specs.Limits.{limit_text, limit_of}
 use Rattle.cluster_script.specs.Reading.{script_of}
 use Rattle.patroni_top.specs.declared.ending.Ending.{Ending}
 use Rattle.patroni_top.specs.declared.ending.Ending.TheVariants as endings
+use Rattle.patroni_top.specs.declared.print_error.PrintError.{PrintError}
+use Rattle.patroni_top.specs.declared.print_error.PrintError.TheVariants as prints
 use Rattle.patroni_top.specs.declared.status.Status.{Status}
 use Rattle.patroni_top.specs.declared.status.Status.TheVariants as statuses
 
@@ -32,13 +39,28 @@ status_of (endings.Limit limit) = statuses.Limit
 
 -- what an ending says of the bytes of the input
 abbrev pub Says : Ending → List ℕ → Type 0
-Says endings.Done bytes = Unit {0}
 Says (endings.NotScript line fault) bytes = (limit_of bytes ≡ None) × (script_of bytes ≡ Err (line, fault))
-Says endings.Usage bytes = Unit {0}
-Says endings.ReadFault bytes = Unit {0}
-Says endings.WriteFault bytes = Unit {0}
-Says endings.Memory bytes = Unit {0}
 Says (endings.Limit limit) bytes = limit_of bytes ≡ Some limit
+Says _ bytes = Unit {0}
+
+-- an ending of a run in which the input gives no script
+abbrev pub IsRefusal : Ending → Type 0
+IsRefusal endings.Done = ⊥
+IsRefusal endings.Usage = ⊥
+IsRefusal endings.WriteFault = ⊥
+IsRefusal _ = Unit {0}
+
+abbrev pub ending_of_read : ReadError → Ending
+ending_of_read reads.Fault = endings.ReadFault
+ending_of_read reads.Memory = endings.Memory
+
+abbrev pub ending_of_fault : ScriptFault → Ending
+ending_of_fault (faults.At line fault) = endings.NotScript line fault
+ending_of_fault faults.Memory = endings.Memory
+
+abbrev pub ending_of_print : PrintError → Ending
+ending_of_print prints.Write = endings.WriteFault
+ending_of_print prints.Memory = endings.Memory
 
 abbrev pub fault_line : ℕ → Fault → List ℕ
 fault_line line fault = codes "line " ++ (decimal line ++ (codes ": " ++ (text_of fault ++ codes "\n")))
@@ -57,7 +79,7 @@ message_of endings.Memory = codes "out of memory\n"
 message_of (endings.Limit limit) = limit_line limit
 
 -- the error output grew by a front of the line: by all of it, unless a fault came
-pub record IsTold (before after : Option (List ℕ)) (faults later : ℕ) (CanTake : ℕ → Type 0) (line : List ℕ) : Type 0 where
-  pub part : GrewByPrefix before after line
-  pub whole : Grew before after line ⊎ Rose faults later
-  pub room : (n : ℕ) → CanTake n → length line ≤ n → Grew before after line
+pub record IsTold {E : Type 0} (sink : Ghosts E) (before after : E) (line : List ℕ) : Type 0 where
+  pub part : GrewByPrefix (sink.content before) (sink.content after) line
+  pub whole : Grew (sink.content before) (sink.content after) line ⊎ Rose (sink.faults before) (sink.faults after)
+  pub room : (n : ℕ) → sink.can_take before n → length line ≤ n → Grew (sink.content before) (sink.content after) line

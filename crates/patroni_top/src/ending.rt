@@ -1,11 +1,15 @@
 //! How a run ended, with what is told of it.
 ghost use Rattle.std.specs.Prelude.{◌≡◌, ◌≤◌, length};
-ghost use Rattle.patroni_top.specs.Status.{fault_line, limit_line, message_of};
+ghost use Rattle.patroni_top.specs.Status.{ending_of_read, ending_of_fault, ending_of_print, fault_line, limit_line, message_of};
+ghost use Rattle.patroni_top.specs.declared.ending.Ending.TheVariants as endings;
 
 use crate::Status;
+use crate::print_error::PrintError;
 use arrayvec::ArrayString;
-use cluster_script::{Fault, Limit, fault_text, limit_text};
+use cluster_script::{Fault, Limit, ScriptFault, fault_text, limit_text};
 use itoa::Buffer;
+use pat_base::ReadError;
+use std::alloc::AllocError;
 
 /// A line of the error output. It lies in the value, so that no want of memory can shorten what is told.
 pub type Message = ArrayString<96>;
@@ -38,6 +42,47 @@ impl Ending {
             Ending::WriteFault => Status::WriteFault,
             Ending::Memory => Status::Memory,
             Ending::Limit(_) => Status::Limit,
+        }
+    }
+}
+
+impl From<AllocError> for Ending {
+    ghost from_gives = { λ _ ending. ending ≡ endings.Memory };
+
+    fn from(_: AllocError) -> Self {
+        Ending::Memory
+    }
+}
+
+impl From<ReadError> for Ending {
+    ghost from_gives = { λ error ending. ending ≡ ending_of_read error };
+
+    fn from(error: ReadError) -> Self {
+        match error {
+            ReadError::Fault => Ending::ReadFault,
+            ReadError::Memory => Ending::Memory,
+        }
+    }
+}
+
+impl From<ScriptFault> for Ending {
+    ghost from_gives = { λ fault ending. ending ≡ ending_of_fault fault };
+
+    fn from(fault: ScriptFault) -> Self {
+        match fault {
+            ScriptFault::At { line, fault } => Ending::NotScript { line, fault },
+            ScriptFault::Memory => Ending::Memory,
+        }
+    }
+}
+
+impl From<PrintError> for Ending {
+    ghost from_gives = { λ error ending. ending ≡ ending_of_print error };
+
+    fn from(error: PrintError) -> Self {
+        match error {
+            PrintError::Write => Ending::WriteFault,
+            PrintError::Memory => Ending::Memory,
         }
     }
 }

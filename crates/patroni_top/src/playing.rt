@@ -1,60 +1,104 @@
 //! Steps, and what they print.
-ghost use Rattle.std.specs.Prelude.{ℕ, ◌≡◌, ◌<◌, ◌≤◌, ◌+◌, ◌∷◌, [], length, OnOk, OnErr, IsErrOf, replicate, slice_get, Some};
-ghost use Rattle.pat_base.specs.Outside.{Grew, GrewByPrefix, Rose};
-ghost use Rattle.event_book.specs.Text.{lines_of};
-ghost use Rattle.cluster_script.specs.Steps.{steps_of_line, steps_of, ticks_of_line, total_ticks};
-ghost use Rattle.pat_world.specs.Cluster.{moved_all};
-ghost use Rattle.pat_world.specs.Next.{next_events, run_from};
-ghost use Rattle.patroni_top.specs.Printing.{TakesAll};
-ghost use Rattle.patroni_top.specs.Run.{output_of, printed_from, traced_after, traced_all};
+ghost use Rattle.std.specs.Prelude.{◌≡◌, ◌<◌, ◌∷◌, [], false, length, IfOk, replicate, slice_get, Some};
+ghost use Rattle.pat_base.specs.Prints.{Prints};
+ghost use Rattle.cluster_script.specs.Steps.{steps_of_line, steps_of};
+ghost use Rattle.pat_world.specs.Cluster.{cluster_of};
 ghost use Rattle.pat_world.specs.Room.{HasRoomFor};
+ghost use Rattle.patroni_top.specs.Playing.{Plays};
+ghost use Rattle.patroni_top.specs.Run.{KeepsLimits, output_of, traced_after};
 
 use crate::print_error::PrintError;
 use crate::printing::{print_events, print_summary};
-use cluster_script::{Command, Line, Script, Step};
+use cluster_script::{Command, Head, Line, Script, Step};
 use event_book::Event;
 use pat_base::Sink;
 use pat_world::World;
-use std::alloc::Global;
+use std::alloc::{AllocError, Global};
 
 /// Takes the steps of a script from its head on, and prints what happens and the closing summary.
 pub fn play<K: Sink>(alloc: Global, script: &Script, out: &mut K) -> Result<(), PrintError>
-    requires few { (total_ticks script.now.body ≤ 1000000) × (length script.now.body ≤ 100000) }
-    ensures ok { OnOk result (Grew (K.content out.old) (K.content out.new) (output_of script.now)) }
-    ensures part { OnErr result (GrewByPrefix (K.content out.old) (K.content out.new) (output_of script.now)) }
-    ensures write { IsErrOf result PrintError.Write → Rose (K.faults out.old) (K.faults out.new) }
-    ensures grows { K.faults out.old ≤ K.faults out.new }
-    ensures room { TakesAll (K.can_take out.old) (K.can_take out.new) result (output_of script.now) }
+    requires { KeepsLimits script.now }
+    ensures { Prints K.Sink out.old out.new PrintError.Write result (output_of script.now) }
 {
-    let mut world = World::new(alloc, script.head())?;
-    let mut trace = false;
-    play_body(alloc, script, &mut world, &mut trace, out)?;
-    print_summary(alloc, world.clock(), out)
+    let mut player = Player::new(alloc, script.head())?;
+    player.play_body(script, out)?;
+    print_summary(alloc, player.world.clock(), out)
 }
 
-/// The lines of a body, one after another.
-fn play_body<K: Sink>(
+/// Takes steps in a world, and prints what happens.
+#[derive(Drop)]
+struct Player {
     alloc: Global,
-    script: &Script,
-    world: &mut World,
-    trace: &mut bool,
-    out: &mut K,
-) -> Result<(), PrintError>
-    requires { HasRoomFor world.old (total_ticks script.now.body + length script.now.body) }
-    ensures state { OnOk result (world.new ≡ moved_all world.old (run_from world.old (steps_of script.now.body))) }
-    ensures trace { OnOk result (trace.new ≡ traced_all trace.old (steps_of script.now.body)) }
-    ensures ok { OnOk result (Grew (K.content out.old) (K.content out.new) (printed_from world.old trace.old (steps_of script.now.body))) }
-    ensures part { OnErr result (GrewByPrefix (K.content out.old) (K.content out.new) (printed_from world.old trace.old (steps_of script.now.body))) }
-    ensures write { IsErrOf result PrintError.Write → Rose (K.faults out.old) (K.faults out.new) }
-    ensures grows { K.faults out.old ≤ K.faults out.new }
-    ensures room { TakesAll (K.can_take out.old) (K.can_take out.new) result (printed_from world.old trace.old (steps_of script.now.body)) }
-{
-    let mut events = Vec::new(alloc);
-    for place in 0..script.len() {
-        let line = line_at(script, place);
-        play_line(alloc, world, trace, &line, &mut events, out)?;
+    world: World,
+    /// Whether messages are traced.
+    trace: bool,
+    /// A buffer for the events of one step.
+    events: Vec<Event>,
+}
+
+impl Player {
+    fn new(alloc: Global, head: &Head) -> Result<Player, AllocError>
+        ensures world { IfOk result (λ player. player.world ≡ cluster_of head.now) }
+        ensures trace { IfOk result (λ player. player.trace ≡ false) }
+    {
+        let world = World::new(alloc, head)?;
+        Ok(Player {
+            alloc,
+            world,
+            trace: false,
+            events: Vec::new(alloc),
+        })
     }
-    Ok(())
+
+    /// The lines of a body, one after another.
+    fn play_body<K: Sink>(&mut self, script: &Script, out: &mut K) -> Result<(), PrintError>
+        requires { HasRoomFor self.old.world (length (steps_of script.now.body)) }
+        ensures { Plays K.Sink self.old self.new out.old out.new result (steps_of script.now.body) }
+    {
+        for place in 0..script.len() {
+            let line = line_at(script, place);
+            self.play_line(&line, out)?;
+        }
+        Ok(())
+    }
+
+    fn play_line<K: Sink>(&mut self, line: &Line, out: &mut K) -> Result<(), PrintError>
+        requires { HasRoomFor self.old.world (length (steps_of_line line.now)) }
+        ensures { Plays K.Sink self.old self.new out.old out.new result (steps_of_line line.now) }
+    {
+        match line {
+            Line::Run(count) => self.play_ticks(*count, &Step::Scheduled, out),
+            Line::Tick(count) => self.play_ticks(*count, &Step::Tick, out),
+            Line::Command(command) => self.play_step(&Step::Command(*command), out),
+        }
+    }
+
+    /// So many ticks of one kind.
+    fn play_ticks<K: Sink>(
+        &mut self,
+        count: u64,
+        step: &Step,
+        out: &mut K,
+    ) -> Result<(), PrintError>
+        requires { HasRoomFor self.old.world count }
+        ensures { Plays K.Sink self.old self.new out.old out.new result (replicate count step.now) }
+    {
+        for done in 0..count {
+            self.play_step(step, out)?;
+        }
+        Ok(())
+    }
+
+    fn play_step<K: Sink>(&mut self, step: &Step, out: &mut K) -> Result<(), PrintError>
+        requires { HasRoomFor self.old.world 1 }
+        ensures { Plays K.Sink self.old self.new out.old out.new result (step.now ∷ []) }
+    {
+        self.events.clear();
+        self.world.step(step, &mut self.events)?;
+        print_events(self.alloc, &self.events, self.trace, out)?;
+        self.trace = traced_after(self.trace, step);
+        Ok(())
+    }
 }
 
 fn line_at(script: &Script, place: usize) -> Line
@@ -65,91 +109,6 @@ fn line_at(script: &Script, place: usize) -> Line
         Some(line) => *line,
         None => unreachable!(),
     }
-}
-
-/// A line of a body. The list is a buffer for the events of one step.
-fn play_line<K: Sink>(
-    alloc: Global,
-    world: &mut World,
-    trace: &mut bool,
-    line: &Line,
-    events: &mut Vec<Event>,
-    out: &mut K,
-) -> Result<(), PrintError>
-    requires { HasRoomFor world.old (ticks_of_line line.now + 1) }
-    ensures state { OnOk result (world.new ≡ moved_all world.old (run_from world.old (steps_of_line line.now))) }
-    ensures trace { OnOk result (trace.new ≡ traced_all trace.old (steps_of_line line.now)) }
-    ensures steps { OnOk result ((steps : ℕ) → HasRoomFor world.old (ticks_of_line line.now + 1 + steps) → HasRoomFor world.new steps) }
-    ensures ok { OnOk result (Grew (K.content out.old) (K.content out.new) (printed_from world.old trace.old (steps_of_line line.now))) }
-    ensures part { OnErr result (GrewByPrefix (K.content out.old) (K.content out.new) (printed_from world.old trace.old (steps_of_line line.now))) }
-    ensures write { IsErrOf result PrintError.Write → Rose (K.faults out.old) (K.faults out.new) }
-    ensures grows { K.faults out.old ≤ K.faults out.new }
-    ensures room { TakesAll (K.can_take out.old) (K.can_take out.new) result (printed_from world.old trace.old (steps_of_line line.now)) }
-{
-    match line {
-        Line::Run(count) => play_ticks(alloc, world, trace, *count, &Step::Scheduled, events, out),
-        Line::Tick(count) => play_ticks(alloc, world, trace, *count, &Step::Tick, events, out),
-        Line::Command(command) => play_step(
-            alloc,
-            world,
-            trace,
-            &Step::Command(*command),
-            events,
-            out,
-        ),
-    }
-}
-
-/// So many ticks of one kind.
-fn play_ticks<K: Sink>(
-    alloc: Global,
-    world: &mut World,
-    trace: &mut bool,
-    count: u64,
-    step: &Step,
-    events: &mut Vec<Event>,
-    out: &mut K,
-) -> Result<(), PrintError>
-    requires { HasRoomFor world.old count }
-    ensures state { OnOk result (world.new ≡ moved_all world.old (run_from world.old (replicate count step.now))) }
-    ensures trace { OnOk result (trace.new ≡ traced_all trace.old (replicate count step.now)) }
-    ensures steps { OnOk result ((steps : ℕ) → HasRoomFor world.old (count + steps) → HasRoomFor world.new steps) }
-    ensures ok { OnOk result (Grew (K.content out.old) (K.content out.new) (printed_from world.old trace.old (replicate count step.now))) }
-    ensures part { OnErr result (GrewByPrefix (K.content out.old) (K.content out.new) (printed_from world.old trace.old (replicate count step.now))) }
-    ensures write { IsErrOf result PrintError.Write → Rose (K.faults out.old) (K.faults out.new) }
-    ensures grows { K.faults out.old ≤ K.faults out.new }
-    ensures room { TakesAll (K.can_take out.old) (K.can_take out.new) result (printed_from world.old trace.old (replicate count step.now)) }
-{
-    for done in 0..count {
-        play_step(alloc, world, trace, step, events, out)?;
-    }
-    Ok(())
-}
-
-/// One step.
-fn play_step<K: Sink>(
-    alloc: Global,
-    world: &mut World,
-    trace: &mut bool,
-    step: &Step,
-    events: &mut Vec<Event>,
-    out: &mut K,
-) -> Result<(), PrintError>
-    requires { HasRoomFor world.old 1 }
-    ensures state { OnOk result (world.new ≡ moved_all world.old (next_events world.old step.now)) }
-    ensures trace { OnOk result (trace.new ≡ traced_after trace.old step.now) }
-    ensures steps { OnOk result ((steps : ℕ) → HasRoomFor world.old (1 + steps) → HasRoomFor world.new steps) }
-    ensures ok { OnOk result (Grew (K.content out.old) (K.content out.new) (lines_of trace.old (next_events world.old step.now))) }
-    ensures part { OnErr result (GrewByPrefix (K.content out.old) (K.content out.new) (lines_of trace.old (next_events world.old step.now))) }
-    ensures write { IsErrOf result PrintError.Write → Rose (K.faults out.old) (K.faults out.new) }
-    ensures grows { K.faults out.old ≤ K.faults out.new }
-    ensures room { TakesAll (K.can_take out.old) (K.can_take out.new) result (lines_of trace.old (next_events world.old step.now)) }
-{
-    events.clear();
-    world.step(step, events)?;
-    print_events(alloc, events, *trace, out)?;
-    *trace = traced_after(*trace, step);
-    Ok(())
 }
 
 /// Whether messages are traced after a step.

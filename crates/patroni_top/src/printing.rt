@@ -1,8 +1,6 @@
 //! Events as lines on a sink.
-ghost use Rattle.std.specs.Prelude.{◌≡◌, ◌≤◌, OnOk, OnErr, IsErrOf};
-ghost use Rattle.pat_base.specs.Outside.{Grew, GrewByPrefix, Rose};
+ghost use Rattle.pat_base.specs.Prints.{Prints};
 ghost use Rattle.event_book.specs.Text.{lines_of, line_of, bytes_or_none, summary_at};
-ghost use Rattle.patroni_top.specs.Printing.{TakesAll};
 
 use crate::print_error::PrintError;
 use event_book::{Event, text};
@@ -16,11 +14,7 @@ pub fn print_events<K: Sink>(
     trace: bool,
     out: &mut K,
 ) -> Result<(), PrintError>
-    ensures ok { OnOk result (Grew (K.content out.old) (K.content out.new) (lines_of trace events.now)) }
-    ensures part { OnErr result (GrewByPrefix (K.content out.old) (K.content out.new) (lines_of trace events.now)) }
-    ensures write { IsErrOf result PrintError.Write → Rose (K.faults out.old) (K.faults out.new) }
-    ensures grows { K.faults out.old ≤ K.faults out.new }
-    ensures room { TakesAll (K.can_take out.old) (K.can_take out.new) result (lines_of trace events.now) }
+    ensures { Prints K.Sink out.old out.new PrintError.Write result (lines_of trace events.now) }
 {
     for event in events {
         print_event(alloc, event, trace, out)?;
@@ -34,11 +28,7 @@ fn print_event<K: Sink>(
     trace: bool,
     out: &mut K,
 ) -> Result<(), PrintError>
-    ensures ok { OnOk result (Grew (K.content out.old) (K.content out.new) (bytes_or_none (line_of trace event.now))) }
-    ensures part { OnErr result (GrewByPrefix (K.content out.old) (K.content out.new) (bytes_or_none (line_of trace event.now))) }
-    ensures write { IsErrOf result PrintError.Write → Rose (K.faults out.old) (K.faults out.new) }
-    ensures grows { K.faults out.old ≤ K.faults out.new }
-    ensures room { TakesAll (K.can_take out.old) (K.can_take out.new) result (bytes_or_none (line_of trace event.now)) }
+    ensures { Prints K.Sink out.old out.new PrintError.Write result (bytes_or_none (line_of trace event.now)) }
 {
     if let Some(line) = text(alloc, event, trace)? {
         write_all(out, line.as_bytes())?;
@@ -48,11 +38,7 @@ fn print_event<K: Sink>(
 
 /// Writes the closing summary of a run that ended at this moment.
 pub fn print_summary<K: Sink>(alloc: Global, moment: Ticks, out: &mut K) -> Result<(), PrintError>
-    ensures ok { OnOk result (Grew (K.content out.old) (K.content out.new) (summary_at moment.0)) }
-    ensures part { OnErr result (GrewByPrefix (K.content out.old) (K.content out.new) (summary_at moment.0)) }
-    ensures write { IsErrOf result PrintError.Write → Rose (K.faults out.old) (K.faults out.new) }
-    ensures grows { K.faults out.old ≤ K.faults out.new }
-    ensures room { TakesAll (K.can_take out.old) (K.can_take out.new) result (summary_at moment.0) }
+    ensures { Prints K.Sink out.old out.new PrintError.Write result (summary_at moment.0) }
 {
     let line = format!(in alloc; "end at {moment}\n")?;
     write_all(out, line.as_bytes())?;

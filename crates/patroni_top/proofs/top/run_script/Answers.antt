@@ -1,39 +1,25 @@
-use Rattle.std.proofs.Common.{refl, ap, is_some, is_err}
-use Rattle.patroni_top.proofs.Endings.{none-is-not-some, some-is-not-none, err-is-not-ok}
+use Rattle.std.proofs.Common.{ap, Err}
+use Rattle.patroni_top.specs.Run.{output_of, output_in}
+use Rattle.patroni_top.proofs.Endings.{script-bytes, output-is, Ends-refused, Ends-done, Ends-unprinted}
 use Rattle.patroni_top.proofs.top.run_script.Goals as goal
 
-pub returns-in-Err-At-clause-not_script : goal.returns-in-Err-At-clause-not_script
-returns-in-Err-At-clause-not_script g c =
-    let refused = rw c.in-Err-At.field-0-is at c.in-Err-At.ensures.refused in
-    λ _. ((λ bytes told. ((refused bytes told).0, ap is_err (refused bytes told).1)), refl)
+pub returns-in-Ok-clause-ends : goal.returns-in-Ok-clause-ends
+returns-in-Ok-clause-ends g c =
+    let script = c.in-Ok.script in
+    let read = c.in-Ok.ensures.script in
+    rw c.from.ensures (Ends-unprinted g.S.Source g.K.Sink output_in (output_of script)
+    (λ bytes told. script-bytes bytes script (read bytes told).0 (read bytes told).1) (λ bytes told. output-is bytes script (read bytes told).0 (read bytes told).1)
+    c.script_from.ensures.consumed c.in-Err-play.error c.in-Err-play.ensures)
 
-pub returns-in-Err-At-clause-past_limit : goal.returns-in-Err-At-clause-past_limit
-returns-in-Err-At-clause-past_limit g c =
-    let refused = rw c.in-Err-At.field-0-is at c.in-Err-At.ensures.refused in
-    λ _ bytes told passed. absurd (none-is-not-some _ (refused bytes told).0 passed)
+pub returns-in-Ok-play-clause-ends : goal.returns-in-Ok-play-clause-ends
+returns-in-Ok-play-clause-ends g c =
+    let script = c.in-Ok.script in
+    let read = c.in-Ok.ensures.script in
+    Ends-done g.S.Source g.K.Sink output_in (output_of script)
+    (λ bytes told. script-bytes bytes script (read bytes told).0 (read bytes told).1) (λ bytes told. output-is bytes script (read bytes told).0 (read bytes told).1)
+    c.script_from.ensures.consumed c.in-Ok.ensures.end c.in-Ok-play.ensures
 
-pub returns-in-Err-At-clause-complete : goal.returns-in-Err-At-clause-complete
-returns-in-Err-At-clause-complete g c =
-    let refused = rw c.in-Err-At.field-0-is at c.in-Err-At.ensures.refused in
-    λ _ bytes told _ ok _ _ _. absurd (err-is-not-ok _ _ (refused bytes told).1 ok)
-
-pub returns-in-Err-At-clause-says : goal.returns-in-Err-At-clause-says
-returns-in-Err-At-clause-says g c = rw c.in-Err-At.field-0-is (rw c.in-Err-At.field-0-is at c.in-Err-At.ensures.refused)
-
-pub returns-in-Err-Limit-clause-limit : goal.returns-in-Err-Limit-clause-limit
-returns-in-Err-Limit-clause-limit g c =
-    let refused = rw c.in-Err-Limit.field-0-is at c.in-Err-Limit.ensures.refused in
-    λ _. ((λ bytes told. ap is_some (refused bytes told)), refl)
-
-pub returns-in-Err-Limit-clause-faulty : goal.returns-in-Err-Limit-clause-faulty
-returns-in-Err-Limit-clause-faulty g c =
-    let refused = rw c.in-Err-Limit.field-0-is at c.in-Err-Limit.ensures.refused in
-    λ _ bytes told within _. absurd (some-is-not-none _ _ (refused bytes told) within)
-
-pub returns-in-Err-Limit-clause-complete : goal.returns-in-Err-Limit-clause-complete
-returns-in-Err-Limit-clause-complete g c =
-    let refused = rw c.in-Err-Limit.field-0-is at c.in-Err-Limit.ensures.refused in
-    λ _ bytes told within _ _ _ _. absurd (some-is-not-none _ _ (refused bytes told) within)
-
-pub returns-in-Err-Limit-clause-says : goal.returns-in-Err-Limit-clause-says
-returns-in-Err-Limit-clause-says g c = rw c.in-Err-Limit.field-0-is (rw c.in-Err-Limit.field-0-is at c.in-Err-Limit.ensures.refused)
+pub returns-clause-ends : goal.returns-clause-ends
+returns-clause-ends g c =
+    Ends-refused g.S.Source g.K.Sink c.args.out.now output_in c.in-Err.ending c.in-Err.ensures.refused c.in-Err.ensures.says
+    (λ e. c.in-Err.ensures.fault (ap Err e)) (λ reliable e. c.in-Err.ensures.reliable reliable (ap Err e)) c.script_from.ensures.consumed
