@@ -577,7 +577,7 @@ fn position_by(confirmed: &[Option<Lsn>; MEMBERS], by: MemberId) -> Option<Lsn>
     confirmed[by.number as usize]
 }
 
-fn is_down(state: State) -> bool
+pub(crate) fn is_down(state: State) -> bool
     ensures { result ≡ is_down state }
 {
     matches!(state, State::Stopped | State::Crashed)
@@ -593,7 +593,7 @@ fn crashed_state(state: State) -> State
     }
 }
 
-fn is_up(state: State) -> bool
+pub(crate) fn is_up(state: State) -> bool
     ensures { result ≡ is_up state }
 {
     matches!(
