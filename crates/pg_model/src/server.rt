@@ -160,16 +160,18 @@ impl Server {
         self.was_primary
     }
 
-    /// How long its later stops take.
+    /// How long its later stops take, which is at most 2^40 ticks.
     pub fn stop_delay(&self) -> Ticks
-        ensures { result ≡ self.now.stop_delay }
+        ensures value { result ≡ self.now.stop_delay }
+        ensures bound { result.0 ≤ 2 ^ 40 }
     {
         self.stop_delay
     }
 
-    /// How long its later starts take.
+    /// How long its later starts take, which is at most 2^40 ticks.
     pub fn start_delay(&self) -> Ticks
-        ensures { result ≡ self.now.start_delay }
+        ensures value { result ≡ self.now.start_delay }
+        ensures bound { result.0 ≤ 2 ^ 40 }
     {
         self.start_delay
     }
