@@ -1,0 +1,9 @@
+pub mod Acting
+pub mod Agents
+pub mod Before
+pub mod Decisions
+pub mod Info
+pub mod Outputs
+pub mod Snapshots
+pub mod Table
+pub mod Wake
