@@ -1,5 +1,5 @@
 //! What an agent does, of which the rows are made: messages, orders to its server, and its watchdog.
-ghost use Rattle.std.specs.Prelude.{◌≡◌, ◌≤◌, ◌<◌, ◌+◌, ◌*◌, ◌^◌, if◌then◌else◌, IfOk, IfErr, Some, None, false, is_err};
+ghost use Rattle.std.specs.Prelude.{◌≡◌, ◌≤◌, ◌<◌, ◌+◌, ◌*◌, ◌^◌, if◌then◌else◌, IfOk, IfErr, Some, None, false, true, is_err};
 ghost use Rattle.std.specs.Option.{ForSome};
 ghost use Rattle.pat_base.specs.ServerState.{live};
 ghost use Rattle.pg_model.specs.Status.{status_stopping};
@@ -20,7 +20,7 @@ use crate::role::Role;
 use crate::{Knowledge, Machine, Output, Outputs, Question, Target, Waited, Why};
 use event_book::{Body, Reason};
 use leader_key::{Armed, Lease, Mode, NotArmed, Watchdog, Writer};
-use lease_store::Txn;
+use lease_store::{Granted, Txn};
 use pat_base::Ticks;
 
 /// Sends this to the key store, and doesn't wait for the answer.
@@ -192,6 +192,40 @@ pub(crate) fn arm(
     }
 }
 
+/// Feeds the watchdog of a writer, whose lease was renewed.
+pub(crate) fn feed(
+    writer: Writer,
+    machine: &mut Machine,
+    out: &mut Outputs,
+    now: Ticks,
+    ttl: Ticks,
+    grant: Granted,
+) -> Writer
+    requires moment { now.0 ≤ latest }
+    requires span { IsLeaseSpan ttl.0 }
+    requires leased { grant.leased ≡ true }
+    requires room { 1 ≤ out.old.spare }
+    ensures revision { writer_revision result ≡ grant.revision }
+    ensures machine { machine.new ≡ with_feed now ttl machine.old }
+    ensures out { out.new ≡ fed_until (deadline_after now ttl machine.old.watchdog) out.old }
+    ensures room { out.old.spare ≤ out.new.spare + 1 }
+{
+    let writer = writer.renewed(grant, &mut machine.watchdog, now, ttl);
+    note_fed(out, deadline_of(&machine.watchdog));
+    writer
+}
+
+/// Tells the watchdog's new deadline, if it got one.
+fn note_fed(out: &mut Outputs, deadline: Option<Ticks>)
+    requires { 1 ≤ out.old.spare }
+    ensures out { out.new ≡ fed_until deadline out.old }
+    ensures room { out.old.spare ≤ out.new.spare + 1 }
+{
+    if let Some(until) = deadline {
+        out.put(Output::Fed { until });
+    }
+}
+
 /// Tells the watchdog's first deadline, if it got one.
 fn note_armed(out: &mut Outputs, deadline: Option<Ticks>)
     requires { 1 ≤ out.old.spare }
@@ -211,5 +245,15 @@ fn deadline_of(watchdog: &Watchdog) -> Option<Ticks>
         Mode::Off => None,
         Mode::Automatic | Mode::Required if watchdog.works() => watchdog.deadline(),
         _ => None,
+    }
+}
+
+/// Whether a hold is active.
+pub(crate) fn is_held(now: Ticks, hold: Option<Ticks>) -> bool
+    ensures { result ≡ is_held now hold }
+{
+    match hold {
+        None => false,
+        Some(hold) => now < hold,
     }
 }

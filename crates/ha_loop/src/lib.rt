@@ -3,6 +3,7 @@
 
 mod acting;
 mod before;
+mod decisions;
 mod heard;
 mod info;
 mod knowledge;
@@ -10,6 +11,7 @@ mod machine;
 mod output;
 mod outputs;
 mod role;
+mod snapshots;
 mod wake;
 mod who;
 
