@@ -115,10 +115,13 @@ granted_for now sequence grant snapshot (Some waited) o =
 abbrev pub granted : Ticks → ℕ → Granted → SnapshotFacts → Outcome → Outcome
 granted now sequence grant snapshot o = granted_for now sequence grant snapshot o.knows.waited o
 
+abbrev pub follower_for : RoleFacts → RoleFacts
+follower_for (Holder held) = Follower
+follower_for role = role
+
 -- the leader key isn't absent any more: an agent has no lease
-abbrev pub create_refused : RoleFacts → Outcome → Outcome
-create_refused (Holder held) o = record o { role = Follower }
-create_refused _ o = o
+abbrev pub create_refused : Outcome → Outcome
+create_refused o = record o { role = follower_for o.role }
 
 -- the leader key isn't as it was read: a lease is lost
 abbrev pub renewal_refused : Ticks → RoleFacts → Outcome → Outcome
@@ -128,7 +131,7 @@ renewal_refused now (Holder held) o = record o { role = Follower }
 renewal_refused now _ o = o
 
 abbrev pub refused_as : Ticks → Question → Outcome → Outcome
-refused_as now Creating o = create_refused o.role o
+refused_as now Creating o = create_refused o
 refused_as now Renewing o = renewal_refused now o.role o
 refused_as now Reading o = o
 

@@ -5,5 +5,6 @@ pub mod Decisions
 pub mod Info
 pub mod Outputs
 pub mod Snapshots
+pub mod Start
 pub mod Table
 pub mod Wake

@@ -2,6 +2,7 @@
 #![tactic(auto)]
 
 mod acting;
+mod agent;
 mod before;
 mod decisions;
 mod heard;
@@ -15,6 +16,7 @@ mod snapshots;
 mod wake;
 mod who;
 
+pub use agent::Agent;
 pub use heard::Heard;
 pub use knowledge::{Knowledge, Question, Waited};
 pub use machine::Machine;
