@@ -3,3 +3,4 @@ pub mod InStep
 pub mod Replication
 pub mod Running
 pub mod Servers
+pub mod Status

@@ -1,10 +1,14 @@
 //! Laws of servers, for readers of their definitions. Each is a function without a body whose contract is what is proved.
-ghost use Rattle.std.specs.Prelude.{◌≡◌, ◌↔◌, ℕ, IsTrue, IsSome, List, Option, Some, None};
+ghost use Rattle.std.specs.Prelude.{◌≡◌, ◌↔◌, ◌&&◌, ℕ, true, IsTrue, IsSome, List, Option, Some, None};
 ghost use Rattle.pat_base.specs.declared.lsn.Lsn.{Lsn};
 ghost use Rattle.pat_base.specs.declared.server_state.Required.{Required};
 ghost use Rattle.pg_model.specs.declared.answers.Streamed.{Streamed};
-ghost use Rattle.pg_model.specs.Facts.{ServerFacts};
-ghost use Rattle.pg_model.specs.Replication.{is_met, MeetsRequired, stream_of, streamed, news_of, told};
+ghost use Rattle.pat_base.specs.declared.server_id.ServerId.{ServerId};
+ghost use Rattle.pat_base.specs.declared.ticks.Ticks.{Ticks};
+ghost use Rattle.pg_model.specs.Facts.{ServerFacts, is_replica, is_down, is_up};
+ghost use Rattle.pg_model.specs.Running.{promoted, replica_started, primary_started, stopping};
+ghost use Rattle.pg_model.specs.Status.{status_of, status_promoted, status_replica_started, status_primary_started, status_stopping, status_following};
+ghost use Rattle.pg_model.specs.Replication.{following, is_met, MeetsRequired, stream_of, streamed, news_of, told};
 
 /// The end of a commit is confirmed by whom it waits for exactly where the test says so.
 pub fn required_is_met()
@@ -17,4 +21,13 @@ pub fn news_are_streamed()
     ensures answer { (s upstream : ServerFacts) (most : ℕ) (news : Streamed) → news_of s upstream most ≡ Some news → stream_of s upstream most ≡ news }
     ensures told { (s upstream : ServerFacts) (most : ℕ) (news : Streamed) → news_of s upstream most ≡ Some news → streamed s upstream most ≡ told news s upstream }
     ensures none { (s upstream : ServerFacts) (most : ℕ) → IsSome s.log → news_of s upstream most ≡ None → streamed s upstream most ≡ s }
+{}
+
+/// What an agent sees of its server after an order that the server takes is what the order makes of what the agent saw before.
+pub fn status_after_orders()
+    ensures promote { (s : ServerFacts) → is_replica s.state ≡ true → status_of (promoted s) ≡ status_promoted (status_of s) }
+    ensures start_replica { (now : Ticks) (upstream : Option ServerId) (s : ServerFacts) → is_down s.state ≡ true → status_of (replica_started now upstream s) ≡ status_replica_started now upstream (status_of s) }
+    ensures start_primary { (now : Ticks) (s : ServerFacts) → is_down s.state && s.was_primary ≡ true → status_of (primary_started now s) ≡ status_primary_started now (status_of s) }
+    ensures stop { (now : Ticks) (s : ServerFacts) → is_up s.state ≡ true → status_of (stopping now s) ≡ status_stopping now (status_of s) }
+    ensures follow { (upstream : ServerId) (s : ServerFacts) → is_replica s.state ≡ true → status_of (following upstream s) ≡ status_following upstream (status_of s) }
 {}

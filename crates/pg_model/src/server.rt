@@ -165,14 +165,16 @@ impl Server {
 
     /// How long its later stops take, at most 2^40 ticks.
     pub fn stop_delay(&self) -> Ticks
-        ensures { result ≡ self.now.stop_delay }
+        ensures value { result ≡ self.now.stop_delay }
+        ensures bound { result.0 ≤ 2 ^ 40 }
     {
         self.stop_delay
     }
 
     /// How long its later starts take, at most 2^40 ticks.
     pub fn start_delay(&self) -> Ticks
-        ensures { result ≡ self.now.start_delay }
+        ensures value { result ≡ self.now.start_delay }
+        ensures bound { result.0 ≤ 2 ^ 40 }
     {
         self.start_delay
     }
@@ -549,7 +551,7 @@ fn position_by(confirmed: &[Option<Lsn>; MEMBERS], by: MemberId) -> Option<Lsn>
     confirmed[by.number as usize]
 }
 
-fn is_down(state: State) -> bool
+pub(crate) fn is_down(state: State) -> bool
     ensures { result ≡ is_down state }
 {
     matches!(state, State::Stopped | State::Crashed)
@@ -565,7 +567,7 @@ fn crashed_state(state: State) -> State
     }
 }
 
-fn is_up(state: State) -> bool
+pub(crate) fn is_up(state: State) -> bool
     ensures { result ≡ is_up state }
 {
     matches!(

@@ -1,0 +1,74 @@
+-- What one read of the key store gives.
+use Rattle.std.specs.Prelude.{ℕ, Bool, true, false, is_some, List, Option, Some, None, IsTrue, IsSome}
+use Rattle.std.specs.FinMap.{find, is_sorted}
+use Rattle.std.specs.Option.{option_map}
+use Rattle.pat_base.specs.declared.host.Host.{Host}
+use Rattle.pat_base.specs.declared.member_id.MemberId.{MemberId}
+use Rattle.pat_base.specs.declared.member_set.MemberSet.{MemberSet}
+use Rattle.pat_base.specs.declared.name.Name.{Name}
+use Rattle.lease_store.specs.declared.config.Config.{Config}
+use Rattle.lease_store.specs.declared.key.Key.{Key}
+use Rattle.lease_store.specs.declared.key.Key.TheVariants as keys
+use Rattle.lease_store.specs.declared.value.Held.{Held}
+use Rattle.lease_store.specs.declared.value.Value.{Value}
+use Rattle.lease_store.specs.declared.value.Value.TheVariants as values
+use Rattle.lease_store.specs.Kept.{AreOfKind}
+use Rattle.lease_store.specs.KeyOrder.{key_cmp}
+use Rattle.cluster_config.specs.declared.snapshot.LeaderEntry.{LeaderEntry}
+
+-- the cluster's name, the names and hosts of all members in the order of the script, and the keys that were present, with their
+-- values and revisions
+pub record SnapshotFacts : Type 0 where
+  pub scope : Name
+  pub members : List (Name × Host)
+  pub entries : List (Key × Held)
+
+-- the keys rise, each value is of its key's kind, and the configuration is there
+pub record IsRead (entries : List (Key × Held)) : Type 0 where
+  pub order : IsTrue (is_sorted key_cmp entries)
+  pub kinds : AreOfKind entries
+  pub config : IsSome (find key_cmp keys.Config entries)
+
+-- what is held at a key, if it was present
+abbrev pub held_in : Key → SnapshotFacts → Option Held
+held_in key snapshot = find key_cmp key snapshot.entries
+
+abbrev pub leader_by : ℕ → Value → Option LeaderEntry
+leader_by revision (values.Leader member) = Some (record { holder = member; revision = revision })
+leader_by revision _ = None
+
+abbrev pub leader_held : Option Held → Option LeaderEntry
+leader_held None = None
+leader_held (Some held) = leader_by held.revision held.value
+
+-- who leads, by which revision of the leader key
+abbrev pub leader_in : SnapshotFacts → Option LeaderEntry
+leader_in snapshot = leader_held (held_in keys.Leader snapshot)
+
+abbrev pub settings_by : Config → Value → Config
+settings_by settings (values.Config config) = config.config
+settings_by settings _ = settings
+
+abbrev pub settings_held : Config → Option Held → Config
+settings_held settings None = settings
+settings_held settings (Some held) = settings_by settings held.value
+
+-- what its configuration sets, or these settings where it has none
+abbrev pub settings_in : Config → SnapshotFacts → Config
+settings_in settings snapshot = settings_held settings (held_in keys.Config snapshot)
+
+abbrev pub failsafe_by : Value → Option MemberSet
+failsafe_by (values.Failsafe members) = Some members
+failsafe_by _ = None
+
+abbrev pub failsafe_held : Option Held → Option MemberSet
+failsafe_held None = None
+failsafe_held (Some held) = failsafe_by held.value
+
+-- the members that its failsafe key lists
+abbrev pub failsafe_in : SnapshotFacts → Option MemberSet
+failsafe_in snapshot = failsafe_held (held_in keys.Failsafe snapshot)
+
+-- whether it has the row of this timeline
+abbrev pub has_row : ℕ → SnapshotFacts → Bool
+has_row timeline snapshot = is_some (held_in (keys.History timeline) snapshot)

@@ -1,0 +1,166 @@
+//! Snapshots of the key store.
+ghost use Rattle.std.specs.Prelude.{◌≡◌, IsSome, IsTrue, IfOk, option_copied};
+ghost use Rattle.std.specs.FinMap.{find, is_sorted};
+ghost use Rattle.lease_store.specs.Kept.{AreOfKind};
+ghost use Rattle.lease_store.specs.KeyOrder.{key_cmp};
+ghost use Rattle.cluster_config.specs.Snapshots.{IsRead, held_in, leader_by, leader_held, leader_in, settings_by, settings_held, settings_in, failsafe_by, failsafe_held, failsafe_in, has_row};
+
+use lease_store::{Config, Held, Key, Value, held_at};
+use pat_base::{Host, MemberId, MemberSet, Name};
+use std::alloc::{AllocError, Global};
+use std::marker::Model;
+
+/// What one read of the key store gives: the cluster's name, the names and hosts of all members in the order of the script, and
+/// each key that was present, with its value and its revision.
+#[derive(Debug, Drop)]
+pub struct Snapshot {
+    scope: Name,
+    members: Vec<(Name, Host)>,
+    entries: Vec<(Key, Held)>,
+}
+
+impl Model for Snapshot {
+    ghost use Rattle.cluster_config.specs.Snapshots.{SnapshotFacts, IsRead};
+
+    ghost Value = { SnapshotFacts };
+
+    ghost view = { λ s. record { scope = s.scope; members = s.members.items; entries = s.entries.items } };
+
+    ghost invariant = { λ s. IsRead s.entries.items };
+}
+
+/// Who leads, by which revision of the leader key.
+#[derive(Clone, Copy, Debug, PartialEq, Eq)]
+pub struct LeaderEntry {
+    pub holder: MemberId,
+    pub revision: u64,
+}
+
+impl Snapshot {
+    /// The snapshot of these entries, which are those of a store. It fails only for want of memory.
+    pub fn read(
+        alloc: Global,
+        scope: Name,
+        members: &[(Name, Host)],
+        entries: Vec<(Key, Held)>,
+    ) -> Result<Snapshot, AllocError>
+        requires { IsRead entries.items }
+        ensures { IfOk result (λ snapshot. snapshot ≡ record { scope = scope; members = members.now; entries = entries.items }) }
+    {
+        Ok(Snapshot {
+            scope,
+            members: Vec::from_slice(alloc, members)?,
+            entries,
+        })
+    }
+
+    /// The cluster's name.
+    pub fn scope(&self) -> Name
+        ensures { result ≡ self.now.scope }
+    {
+        self.scope
+    }
+
+    /// The names and hosts of all members, in the order of the script.
+    pub fn members(&self) -> &[(Name, Host)]
+        ensures { result.now ≡ self.now.members }
+    {
+        &self.members
+    }
+
+    /// The keys that were present, in their order, each once and with a value of its kind, the configuration always among them.
+    pub fn entries(&self) -> &[(Key, Held)]
+        ensures entries { result.now ≡ self.now.entries }
+        ensures read { IsRead self.now.entries }
+    {
+        &self.entries
+    }
+
+    /// What is held at a key. `None` exactly where the key was absent.
+    pub fn held(&self, key: Key) -> Option<&Held>
+        ensures { option_copied result ≡ held_in key self.now }
+    {
+        held_at(&self.entries, key)
+    }
+
+    /// Who leads. `None` exactly where the leader key was absent.
+    pub fn leader(&self) -> Option<LeaderEntry>
+        ensures { result ≡ leader_in self.now }
+    {
+        leader_held(self.held(Key::Leader))
+    }
+
+    /// What the configuration sets; these settings where there is none.
+    pub fn settings_or(&self, settings: Config) -> Config
+        ensures { result ≡ settings_in settings self.now }
+    {
+        settings_held(settings, self.held(Key::Config))
+    }
+
+    /// The members that the failsafe key lists. `None` exactly where the key was absent.
+    pub fn failsafe(&self) -> Option<MemberSet>
+        ensures { result ≡ failsafe_in self.now }
+    {
+        failsafe_held(self.held(Key::Failsafe))
+    }
+
+    /// Whether the history has the row of this timeline.
+    pub fn has_row(&self, timeline: u64) -> bool
+        ensures { result ≡ has_row timeline self.now }
+    {
+        self.held(Key::History(timeline)).is_some()
+    }
+}
+
+fn leader_held(held: Option<&Held>) -> Option<LeaderEntry>
+    ensures { result ≡ leader_held (option_copied held.entry) }
+{
+    let held = held?;
+    leader_by(held.revision, &held.value)
+}
+
+fn leader_by(revision: u64, value: &Value) -> Option<LeaderEntry>
+    ensures { result ≡ leader_by revision value.now }
+{
+    match value {
+        Value::Leader(member) => Some(LeaderEntry {
+            holder: *member,
+            revision,
+        }),
+        _ => None,
+    }
+}
+
+fn settings_held(settings: Config, held: Option<&Held>) -> Config
+    ensures { result ≡ settings_held settings (option_copied held.entry) }
+{
+    match held {
+        None => settings,
+        Some(held) => settings_by(settings, &held.value),
+    }
+}
+
+fn settings_by(settings: Config, value: &Value) -> Config
+    ensures { result ≡ settings_by settings value.now }
+{
+    match value {
+        Value::Config(config) => config.config(),
+        _ => settings,
+    }
+}
+
+fn failsafe_held(held: Option<&Held>) -> Option<MemberSet>
+    ensures { result ≡ failsafe_held (option_copied held.entry) }
+{
+    let held = held?;
+    failsafe_by(&held.value)
+}
+
+fn failsafe_by(value: &Value) -> Option<MemberSet>
+    ensures { result ≡ failsafe_by value.now }
+{
+    match value {
+        Value::Failsafe(members) => Some(*members),
+        _ => None,
+    }
+}

@@ -1,0 +1,50 @@
+//! What agents show of themselves.
+
+use crate::Snapshot;
+use pat_base::{Lsn, MemberId, Name, State, Tags, Ticks};
+
+/// What an agent is to its cluster.
+#[derive(Clone, Copy, Debug, PartialEq, Eq)]
+pub enum RoleWord {
+    /// It has no lease.
+    Follower,
+    /// It has the leader key, and its server isn't up to write.
+    Holder,
+    /// It has the leader key and an armed watchdog, and is about to begin.
+    Ready,
+    /// Its server accepts writes, or will when its start is complete.
+    Leader,
+    /// It ends its server, and has the leader key until that has ended.
+    Ending,
+    /// Its server accepts writes, or will, while it has no lease.
+    Stray,
+}
+
+/// What an agent shows of itself and of its server at a moment: to operators, to other members, and to those who ask about
+/// health. Moments are in ticks of 100 ms.
+#[derive(Clone, Copy)]
+pub struct AgentView<'a> {
+    pub now: Ticks,
+    pub scope: Name,
+    pub me: MemberId,
+    pub name: Name,
+    pub tags: Tags,
+    /// The server: its state, its timeline, where its log ends, whether it receives from its upstream, whether its log
+    /// diverged, and whether its last run was a primary.
+    pub state: State,
+    pub timeline: u64,
+    pub end: Option<Lsn>,
+    pub receives: bool,
+    pub diverged: bool,
+    pub was_primary: bool,
+    pub role: RoleWord,
+    /// The newest snapshot that it accepted, if any.
+    pub seen: Option<&'a Snapshot>,
+    /// When its last read was answered, and when its last turn began.
+    pub last_read: Option<Ticks>,
+    pub last_turn: Option<Ticks>,
+    /// Until when it has promised not to take the leader key.
+    pub hold: Option<Ticks>,
+    /// Whether a request of an operator waits.
+    pub waits: bool,
+}

@@ -1,0 +1,90 @@
+-- Where an agent stands.
+use Rattle.std.specs.Prelude.{ℕ, ◌≤◌, ◌<◌, ◌^◌, false, List, Option, Some, None}
+use Rattle.std.specs.Option.{ForSome}
+use Rattle.pat_base.specs.declared.ticks.Ticks.{Ticks}
+use Rattle.leader_key.specs.Lease.{lease_revision, armed_revision, writer_revision}
+use Rattle.leader_key.specs.Watchdog.{IsLeaseSpan}
+use Rattle.lease_store.specs.Defaults.{default_config}
+use Rattle.cluster_config.specs.declared.view.RoleWord.{RoleWord}
+use Rattle.cluster_config.specs.declared.view.RoleWord.TheVariants as words
+use Rattle.pg_model.specs.declared.status.ServerStatus.{ServerStatus}
+use Rattle.ha_loop.specs.declared.knowledge.Knowledge.{Knowledge}
+use Rattle.ha_loop.specs.declared.machine.Machine.{Machine}
+use Rattle.ha_loop.specs.declared.role.Role.{Role}
+use Rattle.ha_loop.specs.declared.role.Role.TheVariants as roles
+use Rattle.ha_loop.specs.declared.role.Why.{Why}
+use Rattle.ha_loop.specs.declared.who.Who.{Who}
+use Rattle.ha_loop.specs.Outputs.{OutputsFacts}
+
+-- a role: in place of its values the revisions of the leader key that they were granted with
+pub data RoleFacts : Type 0 where
+  Follower : RoleFacts
+  Holder : (revision : ℕ) → RoleFacts
+  Ready : (revision : ℕ) → RoleFacts
+  Leader : (revision : ℕ) → RoleFacts
+  Ending : (revision : ℕ) (why : Why) → RoleFacts
+  Stray : RoleFacts
+
+abbrev pub role_of : Role → RoleFacts
+role_of roles.Follower = Follower
+role_of (roles.Holder lease) = Holder (lease_revision lease)
+role_of (roles.Ready armed) = Ready (armed_revision armed)
+role_of (roles.Leader writer) = Leader (writer_revision writer)
+role_of (roles.Ending writer why) = Ending (writer_revision writer) why
+role_of roles.Stray = Stray
+
+abbrev pub word_of : RoleFacts → RoleWord
+word_of Follower = words.Follower
+word_of (Holder revision) = words.Holder
+word_of (Ready revision) = words.Ready
+word_of (Leader revision) = words.Leader
+word_of (Ending revision why) = words.Ending
+word_of Stray = words.Stray
+
+-- where an agent stands: its role, and all that it knows beside it
+pub record AgentFacts : Type 0 where
+  pub role : RoleFacts
+  pub knows : Knowledge
+
+-- moments that are reckoned with
+abbrev pub latest : ℕ
+latest = 2 ^ 61
+
+-- what holds of all that an agent knows: its turns began at moments that are reckoned with, and what it asked for are leases
+pub record IsSound (knows : Knowledge) : Type 0 where
+  pub turn : ForSome knows.last_turn (λ moment. moment.0 ≤ latest)
+  pub span : ForSome knows.waited (λ waited. IsLeaseSpan waited.ttl.0)
+
+-- what holds of a server that is reckoned with
+pub record IsWithin (server : ServerStatus) : Type 0 where
+  pub timeline : server.timeline < 2 ^ 60
+  pub stop : server.stop_delay.0 ≤ 2 ^ 40
+  pub start : server.start_delay.0 ≤ 2 ^ 40
+
+-- what an agent knows as it starts
+abbrev pub fresh_knowledge : Who → Ticks → ℕ → Knowledge
+fresh_knowledge who first run = record {
+  who = who;
+  run = run;
+  waited = None;
+  sequence = 0;
+  last_turn = None;
+  next_turn = first;
+  last_read = None;
+  seen = None;
+  settings = default_config;
+  begun = None;
+  crashed = None;
+  known = record { bits = 0 };
+  informed = false;
+}
+
+-- what an input has made so far: the agent's role and what it knows, its machine, and all outputs
+pub record Outcome : Type 0 where
+  pub role : RoleFacts
+  pub knows : Knowledge
+  pub machine : Machine
+  pub outputs : OutputsFacts
+
+abbrev pub made : RoleFacts → Knowledge → Machine → OutputsFacts → Outcome
+made role knows machine outputs = record { role = role; knows = knows; machine = machine; outputs = outputs }

@@ -1,0 +1,144 @@
+-- What an agent does once the key store has decided on its request for the leader key.
+use Rattle.std.specs.Prelude.{ℕ, ◌+◌, ◌-◌, ◌*◌, ◌==◌, ◌&&◌, nat_le, if◌then◌else◌, not, Bool, true, false, Option, Some, None}
+use Rattle.pat_base.specs.declared.member_id.MemberId.{MemberId}
+use Rattle.pat_base.specs.declared.server_state.Required.TheVariants.{Nobody}
+use Rattle.pat_base.specs.declared.server_state.State.{State}
+use Rattle.pat_base.specs.declared.server_state.State.TheVariants as states
+use Rattle.pat_base.specs.declared.ticks.Ticks.{Ticks}
+use Rattle.lease_store.specs.declared.granted.Granted.{Granted}
+use Rattle.pg_model.specs.Facts.{is_replica}
+use Rattle.event_book.specs.declared.reason.Reason.TheVariants.{StartTooLong, WatchdogNotArmed}
+use Rattle.cluster_config.specs.Snapshots.{SnapshotFacts}
+use Rattle.ha_loop.specs.declared.knowledge.Knowledge.{Knowledge}
+use Rattle.ha_loop.specs.declared.knowledge.Question.{Question}
+use Rattle.ha_loop.specs.declared.knowledge.Question.TheVariants.{Reading, Creating, Renewing}
+use Rattle.ha_loop.specs.declared.knowledge.Waited.{Waited}
+use Rattle.ha_loop.specs.declared.machine.Machine.{Machine}
+use Rattle.ha_loop.specs.declared.output.Output.TheVariants as outputs
+use Rattle.ha_loop.specs.declared.role.Why.TheVariants.{HandOver}
+use Rattle.ha_loop.specs.Acting.{waiting_no_more, releasing, ending_server, promoting, arming, feeding, is_refusing, is_held}
+use Rattle.ha_loop.specs.Agents.{RoleFacts, Follower, Holder, Ready, Leader, Ending, Stray, Outcome}
+use Rattle.ha_loop.specs.Outputs.{listed}
+use Rattle.ha_loop.specs.Snapshots.{informed, is_active, leader_loses_key, stray_loses_key}
+
+-- so many ticks have passed since this run began the server, or took it over
+abbrev pub has_lasted : Ticks → ℕ → Option Ticks → Bool
+has_lasted now span None = false
+has_lasted now span (Some begun) = nat_le span (now.0 - begun.0)
+
+-- the start of a primary takes longer than it may
+abbrev pub is_start_too_long : Ticks → Knowledge → State → Bool
+is_start_too_long now knows (states.Starting as_primary at) = has_lasted now (10 * knows.settings.primary_start_timeout) knows.begun
+is_start_too_long now knows _ = false
+
+-- then another member is to lead
+abbrev pub judges_start : Ticks → ℕ → Outcome → Outcome
+judges_start now revision o =
+    if is_start_too_long now o.knows o.machine.server.state then record (ending_server now StartTooLong o) { role = Ending revision HandOver } else o
+
+-- the lease of a leader is renewed: its watchdog is fed
+abbrev pub leader_renewed : Ticks → Ticks → ℕ → Outcome → Outcome
+leader_renewed now ttl revision o = judges_start now revision (record (feeding now ttl o) { role = Leader revision })
+
+abbrev pub takes_over : Ticks → ℕ → Outcome → Outcome
+takes_over now revision o = record o { role = Leader revision; knows = record o.knows { begun = Some now } }
+
+-- an agent whose server is live without a lease gets one: it leads, once its watchdog is armed
+abbrev pub stray_renewed : Ticks → Ticks → ℕ → Outcome → Outcome
+stray_renewed now ttl revision o =
+    if is_refusing o.machine.watchdog.mode o.machine.watchdog.works then ending_server now WatchdogNotArmed o else takes_over now revision (arming now ttl o)
+
+-- a member may take the leader key: its server is a running replica, and no hold is active
+abbrev pub may_take : Ticks → Machine → Bool
+may_take now machine = not (is_held now machine.hold) && is_replica machine.server.state
+
+-- the leader key is given back
+abbrev pub gives_back : ℕ → Outcome → Outcome
+gives_back revision o = record (releasing revision o) { role = Follower }
+
+-- the member begins: commits wait for nobody, and the server is promoted
+abbrev pub begins : Ticks → ℕ → Outcome → Outcome
+begins now revision o = record (promoting (record o { outputs = listed (outputs.Require Nobody) o.outputs })) {
+  role = Leader revision;
+  knows = record o.knows { begun = Some now; crashed = None };
+}
+
+-- nobody begins without an armed watchdog, where the member needs one
+abbrev pub arms : Ticks → Ticks → ℕ → Outcome → Outcome
+arms now ttl revision o =
+    if is_refusing o.machine.watchdog.mode o.machine.watchdog.works then gives_back revision (record o { outputs = listed outputs.CannotArm o.outputs }) else begins now revision (arming now ttl o)
+
+-- an agent that isn't leading gets a lease
+abbrev pub takes_key : Ticks → Ticks → ℕ → Outcome → Outcome
+takes_key now ttl revision o = if may_take now o.machine then arms now ttl revision o else gives_back revision o
+
+abbrev pub lease_granted : Ticks → Ticks → ℕ → RoleFacts → Outcome → Outcome
+lease_granted now ttl revision (Leader held) o = leader_renewed now ttl revision o
+lease_granted now ttl revision Stray o = stray_renewed now ttl revision o
+lease_granted now ttl revision Follower o = takes_key now ttl revision o
+lease_granted now ttl revision (Holder held) o = takes_key now ttl revision o
+lease_granted now ttl revision _ o = o
+
+-- who may have asked for the leader key while it was absent
+abbrev pub may_create : RoleFacts → Bool
+may_create Follower = true
+may_create (Holder revision) = true
+may_create _ = false
+
+-- a question for the leader key belongs to the role
+abbrev pub belongs : Question → RoleFacts → Bool
+belongs Creating role = may_create role
+belongs _ role = is_active role
+
+abbrev pub accepted_grant : Ticks → Waited → ℕ → SnapshotFacts → Outcome → Outcome
+accepted_grant now waited revision snapshot o =
+    if belongs waited.question o.role then lease_granted now waited.ttl revision o.role (record o { knows = informed snapshot o.knows }) else waiting_no_more o
+
+abbrev pub asks_lease : Question → Bool
+asks_lease Reading = false
+asks_lease _ = true
+
+-- the decision on this request for the leader key is waited for
+abbrev pub is_decision : Waited → ℕ → Bool
+is_decision waited sequence = asks_lease waited.question && waited.sequence == sequence
+
+-- the grant is one of the leader key, to this member
+abbrev pub is_lease_of : MemberId → Granted → Bool
+is_lease_of me grant = grant.leased && grant.by.number == me.number
+
+abbrev pub granted_for : Ticks → ℕ → Granted → SnapshotFacts → Option Waited → Outcome → Outcome
+granted_for now sequence grant snapshot None o = o
+granted_for now sequence grant snapshot (Some waited) o =
+    if is_decision waited sequence && is_lease_of o.knows.who.me grant then accepted_grant now waited grant.revision snapshot o else o
+
+-- a request was granted: what is waited for is used, and any other dropped
+abbrev pub granted : Ticks → ℕ → Granted → SnapshotFacts → Outcome → Outcome
+granted now sequence grant snapshot o = granted_for now sequence grant snapshot o.knows.waited o
+
+abbrev pub follower_for : RoleFacts → RoleFacts
+follower_for (Holder held) = Follower
+follower_for role = role
+
+-- the leader key isn't absent any more: an agent has no lease
+abbrev pub create_refused : Outcome → Outcome
+create_refused o = record o { role = follower_for o.role }
+
+-- the leader key isn't as it was read: a lease is lost
+abbrev pub renewal_refused : Ticks → RoleFacts → Outcome → Outcome
+renewal_refused now (Leader held) o = leader_loses_key now held o
+renewal_refused now Stray o = stray_loses_key now o
+renewal_refused now (Holder held) o = record o { role = Follower }
+renewal_refused now _ o = o
+
+abbrev pub refused_as : Ticks → Question → Outcome → Outcome
+refused_as now Creating o = create_refused o
+refused_as now Renewing o = renewal_refused now o.role o
+refused_as now Reading o = o
+
+abbrev pub refused_for : Ticks → ℕ → Option Waited → Outcome → Outcome
+refused_for now sequence None o = o
+refused_for now sequence (Some waited) o = if is_decision waited sequence then refused_as now waited.question (waiting_no_more o) else o
+
+-- a request was refused: what is waited for is used, and any other dropped
+abbrev pub refused : Ticks → ℕ → Outcome → Outcome
+refused now sequence o = refused_for now sequence o.knows.waited o

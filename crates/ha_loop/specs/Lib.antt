@@ -1,0 +1,10 @@
+pub mod Acting
+pub mod Agents
+pub mod Before
+pub mod Decisions
+pub mod Info
+pub mod Outputs
+pub mod Snapshots
+pub mod Start
+pub mod Table
+pub mod Wake

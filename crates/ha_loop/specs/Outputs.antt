@@ -1,0 +1,12 @@
+-- Lists of outputs.
+use Rattle.std.specs.Prelude.{ℕ, ◌-◌, ◌++◌, List, [], ◌∷◌}
+use Rattle.ha_loop.specs.declared.output.Output.{Output}
+
+-- the outputs in order, and for how many more there is room
+pub record OutputsFacts : Type 0 where
+  pub outputs : List Output
+  pub spare : ℕ
+
+-- one more stands behind the others
+abbrev pub listed : Output → OutputsFacts → OutputsFacts
+listed output out = record { outputs = out.outputs ++ output ∷ []; spare = out.spare - 1 }

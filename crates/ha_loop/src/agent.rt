@@ -1,0 +1,222 @@
+//! Agents.
+ghost use Rattle.std.specs.Prelude.{◌≡◌, ◌≤◌, ◌<◌, ◌+◌, ◌-◌, ◌^◌, Some, None, option_copied};
+ghost use Rattle.ha_loop.specs.Agents.{AgentFacts, RoleFacts, IsSound, IsWithin, Follower, role_of, word_of, fresh_knowledge, made, latest};
+ghost use Rattle.ha_loop.specs.Start.{started_machine};
+ghost use Rattle.ha_loop.specs.Table.{step, act};
+ghost use Rattle.ha_loop.specs.Wake.{is_due};
+
+use crate::before::before;
+use crate::decisions::{granted, refused};
+use crate::role::Role;
+use crate::snapshots::got;
+use crate::wake::{is_due, wake};
+use crate::{Heard, Knowledge, Machine, Outputs, Who};
+use cluster_config::{AgentView, RoleWord};
+use lease_store::{Action, Config};
+use pat_base::{MemberSet, Ticks};
+use std::marker::Model;
+use wal_model::History;
+
+/// How many messages a run may send.
+const MOST: u64 = 1 << 60;
+
+/// The agent of a member. It holds the leader key's values, so it can't be copied or dropped: `Agent::wreck` ends one.
+#[derive(Debug)]
+pub struct Agent {
+    role: Role,
+    knows: Knowledge,
+}
+
+impl Model for Agent {
+    ghost use Rattle.ha_loop.specs.Agents.{AgentFacts, IsSound, role_of};
+
+    ghost Value = { AgentFacts };
+
+    ghost view = { λ a. record { role = role_of a.role; knows = a.knows } };
+
+    ghost invariant = { λ a. IsSound a.knows };
+}
+
+impl Agent {
+    /// An agent starts, in its run of this number. Its first turn is due in the next tick. A watchdog over a server that isn't
+    /// live is disarmed: nobody would feed it.
+    pub fn start(who: Who, now: Ticks, run: u64, machine: &mut Machine) -> Agent
+        requires { now.0 ≤ latest }
+        ensures agent { result ≡ record { role = Follower; knows = fresh_knowledge who (record { 0 = now.0 + 1 }) run } }
+        ensures machine { machine.new ≡ started_machine machine.old }
+    {
+        if !machine.server.state.live() {
+            machine.watchdog.disarm();
+        }
+        Agent {
+            role: Role::Follower,
+            knows: fresh_knowledge(who, Ticks(now.0 + 1), run),
+        }
+    }
+
+    /// Whether there is something to do for it if it is woken at this moment.
+    pub fn due(&self, now: Ticks, machine: &Machine) -> bool
+        ensures { result ≡ is_due now self.now.role self.now.knows machine.now }
+    {
+        is_due(&self.role, &self.knows, machine, now)
+    }
+
+    /// One input, by the decision table. `history` is that of the own server. It takes no memory and refuses nothing; the
+    /// machine is what it reckons with, and who carries out the outputs in their order arrives at the same.
+    pub fn step(
+        self,
+        now: Ticks,
+        heard: Heard,
+        history: &History,
+        machine: &mut Machine,
+        out: &mut Outputs,
+    ) -> Agent
+        requires moment { now.0 ≤ latest }
+        requires server { IsWithin machine.old.server }
+        requires numbers { self.knows.sequence + 40 ≤ 2 ^ 60 }
+        requires room { 40 ≤ out.old.spare }
+        ensures outcome { made result.role result.knows machine.new out.new ≡ step now history.now.points heard (made self.role self.knows machine.old out.old) }
+        ensures numbers { result.knows.sequence ≤ self.knows.sequence + 40 }
+        ensures room { out.old.spare ≤ out.new.spare + 40 }
+    {
+        let Agent { role, mut knows } = self;
+        let role = hear(role, &mut knows, machine, out, now, heard, history);
+        Agent { role, knows }
+    }
+
+    /// A request of an operator, which passed its checks. Nothing is asked of agents yet, so it only takes note of its server.
+    pub fn act(self, now: Ticks, _action: Action, machine: &mut Machine, out: &mut Outputs) -> Agent
+        requires numbers { self.knows.sequence + 40 ≤ 2 ^ 60 }
+        requires room { 40 ≤ out.old.spare }
+        ensures outcome { made result.role result.knows machine.new out.new ≡ act now (made self.role self.knows machine.old out.old) }
+        ensures numbers { result.knows.sequence ≤ self.knows.sequence + 40 }
+        ensures room { out.old.spare ≤ out.new.spare + 40 }
+    {
+        let Agent { role, mut knows } = self;
+        let role = before(role, &mut knows, machine, out, now);
+        Agent { role, knows }
+    }
+
+    /// How many messages of this run are left.
+    pub fn room(&self) -> u64
+        ensures { result ≡ 2 ^ 60 - self.now.knows.sequence }
+    {
+        MOST.saturating_sub(self.knows.sequence)
+    }
+
+    /// What it shows of itself and of its server.
+    pub fn view<'a>(&'a self, now: Ticks, machine: &Machine) -> AgentView<'a>
+        ensures moment { result.now ≡ now }
+        ensures role { result.role ≡ word_of self.now.role }
+        ensures seen { option_copied result.seen ≡ self.now.knows.seen }
+    {
+        let who = &self.knows.who;
+        let server = &machine.server;
+        AgentView {
+            now,
+            scope: who.scope,
+            me: who.me,
+            name: who.name,
+            tags: who.tags,
+            state: server.state,
+            timeline: server.timeline,
+            end: server.end,
+            receives: server.receives,
+            diverged: server.diverged,
+            was_primary: server.was_primary,
+            role: word_of(&self.role),
+            seen: self.knows.seen.as_ref(),
+            last_read: self.knows.last_read,
+            last_turn: self.knows.last_turn,
+            hold: machine.hold,
+            waits: false,
+        }
+    }
+
+    /// The agent ends, and with it what it holds. Its machine stays as it is.
+    pub fn wreck(self) {
+        let Agent { role, knows: _ } = self;
+        match role {
+            Role::Follower | Role::Stray => {}
+            Role::Holder(lease) => lease.lost(),
+            Role::Ready(armed) => armed.wreck(),
+            Role::Leader(writer) | Role::Ending(writer, _) => writer.wreck(),
+        }
+    }
+}
+
+/// What an agent knows as it starts.
+fn fresh_knowledge(who: Who, first: Ticks, run: u64) -> Knowledge
+    ensures knows { result ≡ fresh_knowledge who first run }
+    ensures sound { IsSound result }
+{
+    Knowledge {
+        who,
+        run,
+        waited: None,
+        sequence: 0,
+        last_turn: None,
+        next_turn: first,
+        last_read: None,
+        seen: None,
+        settings: Config::defaults(),
+        begun: None,
+        crashed: None,
+        known: MemberSet::empty(),
+        informed: false,
+    }
+}
+
+/// An input.
+fn hear(
+    role: Role,
+    knows: &mut Knowledge,
+    machine: &mut Machine,
+    out: &mut Outputs,
+    now: Ticks,
+    heard: Heard,
+    history: &History,
+) -> Role
+    requires moment { now.0 ≤ latest }
+    requires sound { IsSound knows.old }
+    requires server { IsWithin machine.old.server }
+    requires numbers { knows.old.sequence + 40 ≤ 2 ^ 60 }
+    requires room { 40 ≤ out.old.spare }
+    ensures outcome { made (role_of result) knows.new machine.new out.new ≡ step now history.now.points heard (made (role_of role) knows.old machine.old out.old) }
+    ensures sound { IsSound knows.new }
+    ensures numbers { knows.new.sequence ≤ knows.old.sequence + 40 }
+    ensures room { out.old.spare ≤ out.new.spare + 40 }
+{
+    match heard {
+        Heard::Wake => wake(role, knows, machine, out, now),
+        Heard::Got { sequence, snapshot } => {
+            let role = before(role, knows, machine, out, now);
+            got(role, knows, machine, out, now, history, sequence, snapshot)
+        }
+        Heard::Granted {
+            sequence,
+            granted: grant,
+            snapshot,
+        } => {
+            let role = before(role, knows, machine, out, now);
+            granted(role, knows, machine, out, now, sequence, grant, snapshot)
+        }
+        Heard::Mismatch { sequence, .. } => {
+            let role = before(role, knows, machine, out, now);
+            refused(role, knows, machine, out, now, sequence)
+        }
+    }
+}
+
+fn word_of(role: &Role) -> RoleWord
+    ensures { result ≡ word_of (role_of role.now) }
+{
+    match role {
+        Role::Follower => RoleWord::Follower,
+        Role::Holder(_) => RoleWord::Holder,
+        Role::Ready(_) => RoleWord::Ready,
+        Role::Leader(_) => RoleWord::Leader,
+        Role::Ending(_, _) => RoleWord::Ending,
+        Role::Stray => RoleWord::Stray,
+    }
+}

@@ -1,0 +1,224 @@
+//! What an agent does once the key store has decided on its request for the leader key.
+ghost use Rattle.std.specs.Prelude.{◌≡◌, ◌≤◌, ◌<◌, ◌+◌, ◌*◌, ◌-◌, ◌^◌, Some, None, false, true, is_err};
+ghost use Rattle.leader_key.specs.Lease.{lease_revision, writer_revision};
+ghost use Rattle.leader_key.specs.Watchdog.{IsLeaseSpan};
+ghost use Rattle.ha_loop.specs.Acting.{is_refusing, is_held, waiting_no_more};
+ghost use Rattle.ha_loop.specs.Agents.{IsSound, IsWithin, Follower, Leader, Stray, role_of, made, latest};
+ghost use Rattle.ha_loop.specs.Decisions.{has_lasted, is_start_too_long, judges_start, leader_renewed, takes_over, stray_renewed, may_take, gives_back, begins, arms, takes_key, lease_granted, may_create, belongs, accepted_grant, asks_lease, is_decision, is_lease_of, granted_for, granted, follower_for, create_refused, renewal_refused, refused_as, refused_for, refused};
+
+mod leading;
+
+use crate::acting::{end_server, lose};
+use crate::role::Role;
+use crate::snapshots::{inform, is_active};
+use crate::{Knowledge, Machine, Outputs, Question, Waited};
+use cluster_config::Snapshot;
+use event_book::Reason;
+use leader_key::Lease;
+use leading::{leader_renewed, stray_renewed, take_key};
+use lease_store::Granted;
+use pat_base::{MemberId, Ticks};
+
+/// A request was granted: what is waited for is used, and any other dropped.
+pub(crate) fn granted(
+    role: Role,
+    knows: &mut Knowledge,
+    machine: &mut Machine,
+    out: &mut Outputs,
+    now: Ticks,
+    sequence: u64,
+    grant: Granted,
+    snapshot: Snapshot,
+) -> Role
+    requires moment { now.0 ≤ latest }
+    requires sound { IsSound knows.old }
+    requires server { IsWithin machine.old.server }
+    requires numbers { knows.old.sequence < 2 ^ 60 }
+    requires room { 3 ≤ out.old.spare }
+    ensures outcome { made (role_of result) knows.new machine.new out.new ≡ granted now sequence grant snapshot (made (role_of role) knows.old machine.old out.old) }
+    ensures sound { IsSound knows.new }
+    ensures numbers { knows.new.sequence ≤ knows.old.sequence + 1 }
+    ensures room { out.old.spare ≤ out.new.spare + 3 }
+{
+    let Some(waited) = knows.waited else {
+        return role;
+    };
+    if !is_decision(waited, sequence) || !is_lease_of(knows.who.me, &grant) {
+        return role;
+    }
+    if !belongs(waited.question, &role) {
+        knows.waited = None;
+        return role;
+    }
+    inform(knows, snapshot);
+    lease_granted(role, knows, machine, out, now, waited.ttl, grant)
+}
+
+/// The decision on this request for the leader key is waited for.
+fn is_decision(waited: Waited, sequence: u64) -> bool
+    ensures { result ≡ is_decision waited sequence }
+{
+    asks_lease(waited.question) && waited.sequence == sequence
+}
+
+fn asks_lease(question: Question) -> bool
+    ensures { result ≡ asks_lease question }
+{
+    match question {
+        Question::Reading => false,
+        Question::Creating | Question::Renewing => true,
+    }
+}
+
+/// The grant is one of the leader key, to this member.
+fn is_lease_of(me: MemberId, grant: &Granted) -> bool
+    ensures { result ≡ is_lease_of me grant.now }
+{
+    grant.leased() && grant.by().number == me.number
+}
+
+/// A question for the leader key belongs to the role.
+fn belongs(question: Question, role: &Role) -> bool
+    ensures { result ≡ belongs question (role_of role.now) }
+{
+    match question {
+        Question::Creating => may_create(role),
+        Question::Reading | Question::Renewing => is_active(role),
+    }
+}
+
+/// Who may have asked for the leader key while it was absent.
+fn may_create(role: &Role) -> bool
+    ensures { result ≡ may_create (role_of role.now) }
+{
+    matches!(role, Role::Follower | Role::Holder(_))
+}
+
+/// An agent gets a lease of this span.
+fn lease_granted(
+    role: Role,
+    knows: &mut Knowledge,
+    machine: &mut Machine,
+    out: &mut Outputs,
+    now: Ticks,
+    ttl: Ticks,
+    grant: Granted,
+) -> Role
+    requires moment { now.0 ≤ latest }
+    requires span { IsLeaseSpan ttl.0 }
+    requires leased { grant.leased ≡ true }
+    requires sound { IsSound knows.old }
+    requires server { IsWithin machine.old.server }
+    requires numbers { knows.old.sequence < 2 ^ 60 }
+    requires room { 3 ≤ out.old.spare }
+    ensures outcome { made (role_of result) knows.new machine.new out.new ≡ lease_granted now ttl grant.revision (role_of role) (made (role_of role) knows.old machine.old out.old) }
+    ensures sound { IsSound knows.new }
+    ensures numbers { knows.new.sequence ≤ knows.old.sequence + 1 }
+    ensures room { out.old.spare ≤ out.new.spare + 3 }
+{
+    match role {
+        Role::Leader(writer) => leader_renewed(writer, knows, machine, out, now, ttl, grant),
+        Role::Stray => stray_renewed(Lease::of(grant), knows, machine, out, now, ttl),
+        Role::Follower => take_key(Lease::of(grant), knows, machine, out, now, ttl),
+        Role::Holder(lease) => {
+            lease.lost();
+            take_key(Lease::of(grant), knows, machine, out, now, ttl)
+        }
+        role => role,
+    }
+}
+
+/// A request was refused: what is waited for is used, and any other dropped.
+pub(crate) fn refused(
+    role: Role,
+    knows: &mut Knowledge,
+    machine: &mut Machine,
+    out: &mut Outputs,
+    now: Ticks,
+    sequence: u64,
+) -> Role
+    requires moment { now.0 ≤ latest }
+    requires sound { IsSound knows.old }
+    requires server { IsWithin machine.old.server }
+    requires room { 1 ≤ out.old.spare }
+    ensures outcome { made (role_of result) knows.new machine.new out.new ≡ refused now sequence (made (role_of role) knows.old machine.old out.old) }
+    ensures sound { IsSound knows.new }
+    ensures numbers { knows.new.sequence ≡ knows.old.sequence }
+    ensures room { out.old.spare ≤ out.new.spare + 1 }
+{
+    let Some(waited) = knows.waited else {
+        return role;
+    };
+    if !is_decision(waited, sequence) {
+        return role;
+    }
+    refused_as(waited.question, role, knows, machine, out, now)
+}
+
+/// What is waited for was refused.
+fn refused_as(
+    question: Question,
+    role: Role,
+    knows: &mut Knowledge,
+    machine: &mut Machine,
+    out: &mut Outputs,
+    now: Ticks,
+) -> Role
+    requires moment { now.0 ≤ latest }
+    requires sound { IsSound knows.old }
+    requires server { IsWithin machine.old.server }
+    requires room { 1 ≤ out.old.spare }
+    ensures outcome { made (role_of result) knows.new machine.new out.new ≡ refused_as now question (waiting_no_more (made (role_of role) knows.old machine.old out.old)) }
+    ensures sound { IsSound knows.new }
+    ensures numbers { knows.new.sequence ≡ knows.old.sequence }
+    ensures room { out.old.spare ≤ out.new.spare + 1 }
+{
+    knows.waited = None;
+    match question {
+        Question::Creating => create_refused(role),
+        Question::Renewing => renewal_refused(role, knows, machine, out, now),
+        Question::Reading => role,
+    }
+}
+
+/// The leader key isn't absent any more: an agent has no lease.
+fn create_refused(role: Role) -> Role
+    ensures { role_of result ≡ follower_for (role_of role) }
+{
+    match role {
+        Role::Holder(lease) => {
+            lease.lost();
+            Role::Follower
+        }
+        role => role,
+    }
+}
+
+/// The leader key isn't as it was read: a lease is lost.
+fn renewal_refused(
+    role: Role,
+    knows: &Knowledge,
+    machine: &mut Machine,
+    out: &mut Outputs,
+    now: Ticks,
+) -> Role
+    requires moment { now.0 ≤ latest }
+    requires server { IsWithin machine.old.server }
+    requires room { 1 ≤ out.old.spare }
+    ensures outcome { made (role_of result) knows.now machine.new out.new ≡ renewal_refused now (role_of role) (made (role_of role) knows.now machine.old out.old) }
+    ensures room { out.old.spare ≤ out.new.spare + 1 }
+{
+    let _ = knows;
+    match role {
+        Role::Leader(writer) => lose(writer, machine, out, now, Reason::LeaderKeyLost),
+        Role::Stray => {
+            end_server(machine, out, now, Reason::LeaderKeyLost);
+            Role::Stray
+        }
+        Role::Holder(lease) => {
+            lease.lost();
+            Role::Follower
+        }
+        role => role,
+    }
+}

@@ -1,0 +1,54 @@
+//! All that an agent knows beside its role.
+
+use crate::Who;
+use cluster_config::Snapshot;
+use lease_store::Config;
+use pat_base::{MemberSet, Ticks};
+
+/// A question whose answer an agent may wait for.
+#[derive(Clone, Copy, Debug, PartialEq, Eq)]
+pub enum Question {
+    /// What does the key store hold?
+    Reading,
+    /// May it have the leader key, which is absent?
+    Creating,
+    /// May it have the leader key for longer?
+    Renewing,
+}
+
+/// What an agent waits for: the question, its number in the agent's run, the moment at which waiting ends, the span of the
+/// leases that were asked for, and the moment of asking.
+#[derive(Clone, Copy, Debug, PartialEq, Eq)]
+pub struct Waited {
+    pub question: Question,
+    pub sequence: u64,
+    pub until: Ticks,
+    pub ttl: Ticks,
+    pub sent: Ticks,
+}
+
+/// All that an agent knows beside its role.
+#[derive(Debug, Drop)]
+pub struct Knowledge {
+    pub who: Who,
+    /// The number of this run of the agent.
+    pub run: u64,
+    pub waited: Option<Waited>,
+    /// The number of the last message of this run.
+    pub sequence: u64,
+    /// When the last turn of this run began, and when the next one is due.
+    pub last_turn: Option<Ticks>,
+    pub next_turn: Ticks,
+    /// When the last read was answered.
+    pub last_read: Option<Ticks>,
+    /// The newest snapshot, and the settings of its configuration.
+    pub seen: Option<Snapshot>,
+    pub settings: Config,
+    /// When this run began the server, or took it over.
+    pub begun: Option<Ticks>,
+    /// When a leader was first found without its server.
+    pub crashed: Option<Ticks>,
+    /// The members that a failsafe key of a snapshot listed which this run accepted, and whether there was such a key.
+    pub known: MemberSet,
+    pub informed: bool,
+}

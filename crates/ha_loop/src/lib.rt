@@ -1,0 +1,26 @@
+//! The agent of a member: what it does on what it hears, by its decision table.
+#![tactic(auto)]
+
+mod acting;
+mod agent;
+mod before;
+mod decisions;
+mod heard;
+mod info;
+mod knowledge;
+mod machine;
+mod output;
+mod outputs;
+mod role;
+mod snapshots;
+mod wake;
+mod who;
+
+pub use agent::Agent;
+pub use heard::Heard;
+pub use knowledge::{Knowledge, Question, Waited};
+pub use machine::Machine;
+pub use output::{Output, Target};
+pub use outputs::Outputs;
+pub use role::Why;
+pub use who::Who;

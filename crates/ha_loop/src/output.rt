@@ -1,0 +1,48 @@
+//! What an agent does.
+
+use event_book::{Body, Reason};
+use pat_base::{MemberId, Required, Ticks};
+
+/// Whom an agent writes to.
+#[derive(Clone, Copy, Debug, PartialEq, Eq)]
+pub enum Target {
+    Store,
+    Member(MemberId),
+}
+
+/// What an agent does in an input: messages, orders to the own server, what it did to its watchdog and its hold, and notes.
+#[derive(Debug, Drop)]
+pub enum Output {
+    /// A message under this number of the agent's run.
+    Send {
+        to: Target,
+        sequence: u64,
+        body: Body,
+    },
+    /// The server is promoted.
+    Promote,
+    /// The server starts as a replica of this member's, or of none.
+    StartReplica { leader: Option<MemberId> },
+    /// The server starts as a primary again.
+    StartPrimary,
+    /// The agent ends the server, for this reason.
+    Stop { reason: Reason },
+    /// The server follows this member's from now on.
+    Follow { leader: MemberId },
+    /// The server's commits wait for these from now on.
+    Require { required: Required },
+    /// The watchdog got its first deadline, on the answer that was heard.
+    Armed { until: Ticks },
+    /// The watchdog got a new deadline, on the answer that was heard.
+    Fed { until: Ticks },
+    /// The watchdog has no deadline any more.
+    Disarmed,
+    /// The member needs a watchdog, and its device doesn't work.
+    CannotArm,
+    /// The member promised not to take the leader key before this moment, on the failsafe request of this number of this member.
+    HoldTaken {
+        until: Ticks,
+        from: MemberId,
+        sequence: u64,
+    },
+}

@@ -1,0 +1,331 @@
+//! What an agent does once it has read what the key store holds.
+ghost use Rattle.std.specs.Prelude.{◌≡◌, ◌≤◌, ◌<◌, ◌+◌, ◌*◌, ◌^◌, Some, None, false, true};
+ghost use Rattle.lease_store.specs.declared.txn.Txn.TheVariants as txns;
+ghost use Rattle.event_book.specs.declared.message.Body.TheVariants as bodies;
+ghost use Rattle.pg_model.specs.Status.{status_replica_started, status_following};
+ghost use Rattle.ha_loop.specs.declared.knowledge.Question.TheVariants as questions;
+ghost use Rattle.ha_loop.specs.declared.output.Output.TheVariants as outputs;
+ghost use Rattle.ha_loop.specs.declared.output.Target.TheVariants as targets;
+ghost use Rattle.ha_loop.specs.Acting.{seconds_after, lease_span, counted, waiting, upstream_of, is_held};
+ghost use Rattle.ha_loop.specs.Agents.{IsSound, IsWithin, Follower, role_of, made, latest};
+ghost use Rattle.ha_loop.specs.Info.{info_of};
+ghost use Rattle.ha_loop.specs.Outputs.{listed};
+ghost use Rattle.ha_loop.specs.Snapshots.{known_with, informed, status_told, row_at, missing_point, missing_row, row_told, renewal, turn_start, renewing, finds_own_key, own_key, starts_behind, is_upstream, follows_anew, follow_row, follows, others_key, creating, finds_free, no_key, led_by, led, is_active, is_read, awaits_read, read_noted, accepted, got};
+
+mod following;
+mod renewing;
+
+use crate::acting::{ask, end_server, is_held, lose, touch};
+use crate::info::info_of;
+use crate::role::Role;
+use crate::{Knowledge, Machine, Outputs, Question, Waited};
+use cluster_config::{LeaderEntry, Snapshot};
+use event_book::{Body, Reason};
+use following::{follow_row, start_behind};
+use lease_store::Txn;
+use pat_base::{MemberId, MemberSet, State, Ticks};
+use renewing::renew;
+use wal_model::History;
+
+/// The answer to a read: what is waited for is used, and any other dropped.
+pub(crate) fn got(
+    role: Role,
+    knows: &mut Knowledge,
+    machine: &mut Machine,
+    out: &mut Outputs,
+    now: Ticks,
+    history: &History,
+    sequence: u64,
+    snapshot: Snapshot,
+) -> Role
+    requires moment { now.0 ≤ latest }
+    requires sound { IsSound knows.old }
+    requires server { IsWithin machine.old.server }
+    requires numbers { knows.old.sequence < 2 ^ 60 }
+    requires room { 2 ≤ out.old.spare }
+    ensures outcome { made (role_of result) knows.new machine.new out.new ≡ got now history.now.points sequence snapshot (made (role_of role) knows.old machine.old out.old) }
+    ensures sound { IsSound knows.new }
+    ensures numbers { knows.new.sequence ≤ knows.old.sequence + 1 }
+    ensures room { out.old.spare ≤ out.new.spare + 2 }
+{
+    if !awaits_read(knows.waited, sequence) {
+        return role;
+    }
+    if !is_active(&role) {
+        knows.waited = None;
+        return role;
+    }
+    let leader = snapshot.leader();
+    inform(knows, snapshot);
+    knows.last_read = Some(now);
+    led(role, knows, machine, out, now, history, leader)
+}
+
+/// The answer to this read is waited for.
+fn awaits_read(waited: Option<Waited>, sequence: u64) -> bool
+    ensures { result ≡ awaits_read waited sequence }
+{
+    match waited {
+        None => false,
+        Some(waited) => is_read(waited.question) && waited.sequence == sequence,
+    }
+}
+
+fn is_read(question: Question) -> bool
+    ensures { result ≡ is_read question }
+{
+    matches!(question, Question::Reading)
+}
+
+/// An agent that ends its server doesn't read, and asks for no renewal.
+pub(crate) fn is_active(role: &Role) -> bool
+    ensures { result ≡ is_active (role_of role.now) }
+{
+    !matches!(role, Role::Ending(_, _))
+}
+
+/// A snapshot is the newest: its settings hold from now on, its failsafe key's members are known, and nothing is waited for.
+pub(crate) fn inform(knows: &mut Knowledge, snapshot: Snapshot)
+    requires { IsSound knows.old }
+    ensures knows { knows.new ≡ informed snapshot knows.old }
+    ensures sound { IsSound knows.new }
+    ensures numbers { knows.new.sequence ≡ knows.old.sequence }
+{
+    let failsafe = snapshot.failsafe();
+    knows.waited = None;
+    knows.settings = snapshot.settings_or(knows.settings);
+    knows.known = known_with(knows.known, failsafe);
+    knows.informed = knows.informed || failsafe.is_some();
+    knows.seen = Some(snapshot);
+}
+
+fn known_with(known: MemberSet, failsafe: Option<MemberSet>) -> MemberSet
+    ensures { result ≡ known_with known failsafe }
+{
+    match failsafe {
+        None => known,
+        Some(members) => MemberSet {
+            bits: known.bits | members.bits,
+        },
+    }
+}
+
+/// What the agent does on the leader key.
+fn led(
+    role: Role,
+    knows: &mut Knowledge,
+    machine: &mut Machine,
+    out: &mut Outputs,
+    now: Ticks,
+    history: &History,
+    leader: Option<LeaderEntry>,
+) -> Role
+    requires moment { now.0 ≤ latest }
+    requires sound { IsSound knows.old }
+    requires server { IsWithin machine.old.server }
+    requires numbers { knows.old.sequence < 2 ^ 60 }
+    requires room { 2 ≤ out.old.spare }
+    ensures outcome { made (role_of result) knows.new machine.new out.new ≡ led now history.now.points leader (made (role_of role) knows.old machine.old out.old) }
+    ensures sound { IsSound knows.new }
+    ensures numbers { knows.new.sequence ≤ knows.old.sequence + 1 }
+    ensures room { out.old.spare ≤ out.new.spare + 2 }
+{
+    match leader {
+        None => no_key(role, knows, machine, out, now),
+        Some(leader) if leader.holder.number == knows.who.me.number => {
+            own_key(&role, knows, machine, out, now, history, leader.revision);
+            role
+        }
+        Some(leader) => others_key(role, knows, machine, out, now, leader.holder),
+    }
+}
+
+/// The leader key is its own.
+fn own_key(
+    role: &Role,
+    knows: &mut Knowledge,
+    machine: &Machine,
+    out: &mut Outputs,
+    now: Ticks,
+    history: &History,
+    revision: u64,
+)
+    requires moment { now.0 ≤ latest }
+    requires sound { IsSound knows.old }
+    requires numbers { knows.old.sequence < 2 ^ 60 }
+    requires room { 1 ≤ out.old.spare }
+    ensures outcome { made (role_of role.now) knows.new machine.now out.new ≡ own_key now history.now.points revision (role_of role.now) (made (role_of role.now) knows.old machine.now out.old) }
+    ensures sound { IsSound knows.new }
+    ensures numbers { knows.new.sequence ≤ knows.old.sequence + 1 }
+    ensures room { out.old.spare ≤ out.new.spare + 1 }
+{
+    match role {
+        Role::Leader(_) | Role::Stray => renew(knows, machine, out, now, history, revision),
+        Role::Follower | Role::Holder(_) => {
+            finds_own_key(knows, machine, out, now, history, revision)
+        }
+        Role::Ready(_) | Role::Ending(_, _) => {}
+    }
+}
+
+/// An agent that isn't leading finds the leader key its own: it asks for the renewal, unless its hold is active.
+fn finds_own_key(
+    knows: &mut Knowledge,
+    machine: &Machine,
+    out: &mut Outputs,
+    now: Ticks,
+    history: &History,
+    revision: u64,
+)
+    requires moment { now.0 ≤ latest }
+    requires sound { IsSound knows.old }
+    requires numbers { knows.old.sequence < 2 ^ 60 }
+    requires room { 1 ≤ out.old.spare }
+    ensures outcome { made Follower knows.new machine.now out.new ≡ finds_own_key now history.now.points revision (made Follower knows.old machine.now out.old) }
+    ensures sound { IsSound knows.new }
+    ensures numbers { knows.new.sequence ≤ knows.old.sequence + 1 }
+    ensures room { out.old.spare ≤ out.new.spare + 1 }
+{
+    if is_held(now, machine.hold) {
+        touch(knows, machine, out);
+    } else {
+        renew(knows, machine, out, now, history, revision);
+    }
+}
+
+/// The leader key is another's.
+fn others_key(
+    role: Role,
+    knows: &mut Knowledge,
+    machine: &mut Machine,
+    out: &mut Outputs,
+    now: Ticks,
+    leader: MemberId,
+) -> Role
+    requires moment { now.0 ≤ latest }
+    requires sound { IsSound knows.old }
+    requires server { IsWithin machine.old.server }
+    requires numbers { knows.old.sequence < 2 ^ 60 }
+    requires room { 2 ≤ out.old.spare }
+    ensures outcome { made (role_of result) knows.new machine.new out.new ≡ others_key now leader (role_of role) (made (role_of role) knows.old machine.old out.old) }
+    ensures sound { IsSound knows.new }
+    ensures numbers { knows.new.sequence ≤ knows.old.sequence + 1 }
+    ensures room { out.old.spare ≤ out.new.spare + 2 }
+{
+    match role {
+        Role::Leader(writer) => lose(writer, machine, out, now, Reason::LeaderKeyLost),
+        Role::Stray => {
+            end_server(machine, out, now, Reason::LeaderKeyLost);
+            Role::Stray
+        }
+        Role::Follower => follows(knows, machine, out, now, leader),
+        Role::Holder(lease) => {
+            lease.lost();
+            follows(knows, machine, out, now, leader)
+        }
+        role => role,
+    }
+}
+
+/// Another member leads: the server follows that one's, and the agent tells of itself.
+fn follows(
+    knows: &mut Knowledge,
+    machine: &mut Machine,
+    out: &mut Outputs,
+    now: Ticks,
+    leader: MemberId,
+) -> Role
+    requires moment { now.0 ≤ latest }
+    requires sound { IsSound knows.old }
+    requires server { IsWithin machine.old.server }
+    requires numbers { knows.old.sequence < 2 ^ 60 }
+    requires room { 2 ≤ out.old.spare }
+    ensures outcome { made (role_of result) knows.new machine.new out.new ≡ follows now leader (made Follower knows.old machine.old out.old) }
+    ensures sound { IsSound knows.new }
+    ensures numbers { knows.new.sequence ≤ knows.old.sequence + 1 }
+    ensures room { out.old.spare ≤ out.new.spare + 2 }
+{
+    follow_row(machine, out, now, leader);
+    touch(knows, machine, out);
+    Role::Follower
+}
+
+/// The leader key is absent.
+fn no_key(
+    role: Role,
+    knows: &mut Knowledge,
+    machine: &mut Machine,
+    out: &mut Outputs,
+    now: Ticks,
+) -> Role
+    requires moment { now.0 ≤ latest }
+    requires sound { IsSound knows.old }
+    requires server { IsWithin machine.old.server }
+    requires numbers { knows.old.sequence < 2 ^ 60 }
+    requires room { 2 ≤ out.old.spare }
+    ensures outcome { made (role_of result) knows.new machine.new out.new ≡ no_key now (role_of role) (made (role_of role) knows.old machine.old out.old) }
+    ensures sound { IsSound knows.new }
+    ensures numbers { knows.new.sequence ≤ knows.old.sequence + 1 }
+    ensures room { out.old.spare ≤ out.new.spare + 2 }
+{
+    match role {
+        Role::Leader(writer) => lose(writer, machine, out, now, Reason::LeaderKeyLost),
+        Role::Stray => {
+            end_server(machine, out, now, Reason::LeaderKeyLost);
+            Role::Stray
+        }
+        Role::Follower => finds_free(knows, machine, out, now),
+        Role::Holder(lease) => {
+            lease.lost();
+            finds_free(knows, machine, out, now)
+        }
+        role => role,
+    }
+}
+
+/// Nobody leads: who has a running replica asks for the leader key, and a server that is down starts as a replica of none.
+fn finds_free(
+    knows: &mut Knowledge,
+    machine: &mut Machine,
+    out: &mut Outputs,
+    now: Ticks,
+) -> Role
+    requires moment { now.0 ≤ latest }
+    requires sound { IsSound knows.old }
+    requires server { IsWithin machine.old.server }
+    requires numbers { knows.old.sequence < 2 ^ 60 }
+    requires room { 2 ≤ out.old.spare }
+    ensures outcome { made (role_of result) knows.new machine.new out.new ≡ finds_free now machine.old.server.state (made Follower knows.old machine.old out.old) }
+    ensures sound { IsSound knows.new }
+    ensures numbers { knows.new.sequence ≤ knows.old.sequence + 1 }
+    ensures room { out.old.spare ≤ out.new.spare + 2 }
+{
+    match machine.server.state {
+        State::Stopped | State::Crashed => {
+            start_behind(machine, out, now, None);
+            touch(knows, machine, out);
+        }
+        State::Replica => create(knows, machine, out, now),
+        _ => touch(knows, machine, out),
+    }
+    Role::Follower
+}
+
+/// Asks for the leader key.
+fn create(knows: &mut Knowledge, machine: &Machine, out: &mut Outputs, now: Ticks)
+    requires moment { now.0 ≤ latest }
+    requires sound { IsSound knows.old }
+    requires numbers { knows.old.sequence < 2 ^ 60 }
+    requires room { 1 ≤ out.old.spare }
+    ensures knows { knows.new ≡ waiting now questions.Creating (seconds_after now knows.old.settings.retry_timeout) (counted knows.old) }
+    ensures out { out.new ≡ listed (outputs.Send targets.Store (knows.old.sequence + 1) (bodies.Request (txns.Create (info_of knows.old.who machine.now.server) (lease_span knows.old.settings) None))) out.old }
+    ensures sound { IsSound knows.new }
+{
+    let create = Txn::Create {
+        info: info_of(&knows.who, &machine.server),
+        ttl: knows.settings.ttl_ticks(),
+        failsafe: None,
+    };
+    let until = now + knows.settings.retry_timeout_ticks();
+    ask(knows, out, now, Question::Creating, until, Body::Request(create));
+}

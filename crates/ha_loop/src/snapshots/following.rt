@@ -1,0 +1,83 @@
+//! What the server of a member does under another leader, or under none.
+ghost use Rattle.std.specs.Prelude.{◌≡◌, ◌≤◌, ◌+◌};
+ghost use Rattle.pg_model.specs.Status.{status_replica_started, status_following};
+ghost use Rattle.event_book.specs.Members.{server_id_of};
+ghost use Rattle.ha_loop.specs.declared.knowledge.Knowledge.{Knowledge};
+ghost use Rattle.ha_loop.specs.declared.output.Output.TheVariants as outputs;
+ghost use Rattle.ha_loop.specs.Acting.{upstream_of};
+ghost use Rattle.ha_loop.specs.Agents.{IsWithin, Follower, made, latest};
+ghost use Rattle.ha_loop.specs.Outputs.{listed};
+ghost use Rattle.ha_loop.specs.Snapshots.{starts_behind, is_upstream, follows_anew, follow_row};
+
+use crate::{Machine, Output, Outputs};
+use pat_base::{MemberId, ServerId, State, Ticks};
+
+/// What a server does under another leader.
+pub(super) fn follow_row(machine: &mut Machine, out: &mut Outputs, now: Ticks, leader: MemberId)
+    requires moment { now.0 ≤ latest }
+    requires server { IsWithin machine.old.server }
+    requires room { 1 ≤ out.old.spare }
+    ensures outcome { (knows : Knowledge) → made Follower knows machine.new out.new ≡ follow_row now leader machine.old.server.state (made Follower knows machine.old out.old) }
+    ensures room { out.old.spare ≤ out.new.spare + 1 }
+{
+    match machine.server.state {
+        State::Stopped | State::Crashed => start_behind(machine, out, now, Some(leader)),
+        State::Replica => follow_anew(machine, out, leader),
+        _ => {}
+    }
+}
+
+/// A server that is down starts as a replica of this member's, or of none, unless its log diverged.
+pub(super) fn start_behind(
+    machine: &mut Machine,
+    out: &mut Outputs,
+    now: Ticks,
+    leader: Option<MemberId>,
+)
+    requires moment { now.0 ≤ latest }
+    requires server { IsWithin machine.old.server }
+    requires room { 1 ≤ out.old.spare }
+    ensures outcome { (knows : Knowledge) → made Follower knows machine.new out.new ≡ starts_behind now leader (made Follower knows machine.old out.old) }
+    ensures room { out.old.spare ≤ out.new.spare + 1 }
+{
+    if !machine.server.diverged {
+        machine.server.start_replica(now, upstream_of(leader));
+        out.put(Output::StartReplica { leader });
+    }
+}
+
+fn upstream_of(leader: Option<MemberId>) -> Option<ServerId>
+    ensures { result ≡ upstream_of leader }
+{
+    match leader {
+        None => None,
+        Some(leader) => Some(server_of(leader)),
+    }
+}
+
+fn server_of(member: MemberId) -> ServerId
+    ensures { result ≡ server_id_of member }
+{
+    ServerId::of(member)
+}
+
+/// A replica of another server, or of none, follows this member's.
+fn follow_anew(machine: &mut Machine, out: &mut Outputs, leader: MemberId)
+    requires { 1 ≤ out.old.spare }
+    ensures outcome { (knows : Knowledge) → made Follower knows machine.new out.new ≡ follows_anew leader (made Follower knows machine.old out.old) }
+    ensures room { out.old.spare ≤ out.new.spare + 1 }
+{
+    if !is_upstream(leader, machine.server.upstream) {
+        machine.server.follow(server_of(leader));
+        out.put(Output::Follow { leader });
+    }
+}
+
+fn is_upstream(leader: MemberId, upstream: Option<ServerId>) -> bool
+    ensures { result ≡ is_upstream leader upstream }
+{
+    match upstream {
+        None => false,
+        Some(upstream) => upstream.number == leader.number,
+    }
+}

@@ -1,0 +1,141 @@
+//! What an agent asks as it renews its lease, and what it tells with that.
+ghost use Rattle.std.specs.Prelude.{◌≡◌, ◌≤◌, ◌<◌, ◌+◌, ◌^◌, Some, option_copied};
+ghost use Rattle.event_book.specs.declared.message.Body.TheVariants as bodies;
+ghost use Rattle.ha_loop.specs.declared.knowledge.Question.TheVariants as questions;
+ghost use Rattle.ha_loop.specs.declared.output.Output.TheVariants as outputs;
+ghost use Rattle.ha_loop.specs.declared.output.Target.TheVariants as targets;
+ghost use Rattle.ha_loop.specs.Acting.{seconds_after, counted, waiting};
+ghost use Rattle.ha_loop.specs.Agents.{IsSound, latest};
+ghost use Rattle.ha_loop.specs.Outputs.{listed};
+ghost use Rattle.ha_loop.specs.Snapshots.{status_told, row_at, missing_point, missing_row, row_told, renewal, turn_start};
+
+use crate::acting::ask;
+use crate::info::info_of;
+use crate::{Knowledge, Machine, Outputs, Question};
+use cluster_config::Snapshot;
+use event_book::Body;
+use lease_store::{HistoryRow, Txn};
+use pat_base::{Lsn, MemberId, State, Ticks};
+use pg_model::ServerStatus;
+use wal_model::{History, HistoryPoint};
+
+/// Asks for the renewal of the leader key that was read.
+pub(super) fn renew(
+    knows: &mut Knowledge,
+    machine: &Machine,
+    out: &mut Outputs,
+    now: Ticks,
+    history: &History,
+    revision: u64,
+)
+    requires moment { now.0 ≤ latest }
+    requires sound { IsSound knows.old }
+    requires numbers { knows.old.sequence < 2 ^ 60 }
+    requires room { 1 ≤ out.old.spare }
+    ensures knows { knows.new ≡ waiting now questions.Renewing (seconds_after (turn_start now knows.old.last_turn) knows.old.settings.retry_timeout) (counted knows.old) }
+    ensures out { out.new ≡ listed (outputs.Send targets.Store (knows.old.sequence + 1) (bodies.Request (renewal now history.now.points revision knows.old machine.now.server))) out.old }
+    ensures sound { IsSound knows.new }
+{
+    let renewal = renewal(now, history, revision, knows, &machine.server);
+    let until = turn_start(now, knows) + knows.settings.retry_timeout_ticks();
+    ask(knows, out, now, Question::Renewing, until, Body::Request(renewal));
+}
+
+/// When the turn began that asks this.
+fn turn_start(now: Ticks, knows: &Knowledge) -> Ticks
+    requires moment { now.0 ≤ latest }
+    requires sound { IsSound knows.now }
+    ensures value { result ≡ turn_start now knows.now.last_turn }
+    ensures bound { result.0 ≤ latest }
+{
+    match knows.last_turn {
+        None => now,
+        Some(moment) => moment,
+    }
+}
+
+fn renewal(
+    now: Ticks,
+    history: &History,
+    revision: u64,
+    knows: &Knowledge,
+    server: &ServerStatus,
+) -> Txn
+    ensures { result ≡ renewal now history.now.points revision knows.now server.now }
+{
+    Txn::Renew {
+        revision,
+        info: info_of(&knows.who, server),
+        ttl: knows.settings.ttl_ticks(),
+        status: status_told(server),
+        row: row_told(now, history, knows, server),
+        failsafe: None,
+    }
+}
+
+/// A leader tells where its log ends.
+fn status_told(server: &ServerStatus) -> Option<Lsn>
+    ensures { result ≡ status_told server.now }
+{
+    match server.state {
+        State::Primary => server.end,
+        _ => None,
+    }
+}
+
+/// A leader tells the first row of its history that the key store lacks.
+fn row_told(
+    now: Ticks,
+    history: &History,
+    knows: &Knowledge,
+    server: &ServerStatus,
+) -> Option<HistoryRow>
+    ensures { result ≡ row_told now history.now.points knows.now server.now }
+{
+    match server.state {
+        State::Primary => missing_row(now, knows.who.me, &knows.seen, history),
+        _ => None,
+    }
+}
+
+fn missing_row(
+    now: Ticks,
+    me: MemberId,
+    seen: &Option<Snapshot>,
+    history: &History,
+) -> Option<HistoryRow>
+    ensures { result ≡ missing_row now me seen.now history.now.points }
+{
+    match seen {
+        None => None,
+        Some(snapshot) => match missing_point(snapshot, history) {
+            None => None,
+            Some(point) => Some(row_at(now, me, point)),
+        },
+    }
+}
+
+fn row_at(now: Ticks, me: MemberId, point: HistoryPoint) -> HistoryRow
+    ensures { result ≡ row_at now me point }
+{
+    HistoryRow {
+        timeline: point.timeline,
+        at: point.at,
+        tick: now,
+        leader: me,
+    }
+}
+
+/// The first point of a history whose row the snapshot lacks.
+fn missing_point(snapshot: &Snapshot, history: &History) -> Option<HistoryPoint>
+    ensures { result ≡ missing_point snapshot.now history.now.points }
+{
+    for place in 0..history.len() {
+        if let Some(point) = history.get(place) {
+            if !snapshot.has_row(point.timeline) {
+                return Some(*point);
+            }
+        }
+    }
+    None
+}

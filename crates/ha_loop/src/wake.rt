@@ -1,0 +1,224 @@
+//! What a woken agent does: a deadline that has passed comes first, and then a turn that is due.
+ghost use Rattle.std.specs.Prelude.{◌≡◌, ◌≤◌, ◌<◌, ◌+◌, ◌*◌, ◌^◌, Some, None, false, true};
+ghost use Rattle.event_book.specs.declared.message.Body.TheVariants as bodies;
+ghost use Rattle.event_book.specs.declared.reason.Reason.TheVariants as reasons;
+ghost use Rattle.leader_key.specs.Lease.{writer_revision};
+ghost use Rattle.pg_model.specs.Status.{status_stopping};
+ghost use Rattle.ha_loop.specs.declared.output.Output.TheVariants as outputs;
+ghost use Rattle.ha_loop.specs.declared.output.Target.TheVariants as targets;
+ghost use Rattle.ha_loop.specs.declared.role.Why.TheVariants as whys;
+ghost use Rattle.ha_loop.specs.Acting.{seconds_after, counted, waiting};
+ghost use Rattle.ha_loop.specs.Agents.{IsSound, IsWithin, Ending, role_of, made, latest};
+ghost use Rattle.ha_loop.specs.Outputs.{listed};
+ghost use Rattle.ha_loop.specs.Wake.{finds_ended, is_overdue, has_turn, is_due, leader_out_of_reach, stray_out_of_reach, out_of_reach_as, out_of_reach, unanswered, overdue_for, overdue, reading, is_stopping, turn_as, turn_noted, turn_begins, turned, woken};
+
+use crate::acting::{ask, end_server, lose};
+use crate::before::before;
+use crate::role::Role;
+use crate::{Knowledge, Machine, Outputs, Question, Waited};
+use event_book::{Body, Reason};
+use pat_base::{State, Ticks};
+
+/// A wake.
+pub(crate) fn wake(
+    role: Role,
+    knows: &mut Knowledge,
+    machine: &mut Machine,
+    out: &mut Outputs,
+    now: Ticks,
+) -> Role
+    requires moment { now.0 ≤ latest }
+    requires sound { IsSound knows.old }
+    requires server { IsWithin machine.old.server }
+    requires numbers { knows.old.sequence + 2 ≤ 2 ^ 60 }
+    requires room { 4 ≤ out.old.spare }
+    ensures outcome { made (role_of result) knows.new machine.new out.new ≡ woken now (made (role_of role) knows.old machine.old out.old) }
+    ensures sound { IsSound knows.new }
+    ensures numbers { knows.new.sequence ≤ knows.old.sequence + 2 }
+    ensures room { out.old.spare ≤ out.new.spare + 4 }
+{
+    let due = is_due(&role, knows, machine, now);
+    let role = before(role, knows, machine, out, now);
+    if !due {
+        return role;
+    }
+    let role = overdue(role, knows, machine, out, now);
+    turned(&role, knows, machine, out, now);
+    role
+}
+
+/// Whether there is something to do for an agent that is woken.
+pub(crate) fn is_due(role: &Role, knows: &Knowledge, machine: &Machine, now: Ticks) -> bool
+    ensures { result ≡ is_due now (role_of role.now) knows.now machine.now }
+{
+    finds_ended(role, machine.server.state) || is_overdue(now, knows.waited) || has_turn(now, knows)
+}
+
+/// An agent that ends its server can find that it has ended.
+fn finds_ended(role: &Role, state: State) -> bool
+    ensures { result ≡ finds_ended (role_of role.now) state }
+{
+    match role {
+        Role::Ending(_, _) => !state.live(),
+        _ => false,
+    }
+}
+
+fn is_overdue(now: Ticks, waited: Option<Waited>) -> bool
+    ensures { result ≡ is_overdue now waited }
+{
+    match waited {
+        None => false,
+        Some(waited) => waited.until <= now,
+    }
+}
+
+fn has_turn(now: Ticks, knows: &Knowledge) -> bool
+    ensures { result ≡ has_turn now knows.now }
+{
+    knows.waited.is_none() && knows.next_turn <= now
+}
+
+/// A deadline that has passed.
+fn overdue(
+    role: Role,
+    knows: &mut Knowledge,
+    machine: &mut Machine,
+    out: &mut Outputs,
+    now: Ticks,
+) -> Role
+    requires moment { now.0 ≤ latest }
+    requires sound { IsSound knows.old }
+    requires server { IsWithin machine.old.server }
+    requires room { 1 ≤ out.old.spare }
+    ensures outcome { made (role_of result) knows.new machine.new out.new ≡ overdue now (made (role_of role) knows.old machine.old out.old) }
+    ensures sound { IsSound knows.new }
+    ensures numbers { knows.new.sequence ≡ knows.old.sequence }
+    ensures room { out.old.spare ≤ out.new.spare + 1 }
+{
+    let Some(waited) = knows.waited else {
+        return role;
+    };
+    if now < waited.until {
+        return role;
+    }
+    unanswered(waited.question, role, knows, machine, out, now)
+}
+
+/// A question isn't answered in time.
+fn unanswered(
+    question: Question,
+    role: Role,
+    knows: &mut Knowledge,
+    machine: &mut Machine,
+    out: &mut Outputs,
+    now: Ticks,
+) -> Role
+    requires moment { now.0 ≤ latest }
+    requires sound { IsSound knows.old }
+    requires server { IsWithin machine.old.server }
+    requires room { 1 ≤ out.old.spare }
+    ensures outcome { made (role_of result) knows.new machine.new out.new ≡ unanswered now question (made (role_of role) knows.old machine.old out.old) }
+    ensures sound { IsSound knows.new }
+    ensures numbers { knows.new.sequence ≡ knows.old.sequence }
+    ensures room { out.old.spare ≤ out.new.spare + 1 }
+{
+    match question {
+        Question::Reading | Question::Renewing => out_of_reach(role, knows, machine, out, now),
+        Question::Creating => {
+            knows.waited = None;
+            role
+        }
+    }
+}
+
+/// A leader whose read or renewal isn't answered in time ends its server, since another may have its key soon. So does one that
+/// has no lease while its server is live.
+fn out_of_reach(
+    role: Role,
+    knows: &mut Knowledge,
+    machine: &mut Machine,
+    out: &mut Outputs,
+    now: Ticks,
+) -> Role
+    requires moment { now.0 ≤ latest }
+    requires sound { IsSound knows.old }
+    requires server { IsWithin machine.old.server }
+    requires room { 1 ≤ out.old.spare }
+    ensures outcome { made (role_of result) knows.new machine.new out.new ≡ out_of_reach now (made (role_of role) knows.old machine.old out.old) }
+    ensures sound { IsSound knows.new }
+    ensures numbers { knows.new.sequence ≡ knows.old.sequence }
+    ensures room { out.old.spare ≤ out.new.spare + 1 }
+{
+    knows.waited = None;
+    match role {
+        Role::Leader(writer) => lose(writer, machine, out, now, Reason::StoreOutOfReach),
+        Role::Stray => {
+            end_server(machine, out, now, Reason::StoreOutOfReach);
+            Role::Stray
+        }
+        role => role,
+    }
+}
+
+/// A turn begins, if one is due.
+fn turned(role: &Role, knows: &mut Knowledge, machine: &Machine, out: &mut Outputs, now: Ticks)
+    requires moment { now.0 ≤ latest }
+    requires sound { IsSound knows.old }
+    requires numbers { knows.old.sequence < 2 ^ 60 }
+    requires room { 1 ≤ out.old.spare }
+    ensures outcome { made (role_of role.now) knows.new machine.now out.new ≡ turned now (made (role_of role.now) knows.old machine.now out.old) }
+    ensures sound { IsSound knows.new }
+    ensures numbers { knows.new.sequence ≤ knows.old.sequence + 1 }
+    ensures room { out.old.spare ≤ out.new.spare + 1 }
+{
+    if has_turn(now, knows) {
+        turn_begins(role, knows, machine, out, now);
+    }
+}
+
+/// A turn begins. Who ends its server only waits for that.
+fn turn_begins(
+    role: &Role,
+    knows: &mut Knowledge,
+    machine: &Machine,
+    out: &mut Outputs,
+    now: Ticks,
+)
+    requires moment { now.0 ≤ latest }
+    requires sound { IsSound knows.old }
+    requires numbers { knows.old.sequence < 2 ^ 60 }
+    requires room { 1 ≤ out.old.spare }
+    ensures outcome { made (role_of role.now) knows.new machine.now out.new ≡ turn_begins now (made (role_of role.now) knows.old machine.now out.old) }
+    ensures sound { IsSound knows.new }
+    ensures numbers { knows.new.sequence ≤ knows.old.sequence + 1 }
+    ensures room { out.old.spare ≤ out.new.spare + 1 }
+{
+    knows.last_turn = Some(now);
+    knows.next_turn = now + knows.settings.loop_wait_ticks();
+    match role {
+        Role::Ending(_, _) => {}
+        Role::Stray if is_stopping(machine.server.state) => {}
+        _ => read(knows, out, now),
+    }
+}
+
+fn is_stopping(state: State) -> bool
+    ensures { result ≡ is_stopping state }
+{
+    matches!(state, State::Stopping { .. })
+}
+
+/// Asks what the key store holds.
+fn read(knows: &mut Knowledge, out: &mut Outputs, now: Ticks)
+    requires moment { now.0 ≤ latest }
+    requires sound { IsSound knows.old }
+    requires numbers { knows.old.sequence < 2 ^ 60 }
+    requires room { 1 ≤ out.old.spare }
+    ensures knows { knows.new ≡ waiting now Question.Reading (seconds_after now knows.old.settings.retry_timeout) (counted knows.old) }
+    ensures out { out.new ≡ listed (outputs.Send targets.Store (knows.old.sequence + 1) bodies.Read) out.old }
+    ensures sound { IsSound knows.new }
+{
+    let until = now + knows.settings.retry_timeout_ticks();
+    ask(knows, out, now, Question::Reading, until, Body::Read);
+}
