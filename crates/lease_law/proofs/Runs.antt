@@ -32,7 +32,7 @@ inv-act s (Crash m) inv law timely = inv-crash s m inv
 inv-act s Note inv law timely = inv
 
 inv-writes : (s : State) (w : ℕ → Bool) → IsSound s → IsSound (record s { writes = w })
-inv-writes s w inv = record { guarded = inv.guarded; sole = inv.sole; parted = inv.parted; off = inv.off; bounded = inv.bounded; failsafe_bounded = inv.failsafe_bounded; asked = inv.asked; said = inv.said; begs = inv.begs; yeses = inv.yeses; taken = inv.taken; kept = inv.kept; spans = inv.spans; begging = inv.begging; fresh = inv.fresh; tokens = inv.tokens }
+inv-writes s w inv = record { guarded = inv.guarded; sole = inv.sole; parted = inv.parted; ready_by_grant = inv.ready_by_grant; off = inv.off; bounded = inv.bounded; failsafe_bounded = inv.failsafe_bounded; asked = inv.asked; said = inv.said; begs = inv.begs; yeses = inv.yeses; taken = inv.taken; kept = inv.kept; spans = inv.spans; begging = inv.begging; fresh = inv.fresh; tokens = inv.tokens }
 
 -- who may write inside an action
 abbrev Inside : State → Action → ℕ → Type 0
