@@ -40,15 +40,16 @@ use Rattle.lease_law.specs.Outcomes.{failsafe_carried}
 use Rattle.lease_law.specs.Past.{extended_by, members_if}
 use Rattle.commit_law.specs.Functions.{forget}
 use Rattle.commit_law.specs.Keys.{SyncKey, Need}
-use Rattle.commit_law.specs.Flights.{Flying, SyncRequest, Requested, SnapshotSent, RaceAnswered}
+use Rattle.commit_law.specs.Flights.{Flying, SyncRequest, Requested, RaceAnswered}
 use Rattle.commit_law.specs.States.{Agent, Machine, State}
 use Rattle.commit_law.specs.Inputs.{Sending, AgentInput}
 use Rattle.commit_law.specs.Actions.{Commit, Acknowledge, Receive, Confirm, Rewind, Clone, Wipe, Accept, Cease, End, Create, Renew, Expire, Release, OtherWrite, SendSnapshot, Decide, Lose, AnswerRace, Start, Kill, Note, Input, with_machine, with_log, send, machine_after, fresh_agent, is_none, is_as_read, is_granted, failsafe_revision_if, with_decision, decide_at}
 use Rattle.commit_law.specs.Past.{Setup, Past, past_after, past_over, VolatileState, log_found, front_to, need_of, position_in, position_of, machine_of, state_of, Query, LeaseQuery, SyncQuery, OtherQuery, leader_revision, claim_request, publish_request, create_request, revision_in, grant_in_flight_of, snapshot_of, race_answer_of, is_keyless, is_leaderless, key_holder, failsafe_revision_of}
 use Rattle.commit_law.specs.Books.{IsShown}
-use Rattle.commit_law.specs.Showing.{event_at, granted_events, decided_events, refused_events, read_events, IsOwn, AreOwn, with_server_down, carries_set, IsOtherTxn, IsIdle, AreIdle}
+use Rattle.lease_law.specs.Telling.{granted_events, refused_events, read_events}
+use Rattle.commit_law.specs.Showing.{event_at, decided_events, IsOwn, AreOwn, with_server_down, carries_set, IsOtherTxn, IsIdle, AreIdle}
 use Rattle.commit_law.specs.ShownActions.{ActionsAreShown}
-use Rattle.commit_law.proofs.Tools.{none-some, put-all}
+use Rattle.lease_law.proofs.Tools.{none-some, put-all}
 
 -- one item of a list is changed
 changed-here : {A : Type 0} (items : List A) (k : ℕ) (f : A → A) (x : A) → slice_get items k ≡ Some x → slice_get (changed_by items k f) k ≡ Some (f x)

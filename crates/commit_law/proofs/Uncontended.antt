@@ -8,7 +8,7 @@ use Rattle.commit_law.specs.States.{Agent, Machine, State, is_ready, Acts, Inclu
 use Rattle.commit_law.specs.Inputs.{IsUnled}
 use Rattle.commit_law.specs.Actions.{IsNumbered}
 use Rattle.commit_law.specs.Carried.{IsComplete, IsSyncKeyKept, IsConfirmed, AreNear, IsAimKept, IsTurnKept, IsSound}
-use Rattle.commit_law.proofs.Tools.{none-some, not-false, put-all}
+use Rattle.lease_law.proofs.Tools.{none-some, not-false, put-all}
 use Rattle.commit_law.proofs.Counting.{but-sub, meets-sub}
 
 -- an agent that has just started

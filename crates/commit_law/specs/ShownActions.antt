@@ -37,7 +37,8 @@ use Rattle.commit_law.specs.Inputs.{Sending}
 use Rattle.commit_law.specs.Actions.{Commit, Acknowledge, Receive, Confirm, Rewind, Clone, Wipe, Accept, Cease, End, Create, Renew, Expire, Release, OtherWrite, SendSnapshot, Decide, Lose, AnswerRace, Start, Kill, Note, Input, send, fresh_agent, is_as_read, is_granted}
 use Rattle.commit_law.specs.Past.{Setup, Past, past_over, VolatileState, log_found, front_to, need_of, LeaseQuery, SyncQuery, OtherQuery, leader_revision, claim_request, publish_request, create_request, revision_in, is_keyless, is_leaderless}
 use Rattle.commit_law.specs.Books.{IsShown}
-use Rattle.commit_law.specs.Showing.{event_at, granted_events, decided_events, refused_events, read_events, AreOwn, with_server_down, carries_set, IsOtherTxn, AreIdle}
+use Rattle.lease_law.specs.Telling.{granted_events, refused_events, read_events}
+use Rattle.commit_law.specs.Showing.{event_at, decided_events, AreOwn, with_server_down, carries_set, IsOtherTxn, AreIdle}
 
 pub record ActionsAreShown : Type 0 where
   pub commit : (setup : Setup) (past : Past) (volatile_states : ℕ → VolatileState) (tick : Ticks) (server : ServerOf) (entry : Entry) (log : Option (List Entry)) → slice_get past.logs server.id.number ≡ Some log → IsShown setup past volatile_states (record { action = Commit server.id.number entry; events = event_at tick (kinds.Log (logs.Appended server entry)); volatile_states = volatile_states })
