@@ -49,7 +49,7 @@ use Rattle.commit_law.specs.Books.{IsShown}
 use Rattle.lease_law.specs.Telling.{granted_events, refused_events, read_events}
 use Rattle.commit_law.specs.Showing.{event_at, decided_events, IsOwn, AreOwn, with_server_down, carries_set, IsOtherTxn, IsIdle, AreIdle}
 use Rattle.commit_law.specs.ShownActions.{ActionsAreShown}
-use Rattle.lease_law.proofs.Tools.{none-some, put-all}
+use Rattle.lease_law.proofs.Tools.{none-some, put-all, put-here, put-there}
 
 -- one item of a list is changed
 changed-here : {A : Type 0} (items : List A) (k : ℕ) (f : A → A) (x : A) → slice_get items k ≡ Some x → slice_get (changed_by items k f) k ≡ Some (f x)
@@ -66,12 +66,6 @@ changed-at-there items k f (Some x) n other = got-set_other items k n (f x) othe
 
 changed-there : {A : Type 0} (items : List A) (k : ℕ) (f : A → A) (n : ℕ) → (n ≡ k → ⊥) → slice_get (changed_by items k f) n ≡ slice_get items n
 changed-there items k f n other = changed-at-there items k f (slice_get items k) n other
-
-put-here : {A : Type 0} (f : ℕ → A) (k : ℕ) (x : A) → put_at f k x k ≡ x
-put-here f k x = put-all f k x (λ n z. n ≡ k → z ≡ x) (λ same. refl) (λ n other same. absurd (other same)) k refl
-
-put-there : {A : Type 0} (f : ℕ → A) (k : ℕ) (x : A) (n : ℕ) → (n ≡ k → ⊥) → put_at f k x n ≡ f n
-put-there f k x n other = put-all f k x (λ m z. (m ≡ k → ⊥) → z ≡ f m) (λ no. absurd (no refl)) (λ m o no. refl) n other
 
 -- the machines, where one changes
 pub members-shown : (past past' : Past) (volatile_states volatile_states' : ℕ → VolatileState) (k : ℕ) (y : Machine) → machine_of past' (volatile_states' k) k ≡ y → ((n : ℕ) → (n ≡ k → ⊥) → machine_of past' (volatile_states' n) n ≡ machine_of past (volatile_states n) n) → ◌≡◌ {A = ℕ → Machine} (λ n. machine_of past' (volatile_states' n) n) (put_at (λ n. machine_of past (volatile_states n) n) k y)
