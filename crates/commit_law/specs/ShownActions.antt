@@ -1,4 +1,4 @@
--- Each action is told by its events.
+-- Each action is shown by its events.
 use Rattle.std.specs.Prelude.{ℕ, ◌≡◌, ◌+◌, ◌<◌, Bool, true, false, List, length, take, Option, Some, None, slice_get}
 use Rattle.pat_base.specs.declared.lsn.Lsn.{Lsn}
 use Rattle.pat_base.specs.declared.name.Name.{Name}
@@ -40,7 +40,9 @@ use Rattle.commit_law.specs.Books.{IsShown}
 use Rattle.lease_law.specs.Telling.{granted_events, refused_events, read_events}
 use Rattle.commit_law.specs.Showing.{event_at, decided_events, AreOwn, with_server_down, carries_set, IsOtherTxn, AreIdle}
 
+-- for each action, the events that show it, and on which condition
 pub record ActionsAreShown : Type 0 where
+  -- logs and replication
   pub commit : (setup : Setup) (past : Past) (volatile_states : ℕ → VolatileState) (tick : Ticks) (server : ServerOf) (entry : Entry) (log : Option (List Entry)) → slice_get past.logs server.id.number ≡ Some log → IsShown setup past volatile_states (record { action = Commit server.id.number entry; events = event_at tick (kinds.Log (logs.Appended server entry)); volatile_states = volatile_states })
   pub receive : (setup : Setup) (past : Past) (volatile_states : ℕ → VolatileState) (tick : Ticks) (server from : ServerOf) (count : ℕ) (log theirs : Option (List Entry)) → slice_get past.logs server.id.number ≡ Some log → slice_get past.logs from.id.number ≡ Some theirs → IsShown setup past volatile_states (record { action = Receive server.id.number from.id.number count; events = event_at tick (kinds.Log (logs.Received server from count)); volatile_states = volatile_states })
   pub rewind : (setup : Setup) (past : Past) (volatile_states : ℕ → VolatileState) (tick : Ticks) (server from : ServerOf) (kept : ℕ) (at : Lsn) (log theirs : Option (List Entry)) → slice_get past.logs server.id.number ≡ Some log → slice_get past.logs from.id.number ≡ Some theirs → take kept (entries_of log) ≡ common_of (entries_of log) (entries_of theirs) → IsShown setup past volatile_states (record { action = Rewind server.id.number from.id.number; events = event_at tick (kinds.Log (logs.Rewound server from kept at)); volatile_states = volatile_states })
@@ -48,6 +50,7 @@ pub record ActionsAreShown : Type 0 where
   pub wipe : (setup : Setup) (past : Past) (volatile_states : ℕ → VolatileState) (tick : Ticks) (server : ServerOf) (log : Option (List Entry)) → slice_get past.logs server.id.number ≡ Some log → IsShown setup past volatile_states (record { action = Wipe server.id.number; events = event_at tick (kinds.Log (logs.Wiped server)); volatile_states = volatile_states })
   pub acknowledge : (setup : Setup) (past : Past) (volatile_states : ℕ → VolatileState) (tick : Ticks) (server : ServerOf) (commit : ℕ) → IsShown setup past volatile_states (record { action = Acknowledge server.id.number (front_to commit (entries_of (log_found (slice_get past.logs server.id.number)))) commit; events = event_at tick (kinds.Replication (replications.Acknowledged server commit)); volatile_states = volatile_states })
   pub confirm : (setup : Setup) (past : Past) (volatile_states : ℕ → VolatileState) (tick : Ticks) (server : ServerOf) (by : Member) (end : Lsn) (positions : List (Option Lsn)) → slice_get past.confirmed server.id.number ≡ Some positions → by.id.number < length positions → end.position ≡ end_of (entries_of (log_found (slice_get past.logs by.id.number))) → IsShown setup past volatile_states (record { action = Confirm server.id.number by.id.number; events = event_at tick (kinds.Replication (replications.Confirmed server by end)); volatile_states = volatile_states })
+  -- servers and agents
   pub accept : (setup : Setup) (past : Past) (volatile_states : ℕ → VolatileState) (tick : Ticks) (server : ServerOf) (timeline : ℕ) (positions : List (Option Lsn)) → slice_get past.confirmed server.id.number ≡ Some positions → IsShown setup past volatile_states (record { action = Accept server.id.number; events = event_at tick (kinds.Server (servers.Began server timeline)); volatile_states = volatile_states })
   pub ended : (setup : Setup) (past : Past) (volatile_states : ℕ → VolatileState) (tick : Ticks) (server : ServerOf) → IsShown setup past volatile_states (record { action = End server.id.number; events = event_at tick (kinds.Server (servers.Ended server)); volatile_states = with_server_down volatile_states server.id.number })
   pub crashed : (setup : Setup) (past : Past) (volatile_states : ℕ → VolatileState) (tick : Ticks) (server : ServerOf) → IsShown setup past volatile_states (record { action = End server.id.number; events = event_at tick (kinds.Server (servers.Crashed server)); volatile_states = with_server_down volatile_states server.id.number })
@@ -55,6 +58,7 @@ pub record ActionsAreShown : Type 0 where
   pub cease : (setup : Setup) (past : Past) (volatile_states : ℕ → VolatileState) (tick : Ticks) (server : ServerOf) → IsShown setup past volatile_states (record { action = Cease server.id.number; events = event_at tick (kinds.Server (servers.Ended server)); volatile_states = volatile_states })
   pub start : (setup : Setup) (past : Past) (volatile_states : ℕ → VolatileState) (tick : Ticks) (agent : Member) (run : ℕ) → run ≡ past.runs agent.id.number + 1 → IsShown setup past volatile_states (record { action = Start agent.id.number; events = event_at tick (kinds.Agent (agents.Started agent run)); volatile_states = put_at volatile_states agent.id.number (record (volatile_states agent.id.number) { agent = Some (fresh_agent (past.runs agent.id.number + 1)) }) })
   pub killed : (setup : Setup) (past : Past) (volatile_states : ℕ → VolatileState) (tick : Ticks) (agent : Member) → IsShown setup past volatile_states (record { action = Kill agent.id.number; events = event_at tick (kinds.Agent (agents.Killed agent)); volatile_states = put_at volatile_states agent.id.number (record (volatile_states agent.id.number) { agent = None }) })
+  -- the key store: time, decisions and answers
   pub tick : (setup : Setup) (past : Past) (volatile_states : ℕ → VolatileState) (tick : Ticks) → leader_kept (past.clock + 1) past.leader ≡ past.leader → IsShown setup past volatile_states (record { action = Note; events = event_at tick kinds.Tick; volatile_states = volatile_states })
   pub expired : (setup : Setup) (past : Past) (volatile_states : ℕ → VolatileState) (tick : Ticks) → leader_kept (past.clock + 1) past.leader ≡ None → IsShown setup past volatile_states (record { action = Expire; events = event_at tick kinds.Tick; volatile_states = volatile_states })
   pub lost : (setup : Setup) (past : Past) (volatile_states : ℕ → VolatileState) (tick : Ticks) (number : ℕ) → IsShown setup past volatile_states (record { action = Lose number; events = event_at tick (kinds.Message (messages.Lost number)); volatile_states = volatile_states })
@@ -69,6 +73,7 @@ pub record ActionsAreShown : Type 0 where
   pub answered : (setup : Setup) (past : Past) (volatile_states : ℕ → VolatileState) (tick : Ticks) (i j : ℕ) (by : Member) (run sequence : ℕ) (leased : Bool) → past.asked i ≡ OtherQuery → IsShown setup past volatile_states (record { action = SendSnapshot false false j; events = event_at tick (kinds.Message (messages.Sent j (record { from = ends.Store; to = ends.Member by; run = run; sequence = sequence; body = bodies.Granted i leased }))); volatile_states = volatile_states })
   pub refused : (setup : Setup) (past : Past) (volatile_states : ℕ → VolatileState) (tick : Ticks) (i j : ℕ) (by : Member) (run sequence : ℕ) (request : TxnKind) (key : Key) (found : Expected) (w : SyncRequest) → past.flight i ≡ Some (Requested w) → is_granted (leader_revision past.leader) past.sync w ≡ false → past.flight j ≡ None → IsShown setup past volatile_states (record { action = Decide i j; events = refused_events tick i j by run sequence request key found; volatile_states = volatile_states })
   pub shown : (setup : Setup) (past : Past) (volatile_states : ℕ → VolatileState) (tick : Ticks) (i j : ℕ) (by : Member) (run sequence : ℕ) → past.flight i ≡ None → IsShown setup past volatile_states (record { action = SendSnapshot (is_keyless past.leader past.failsafe) (is_leaderless past.leader) j; events = read_events tick i j by run sequence; volatile_states = volatile_states })
+  -- an answer in a race, an input, and all else
   pub replied : (setup : Setup) (past : Past) (volatile_states : ℕ → VolatileState) (tick : Ticks) (j : ℕ) (by member : Member) (run sequence : ℕ) (answer : PeerAnswer) (end : Lsn) → answer.end ≡ Some end → end.position ≡ end_of (entries_of (log_found (slice_get past.logs by.id.number))) → IsShown setup past volatile_states (record { action = AnswerRace by.id.number member.id.number run sequence j; events = event_at tick (kinds.Message (messages.Sent j (record { from = ends.Member by; to = ends.Member member; run = run; sequence = sequence; body = bodies.Answer answer }))); volatile_states = volatile_states })
   pub input : (setup : Setup) (past : Past) (volatile_states : ℕ → VolatileState) (m : ℕ) (heard : Option ℕ) (agent : Agent) (live : Bool) (sends : Option Sending) (events : List Event) → AreOwn m events → ((i : ℕ) → (past_over past events).flight i ≡ send sends (forget heard past.flight) i) → IsShown setup past volatile_states (record { action = Input m (record { heard = heard; agent = agent; live = live; required = need_of (slice_get (past_over past events).required m); sends = sends; holder_was_live = (past_over past events).holder_was_live }); events = events; volatile_states = put_at volatile_states m (record { live = live; agent = Some agent }) })
   pub idle : (setup : Setup) (past : Past) (volatile_states : ℕ → VolatileState) (events : List Event) → AreIdle events → IsShown setup past volatile_states (record { action = Note; events = events; volatile_states = volatile_states })
