@@ -44,7 +44,7 @@ use Rattle.commit_law.specs.Flights.{Flying, SyncRequest, Requested, RaceAnswere
 use Rattle.commit_law.specs.States.{Agent, Machine, State}
 use Rattle.commit_law.specs.Inputs.{Sending, AgentInput}
 use Rattle.commit_law.specs.Actions.{Commit, Acknowledge, Receive, Confirm, Rewind, Clone, Wipe, Accept, Cease, End, Create, Renew, Expire, Release, OtherWrite, SendSnapshot, Decide, Lose, AnswerRace, Start, Kill, Note, Input, with_machine, with_log, send, machine_after, fresh_agent, is_none, is_as_read, is_granted, failsafe_revision_if, with_decision, decide_at}
-use Rattle.commit_law.specs.Past.{Setup, Past, past_after, past_over, VolatileState, log_found, front_to, need_of, position_in, position_of, machine_of, state_of, Query, LeaseQuery, SyncQuery, OtherQuery, leader_revision, claim_request, publish_request, create_request, revision_in, grant_in_flight_of, snapshot_of, race_answer_of, is_keyless, is_leaderless, key_holder, failsafe_revision_of}
+use Rattle.commit_law.specs.Past.{Setup, Past, past_after, past_over, VolatileState, log_found, front_to, need_of, position_in, position_of, machine_of, state_of, Query, renew_query, lease_grant_of, LeaseQuery, SyncQuery, OtherQuery, leader_revision, claim_request, publish_request, create_request, revision_in, grant_in_flight_of, snapshot_of, race_answer_of, is_keyless, is_leaderless, key_holder, failsafe_revision_of}
 use Rattle.commit_law.specs.Books.{IsShown}
 use Rattle.lease_law.specs.Telling.{granted_events, refused_events, read_events}
 use Rattle.commit_law.specs.Showing.{event_at, decided_events, IsOwn, AreOwn, with_server_down, carries_set, IsOtherTxn, IsIdle, AreIdle}
@@ -286,19 +286,25 @@ carried-shown : (setup : Setup) (past : Past) (volatile_states : ℕ → Volatil
 carried-shown setup past volatile_states None = refl
 carried-shown setup past volatile_states (Some members) = refl
 
+renew-granted : (past : Past) (member run sequence by revision : ℕ) (failsafe : Option MemberSet) → grant_in_flight_of past member run sequence (renew_query by revision failsafe) ≡ lease_grant_of past member run sequence
+renew-granted past member run sequence by revision None = refl
+renew-granted past member run sequence by revision (Some members) = refl
+
 pub renew-shown : (setup : Setup) (past : Past) (volatile_states : ℕ → VolatileState) (tick : Ticks) (i j : ℕ) (by : Member) (run sequence revision : ℕ) (info : MemberInfo) (ttl : Ticks) (status : Option Lsn) (row : Option HistoryRow) (failsafe : Option MemberSet) (standbys : List Name) →
-    (key : LeaderKey) → past.leader ≡ Some key → past.flight i ≡ None → past.asked i ≡ LeaseQuery →
+    (key : LeaderKey) → past.leader ≡ Some key → past.flight i ≡ None → past.asked i ≡ renew_query by.id.number revision failsafe →
     IsShown setup past volatile_states (record { action = Renew by.id.number run sequence j (carries_set failsafe); events = granted_events tick i j by run sequence (txns.Renew revision info ttl status row failsafe) standbys; volatile_states = volatile_states })
 renew-shown setup past volatile_states tick i j by run sequence revision info ttl status row failsafe standbys key is none asked =
     let mid : Past = past_after (past_after past (kinds.Message (messages.Delivered i))) (kinds.Store (stores.Granted i by (txns.Renew revision info ttl status row failsafe) standbys)) in
-    let renewed : Option LeaderKey → Option ℕ → (ℕ → Option Flying) → Query → State = λ l failsafe_revision f q. record (state_of setup past volatile_states) { leader = leader_revision l; holder = key_holder l; failsafe_revision = failsafe_revision; revision = past.revision + 1; flight = put_at f j (grant_in_flight_of mid by.id.number run sequence q) } in
+    let renewed : Option LeaderKey → Option ℕ → (ℕ → Option Flying) → Option Flying → State = λ l failsafe_revision f o. record (state_of setup past volatile_states) { leader = leader_revision l; holder = key_holder l; failsafe_revision = failsafe_revision; revision = past.revision + 1; flight = put_at f j o } in
     let failsafe_revision : Option ℕ = failsafe_revision_if (carries_set failsafe) (past.revision + 1) (failsafe_revision_of past.failsafe) in
     let extended : Option LeaderKey → Option LeaderKey = extended_by past.clock (past.revision + 1) ttl.0 in
-    ap (λ (o : Option ℕ). renewed (extended past.leader) o (put_at past.flight i None) (past.asked i)) (carried-shown setup past volatile_states failsafe)
-    ∙ ap (λ (q : Query). renewed (extended past.leader) failsafe_revision (put_at past.flight i None) q) asked
-    ∙ ap (λ (f : ℕ → Option Flying). renewed (extended past.leader) failsafe_revision f LeaseQuery) (put-same past.flight i none)
-    ∙ ap (λ (l : Option LeaderKey). record (state_of setup past volatile_states) { leader = leader_revision (extended l); holder = key_holder (extended l); failsafe_revision = failsafe_revision; revision = past.revision + 1; flight = put_at past.flight j (grant_in_flight_of mid by.id.number run sequence LeaseQuery) }) is
-    ∙ ap (λ (h : ℕ). record (state_of setup past volatile_states) { leader = Some (past.revision + 1); holder = h; failsafe_revision = failsafe_revision; revision = past.revision + 1; flight = put_at past.flight j (grant_in_flight_of mid by.id.number run sequence LeaseQuery) }) (ap key_holder (sym is))
+    let granted : Option Flying = lease_grant_of mid by.id.number run sequence in
+    ap (λ (o : Option ℕ). renewed (extended past.leader) o (put_at past.flight i None) (grant_in_flight_of mid by.id.number run sequence (past.asked i))) (carried-shown setup past volatile_states failsafe)
+    ∙ ap (λ (q : Query). renewed (extended past.leader) failsafe_revision (put_at past.flight i None) (grant_in_flight_of mid by.id.number run sequence q)) asked
+    ∙ ap (λ (o : Option Flying). renewed (extended past.leader) failsafe_revision (put_at past.flight i None) o) (renew-granted mid by.id.number run sequence by.id.number revision failsafe)
+    ∙ ap (λ (f : ℕ → Option Flying). renewed (extended past.leader) failsafe_revision f granted) (put-same past.flight i none)
+    ∙ ap (λ (l : Option LeaderKey). renewed (extended l) failsafe_revision past.flight granted) is
+    ∙ ap (λ (h : ℕ). record (state_of setup past volatile_states) { leader = Some (past.revision + 1); holder = h; failsafe_revision = failsafe_revision; revision = past.revision + 1; flight = put_at past.flight j granted }) (ap key_holder (sym is))
 
 -- a request that leaves the leader key, the failsafe key and the sync key alone is granted, and then answered
 pub other-shown : (setup : Setup) (past : Past) (volatile_states : ℕ → VolatileState) (tick : Ticks) (i : ℕ) (by : Member) (txn : Txn) (standbys : List Name) → past.flight i ≡ None → IsOtherTxn txn →

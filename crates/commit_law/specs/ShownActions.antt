@@ -35,7 +35,7 @@ use Rattle.commit_law.specs.Flights.{SyncRequest, Requested}
 use Rattle.commit_law.specs.States.{Agent}
 use Rattle.commit_law.specs.Inputs.{Sending}
 use Rattle.commit_law.specs.Actions.{Commit, Acknowledge, Receive, Confirm, Rewind, Clone, Wipe, Accept, Cease, End, Create, Renew, Expire, Release, OtherWrite, SendSnapshot, Decide, Lose, AnswerRace, Start, Kill, Note, Input, send, fresh_agent, is_as_read, is_granted}
-use Rattle.commit_law.specs.Past.{Setup, Past, past_over, VolatileState, log_found, front_to, need_of, LeaseQuery, SyncQuery, OtherQuery, leader_revision, claim_request, publish_request, create_request, revision_in, is_keyless, is_leaderless}
+use Rattle.commit_law.specs.Past.{Setup, Past, past_over, renew_query, VolatileState, log_found, front_to, need_of, LeaseQuery, SyncQuery, OtherQuery, leader_revision, claim_request, publish_request, create_request, revision_in, is_keyless, is_leaderless}
 use Rattle.commit_law.specs.Books.{IsShown}
 use Rattle.lease_law.specs.Telling.{granted_events, refused_events, read_events}
 use Rattle.commit_law.specs.Showing.{event_at, decided_events, AreOwn, with_server_down, carries_set, IsOtherTxn, AreIdle}
@@ -67,7 +67,7 @@ pub record ActionsAreShown : Type 0 where
   pub create : (setup : Setup) (past : Past) (volatile_states : ℕ → VolatileState) (tick : Ticks) (i j : ℕ) (by : Member) (run sequence : ℕ) (info : MemberInfo) (ttl : Ticks) (failsafe : Option Expected) (standbys : List Name) → past.flight i ≡ None → past.asked i ≡ LeaseQuery → IsShown setup past volatile_states (record { action = Create by.id.number run sequence j; events = granted_events tick i j by run sequence (txns.Create info ttl failsafe None) standbys; volatile_states = volatile_states })
   -- a create that compares the sync key
   pub create_as_read : (setup : Setup) (past : Past) (volatile_states : ℕ → VolatileState) (tick : Ticks) (i j : ℕ) (by : Member) (run sequence : ℕ) (info : MemberInfo) (ttl : Ticks) (failsafe : Option Expected) (sync : Expected) (standbys : List Name) → past.flight i ≡ Some (Requested (create_request by.id.number run sequence sync)) → past.asked i ≡ SyncQuery (create_request by.id.number run sequence sync) → past.leader ≡ None → is_as_read past.sync (revision_in sync) ≡ true → IsShown setup past volatile_states (record { action = Decide i j; events = granted_events tick i j by run sequence (txns.Create info ttl failsafe (Some sync)) standbys; volatile_states = volatile_states })
-  pub renew : (setup : Setup) (past : Past) (volatile_states : ℕ → VolatileState) (tick : Ticks) (i j : ℕ) (by : Member) (run sequence revision : ℕ) (info : MemberInfo) (ttl : Ticks) (status : Option Lsn) (row : Option HistoryRow) (failsafe : Option MemberSet) (standbys : List Name) → (key : LeaderKey) → past.leader ≡ Some key → past.flight i ≡ None → past.asked i ≡ LeaseQuery → IsShown setup past volatile_states (record { action = Renew by.id.number run sequence j (carries_set failsafe); events = granted_events tick i j by run sequence (txns.Renew revision info ttl status row failsafe) standbys; volatile_states = volatile_states })
+  pub renew : (setup : Setup) (past : Past) (volatile_states : ℕ → VolatileState) (tick : Ticks) (i j : ℕ) (by : Member) (run sequence revision : ℕ) (info : MemberInfo) (ttl : Ticks) (status : Option Lsn) (row : Option HistoryRow) (failsafe : Option MemberSet) (standbys : List Name) → (key : LeaderKey) → past.leader ≡ Some key → past.flight i ≡ None → past.asked i ≡ renew_query by.id.number revision failsafe → IsShown setup past volatile_states (record { action = Renew by.id.number run sequence j (carries_set failsafe); events = granted_events tick i j by run sequence (txns.Renew revision info ttl status row failsafe) standbys; volatile_states = volatile_states })
   pub other : (setup : Setup) (past : Past) (volatile_states : ℕ → VolatileState) (tick : Ticks) (i : ℕ) (by : Member) (txn : Txn) (standbys : List Name) → past.flight i ≡ None → IsOtherTxn txn → IsShown setup past volatile_states (record { action = OtherWrite; events = decided_events tick i by txn standbys; volatile_states = volatile_states })
   pub release : (setup : Setup) (past : Past) (volatile_states : ℕ → VolatileState) (tick : Ticks) (i : ℕ) (by : Member) (compared : ℕ) (standbys : List Name) → past.flight i ≡ None → IsShown setup past volatile_states (record { action = Release; events = decided_events tick i by (txns.Release compared) standbys; volatile_states = volatile_states })
   pub answered : (setup : Setup) (past : Past) (volatile_states : ℕ → VolatileState) (tick : Ticks) (i j : ℕ) (by : Member) (run sequence : ℕ) (leased : Bool) → past.asked i ≡ OtherQuery → IsShown setup past volatile_states (record { action = SendSnapshot false false j; events = event_at tick (kinds.Message (messages.Sent j (record { from = ends.Store; to = ends.Member by; run = run; sequence = sequence; body = bodies.Granted i leased }))); volatile_states = volatile_states })
