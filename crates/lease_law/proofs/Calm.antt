@@ -208,7 +208,7 @@ keep-known : (b : Bool) (at : ℕ) (key k : LeaderKey) → nat_le key.expiry at 
 keep-known true at key k e is = absurd (none-some k is)
 keep-known false at key k e is = is
 
-key-known : (at : ℕ) (key : Option LeaderKey) (k : LeaderKey) → leader_kept at key ≡ Some k → key ≡ Some k
+pub key-known : (at : ℕ) (key : Option LeaderKey) (k : LeaderKey) → leader_kept at key ≡ Some k → key ≡ Some k
 key-known at None k is = is
 key-known at (Some key) k is = keep-known (nat_le key.expiry at) at key k refl is
 
