@@ -26,6 +26,7 @@ record Calm (x y : Machine) : Type 0 where
   deadline : Acts y → x.deadline ≡ y.deadline
   basis : x.by_failsafe ≡ y.by_failsafe
   parted : (is_ready x.agent ≡ true → x.live ≡ false) → is_ready y.agent ≡ true → y.live ≡ false
+  ready_by_grant : (is_ready x.agent ≡ true → x.by_failsafe ≡ false) → is_ready y.agent ≡ true → y.by_failsafe ≡ false
   hold : x.hold ≤ y.hold
   runs : x.runs ≤ y.runs
   agent : (g : Agent) → y.agent ≡ Some g → (x.agent ≡ Some g) ⊎ NewRun x y g
@@ -77,6 +78,7 @@ inv-calm s members calm inv = record {
   guarded = λ m acts. guarded-calm s.clock s.failsafe s.leader s.flight s.members members m (s.members m).deadline (members m).deadline (s.members m).by_failsafe (members m).by_failsafe ((calm m).deadline acts) (calm m).basis (λ p. (calm p).hold) (inv.guarded m ((calm m).acts acts));
   sole = λ m n am an. inv.sole m n ((calm m).acts am) ((calm n).acts an);
   parted = λ m ready. (calm m).parted (inv.parted m) ready;
+  ready_by_grant = λ m ready. (calm m).ready_by_grant (inv.ready_by_grant m) ready;
   off = inv.off;
   bounded = inv.bounded;
   failsafe_bounded = inv.failsafe_bounded;
@@ -109,7 +111,7 @@ inv-calm s members calm inv = record {
 }
 
 same-calm : (x : Machine) → Calm x x
-same-calm x = record { acts = λ a. a; parted = λ p r. p r; deadline = λ a. refl; basis = refl; hold = omega arith; runs = omega arith; agent = λ g is. inl is }
+same-calm x = record { acts = λ a. a; parted = λ p r. p r; ready_by_grant = λ p r. p r; deadline = λ a. refl; basis = refl; hold = omega arith; runs = omega arith; agent = λ g is. inl is }
 
 put-calm : (s : State) (m : ℕ) (y : Machine) → Calm (s.members m) y → (n : ℕ) → Calm (s.members n) (put_at s.members m y n)
 put-calm s m y c = put-all s.members m y (λ n z. Calm (s.members n) z) c (λ n other. same-calm (s.members n))
@@ -117,6 +119,7 @@ put-calm s m y c = put-all s.members m y (λ n z. Calm (s.members n) z) c (λ n 
 kill-calm : (x : Machine) → Calm x (kill_machine x)
 kill-calm x = record {
   parted = λ p r. absurd (both r);
+  ready_by_grant = λ p r. absurd (both r);
   acts = λ a. elim a [ inl e ↦ inl e | inr e ↦ absurd (both e) ];
   deadline = λ a. refl;
   basis = refl;
@@ -128,6 +131,7 @@ kill-calm x = record {
 crash-calm : (x : Machine) → Calm x (crash_machine x)
 crash-calm x = record {
   parted = λ p r. refl;
+  ready_by_grant = λ p r. p r;
   acts = λ a. elim a [ inl e ↦ absurd (both e) | inr e ↦ inr e ];
   deadline = λ a. refl;
   basis = refl;
@@ -143,6 +147,7 @@ started-deadline false d e = absurd (both e)
 start-calm : (x : Machine) → Calm x (start_machine x)
 start-calm x = record {
   parted = λ p r. absurd (both r);
+  ready_by_grant = λ p r. absurd (both r);
   acts = λ a. elim a [ inl e ↦ inl e | inr e ↦ absurd (both e) ];
   deadline = λ a. elim a [ inl e ↦ started-deadline x.live x.deadline e | inr e ↦ absurd (both e) ];
   basis = refl;
@@ -175,6 +180,7 @@ inv-fewer s flight fewer inv = let less : ((i : ℕ) (q : Request) → flight i 
   };
   sole = inv.sole;
   parted = inv.parted;
+  ready_by_grant = inv.ready_by_grant;
   off = inv.off;
   bounded = inv.bounded;
   failsafe_bounded = inv.failsafe_bounded;
@@ -202,7 +208,7 @@ keep-known : (b : Bool) (at : ℕ) (key k : LeaderKey) → nat_le key.expiry at 
 keep-known true at key k e is = absurd (none-some k is)
 keep-known false at key k e is = is
 
-key-known : (at : ℕ) (key : Option LeaderKey) (k : LeaderKey) → leader_kept at key ≡ Some k → key ≡ Some k
+pub key-known : (at : ℕ) (key : Option LeaderKey) (k : LeaderKey) → leader_kept at key ≡ Some k → key ≡ Some k
 key-known at None k is = is
 key-known at (Some key) k is = keep-known (nat_le key.expiry at) at key k refl is
 
@@ -250,6 +256,7 @@ inv-pass s ahead inv = let at : ℕ = s.clock + 1 in let a = key-tick at s.leade
       };
   sole = inv.sole;
   parted = inv.parted;
+  ready_by_grant = inv.ready_by_grant;
   off = inv.off;
   bounded = λ k is. inv.bounded k (key-known at s.leader k is);
   failsafe_bounded = inv.failsafe_bounded;
@@ -271,6 +278,7 @@ inv-pass s ahead inv = let at : ℕ = s.clock + 1 in let a = key-tick at s.leade
 tick-calm : (due stops : Bool) (x : Machine) → Calm x (tick_machine due stops x)
 tick-calm true stops x = record {
   parted = λ p r. refl;
+  ready_by_grant = λ p r. absurd (both r);
   acts = λ a. elim a [ inl e ↦ absurd (both e) | inr e ↦ absurd (both e) ];
   deadline = λ a. elim a [ inl e ↦ absurd (both e) | inr e ↦ absurd (both e) ];
   basis = refl;

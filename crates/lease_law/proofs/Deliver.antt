@@ -312,6 +312,7 @@ deliver-inv s i j q d inv at ok =
       guarded = λ m acts. deliver-guard s i j q d m ok acts (inv.guarded m acts);
       sole = inv.sole;
       parted = inv.parted;
+      ready_by_grant = inv.ready_by_grant;
       off = ok.off;
       bounded = λ k is. elim (ok.onward.known k is) [ inl p ↦ omega (arith, inv.bounded k p, ok.onward.grows) | inr p ↦ p.1 ];
       failsafe_bounded = failsafe_bounded;

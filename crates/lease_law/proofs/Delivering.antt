@@ -18,7 +18,6 @@ use Rattle.event_book.specs.declared.event.StoreEvent.TheVariants as stores
 use Rattle.event_book.specs.declared.event.MessageEvent.TheVariants as messages
 use Rattle.event_book.specs.declared.member.Member.{Member}
 use Rattle.event_book.specs.Facts.{Facts}
-use Rattle.event_book.specs.Functions.{put_at}
 use Rattle.event_book.specs.Writers.{writes_after}
 use Rattle.lease_law.specs.Leases.{LeaderKey, FailsafeKey, Read, Request, Grant, Answer, Beg, Acknowledgement, Flying, Requested, Answered, Begged, Acknowledged, Taking}
 use Rattle.lease_law.specs.States.{Machine, Declared, State}
@@ -28,7 +27,7 @@ use Rattle.lease_law.specs.Past.{Past, query_of, grant_of, flying_of, asked_with
 use Rattle.lease_law.specs.Books.{Page, IsTold}
 use Rattle.lease_law.specs.Stores.{IsSameStore, lease_given, granted_outcome, is_granted, outcome_by}
 use Rattle.lease_law.specs.Telling.{granted_events, refused_events, read_events}
-use Rattle.lease_law.proofs.Tools.{put-all, dropped}
+use Rattle.lease_law.proofs.Tools.{put-all, dropped, put-here, put-there}
 use Rattle.lease_law.proofs.Runs.{writes-past}
 use Rattle.lease_law.proofs.Telling.{state-eq, past-append}
 use Rattle.lease_law.proofs.Deciding.{outcome-decided}
@@ -48,12 +47,6 @@ none-no q e = cc
 
 requested-is : (r q : Request) → ◌≡◌ {A = Option Flying} (Some (Requested r)) (Some (Requested q)) → r ≡ q
 requested-is r q e = cc
-
-put-here : {A : Type 0} (f : ℕ → A) (k : ℕ) (x : A) → put_at f k x k ≡ x
-put-here f k x = put-all f k x (λ n z. n ≡ k → z ≡ x) (λ same. refl) (λ n other same. absurd (other same)) k refl
-
-put-there : {A : Type 0} (f : ℕ → A) (k : ℕ) (x : A) (n : ℕ) → (n ≡ k → ⊥) → put_at f k x n ≡ f n
-put-there f k x n other = put-all f k x (λ m z. (m ≡ k → ⊥) → z ≡ f m) (λ no. absurd (no refl)) (λ m o no. refl) n other
 
 asked-here : (asked : ℕ → Option Request) (number : ℕ) (flying : Option Flying) (q : Request) → flying ≡ Some (Requested q) → asked_with asked number flying number ≡ Some q
 asked-here asked number (Some (Requested r)) q e = put-here asked number (Some r) ∙ ap (λ (x : Request). Some x) (requested-is r q e)

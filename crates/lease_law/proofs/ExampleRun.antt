@@ -130,6 +130,7 @@ asks-lawful name info = record {
   hold = omega arith;
   takes = λ beg e. absurd (none-some beg e);
   parted = λ r. refl;
+  ready_by_grant = λ r. refl;
   gone = λ number e. absurd (none-some number e);
   flight = put-all (λ i. None) 1 (Some (Requested question)) (λ i o. (f : Flying) → o ≡ Some f → ◌≡◌ {A = Option Flying} None (Some f) ⊎ MaySend s0 0 (asks name info) (fresh_agent 1) waiting f)
       (λ f e. inr (subst (λ (x : Flying). MaySend s0 0 (asks name info) (fresh_agent 1) waiting x) (some-is (Requested question) f e) (record { member = refl; run = refl; later = omega arith; counted = omega arith; sent = refl; query = refl })))
@@ -177,6 +178,7 @@ hears-lawful name info standbys = record {
   hold = omega arith;
   takes = λ beg e. absurd (none-some beg e);
   parted = λ r. absurd (both r);
+  ready_by_grant = λ r. absurd (both r);
   gone = λ number e. nothing number;
   flight = λ i f e. absurd (none-some f (sym (nothing i) ∙ e));
   begging = λ b e. absurd (none-some b e);

@@ -19,7 +19,7 @@ use Rattle.lease_law.specs.States.{Declared}
 use Rattle.lease_law.specs.Inputs.{Move, IsOnTime, IsInTime}
 use Rattle.lease_law.specs.Past.{Past, grant_of, answer_of, asked_of, told_of, said_of, flying_of, flight_by, sent_after, taken_after, runs_after, past_by, past_after, first_past, past_of, Mind, state_of}
 use Rattle.lease_law.specs.Premises.{Moments, IsSentInTime, IsFeedInTime, IsKindInTime, AreInTime, IsTimely, IsStill, IsAside, AllAre, IsFedBy, IsFedOn, ShowsFeed}
-use Rattle.lease_law.proofs.Tools.{some-is, none-some, put-all, dropped}
+use Rattle.lease_law.proofs.Tools.{some-is, none-some, put-all, dropped, put-here, put-there}
 
 abbrev moments_of : Past → Moments
 moments_of past = record { clock = past.clock; sent = past.sent; taken = past.taken; runs = past.runs }
@@ -28,12 +28,6 @@ moments_of past = record { clock = past.clock; sent = past.sent; taken = past.ta
 in-time-rest : (margin : ℕ → Option ℕ) (past : Past) (front rest : List Event) → AreInTime margin (moments_of past) (front ++ rest) → AreInTime margin (moments_of (past_after past front)) rest
 in-time-rest margin past [] rest is = is
 in-time-rest margin past (event ∷ front) rest is = in-time-rest margin (past_by past event.kind) front rest is.1
-
-put-here : {A : Type 0} (f : ℕ → A) (k : ℕ) (x : A) → put_at f k x k ≡ x
-put-here f k x = put-all f k x (λ n z. n ≡ k → z ≡ x) (λ same. refl) (λ n other same. absurd (other same)) k refl
-
-put-there : {A : Type 0} (f : ℕ → A) (k : ℕ) (x : A) (n : ℕ) → (k ≡ n → ⊥) → put_at f k x n ≡ f n
-put-there f k x n other = put-all f k x (λ m z. (k ≡ m → ⊥) → z ≡ f m) (λ no. absurd (no refl)) (λ m o no. refl) n other
 
 -- the moment of the grant that an answer tells is that of its sending
 answered-is : (a b : Answer) (g : Grant) → ◌≡◌ {A = Option Flying} (Some (Answered b)) (Some (Answered a)) → a.grant ≡ Some g → b.grant ≡ Some g
@@ -80,7 +74,7 @@ agrees-message : (past : Past) (e : MessageEvent) → Agrees past.sent past.flig
 agrees-message past (messages.Sent number message) old i a g e is = put-all past.flight number (flying_of past message.from message.to message.run message.sequence message.body)
     (λ n o. o ≡ Some (Answered a) → a.grant ≡ Some g → put_at past.sent number (Some past.clock) n ≡ Some g.moment)
     (λ e is. put-here past.sent number (Some past.clock) ∙ ap (λ (n : ℕ). Some n) (sym (flying-moment past message.from message.to message.run message.sequence message.body a g e is)))
-    (λ n other e is. put-there past.sent number (Some past.clock) n (λ same. other (sym same)) ∙ old n a g e is) i e is
+    (λ n other e is. put-there past.sent number (Some past.clock) n other ∙ old n a g e is) i e is
 agrees-message past (messages.Delivered number) old i a g e is = old i a g (dropped past.flight number i (Answered a) e) is
 agrees-message past (messages.Lost number) old i a g e is = old i a g (dropped past.flight number i (Answered a) e) is
 
@@ -119,7 +113,7 @@ aside-still number (kinds.Link e) is = is
 aside-still number (kinds.Note e) is = is
 
 aside-sent : (clock number : ℕ) (sent : ℕ → Option ℕ) (kind : Kind) → IsAside number kind → sent_after clock sent kind number ≡ sent number
-aside-sent clock number sent (kinds.Message (messages.Sent other message)) is = put-there sent other (Some clock) number is
+aside-sent clock number sent (kinds.Message (messages.Sent other message)) is = put-there sent other (Some clock) number (λ same. is (sym same))
 aside-sent clock number sent _ is = refl
 
 more-taken : (clock : ℕ) (taken : List Taking) (kind : Kind) (t : Taking) → IsTaken taken t → IsTaken (taken_after clock taken kind) t

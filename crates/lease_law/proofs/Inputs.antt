@@ -340,6 +340,7 @@ inv-input s m move inv timely law = record {
   guarded = input-guarded s m move inv timely law;
   sole = input-sole s m move inv timely law;
   parted = put-all s.members m move.machine (λ n z. is_ready z.agent ≡ true → z.live ≡ false) law.parted (λ n other r. inv.parted n r);
+  ready_by_grant = put-all s.members m move.machine (λ n z. is_ready z.agent ≡ true → z.by_failsafe ≡ false) law.ready_by_grant (λ n other r. inv.ready_by_grant n r);
   off = inv.off;
   bounded = inv.bounded;
   failsafe_bounded = inv.failsafe_bounded;

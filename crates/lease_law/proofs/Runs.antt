@@ -32,7 +32,7 @@ inv-act s (Crash m) inv law timely = inv-crash s m inv
 inv-act s Note inv law timely = inv
 
 inv-writes : (s : State) (w : ℕ → Bool) → IsSound s → IsSound (record s { writes = w })
-inv-writes s w inv = record { guarded = inv.guarded; sole = inv.sole; parted = inv.parted; off = inv.off; bounded = inv.bounded; failsafe_bounded = inv.failsafe_bounded; asked = inv.asked; said = inv.said; begs = inv.begs; yeses = inv.yeses; taken = inv.taken; kept = inv.kept; spans = inv.spans; begging = inv.begging; fresh = inv.fresh; tokens = inv.tokens }
+inv-writes s w inv = record { guarded = inv.guarded; sole = inv.sole; parted = inv.parted; ready_by_grant = inv.ready_by_grant; off = inv.off; bounded = inv.bounded; failsafe_bounded = inv.failsafe_bounded; asked = inv.asked; said = inv.said; begs = inv.begs; yeses = inv.yeses; taken = inv.taken; kept = inv.kept; spans = inv.spans; begging = inv.begging; fresh = inv.fresh; tokens = inv.tokens }
 
 -- who may write inside an action
 abbrev Inside : State → Action → ℕ → Type 0
@@ -98,7 +98,7 @@ head-is x y xs ys e = cc
 pub tail-is : (x y : Event) (xs ys : List Event) → ◌≡◌ {A = List Event} (x ∷ xs) (y ∷ ys) → xs ≡ ys
 tail-is x y xs ys e = cc
 
-cons-eq : (x y : Event) (xs ys : List Event) → x ≡ y → xs ≡ ys → ◌≡◌ {A = List Event} (x ∷ xs) (y ∷ ys)
+pub cons-eq : (x y : Event) (xs ys : List Event) → x ≡ y → xs ≡ ys → ◌≡◌ {A = List Event} (x ∷ xs) (y ∷ ys)
 cons-eq x y xs ys e f = cc
 
 begins-server : (P Q : ℕ → Type 0) (e : ServerEvent) → ((n : ℕ) → P n → Q n) → BeginsServer P e → BeginsServer Q e
@@ -139,7 +139,7 @@ pub page-kept : (declared : Declared) (book : List Event) (minds : ℕ → Mind)
 page-kept declared book minds page good may told = subst (λ (s : State). IsCarried s) (sym told) (action-kept (state_of declared (past_of book) minds) page.action page.events good may)
 
 -- a front of a whole ends in its first part, or goes on in the rest
-abbrev Cuts : List Event → List Event → List Event → List Event → Type 0
+abbrev pub Cuts : List Event → List Event → List Event → List Event → Type 0
 Cuts front rest es bs = ((back : List Event) × (front ++ back ≡ es)) ⊎ ((more : List Event) × (front ≡ es ++ more) × (more ++ rest ≡ bs))
 
 pub cuts : (front rest es bs : List Event) → front ++ rest ≡ es ++ bs → Cuts front rest es bs

@@ -20,6 +20,7 @@ inv-start declared = record {
   guarded = λ m acts. absurd (rests-at-start m acts);
   sole = λ m n acts. absurd (rests-at-start m acts);
   parted = λ m ready. refl;
+  ready_by_grant = λ m ready. refl;
   off = λ e. refl;
   bounded = λ k e. absurd (none-some k e);
   failsafe_bounded = λ f e. absurd (none-some f e);

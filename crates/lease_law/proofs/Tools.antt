@@ -40,6 +40,12 @@ put-all-at false f k x P here there m e = there m (ne-from m k e)
 pub put-all : {A : Type 0} (f : ℕ → A) (k : ℕ) (x : A) (P : ℕ → A → Type 0) → P k x → ((m : ℕ) → (m ≡ k → ⊥) → P m (f m)) → (m : ℕ) → P m (put_at f k x m)
 put-all f k x P here there m = put-all-at (m == k) f k x P here there m refl
 
+pub put-here : {A : Type 0} (f : ℕ → A) (k : ℕ) (x : A) → put_at f k x k ≡ x
+put-here f k x = put-all f k x (λ n z. n ≡ k → z ≡ x) (λ same. refl) (λ n other same. absurd (other same)) k refl
+
+pub put-there : {A : Type 0} (f : ℕ → A) (k : ℕ) (x : A) (n : ℕ) → (n ≡ k → ⊥) → put_at f k x n ≡ f n
+put-there f k x n other = put-all f k x (λ m z. (m ≡ k → ⊥) → z ≡ f m) (λ no. absurd (no refl)) (λ m o no. refl) n other
+
 -- what is still there was there
 pub dropped : {A : Type 0} (f : ℕ → Option A) (k : ℕ) (m : ℕ) (x : A) → put_at f k None m ≡ Some x → f m ≡ Some x
 dropped f k = put-all f k None (λ m o. (x : _) → o ≡ Some x → f m ≡ Some x) (λ x e. absurd (none-some x e)) (λ m other x e. e)

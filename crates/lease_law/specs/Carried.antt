@@ -156,6 +156,7 @@ pub record IsSound (s : State) : Type 0 where
   -- two that act are one
   pub sole : (m n : ℕ) → Acts (s.members m) → Acts (s.members n) → m ≡ n
   pub parted : (m : ℕ) → is_ready (s.members m).agent ≡ true → (s.members m).live ≡ false
+  pub ready_by_grant : (m : ℕ) → is_ready (s.members m).agent ≡ true → (s.members m).by_failsafe ≡ false
   -- without failsafe mode there is no failsafe key
   pub off : s.declared.failsafe ≡ false → s.failsafe ≡ None
   -- no key has a revision above the last granted one

@@ -272,6 +272,9 @@ pub record IsLawful (s : State) (m : ℕ) (move : Move) : Type 0 where
   pub takes : (beg : Beg) → move.takes ≡ Some beg → MayTake s move beg
   -- a Ready agent's server isn't live: finding it live is then always an operator's promotion
   pub parted : is_ready move.machine.agent ≡ true → move.machine.live ≡ false
+  -- and its deadline is by a grant, so that without a leader key nobody is Ready. One writer doesn't rest on it, but a race for the
+  -- leader key in quorum mode does: after a snapshot without a leader key nobody may begin under the sync key that it told
+  pub ready_by_grant : is_ready move.machine.agent ≡ true → move.machine.by_failsafe ≡ false
   -- the heard message is gone: a grant that is heard twice gives two lease values, and the release of one leaves a writer with
   -- the other
   pub gone : (number : ℕ) → move.heard ≡ Some number → move.flight number ≡ None
