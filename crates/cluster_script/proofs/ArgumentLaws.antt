@@ -24,6 +24,7 @@ use Rattle.cluster_script.specs.declared.keyword.Keyword.{Keyword}
 use Rattle.cluster_script.specs.declared.keyword.Keyword.TheVariants as words
 use Rattle.cluster_script.specs.declared.line.End.{End}
 use Rattle.cluster_script.specs.declared.line.End.TheVariants as ends
+use Rattle.cluster_script.specs.declared.line.Command.{Command}
 use Rattle.cluster_script.specs.declared.line.Command.TheVariants as commands
 use Rattle.cluster_script.specs.declared.line.Line.{Line}
 use Rattle.cluster_script.specs.declared.line.Line.TheVariants as lines
@@ -33,7 +34,7 @@ use Rattle.cluster_script.specs.declared.ranges.CommitSize.{CommitSize}
 use Rattle.cluster_script.specs.declared.ranges.Delay.{Delay}
 use Rattle.cluster_script.proofs.NameLaws.{place_of-Some}
 use Rattle.cluster_script.proofs.NumberLaws.{number-is, number-below}
-use Rattle.cluster_script.proofs.Outcomes.{ok_is, err_is, and_then-Some, on_ok-Ok, ok_or-Ok, both-Ok, cond-Err}
+use Rattle.cluster_script.proofs.Outcomes.{ok_is, err_is, and_then-Some, on_ok-Ok, on_ok-made, ok_or-Ok, both-Ok, cond-Err}
 use Rattle.cluster_script.proofs.RangeLaws.{commit_size_of-bytes, delay_of-ticks}
 use Rattle.cluster_script.proofs.WordLaws.{cut_word-None, cut_word-Some}
 
@@ -250,98 +251,80 @@ pub record Says (members : List Name) (keyword : Keyword) (rest : Option (List �
 number-line : (members : List Name) (keyword : Keyword) (make : ℕ → Line) → ((n : ℕ) → line_text members (make n) ≡ spelled keyword (decimal n)) → ((n : ℕ) → n < 2 ^ 64 → IsLine members (make n))
     → (rest : Option (List ℕ)) (line : Line) → on_ok (one_word members number_in rest) (λ n. Ok (make n)) ≡ Ok line → Says members keyword rest line
 number-line members keyword make text is_line rest line e =
-    let p = on_ok-Ok (one_word members number_in rest) (λ n. Ok (make n)) line e in
-    let w = one_word-Ok members number_in rest p.0 p.1 in
-    let n : number w.word ≡ Some p.0 = ok_or-Ok (number w.word) faults.BadNumber p.0 w.value in
-    let same : make p.0 ≡ line = ok_is (make p.0) line p.2 in
-    subst (Says members keyword rest) same (record {
+    on_ok-made (Says members keyword rest) (one_word members number_in rest) make line e (λ n is.
+    let w = one_word-Ok members number_in rest n is in
+    let value : number w.word ≡ Some n = number_in-Ok w.word n w.value in
+    record {
       words = w.word;
       is = w.is;
-      text = text p.0 ∙ ap (spelled keyword) (sym (number-is w.word p.0 n));
-      fits = is_line p.0 (number-below w.word p.0 n);
+      text = text n ∙ ap (spelled keyword) (sym (number-is w.word n value));
+      fits = is_line n (number-below w.word n value);
     })
 
 member-line : (members : List Name) (keyword : Keyword) (make : MemberId → Line) → ((m : MemberId) → line_text members (make m) ≡ spelled keyword (member_text members m)) → ((m : MemberId) → IsMember members m → IsLine members (make m))
     → (rest : Option (List ℕ)) (line : Line) → on_ok (one_word members (member_in members) rest) (λ m. Ok (make m)) ≡ Ok line → Says members keyword rest line
 member-line members keyword make text is_line rest line e =
-    let p = on_ok-Ok (one_word members (member_in members) rest) (λ m. Ok (make m)) line e in
-    let w = one_word-Ok members (member_in members) rest p.0 p.1 in
-    let m = member_in-Ok members w.word p.0 w.value in
-    let same : make p.0 ≡ line = ok_is (make p.0) line p.2 in
-    subst (Says members keyword rest) same (record {
-      words = w.word;
-      is = w.is;
-      text = text p.0 ∙ ap (spelled keyword) m.text;
-      fits = is_line p.0 m.member;
-    })
+    on_ok-made (Says members keyword rest) (one_word members (member_in members) rest) make line e (λ member is.
+    let w = one_word-Ok members (member_in members) rest member is in
+    let m = member_in-Ok members w.word member w.value in
+    record { words = w.word; is = w.is; text = text member ∙ ap (spelled keyword) m.text; fits = is_line member m.member })
 
 link-line : (members : List Name) (keyword : Keyword) (make : End → End → Line) → ((x y : End) → line_text members (make x y) ≡ spelled keyword (two_texts (end_text members x) (end_text members y))) → ((x y : End) → IsLink members x y → IsLine members (make x y))
     → (rest : Option (List ℕ)) (line : Line) → on_ok (two_ends members rest) (λ link. Ok (make link.0 link.1)) ≡ Ok line → Says members keyword rest line
 link-line members keyword make text is_line rest line e =
-    let p = on_ok-Ok (two_ends members rest) (λ link. Ok (make link.0 link.1)) line e in
-    let l = two_ends-Ok members rest p.0 p.1 in
-    let same : make p.0.0 p.0.1 ≡ line = ok_is (make p.0.0 p.0.1) line p.2 in
-    subst (Says members keyword rest) same (record {
-      words = l.words;
-      is = l.is;
-      text = text p.0.0 p.0.1 ∙ ap (spelled keyword) l.text;
-      fits = is_line p.0.0 p.0.1 l.link;
-    })
+    on_ok-made (Says members keyword rest) (two_ends members rest) (λ link. make link.0 link.1) line e (λ link is.
+    let l = two_ends-Ok members rest link is in
+    record { words = l.words; is = l.is; text = text link.0 link.1 ∙ ap (spelled keyword) l.text; fits = is_line link.0 link.1 l.link })
 
 trace-line : (members : List Name) (rest : Option (List ℕ)) (line : Line) → on_ok (one_word members switch_in rest) (λ on. command (commands.Trace on)) ≡ Ok line → Says members words.Trace rest line
 trace-line members rest line e =
-    let p = on_ok-Ok (one_word members switch_in rest) (λ on. command (commands.Trace on)) line e in
-    let w = one_word-Ok members switch_in rest p.0 p.1 in
-    let same : lines.Command (commands.Trace p.0) ≡ line = ok_is (lines.Command (commands.Trace p.0)) line p.2 in
-    subst (Says members words.Trace rest) same (record {
-      words = w.word;
-      is = w.is;
-      text = ap (spelled words.Trace) (switch_in-Ok w.word p.0 w.value);
-      fits = tt;
-    })
+    on_ok-made (Says members words.Trace rest) (one_word members switch_in rest) (λ on. lines.Command (commands.Trace on)) line e (λ on is.
+    let w = one_word-Ok members switch_in rest on is in
+    record { words = w.word; is = w.is; text = ap (spelled words.Trace) (switch_in-Ok w.word on w.value); fits = tt })
+
+-- a command that is read is its line
+command-line : (members : List Name) (keyword : Keyword) (rest : Option (List ℕ)) {A : Type 0} (r : Result A Fault) (make : A → Command) (line : Line) → on_ok (on_ok r (λ said. Ok (make said))) command ≡ Ok line
+    → ((said : A) → r ≡ Ok said → Says members keyword rest (lines.Command (make said))) → Says members keyword rest line
+command-line members keyword rest r make line e each =
+    on_ok-made (Says members keyword rest) (on_ok r (λ said. Ok (make said))) lines.Command line e (λ c is.
+    on_ok-made (λ c. Says members keyword rest (lines.Command c)) r make c is each)
 
 commit-line : (members : List Name) (rest : Option (List ℕ)) (line : Line) → on_ok (commit_in members rest) command ≡ Ok line → Says members words.Commit rest line
 commit-line members rest line e =
-    let p = on_ok-Ok (commit_in members rest) command line e in
-    let q = on_ok-Ok (two_words members (member_in members) commit_size_in rest) (λ said. Ok (commands.Commit said.0 said.1)) p.0 p.1 in
-    let w = two_words-Ok members (member_in members) commit_size_in rest q.0 q.1 in
-    let m = member_in-Ok members w.word q.0.0 w.value in
-    let same : lines.Command (commands.Commit q.0.0 q.0.1) ≡ line = ap lines.Command (ok_is _ p.0 q.2) ∙ ok_is (lines.Command p.0) line p.2 in
-    subst (Says members words.Commit rest) same (record {
+    command-line members words.Commit rest (two_words members (member_in members) commit_size_in rest) (λ said. commands.Commit said.0 said.1) line e (λ said is.
+    let w = two_words-Ok members (member_in members) commit_size_in rest said is in
+    let m = member_in-Ok members w.word said.0 w.value in
+    record {
       words = two_texts w.word w.other;
       is = w.is;
-      text = ap (λ t. spelled words.Commit (two_texts t (decimal q.0.1.bytes))) m.text ∙ ap (λ t. spelled words.Commit (two_texts w.word t)) (commit_size_in-Ok w.other q.0.1 w.other_value);
+      text = ap (λ t. spelled words.Commit (two_texts t (decimal said.1.bytes))) m.text ∙ ap (λ t. spelled words.Commit (two_texts w.word t)) (commit_size_in-Ok w.other said.1 w.other_value);
       fits = m.member;
     })
 
 stream-line : (members : List Name) (rest : Option (List ℕ)) (line : Line) → on_ok (stream_in members rest) command ≡ Ok line → Says members words.Stream rest line
 stream-line members rest line e =
-    let p = on_ok-Ok (stream_in members rest) command line e in
-    let q = on_ok-Ok (two_words members (member_in members) number_in rest) (λ said. Ok (commands.Stream said.0 said.1)) p.0 p.1 in
-    let w = two_words-Ok members (member_in members) number_in rest q.0 q.1 in
-    let m = member_in-Ok members w.word q.0.0 w.value in
-    let n : number w.other ≡ Some q.0.1 = number_in-Ok w.other q.0.1 w.other_value in
-    let same : lines.Command (commands.Stream q.0.0 q.0.1) ≡ line = ap lines.Command (ok_is _ p.0 q.2) ∙ ok_is (lines.Command p.0) line p.2 in
-    subst (Says members words.Stream rest) same (record {
+    command-line members words.Stream rest (two_words members (member_in members) number_in rest) (λ said. commands.Stream said.0 said.1) line e (λ said is.
+    let w = two_words-Ok members (member_in members) number_in rest said is in
+    let m = member_in-Ok members w.word said.0 w.value in
+    let n : number w.other ≡ Some said.1 = number_in-Ok w.other said.1 w.other_value in
+    record {
       words = two_texts w.word w.other;
       is = w.is;
-      text = ap (λ t. spelled words.Stream (two_texts t (decimal q.0.1))) m.text ∙ ap (λ t. spelled words.Stream (two_texts w.word t)) (sym (number-is w.other q.0.1 n));
-      fits = (m.member, number-below w.other q.0.1 n);
+      text = ap (λ t. spelled words.Stream (two_texts t (decimal said.1))) m.text ∙ ap (λ t. spelled words.Stream (two_texts w.word t)) (sym (number-is w.other said.1 n));
+      fits = (m.member, number-below w.other said.1 n);
     })
 
 slow-line : (members : List Name) (rest : Option (List ℕ)) (line : Line) → on_ok (slow_in members rest) command ≡ Ok line → Says members words.Slow rest line
 slow-line members rest line e =
-    let p = on_ok-Ok (slow_in members rest) command line e in
-    let q = on_ok-Ok (three_words members (member_in members) transition_in delay_in rest) (λ said. Ok (commands.Slow said.0.0 said.0.1 said.1)) p.0 p.1 in
-    let w = three_words-Ok members (member_in members) transition_in delay_in rest q.0 q.1 in
-    let m = member_in-Ok members w.word q.0.0.0 w.value in
-    let same : lines.Command (commands.Slow q.0.0.0 q.0.0.1 q.0.1) ≡ line = ap lines.Command (ok_is _ p.0 q.2) ∙ ok_is (lines.Command p.0) line p.2 in
-    subst (Says members words.Slow rest) same (record {
+    command-line members words.Slow rest (three_words members (member_in members) transition_in delay_in rest) (λ said. commands.Slow said.0.0 said.0.1 said.1) line e (λ said is.
+    let w = three_words-Ok members (member_in members) transition_in delay_in rest said is in
+    let m = member_in-Ok members w.word said.0.0 w.value in
+    record {
       words = two_texts w.word (two_texts w.middle w.last);
       is = w.is;
-      text = ap (λ t. spelled words.Slow (two_texts t (two_texts (transition_text q.0.0.1) (decimal q.0.1.ticks)))) m.text
-          ∙ ap (λ t. spelled words.Slow (two_texts w.word (two_texts t (decimal q.0.1.ticks)))) (transition_in-Ok w.middle q.0.0.1 w.middle_value)
-          ∙ ap (λ t. spelled words.Slow (two_texts w.word (two_texts w.middle t))) (delay_in-Ok w.last q.0.1 w.last_value);
+      text = ap (λ t. spelled words.Slow (two_texts t (two_texts (transition_text said.0.1) (decimal said.1.ticks)))) m.text
+          ∙ ap (λ t. spelled words.Slow (two_texts w.word (two_texts t (decimal said.1.ticks)))) (transition_in-Ok w.middle said.0.1 w.middle_value)
+          ∙ ap (λ t. spelled words.Slow (two_texts w.word (two_texts w.middle t))) (delay_in-Ok w.last said.1 w.last_value);
       fits = m.member;
     })
 

@@ -1,5 +1,5 @@
 -- Answers that may be missing or a fault.
-use Rattle.std.proofs.Common.{◌≡◌, Bool, true, false, cond, Option, Some, None, Result, Ok, Err, refl, ℕ}
+use Rattle.std.proofs.Common.{◌≡◌, Bool, true, false, cond, Option, Some, None, Result, Ok, Err, refl, subst, ℕ}
 use Rattle.std.specs.Option.{ok_or, option_and_then}
 use Rattle.cluster_script.specs.Faults.{on_ok, both}
 use Rattle.cluster_script.specs.Reading.{at_line}
@@ -24,6 +24,11 @@ and_then-Some f (Some x) y e = (x, refl, e)
 pub on_ok-Ok : {A B E : Type 0} (r : Result A E) (f : A → Result B E) (y : B) → on_ok r f ≡ Ok y → (x : A) × (r ≡ Ok x) × (f x ≡ Ok y)
 on_ok-Ok (Ok x) f y e = (x, refl, e)
 on_ok-Ok (Err g) f y e = absurd (err_is g y e)
+
+-- what holds of whatever is made holds of what was made
+pub on_ok-made : {A B E : Type 0} (P : B → Type 0) (r : Result A E) (make : A → B) (y : B) → on_ok r (λ x. Ok (make x)) ≡ Ok y → ((x : A) → r ≡ Ok x → P (make x)) → P y
+on_ok-made P (Ok x) make y e each = subst P (ok_is (make x) y e) (each x refl)
+on_ok-made P (Err g) make y e each = absurd (err_is g y e)
 
 pub at_line-Ok : {A : Type 0} (number : ℕ) (r : Result A Fault) (x : A) → at_line number r ≡ Ok x → r ≡ Ok x
 at_line-Ok number (Ok y) x e = let same : y ≡ x = ok_is y x e in rw same refl

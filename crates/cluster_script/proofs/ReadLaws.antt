@@ -24,7 +24,7 @@ use Rattle.cluster_script.specs.declared.line.Line.{Line}
 use Rattle.cluster_script.proofs.ArgumentLaws.{number_in-Ok, line_of_words-Ok}
 use Rattle.cluster_script.proofs.NameLaws.{AreDifferent-push}
 use Rattle.cluster_script.proofs.NumberLaws.{number-is}
-use Rattle.cluster_script.proofs.Outcomes.{none_is, ok_is, err_is, on_ok-Ok, at_line-Ok, cond-Ok, cond-Err}
+use Rattle.cluster_script.proofs.Outcomes.{none_is, ok_is, err_is, on_ok-Ok, on_ok-made, at_line-Ok, cond-Ok, cond-Err}
 use Rattle.cluster_script.proofs.WordLaws.{cut_word-None, cut_word-Some, keyword_of-is}
 
 -- what a line adds, and how it is spelled
@@ -124,26 +124,22 @@ line-is line keyword words k r =
 body-Ok : (base : Option ℕ) (members : List Name) (body : List Line) (line : List ℕ) (keyword : Keyword) (a : Addition) → keyword_of (cut_word line).0 ≡ Some keyword → on_ok (line_of_words members keyword (cut_word line).1) (λ l. Ok (additions.Body l)) ≡ Ok a
     → IsAddition base members body line a
 body-Ok base members body line keyword a k e =
-    let p = on_ok-Ok (line_of_words members keyword (cut_word line).1) (λ l. Ok (additions.Body l)) a e in
-    let s = line_of_words-Ok members keyword (cut_word line).1 p.0 p.1 in
-    let same : additions.Body p.0 ≡ a = ok_is (additions.Body p.0) a p.2 in
-    subst (IsAddition base members body line) same (s.text ∙ line-is line keyword s.words k s.is, s.fits)
+    on_ok-made (IsAddition base members body line) (line_of_words members keyword (cut_word line).1) additions.Body a e (λ l is.
+    let s = line_of_words-Ok members keyword (cut_word line).1 l is in (s.text ∙ line-is line keyword s.words k s.is, s.fits))
 
 member-Ok : (base : Option ℕ) (members : List Name) (body : List Line) (line : List ℕ) (a : Addition) → keyword_of (cut_word line).0 ≡ Some words.Member → on_ok (next_member members body (cut_word line).1) (λ name. Ok (additions.Member name)) ≡ Ok a
     → IsAddition base members body line a
 member-Ok base members body line a k e =
-    let p = on_ok-Ok (next_member members body (cut_word line).1) (λ name. Ok (additions.Member name)) a e in
-    let s = next_member-Ok members body (cut_word line).1 p.0 p.1 in
-    let same : additions.Member p.0 ≡ a = ok_is (additions.Member p.0) a p.2 in
-    subst (IsAddition base members body line) same (ap (spelled words.Member) s.text ∙ line-is line words.Member s.words k s.is, s.few, s.absent, s.in_head)
+    on_ok-made (IsAddition base members body line) (next_member members body (cut_word line).1) additions.Member a e (λ name is.
+    let s = next_member-Ok members body (cut_word line).1 name is in
+    (ap (spelled words.Member) s.text ∙ line-is line words.Member s.words k s.is, s.few, s.absent, s.in_head))
 
 base-Ok : (base : Option ℕ) (members : List Name) (body : List Line) (line : List ℕ) (a : Addition) → keyword_of (cut_word line).0 ≡ Some words.Base → on_ok (next_base base body (cut_word line).1) (λ n. Ok (additions.Base n)) ≡ Ok a
     → IsAddition base members body line a
 base-Ok base members body line a k e =
-    let p = on_ok-Ok (next_base base body (cut_word line).1) (λ n. Ok (additions.Base n)) a e in
-    let s = next_base-Ok base body (cut_word line).1 p.0 p.1 in
-    let same : additions.Base p.0 ≡ a = ok_is (additions.Base p.0) a p.2 in
-    subst (IsAddition base members body line) same (ap (spelled words.Base) s.text ∙ line-is line words.Base s.words k s.is, s.least, s.most, s.first, s.in_head)
+    on_ok-made (IsAddition base members body line) (next_base base body (cut_word line).1) additions.Base a e (λ n is.
+    let s = next_base-Ok base body (cut_word line).1 n is in
+    (ap (spelled words.Base) s.text ∙ line-is line words.Base s.words k s.is, s.least, s.most, s.first, s.in_head))
 
 of-Ok : (base : Option ℕ) (members : List Name) (body : List Line) (line : List ℕ) (keyword : Keyword) (a : Addition) → keyword_of (cut_word line).0 ≡ Some keyword → addition_of base members body keyword (cut_word line).1 ≡ Ok a → IsAddition base members body line a
 of-Ok base members body line words.Cluster a k e = absurd (err_is _ a e)
