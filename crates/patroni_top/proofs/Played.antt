@@ -1,32 +1,35 @@
 -- A run on its way: what is left, from the world as it is, is the rest of the whole.
-use Rattle.std.proofs.Common.{◌≡◌, Bool, ℕ, ◌+◌, ◌-◌, ◌*◌, ◌≤◌, ◌<◌, List, [], ◌∷◌, ◌++◌, length, drop, Option, Some, Result, Ok, Err, arith, append_assoc, refl, ◌∙◌, ap, sym, subst, suc, replicate}
+use Rattle.std.proofs.Common.{◌≡◌, Bool, ℕ, ◌+◌, ◌-◌, ◌*◌, ◌≤◌, ◌<◌, List, [], ◌∷◌, ◌++◌, length, drop, Option, Some, Result, Ok, Err, arith, append_assoc, refl, ◌∙◌, ap, sym, subst, suc, zero, replicate}
+use Rattle.std.proofs.lemmas.Option.{none-some, same_Some}
+use Rattle.pat_base.specs.declared.name.Name.{Name}
 use Rattle.std.specs.Prelude.{slice_get}
 use Rattle.pat_base.specs.Outside.{Grew, GrewByPrefix}
 use Rattle.event_book.specs.declared.event.Event.{Event}
 use Rattle.event_book.specs.Text.{lines_of}
 use Rattle.cluster_script.specs.declared.line.Line.{Line}
 use Rattle.cluster_script.specs.declared.line.Step.{Step}
+use Rattle.cluster_script.specs.Script.{AllAreLines, IsLine}
 use Rattle.cluster_script.specs.Steps.{steps_of, steps_of_line, total_ticks, ticks_of_line}
 use Rattle.patroni_top.specs.declared.print_error.PrintError.{PrintError}
 use Rattle.pat_world.specs.Cluster.{Cluster, moved_all}
 use Rattle.pat_world.specs.Next.{next_events, run_from}
 use Rattle.patroni_top.specs.Printing.{TakesAll}
-use Rattle.pat_world.specs.Room.{HasRoomFor}
+use Rattle.pat_world.specs.Room.{HasRoomFor, step_cost}
 use Rattle.patroni_top.specs.Run.{printed_from, traced_after, traced_all}
 use Rattle.pat_world.specs.Took.{Took}
 use Rattle.patroni_top.proofs.Progress.{Progress, Progress-start, Progress-more, Progress-stop, TakesAll-stop}
 use Rattle.pat_world.proofs.Rooms.{HasRoom-fewer}
 use Rattle.pat_world.proofs.Starting.{drop-get}
-use Rattle.pat_world.proofs.Taking.{moved_all-append}
+use Rattle.pat_world.proofs.Taking.{members-stay, moved_all-append}
 
 -- fewer steps have room too
 pub HasRoomFor-fewer : (cluster : Cluster) (n m : ℕ) → HasRoomFor cluster n → m ≤ n → HasRoomFor cluster m
-HasRoomFor-fewer cluster n m room fewer = record { room = HasRoom-fewer cluster (16777216 * n) (16777216 * m) (omega (arith, fewer)) room.room }
+HasRoomFor-fewer cluster n m room fewer = record { room = HasRoom-fewer cluster (step_cost * n) (step_cost * m) (omega (arith, fewer)) room.room }
 
 -- a step takes the room of one
-pub HasRoomFor-step : (cluster next : Cluster) (had has events : List Event) (steps : ℕ) → Took cluster next had has events 16777216 → HasRoomFor cluster (1 + steps) → HasRoomFor next steps
+pub HasRoomFor-step : (cluster next : Cluster) (had has events : List Event) (steps : ℕ) → Took cluster next had has events step_cost → HasRoomFor cluster (1 + steps) → HasRoomFor next steps
 HasRoomFor-step cluster next had has events steps took room = record {
-  room = took.room (16777216 * steps) (HasRoom-fewer cluster (16777216 * (1 + steps)) (16777216 + 16777216 * steps) (omega arith) room.room);
+  room = took.room (step_cost * steps) (HasRoom-fewer cluster (step_cost * (1 + steps)) (step_cost + step_cost * steps) (omega arith) room.room);
 }
 
 -- a piece is printed, and what is left is the rest, from the cluster as it is then
@@ -76,6 +79,18 @@ Playing-more before now then faults mid after CouldTake CanTake CanTakeThen X re
   state = goes.state ∙ p.state;
   traced = goes.traced ∙ p.traced;
 }
+
+-- meanwhile the members stay
+pub Playing-members : (before now : Option (List ℕ)) (faults after : ℕ) (CouldTake CanTake : ℕ → Type 0) (start world : Cluster) (first trace : Bool) (whole left : List Step)
+    → Playing before now faults after CouldTake CanTake start world first trace whole left → world.book.members ≡ start.book.members
+Playing-members before now faults after CouldTake CanTake start world first trace whole left p =
+    sym (members-stay world (run_from world left)) ∙ ap (λ (c : Cluster). c.book.members) p.state ∙ members-stay start (run_from start whole)
+
+-- each line of a script names declared members only
+pub line-declared : (members : List Name) (body : List Line) (i : ℕ) (line : Line) → AllAreLines members body → slice_get body i ≡ Some line → IsLine members line
+line-declared members [] i line all is = absurd (none-some line is)
+line-declared members (first ∷ body) zero line all is = subst (IsLine members) (same_Some first line is) all.0
+line-declared members (first ∷ body) (suc i) line all is = line-declared members body i line all.1 is
 
 -- a call that stops in the midst of a piece has written a front of the whole
 pub Playing-stop : (before now then : Option (List ℕ)) (faults mid : ℕ) (CouldTake CanTake : ℕ → Type 0) (start world : Cluster) (first trace : Bool) (whole left : List Step) (piece rest : List ℕ)

@@ -9,14 +9,14 @@ use Rattle.pat_world.specs.Cluster.{Cluster, cluster_of, moved_all}
 use Rattle.pat_world.specs.Next.{run_from}
 use Rattle.patroni_top.specs.Printing.{TakesAll}
 use Rattle.patroni_top.specs.Run.{output_of, printed_from}
-use Rattle.pat_world.specs.Room.{HasRoomFor}
+use Rattle.pat_world.specs.Room.{HasRoomFor, step_cost}
 use Rattle.pat_world.proofs.Rooms.{HasRoom-fewer}
 use Rattle.pat_world.proofs.Starting.{start-room}
 
 -- no script within the limits brings a counter to its end
 pub has-room : (s : ScriptText) (world : Cluster) → (total_ticks s.body ≤ 1000000) × (length s.body ≤ 100000) → world ≡ cluster_of s.head → HasRoomFor world (total_ticks s.body + length s.body)
 has-room s world few start = rw start (record {
-  room = HasRoom-fewer (cluster_of s.head) (2 ^ 59) (16777216 * (total_ticks s.body + length s.body)) (omega (arith, few.0, few.1)) (start-room s.head);
+  room = HasRoom-fewer (cluster_of s.head) (2 ^ 59) (step_cost * (total_ticks s.body + length s.body)) (omega (arith, few.0, few.1)) (start-room s.head);
 })
 
 -- the world and the clock at the end are those of the book

@@ -3,11 +3,13 @@ ghost use Rattle.std.specs.Prelude.{ℕ, ◌≡◌, ◌<◌, ◌≤◌, ◌+◌,
 ghost use Rattle.pat_base.specs.Outside.{Grew, GrewByPrefix, Rose};
 ghost use Rattle.event_book.specs.Text.{lines_of};
 ghost use Rattle.cluster_script.specs.Steps.{steps_of_line, steps_of, ticks_of_line, total_ticks};
+ghost use Rattle.cluster_script.specs.Script.{IsLine};
 ghost use Rattle.pat_world.specs.Cluster.{moved_all};
 ghost use Rattle.pat_world.specs.Next.{next_events, run_from};
 ghost use Rattle.patroni_top.specs.Printing.{TakesAll};
 ghost use Rattle.patroni_top.specs.Run.{output_of, printed_from, traced_after, traced_all};
 ghost use Rattle.pat_world.specs.Room.{HasRoomFor};
+ghost use Rattle.pat_world.specs.Steps.{IsStep, names_in};
 
 use crate::print_error::PrintError;
 use crate::printing::{print_events, print_summary};
@@ -40,7 +42,8 @@ fn play_body<K: Sink>(
     trace: &mut bool,
     out: &mut K,
 ) -> Result<(), PrintError>
-    requires { HasRoomFor world.old (total_ticks script.now.body + length script.now.body) }
+    requires room { HasRoomFor world.old (total_ticks script.now.body + length script.now.body) }
+    requires members { names_in world.old.book.members ≡ script.now.head.members }
     ensures state { OnOk result (world.new ≡ moved_all world.old (run_from world.old (steps_of script.now.body))) }
     ensures trace { OnOk result (trace.new ≡ traced_all trace.old (steps_of script.now.body)) }
     ensures ok { OnOk result (Grew (K.content out.old) (K.content out.new) (printed_from world.old trace.old (steps_of script.now.body))) }
@@ -76,7 +79,8 @@ fn play_line<K: Sink>(
     events: &mut Vec<Event>,
     out: &mut K,
 ) -> Result<(), PrintError>
-    requires { HasRoomFor world.old (ticks_of_line line.now + 1) }
+    requires room { HasRoomFor world.old (ticks_of_line line.now + 1) }
+    requires declared { IsLine (names_in world.old.book.members) line.now }
     ensures state { OnOk result (world.new ≡ moved_all world.old (run_from world.old (steps_of_line line.now))) }
     ensures trace { OnOk result (trace.new ≡ traced_all trace.old (steps_of_line line.now)) }
     ensures steps { OnOk result ((steps : ℕ) → HasRoomFor world.old (ticks_of_line line.now + 1 + steps) → HasRoomFor world.new steps) }
@@ -110,7 +114,8 @@ fn play_ticks<K: Sink>(
     events: &mut Vec<Event>,
     out: &mut K,
 ) -> Result<(), PrintError>
-    requires { HasRoomFor world.old count }
+    requires room { HasRoomFor world.old count }
+    requires declared { IsStep world.old.book.members step.now }
     ensures state { OnOk result (world.new ≡ moved_all world.old (run_from world.old (replicate count step.now))) }
     ensures trace { OnOk result (trace.new ≡ traced_all trace.old (replicate count step.now)) }
     ensures steps { OnOk result ((steps : ℕ) → HasRoomFor world.old (count + steps) → HasRoomFor world.new steps) }
@@ -135,7 +140,8 @@ fn play_step<K: Sink>(
     events: &mut Vec<Event>,
     out: &mut K,
 ) -> Result<(), PrintError>
-    requires { HasRoomFor world.old 1 }
+    requires room { HasRoomFor world.old 1 }
+    requires declared { IsStep world.old.book.members step.now }
     ensures state { OnOk result (world.new ≡ moved_all world.old (next_events world.old step.now)) }
     ensures trace { OnOk result (trace.new ≡ traced_after trace.old step.now) }
     ensures steps { OnOk result ((steps : ℕ) → HasRoomFor world.old (1 + steps) → HasRoomFor world.new steps) }

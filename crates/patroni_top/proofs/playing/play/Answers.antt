@@ -2,7 +2,9 @@ use Rattle.std.proofs.Common.{◌∙◌, ℕ, List, false, ap, subst, refl, Err}
 use Rattle.std.proofs.lemmas.Result.{on_ok_weaker, on_err_weaker, err_from_is_err_and}
 use Rattle.pat_base.specs.Outside.{Grew, GrewByPrefix}
 use Rattle.pat_base.proofs.Contents.{OnErr-holds, Grew-Grew, Grew-part, GrewByPrefix-more}
-use Rattle.pat_world.specs.Cluster.{cluster_of, moved_all}
+use Rattle.pat_world.specs.Cluster.{Cluster, cluster_of, moved_all}
+use Rattle.pat_world.specs.Steps.{names_in}
+use Rattle.pat_world.proofs.Declaring.{names-start}
 use Rattle.event_book.specs.Text.{summary_at}
 use Rattle.cluster_script.specs.Steps.{steps_of}
 use Rattle.pat_world.specs.Next.{run_from}
@@ -11,8 +13,14 @@ use Rattle.patroni_top.specs.Run.{printed_from}
 use Rattle.patroni_top.proofs.Whole.{has-room, text-is, TakesAll-then, TakesAll-early}
 use Rattle.patroni_top.proofs.playing.play.Goals as goal
 
-pub play_body-requires : goal.play_body-requires
-play_body-requires g c = has-room c.args.script.now c.in_ok-world.world c.requires.few (c.in_ok-world.ensures.cluster ∙ ap (λ h. cluster_of h) c.head.ensures.value)
+pub play_body-requires-clause-room : goal.play_body-requires-clause-room
+play_body-requires-clause-room g c = has-room c.args.script.now c.in_ok-world.world c.requires.few (c.in_ok-world.ensures.cluster ∙ ap (λ h. cluster_of h) c.head.ensures.value)
+
+pub play_body-requires-clause-members : goal.play_body-requires-clause-members
+play_body-requires-clause-members g c =
+    let head = c.args.script.now.head in
+    let start = c.in_ok-world.ensures.cluster ∙ ap (λ h. cluster_of h) c.head.ensures.value in
+    ap (λ (w : Cluster). names_in w.book.members) start ∙ names-start head (c.head.ensures.script).head.few
 
 pub returns-in_err-play_body-clause-part : goal.returns-in_err-play_body-clause-part
 returns-in_err-play_body-clause-part g c =

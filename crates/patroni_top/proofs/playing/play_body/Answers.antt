@@ -1,12 +1,20 @@
-use Rattle.std.proofs.Common.{◌+◌, arith, ap, ◌∙◌, Err, refl, length, drop}
+use Rattle.std.proofs.Common.{◌+◌, List, arith, ap, ◌∙◌, Err, refl, length, drop, subst, sym}
 use Rattle.std.proofs.lemmas.Result.{err_from_is_err_and}
+use Rattle.pat_base.specs.declared.name.Name.{Name}
 use Rattle.pat_base.proofs.Contents.{OnErr-holds}
+use Rattle.cluster_script.specs.Script.{IsLine}
 use Rattle.cluster_script.specs.Steps.{total_ticks, ticks_of_line}
-use Rattle.patroni_top.proofs.Played.{HasRoomFor-fewer, Playing-more, Playing-stop, Playing-wants, body-next, total_ticks-next}
+use Rattle.pat_world.specs.Steps.{names_in}
+use Rattle.patroni_top.proofs.Played.{HasRoomFor-fewer, line-declared, Playing-members, Playing-more, Playing-stop, Playing-wants, body-next, total_ticks-next}
 use Rattle.patroni_top.proofs.playing.play_body.Goals as goal
 
-pub play_line-requires : goal.play_line-requires
-play_line-requires g c =
+pub play_line-requires-clause-declared : goal.play_line-requires-clause-declared
+play_line-requires-clause-declared g c =
+    let names = ap names_in (Playing-members _ _ _ _ _ _ _ _ _ _ _ _ c.loop-place.invariant.playing) ∙ c.requires.members in
+    subst (λ (ns : List Name). IsLine ns c.line_at-line.result) (sym names) (line-declared _ _ c.loop-place.place c.line_at-line.result (c.len-place-end.ensures.script).body c.line_at-line.ensures)
+
+pub play_line-requires-clause-room : goal.play_line-requires-clause-room
+play_line-requires-clause-room g c =
     let one = total_ticks-next c.args.script.now.body c.loop-place.place c.line_at-line.result c.line_at-line.ensures in
     HasRoomFor-fewer _ _ (ticks_of_line c.line_at-line.result + 1) c.loop-place.invariant.steps (omega (arith, one))
 

@@ -1,12 +1,18 @@
-use Rattle.std.proofs.Common.{◌+◌, ◌-◌, arith, ap, ◌∙◌, Err, refl}
+use Rattle.std.proofs.Common.{◌+◌, ◌-◌, List, subst, sym, arith, ap, ◌∙◌, Err, refl}
 use Rattle.std.proofs.lemmas.Result.{err_from_is_err_and}
 use Rattle.pat_base.proofs.Contents.{OnErr-holds}
-use Rattle.patroni_top.proofs.Played.{HasRoomFor-fewer, Playing-more, Playing-stop, Playing-wants, ticks-next}
+use Rattle.event_book.specs.declared.member.Member.{Member}
+use Rattle.pat_world.specs.Steps.{IsStep}
+use Rattle.patroni_top.proofs.Played.{HasRoomFor-fewer, Playing-members, Playing-more, Playing-stop, Playing-wants, ticks-next}
 use Rattle.patroni_top.proofs.playing.play_ticks.Goals as goal
 
-pub play_step-requires : goal.play_step-requires
-play_step-requires g c =
-    let whole = HasRoomFor-fewer _ _ (c.args.count + 0) c.requires (omega arith) in
+pub play_step-requires-clause-declared : goal.play_step-requires-clause-declared
+play_step-requires-clause-declared g c =
+    subst (λ (ms : List Member). IsStep ms c.args.step.now) (sym (Playing-members _ _ _ _ _ _ _ _ _ _ _ _ c.loop-done.invariant.playing)) c.requires.declared
+
+pub play_step-requires-clause-room : goal.play_step-requires-clause-room
+play_step-requires-clause-room g c =
+    let whole = HasRoomFor-fewer _ _ (c.args.count + 0) c.requires.room (omega arith) in
     HasRoomFor-fewer _ _ 1 (c.loop-done.invariant.steps 0 whole) (omega arith)
 
 pub loop-done-preserved : goal.loop-done-preserved
