@@ -1,5 +1,7 @@
 -- A run on its way: what is left, from the player as it is, is the rest of the whole.
-use Rattle.std.proofs.Common.{◌≡◌, Bool, ℕ, ◌+◌, ◌-◌, ◌*◌, ◌≤◌, ◌<◌, List, [], ◌∷◌, ◌++◌, length, drop, Some, Result, Ok, Err, arith, append_assoc, append-nil, length-append, refl, ◌∙◌, ap, sym, subst, suc, replicate}
+use Rattle.std.proofs.Common.{◌≡◌, Bool, ℕ, ◌+◌, ◌-◌, ◌*◌, ◌≤◌, ◌<◌, List, [], ◌∷◌, ◌++◌, length, drop, Some, Result, Ok, Err, arith, append_assoc, append-nil, length-append, refl, ◌∙◌, ap, sym, subst, suc, zero, replicate}
+use Rattle.std.proofs.lemmas.Option.{none-some, same_Some}
+use Rattle.pat_base.specs.declared.name.Name.{Name}
 use Rattle.std.specs.Prelude.{slice_get}
 use Rattle.pat_base.specs.declared.outside.Sink.{Ghosts}
 use Rattle.pat_base.specs.Prints.{Prints}
@@ -8,6 +10,7 @@ use Rattle.event_book.specs.declared.event.Event.{Event}
 use Rattle.event_book.specs.Text.{lines_of}
 use Rattle.cluster_script.specs.declared.line.Line.{Line}
 use Rattle.cluster_script.specs.declared.line.Step.{Step}
+use Rattle.cluster_script.specs.Script.{AllAreLines, IsLine}
 use Rattle.cluster_script.specs.Steps.{steps_of, steps_of_line}
 use Rattle.pat_world.specs.Cluster.{Cluster, moved_all}
 use Rattle.pat_world.specs.Next.{next_events, run_from}
@@ -15,7 +18,7 @@ use Rattle.pat_world.specs.Room.{HasRoomFor, step_cost}
 use Rattle.pat_world.specs.Took.{Took}
 use Rattle.pat_world.proofs.Rooms.{HasRoom-fewer}
 use Rattle.pat_world.proofs.Starting.{drop-get}
-use Rattle.pat_world.proofs.Taking.{moved_all-append}
+use Rattle.pat_world.proofs.Taking.{members-stay, moved_all-append}
 use Rattle.patroni_top.specs.declared.playing.Player.{Player}
 use Rattle.patroni_top.specs.declared.print_error.PrintError.{PrintError}
 use Rattle.patroni_top.specs.declared.print_error.PrintError.TheVariants.{Write}
@@ -102,6 +105,17 @@ pub Playing-room : {K : Type 0} {sink : Ghosts K} {start now : Player} {out then
 Playing-room {start = start} {now = now} {whole = whole} {left = left} piece rest p is room =
     let all = p.room 0 (HasRoomFor-fewer start.world (length whole) (length whole + 0) room (omega arith)) in
     HasRoomFor-fewer now.world (length left + 0) (length piece) all (omega (arith, ap length is, length-append piece rest))
+
+-- meanwhile the members stay
+pub Playing-members : {K : Type 0} {sink : Ghosts K} {start now : Player} {out then : K} {whole left : List Step} → Playing sink start now out then whole left → now.world.book.members ≡ start.world.book.members
+Playing-members {start = start} {now = now} {whole = whole} {left = left} p =
+    sym (members-stay now.world (run_from now.world left)) ∙ ap (λ (c : Cluster). c.book.members) p.state ∙ members-stay start.world (run_from start.world whole)
+
+-- each line of a script names declared members only
+pub line-declared : (members : List Name) (body : List Line) (i : ℕ) (line : Line) → AllAreLines members body → slice_get body i ≡ Some line → IsLine members line
+line-declared members [] i line all is = absurd (none-some line is)
+line-declared members (first ∷ body) zero line all is = subst (IsLine members) (same_Some first line is) all.0
+line-declared members (first ∷ body) (suc i) line all is = line-declared members body i line all.1 is
 
 next-text : (before after : Player) (piece rest : List Step) → after.world ≡ moved_all before.world (run_from before.world piece) → after.trace ≡ traced_all before.trace piece
     → printed_from before.world before.trace (piece ++ rest) ≡ printed_from before.world before.trace piece ++ printed_from after.world after.trace rest

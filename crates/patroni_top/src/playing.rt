@@ -1,9 +1,11 @@
 //! Steps, and what they print.
 ghost use Rattle.std.specs.Prelude.{◌≡◌, ◌<◌, ◌∷◌, [], false, length, IfOk, replicate, slice_get, Some};
 ghost use Rattle.pat_base.specs.Prints.{Prints};
+ghost use Rattle.cluster_script.specs.Script.{IsLine};
 ghost use Rattle.cluster_script.specs.Steps.{steps_of_line, steps_of};
 ghost use Rattle.pat_world.specs.Cluster.{cluster_of};
 ghost use Rattle.pat_world.specs.Room.{HasRoomFor};
+ghost use Rattle.pat_world.specs.Steps.{IsStep, names_in};
 ghost use Rattle.patroni_top.specs.Playing.{Plays};
 ghost use Rattle.patroni_top.specs.Run.{KeepsLimits, output_of, traced_after};
 
@@ -52,7 +54,8 @@ impl Player {
 
     /// The lines of a body, one after another.
     fn play_body<K: Sink>(&mut self, script: &Script, out: &mut K) -> Result<(), PrintError>
-        requires { HasRoomFor self.old.world (length (steps_of script.now.body)) }
+        requires room { HasRoomFor self.old.world (length (steps_of script.now.body)) }
+        requires members { names_in self.old.world.book.members ≡ script.now.head.members }
         ensures { Plays K.Sink self.old self.new out.old out.new result (steps_of script.now.body) }
     {
         for place in 0..script.len() {
@@ -63,7 +66,8 @@ impl Player {
     }
 
     fn play_line<K: Sink>(&mut self, line: &Line, out: &mut K) -> Result<(), PrintError>
-        requires { HasRoomFor self.old.world (length (steps_of_line line.now)) }
+        requires room { HasRoomFor self.old.world (length (steps_of_line line.now)) }
+        requires declared { IsLine (names_in self.old.world.book.members) line.now }
         ensures { Plays K.Sink self.old self.new out.old out.new result (steps_of_line line.now) }
     {
         match line {
@@ -80,7 +84,8 @@ impl Player {
         step: &Step,
         out: &mut K,
     ) -> Result<(), PrintError>
-        requires { HasRoomFor self.old.world count }
+        requires room { HasRoomFor self.old.world count }
+        requires declared { IsStep self.old.world.book.members step.now }
         ensures { Plays K.Sink self.old self.new out.old out.new result (replicate count step.now) }
     {
         for done in 0..count {
@@ -90,7 +95,8 @@ impl Player {
     }
 
     fn play_step<K: Sink>(&mut self, step: &Step, out: &mut K) -> Result<(), PrintError>
-        requires { HasRoomFor self.old.world 1 }
+        requires room { HasRoomFor self.old.world 1 }
+        requires declared { IsStep self.old.world.book.members step.now }
         ensures { Plays K.Sink self.old self.new out.old out.new result (step.now ∷ []) }
     {
         self.events.clear();

@@ -4,14 +4,21 @@ use Rattle.pat_base.specs.Prints.{Prints}
 use Rattle.pat_base.proofs.Printing.{Prints-then, Prints-stop}
 use Rattle.event_book.specs.Text.{summary_at}
 use Rattle.cluster_script.specs.Steps.{steps_of}
-use Rattle.pat_world.specs.Cluster.{cluster_of, moved_all}
+use Rattle.pat_world.specs.Cluster.{Cluster, cluster_of, moved_all}
 use Rattle.pat_world.specs.Next.{run_from}
+use Rattle.pat_world.specs.Steps.{names_in}
+use Rattle.pat_world.proofs.Declaring.{names-start}
 use Rattle.patroni_top.specs.declared.print_error.PrintError.TheVariants.{Write}
 use Rattle.patroni_top.proofs.Whole.{has-room, text-is}
 use Rattle.patroni_top.proofs.playing.play.Goals as goal
 
-pub play_body-requires : goal.play_body-requires
-play_body-requires g c = has-room c.args.script.now c.in_ok-player.player.world c.requires (c.in_ok-player.ensures.world ∙ ap (λ h. cluster_of h) c.head.ensures.value)
+pub play_body-requires-clause-room : goal.play_body-requires-clause-room
+play_body-requires-clause-room g c = has-room c.args.script.now c.in_ok-player.player.world c.requires (c.in_ok-player.ensures.world ∙ ap (λ h. cluster_of h) c.head.ensures.value)
+
+pub play_body-requires-clause-members : goal.play_body-requires-clause-members
+play_body-requires-clause-members g c =
+    let start = c.in_ok-player.ensures.world ∙ ap (λ h. cluster_of h) c.head.ensures.value in
+    ap (λ (w : Cluster). names_in w.book.members) start ∙ names-start c.args.script.now.head (c.head.ensures.script).head.few
 
 pub returns-in_err-play_body : goal.returns-in_err-play_body
 returns-in_err-play_body g c =

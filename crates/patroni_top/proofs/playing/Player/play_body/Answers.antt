@@ -1,12 +1,20 @@
-use Rattle.std.proofs.Common.{ap, ◌∙◌, Err, drop, arith}
+use Rattle.std.proofs.Common.{List, ap, ◌∙◌, Err, drop, arith, subst, sym}
 use Rattle.std.proofs.lemmas.List.{drop_all}
 use Rattle.std.proofs.lemmas.Result.{err_from_is_err_and}
+use Rattle.pat_base.specs.declared.name.Name.{Name}
+use Rattle.cluster_script.specs.Script.{IsLine}
 use Rattle.cluster_script.specs.Steps.{steps_of}
-use Rattle.patroni_top.proofs.Played.{Playing-room, Playing-more, Playing-stop, Playing-end, body-next}
+use Rattle.pat_world.specs.Steps.{names_in}
+use Rattle.patroni_top.proofs.Played.{line-declared, Playing-members, Playing-room, Playing-more, Playing-stop, Playing-end, body-next}
 use Rattle.patroni_top.proofs.playing.Player.play_body.Goals as goal
 
-pub play_line-requires : goal.play_line-requires
-play_line-requires g c = Playing-room _ _ c.loop-place.invariant (body-next c.args.script.now.body c.loop-place.place c.line_at-line.result c.line_at-line.ensures) c.requires
+pub play_line-requires-clause-room : goal.play_line-requires-clause-room
+play_line-requires-clause-room g c = Playing-room _ _ c.loop-place.invariant (body-next c.args.script.now.body c.loop-place.place c.line_at-line.result c.line_at-line.ensures) c.requires.room
+
+pub play_line-requires-clause-declared : goal.play_line-requires-clause-declared
+play_line-requires-clause-declared g c =
+    let names = ap names_in (Playing-members c.loop-place.invariant) ∙ c.requires.members in
+    subst (λ (ns : List Name). IsLine ns c.line_at-line.result) (sym names) (line-declared _ _ c.loop-place.place c.line_at-line.result (c.len-place-end.ensures.script).body c.line_at-line.ensures)
 
 pub loop-place-preserved : goal.loop-place-preserved
 loop-place-preserved g c = Playing-more _ c.loop-place.invariant (body-next c.args.script.now.body c.loop-place.place c.line_at-line.result c.line_at-line.ensures) c.in_ok-play_line.ensures
