@@ -1,5 +1,5 @@
 -- How a run ends that reads a script and prints something of it.
-use Rattle.std.specs.Prelude.{ℕ, ◌≡◌, ◌≢◌, ◌≤◌, ◌⊎◌, List, [], length, Option, Some, None, IsSome, IsOk, IsErr}
+use Rattle.std.specs.Prelude.{ℕ, ◌≡◌, ◌≢◌, ◌≤◌, ◌⊎◌, List, [], length, Some, None, IsSome, IsOk, IsErr}
 use Rattle.pat_base.specs.declared.outside.Sink.{Ghosts as SinkGhosts}
 use Rattle.pat_base.specs.declared.outside.Source.{Ghosts as SourceGhosts}
 use Rattle.pat_base.specs.Outside.{Told, Rose, Grew, GrewByPrefix, Consumed}

@@ -1,4 +1,4 @@
-use Rattle.std.proofs.Common.{List, ap, ◌∙◌, Err, drop, arith, subst, sym}
+use Rattle.std.proofs.Common.{List, ap, ◌∙◌, Err, arith, subst, sym}
 use Rattle.std.proofs.lemmas.List.{drop_all}
 use Rattle.std.proofs.lemmas.Result.{err_from_is_err_and}
 use Rattle.pat_base.specs.declared.name.Name.{Name}
