@@ -25,7 +25,7 @@ use Rattle.ha_loop.specs.declared.knowledge.Question.TheVariants.{Reading, Creat
 use Rattle.ha_loop.specs.declared.knowledge.Waited.{Waited}
 use Rattle.ha_loop.specs.declared.role.Why.TheVariants.{Lost}
 use Rattle.ha_loop.specs.Acting.{seconds_after, lease_span, asking, touching, waiting_no_more, ending_server, starting_replica, following_server, is_held}
-use Rattle.ha_loop.specs.Agents.{RoleFacts, Follower, Holder, Ready, Leader, Ending, Stray, Outcome}
+use Rattle.ha_loop.specs.Agents.{RoleFacts, Follower, Holder, Leader, Ending, Stray, Outcome}
 use Rattle.ha_loop.specs.Info.{info_of}
 
 abbrev pub known_with : MemberSet → Option MemberSet → MemberSet

@@ -284,12 +284,7 @@ fn no_key(
 }
 
 /// Nobody leads: who has a running replica asks for the leader key, and a server that is down starts as a replica of none.
-fn finds_free(
-    knows: &mut Knowledge,
-    machine: &mut Machine,
-    out: &mut Outputs,
-    now: Ticks,
-) -> Role
+fn finds_free(knows: &mut Knowledge, machine: &mut Machine, out: &mut Outputs, now: Ticks) -> Role
     requires moment { now.0 ≤ latest }
     requires sound { IsSound knows.old }
     requires server { IsWithin machine.old.server }
@@ -327,5 +322,12 @@ fn create(knows: &mut Knowledge, machine: &Machine, out: &mut Outputs, now: Tick
         failsafe: None,
     };
     let until = now + knows.settings.retry_timeout_ticks();
-    ask(knows, out, now, Question::Creating, until, Body::Request(create));
+    ask(
+        knows,
+        out,
+        now,
+        Question::Creating,
+        until,
+        Body::Request(create),
+    );
 }
