@@ -13,6 +13,8 @@ mod output;
 mod outputs;
 mod role;
 mod snapshots;
+#[cfg(test)]
+mod tests;
 mod wake;
 mod who;
 
