@@ -1,1 +1,5 @@
 mod Missing
+pub mod Rows
+pub mod Fitting
+pub mod Living
+pub mod Bringing
