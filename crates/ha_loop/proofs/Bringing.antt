@@ -9,10 +9,10 @@ use Rattle.event_book.specs.Members.{server_id_of}
 use Rattle.ha_loop.specs.declared.role.Why.{Why}
 use Rattle.ha_loop.specs.declared.role.Why.TheVariants.{HandOver, Lost}
 use Rattle.ha_loop.specs.Acting.{disarming, touching, starting_replica, following_server, upstream_of, waiting_no_more}
-use Rattle.ha_loop.specs.Agents.{RoleFacts, Follower, Leader, Outcome}
+use Rattle.ha_loop.specs.Agents.{RoleFacts, Follower, Holder, Ready, Leader, Ending, Stray, Outcome}
 use Rattle.ha_loop.specs.Before.{leader_finds_ended, has_ended, finds_live, stray_finds_ended, before}
 use Rattle.ha_loop.specs.Decisions.{refused}
-use Rattle.ha_loop.specs.Powers.{BringsNothing, lease_of, leads}
+use Rattle.ha_loop.specs.Powers.{BringsNothing, lease_of, leads, is_ready}
 use Rattle.ha_loop.specs.Snapshots.{leader_loses_key, stray_loses_key, renewing, follows, finds_free, creating, read_noted, got}
 use Rattle.ha_loop.specs.Wake.{leader_out_of_reach, stray_out_of_reach, reading, turn_noted, overdue, turned, woken}
 use Rattle.ha_loop.proofs.Living.{no-way, stop-live, start-live, follow-live}
@@ -24,11 +24,20 @@ none-some e = cc
 abbrev Lives : Outcome → Outcome → Type 0
 Lives o after = live after.machine.server.state ≡ true → live o.machine.server.state ≡ true
 
+ready-leads : (role : RoleFacts) → is_ready role ≡ true → leads role ≡ true
+ready-leads (Ready held) e = e
+ready-leads (Leader held) e = refl
+ready-leads Follower e = e
+ready-leads (Holder held) e = e
+ready-leads (Ending held why) e = e
+ready-leads Stray e = e
+
 -- the role stays
 same-role : (o after : Outcome) → after.role ≡ o.role → Lives o after → BringsNothing o after
 same-role o after is lives = record {
   live = lives;
   leads = λ e. subst (λ (r : RoleFacts). leads r ≡ true) is e;
+  ready = λ e. subst (λ (r : RoleFacts). is_ready r ≡ true) is e;
   lease = λ revision e. subst (λ (r : RoleFacts). lease_of r ≡ Some revision) is e;
 }
 
@@ -37,6 +46,7 @@ no-lease : (o after : Outcome) → lease_of after.role ≡ None → leads after.
 no-lease o after none rests lives = record {
   live = lives;
   leads = λ e. absurd (no-way (sym rests ∙ e));
+  ready = λ e. absurd (no-way (sym rests ∙ ready-leads after.role e));
   lease = λ revision e. absurd (none-some (sym none ∙ e));
 }
 
@@ -45,6 +55,7 @@ keeps-lease : (o after : Outcome) (held : ℕ) → o.role ≡ Leader held → le
 keeps-lease o after held is same rests lives = record {
   live = lives;
   leads = λ e. absurd (no-way (sym rests ∙ e));
+  ready = λ e. absurd (no-way (sym rests ∙ ready-leads after.role e));
   lease = λ revision e. subst (λ (r : RoleFacts). lease_of r ≡ Some revision) (sym is) (sym same ∙ e);
 }
 
@@ -52,6 +63,7 @@ pub brings-then : (a b c : Outcome) → BringsNothing a b → BringsNothing b c 
 brings-then a b c first second = record {
   live = λ e. first.live (second.live e);
   leads = λ e. first.leads (second.leads e);
+  ready = λ e. first.ready (second.ready e);
   lease = λ revision e. first.lease revision (second.lease revision e);
 }
 
@@ -70,7 +82,7 @@ before-brings now o = before-by (BringsNothing o) now o (record {
   stray = λ _ _. no-lease o (stray_finds_ended o) refl refl (λ e. e);
 })
 
-overdue-brings : (now : Ticks) (o : Outcome) → BringsNothing o (overdue now o)
+pub overdue-brings : (now : Ticks) (o : Outcome) → BringsNothing o (overdue now o)
 overdue-brings now o = overdue-by (BringsNothing o) now o (record {
   kept = same-role o o refl (λ e. e);
   quiet = same-role o (waiting_no_more o) refl (λ e. e);
@@ -78,7 +90,7 @@ overdue-brings now o = overdue-by (BringsNothing o) now o (record {
   stray = λ _. same-role o (stray_out_of_reach now (waiting_no_more o)) refl (stop-live now o.machine.server);
 })
 
-turn-brings : (now : Ticks) (o : Outcome) → BringsNothing o (turned now o)
+pub turn-brings : (now : Ticks) (o : Outcome) → BringsNothing o (turned now o)
 turn-brings now o = turn-by (BringsNothing o) now o (record {
   kept = same-role o o refl (λ e. e);
   quiet = same-role o (record o { knows = turn_noted now o.knows }) refl (λ e. e);
@@ -88,8 +100,8 @@ turn-brings now o = turn-by (BringsNothing o) now o (record {
 pub wake-brings : (now : Ticks) (o : Outcome) → BringsNothing o (woken now o)
 wake-brings now o = wake-by (BringsNothing o) now o (before-brings now o)
     (brings-then o (overdue now (before now o)) (turned now (overdue now (before now o)))
-        (brings-then o (before now o) (overdue now (before now o)) (before-brings now o) (overdue-brings now (before now o)))
-        (turn-brings now (overdue now (before now o))))
+    (brings-then o (before now o) (overdue now (before now o)) (before-brings now o) (overdue-brings now (before now o)))
+    (turn-brings now (overdue now (before now o))))
 
 -- a follower tells of itself, after what its server does
 follow-brings : (now : Ticks) (leader : MemberId) (o : Outcome) → BringsNothing o (follows now leader o)
@@ -105,9 +117,9 @@ free-brings now o = free-by (BringsNothing o) now o.machine.server.state (record
     (no-lease o (creating now (record o { role = Follower })) refl refl (λ e. e))
 
 read-then : (now : Ticks) (snapshot : SnapshotFacts) (o after : Outcome) → BringsNothing (record o { knows = read_noted now snapshot o.knows }) after → BringsNothing o after
-read-then now snapshot o after brings = record { live = brings.live; leads = brings.leads; lease = brings.lease }
+read-then now snapshot o after brings = record { live = brings.live; leads = brings.leads; ready = brings.ready; lease = brings.lease }
 
-got-brings : (now : Ticks) (points : List HistoryPoint) (sequence : ℕ) (snapshot : SnapshotFacts) (o : Outcome) → BringsNothing o (got now points sequence snapshot o)
+pub got-brings : (now : Ticks) (points : List HistoryPoint) (sequence : ℕ) (snapshot : SnapshotFacts) (o : Outcome) → BringsNothing o (got now points sequence snapshot o)
 got-brings now points sequence snapshot o = let read : Outcome = record o { knows = read_noted now snapshot o.knows } in
     got-by (BringsNothing o) now points sequence snapshot o (record {
       kept = same-role o o refl (λ e. e);
@@ -121,7 +133,7 @@ got-brings now points sequence snapshot o = let read : Outcome = record o { know
       free = λ _ _. read-then now snapshot o (finds_free now read) (free-brings now read);
     })
 
-refused-brings : (now : Ticks) (sequence : ℕ) (o : Outcome) → BringsNothing o (refused now sequence o)
+pub refused-brings : (now : Ticks) (sequence : ℕ) (o : Outcome) → BringsNothing o (refused now sequence o)
 refused-brings now sequence o = refused-by (BringsNothing o) now sequence o (record {
   kept = same-role o o refl (λ e. e);
   quiet = same-role o (waiting_no_more o) refl (λ e. e);

@@ -3,3 +3,4 @@ pub mod Rows
 pub mod Fitting
 pub mod Living
 pub mod Bringing
+pub mod Leaving

@@ -29,13 +29,13 @@ LiveBefore s after = live after.state ≡ true → live s.state ≡ true
 pub stop-live : (now : Ticks) (s : ServerStatus) → LiveBefore s (status_stopping now s)
 stop-live now s = if-cases (LiveBefore s) (is_up s.state) (status_ending now s) s
     (λ _. if-cases (LiveBefore s) (s.stop_delay.0 == 0) (record s { state = states.Stopped }) (record s { state = states.Stopping (is_primary s.state) (later now s.stop_delay) })
-        (λ _ e. absurd (no-way e)) (λ _ e. primary-live s.state e))
+    (λ _ e. absurd (no-way e)) (λ _ e. primary-live s.state e))
     (λ _ e. e)
 
 pub start-live : (now : Ticks) (upstream : Option ServerId) (s : ServerStatus) → LiveBefore s (status_replica_started now upstream s)
 start-live now upstream s = if-cases (LiveBefore s) (is_down s.state) (status_starting false now (record s { upstream = upstream; was_primary = false })) s
     (λ _. if-cases (LiveBefore s) (s.start_delay.0 == 0) (status_started false (record s { upstream = upstream; was_primary = false })) (record s { upstream = upstream; was_primary = false; state = states.Starting false (later now s.start_delay) })
-        (λ _ e. absurd (no-way e)) (λ _ e. absurd (no-way e)))
+    (λ _ e. absurd (no-way e)) (λ _ e. absurd (no-way e)))
     (λ _ e. e)
 
 pub follow-live : (upstream : ServerId) (s : ServerStatus) → LiveBefore s (status_following upstream s)

@@ -139,13 +139,13 @@ got-led : (P : Outcome → Type 0) (now : Ticks) (points : List HistoryPoint) (s
 got-led P now points snapshot None o is rows = got-none P now points snapshot o.role o refl is rows
 got-led P now points snapshot (Some leader) o is rows =
     if-cases P (leader.holder.number == o.knows.who.me.number) (own_key now points leader.revision o.role (record o { knows = read_noted now snapshot o.knows })) (others_key now leader.holder o.role (record o { knows = read_noted now snapshot o.knows }))
-        (λ mine. got-own P now points snapshot leader o.role o is mine rows) (λ _. got-others P now points snapshot leader o.role o refl is rows)
+    (λ mine. got-own P now points snapshot leader o.role o is mine rows) (λ _. got-others P now points snapshot leader o.role o refl is rows)
 
 pub got-by : (P : Outcome → Type 0) (now : Ticks) (points : List HistoryPoint) (sequence : ℕ) (snapshot : SnapshotFacts) (o : Outcome) → GotRows P now points snapshot o → P (got now points sequence snapshot o)
 got-by P now points sequence snapshot o rows =
     if-cases P (awaits_read o.knows.waited sequence) (accepted now points snapshot o) o
-        (λ _. if-cases P (is_active o.role) (led now points (leader_in snapshot) (record o { knows = read_noted now snapshot o.knows })) (waiting_no_more o) (λ _. got-led P now points snapshot (leader_in snapshot) o refl rows) (λ _. rows.quiet))
-        (λ _. rows.kept)
+    (λ _. if-cases P (is_active o.role) (led now points (leader_in snapshot) (record o { knows = read_noted now snapshot o.knows })) (waiting_no_more o) (λ _. got-led P now points snapshot (leader_in snapshot) o refl rows) (λ _. rows.quiet))
+    (λ _. rows.kept)
 
 -- a request was refused
 pub record RefusedRows (P : Outcome → Type 0) (now : Ticks) (o : Outcome) : Type 0 where

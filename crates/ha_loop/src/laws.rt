@@ -10,7 +10,7 @@ ghost use Rattle.ha_loop.specs.declared.heard.Heard.TheVariants as heard;
 ghost use Rattle.ha_loop.specs.Agents.{Outcome};
 ghost use Rattle.ha_loop.specs.Before.{before};
 ghost use Rattle.ha_loop.specs.Fits.{Fits};
-ghost use Rattle.ha_loop.specs.Powers.{BringsNothing};
+ghost use Rattle.ha_loop.specs.Powers.{BringsNothing, LeavesMachine};
 ghost use Rattle.ha_loop.specs.Table.{step, act};
 
 /// What comes before an input makes the role fit the server: nobody is about to lead, or follows, whose server is live, and
@@ -26,4 +26,13 @@ pub fn only_a_grant_lets_lead()
     ensures read { (now : Ticks) (points : List HistoryPoint) (sequence : ℕ) (snapshot : SnapshotFacts) (o : Outcome) → BringsNothing o (step now points (heard.Got sequence snapshot) o) }
     ensures refusal { (now : Ticks) (points : List HistoryPoint) (sequence : ℕ) (key : Key) (found : Expected) (o : Outcome) → BringsNothing o (step now points (heard.Mismatch sequence key found) o) }
     ensures action { (now : Ticks) (o : Outcome) → BringsNothing o (act now o) }
+{}
+
+/// Only a grant sets a deadline: any other input leaves the watchdog and the hold as they were, but for a deadline that is removed
+/// where nobody acts after it, or where an agent that was about to begin found its server live.
+pub fn only_a_grant_sets_deadlines()
+    ensures wake { (now : Ticks) (points : List HistoryPoint) (o : Outcome) → LeavesMachine o (step now points heard.Wake o) }
+    ensures read { (now : Ticks) (points : List HistoryPoint) (sequence : ℕ) (snapshot : SnapshotFacts) (o : Outcome) → LeavesMachine o (step now points (heard.Got sequence snapshot) o) }
+    ensures refusal { (now : Ticks) (points : List HistoryPoint) (sequence : ℕ) (key : Key) (found : Expected) (o : Outcome) → LeavesMachine o (step now points (heard.Mismatch sequence key found) o) }
+    ensures action { (now : Ticks) (o : Outcome) → LeavesMachine o (act now o) }
 {}

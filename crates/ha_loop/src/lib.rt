@@ -22,7 +22,7 @@ mod who;
 pub use agent::Agent;
 pub use heard::Heard;
 pub use knowledge::{Knowledge, Question, Waited};
-pub use laws::{only_a_grant_lets_lead, role_fits_server};
+pub use laws::{only_a_grant_lets_lead, only_a_grant_sets_deadlines, role_fits_server};
 pub use machine::Machine;
 pub use output::{Output, Target};
 pub use outputs::Outputs;
