@@ -24,7 +24,7 @@ pub enum RoleWord {
 /// health. Moments are in ticks of 100 ms.
 #[derive(Clone, Copy)]
 pub struct AgentView<'a> {
-    pub now: Ticks,
+    pub moment: Ticks,
     pub scope: Name,
     pub me: MemberId,
     pub name: Name,

@@ -1,1 +1,6 @@
 mod Missing
+pub mod Rows
+pub mod Fitting
+pub mod Living
+pub mod Bringing
+pub mod Leaving

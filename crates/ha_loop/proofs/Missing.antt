@@ -1,8 +1,8 @@
 -- The first point of a history whose row a snapshot lacks.
-use Rattle.std.proofs.Common.{◌≡◌, ℕ, ◌+◌, Bool, true, false, not, List, ◌∷◌, Option, Some, refl, ap, ◌∙◌, drop}
+use Rattle.std.proofs.Common.{◌≡◌, ℕ, ◌+◌, ◌<◌, true, false, List, [], ◌∷◌, length, Option, Some, None, refl, sym, ap, ◌∙◌, drop, arith}
 use Rattle.std.specs.List.{slice_get}
 use Rattle.std.proofs.lemmas.List.{drop_more}
-use Rattle.std.proofs.lemmas.Option.{slice_get_within, get_or_from_slice_get}
+use Rattle.std.proofs.lemmas.Option.{slice_get_within, get_or_from_slice_get, slice_get-get_or}
 use Rattle.wal_model.specs.declared.entry.HistoryPoint.{HistoryPoint}
 use Rattle.cluster_config.specs.Snapshots.{SnapshotFacts, has_row}
 use Rattle.ha_loop.specs.Snapshots.{missing_point}
@@ -18,3 +18,11 @@ missing-here snapshot points i point is lacks = rw (drop-at points i point is, l
 -- its row is there
 pub missing-later : (snapshot : SnapshotFacts) (points : List HistoryPoint) (i : ℕ) (point : HistoryPoint) → slice_get points i ≡ Some point → has_row point.timeline snapshot ≡ true → missing_point snapshot (drop i points) ≡ missing_point snapshot (drop (i + 1) points)
 missing-later snapshot points i point is has = rw (drop-at points i point is, has) refl
+
+none-some : {point : HistoryPoint} → ◌≡◌ {A = Option HistoryPoint} None (Some point) → ⊥
+none-some e = cc
+
+-- a list has an element at each place within it
+pub within-some : (points : List HistoryPoint) (i : ℕ) → i < length points → slice_get points i ≡ None → ⊥
+within-some (point ∷ points) i within is = none-some (sym is ∙ slice_get-get_or (point ∷ points) i point within)
+within-some [] i within is = absurd (omega (arith, within))

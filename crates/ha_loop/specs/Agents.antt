@@ -1,5 +1,5 @@
 -- Where an agent stands.
-use Rattle.std.specs.Prelude.{ℕ, ◌≤◌, ◌<◌, ◌^◌, false, List, Option, Some, None}
+use Rattle.std.specs.Prelude.{ℕ, ◌≤◌, ◌<◌, ◌^◌, false, None}
 use Rattle.std.specs.Option.{ForSome}
 use Rattle.pat_base.specs.declared.ticks.Ticks.{Ticks}
 use Rattle.leader_key.specs.Lease.{lease_revision, armed_revision, writer_revision}

@@ -1,5 +1,5 @@
 -- What members tell of themselves.
-use Rattle.std.specs.Prelude.{Bool, true, false, if◌then◌else◌, Option, Some, None}
+use Rattle.std.specs.Prelude.{Bool, true, false, if◌then◌else◌, Some, None}
 use Rattle.pat_base.specs.declared.server_state.State.{State}
 use Rattle.pat_base.specs.declared.server_state.State.TheVariants as states
 use Rattle.pat_base.specs.declared.word.Word.{Word}

@@ -2,8 +2,10 @@ pub mod Acting
 pub mod Agents
 pub mod Before
 pub mod Decisions
+pub mod Fits
 pub mod Info
 pub mod Outputs
+pub mod Powers
 pub mod Snapshots
 pub mod Start
 pub mod Table

@@ -25,7 +25,7 @@ use Rattle.ha_loop.specs.declared.knowledge.Question.TheVariants.{Reading, Creat
 use Rattle.ha_loop.specs.declared.knowledge.Waited.{Waited}
 use Rattle.ha_loop.specs.declared.role.Why.TheVariants.{Lost}
 use Rattle.ha_loop.specs.Acting.{seconds_after, lease_span, asking, touching, waiting_no_more, ending_server, starting_replica, following_server, is_held}
-use Rattle.ha_loop.specs.Agents.{RoleFacts, Follower, Holder, Ready, Leader, Ending, Stray, Outcome}
+use Rattle.ha_loop.specs.Agents.{RoleFacts, Follower, Holder, Leader, Ending, Stray, Outcome}
 use Rattle.ha_loop.specs.Info.{info_of}
 
 abbrev pub known_with : MemberSet → Option MemberSet → MemberSet
@@ -126,19 +126,22 @@ others_key now leader _ o = o
 abbrev pub creating : Ticks → Outcome → Outcome
 creating now o = asking now Creating (seconds_after now o.knows.settings.retry_timeout) (bodies.Request (txns.Create (info_of o.knows.who o.machine.server) (lease_span o.knows.settings) None)) o
 
+abbrev pub free_in : Ticks → State → Outcome → Outcome
+free_in now states.Stopped o = touching (starts_behind now None o)
+free_in now states.Crashed o = touching (starts_behind now None o)
+free_in now states.Replica o = creating now o
+free_in now _ o = touching o
+
 -- nobody leads: who has a running replica asks for the leader key, and a server that is down starts as a replica of none
-abbrev pub finds_free : Ticks → State → Outcome → Outcome
-finds_free now states.Stopped o = touching (starts_behind now None o)
-finds_free now states.Crashed o = touching (starts_behind now None o)
-finds_free now states.Replica o = creating now o
-finds_free now _ o = touching o
+abbrev pub finds_free : Ticks → Outcome → Outcome
+finds_free now o = free_in now o.machine.server.state (record o { role = Follower })
 
 -- the leader key is absent
 abbrev pub no_key : Ticks → RoleFacts → Outcome → Outcome
 no_key now (Leader held) o = leader_loses_key now held o
 no_key now Stray o = stray_loses_key now o
-no_key now Follower o = finds_free now o.machine.server.state o
-no_key now (Holder held) o = finds_free now o.machine.server.state (record o { role = Follower })
+no_key now Follower o = finds_free now o
+no_key now (Holder held) o = finds_free now o
 no_key now _ o = o
 
 abbrev pub led_by : Ticks → List HistoryPoint → LeaderEntry → Outcome → Outcome

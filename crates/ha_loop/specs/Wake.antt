@@ -13,7 +13,7 @@ use Rattle.ha_loop.specs.declared.knowledge.Waited.{Waited}
 use Rattle.ha_loop.specs.declared.machine.Machine.{Machine}
 use Rattle.ha_loop.specs.declared.role.Why.TheVariants.{Lost}
 use Rattle.ha_loop.specs.Acting.{seconds_after, asking, waiting_no_more, ending_server}
-use Rattle.ha_loop.specs.Agents.{RoleFacts, Follower, Holder, Ready, Leader, Ending, Stray, Outcome}
+use Rattle.ha_loop.specs.Agents.{RoleFacts, Leader, Ending, Stray, Outcome}
 use Rattle.ha_loop.specs.Before.{before}
 
 -- an agent that ends its server can find that it has ended

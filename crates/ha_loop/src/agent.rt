@@ -1,5 +1,5 @@
 //! Agents.
-ghost use Rattle.std.specs.Prelude.{◌≡◌, ◌≤◌, ◌<◌, ◌+◌, ◌-◌, ◌^◌, Some, None, option_copied};
+ghost use Rattle.std.specs.Prelude.{◌≡◌, ◌≤◌, ◌<◌, ◌+◌, ◌-◌, ◌^◌, Some, None, false, option_copied};
 ghost use Rattle.ha_loop.specs.Agents.{AgentFacts, RoleFacts, IsSound, IsWithin, Follower, role_of, word_of, fresh_knowledge, made, latest};
 ghost use Rattle.ha_loop.specs.Start.{started_machine};
 ghost use Rattle.ha_loop.specs.Table.{step, act};
@@ -106,14 +106,20 @@ impl Agent {
 
     /// What it shows of itself and of its server.
     pub fn view<'a>(&'a self, now: Ticks, machine: &Machine) -> AgentView<'a>
-        ensures moment { result.now ≡ now }
+        ensures moment { result.moment ≡ now }
+        ensures who { (result.scope ≡ self.now.knows.who.scope) × (result.me ≡ self.now.knows.who.me) × (result.name ≡ self.now.knows.who.name) × (result.tags ≡ self.now.knows.who.tags) }
+        ensures server { (result.state ≡ machine.now.server.state) × (result.timeline ≡ machine.now.server.timeline) × (result.end ≡ machine.now.server.end) }
+        ensures upstream { (result.receives ≡ machine.now.server.receives) × (result.diverged ≡ machine.now.server.diverged) × (result.was_primary ≡ machine.now.server.was_primary) }
         ensures role { result.role ≡ word_of self.now.role }
         ensures seen { option_copied result.seen ≡ self.now.knows.seen }
+        ensures moments { (result.last_read ≡ self.now.knows.last_read) × (result.last_turn ≡ self.now.knows.last_turn) }
+        ensures hold { result.hold ≡ machine.now.hold }
+        ensures waits { result.waits ≡ false }
     {
         let who = &self.knows.who;
         let server = &machine.server;
         AgentView {
-            now,
+            moment: now,
             scope: who.scope,
             me: who.me,
             name: who.name,

@@ -2,6 +2,7 @@
 ghost use Rattle.std.specs.Prelude.{◌≡◌, ◌≤◌, ◌<◌, ◌+◌, ◌*◌, ◌-◌, ◌^◌, Some, None, false, true, is_err};
 ghost use Rattle.leader_key.specs.Lease.{lease_revision, writer_revision};
 ghost use Rattle.leader_key.specs.Watchdog.{IsLeaseSpan};
+ghost use Rattle.ha_loop.specs.declared.knowledge.Knowledge.{Knowledge};
 ghost use Rattle.ha_loop.specs.Acting.{is_refusing, is_held, waiting_no_more};
 ghost use Rattle.ha_loop.specs.Agents.{IsSound, IsWithin, Follower, Leader, Stray, role_of, made, latest};
 ghost use Rattle.ha_loop.specs.Decisions.{has_lasted, is_start_too_long, judges_start, leader_renewed, takes_over, stray_renewed, may_take, gives_back, begins, arms, takes_key, lease_granted, may_create, belongs, accepted_grant, asks_lease, is_decision, is_lease_of, granted_for, granted, follower_for, create_refused, renewal_refused, refused_as, refused_for, refused};
@@ -176,7 +177,7 @@ fn refused_as(
     knows.waited = None;
     match question {
         Question::Creating => create_refused(role),
-        Question::Renewing => renewal_refused(role, knows, machine, out, now),
+        Question::Renewing => renewal_refused(role, machine, out, now),
         Question::Reading => role,
     }
 }
@@ -195,20 +196,13 @@ fn create_refused(role: Role) -> Role
 }
 
 /// The leader key isn't as it was read: a lease is lost.
-fn renewal_refused(
-    role: Role,
-    knows: &Knowledge,
-    machine: &mut Machine,
-    out: &mut Outputs,
-    now: Ticks,
-) -> Role
+fn renewal_refused(role: Role, machine: &mut Machine, out: &mut Outputs, now: Ticks) -> Role
     requires moment { now.0 ≤ latest }
     requires server { IsWithin machine.old.server }
     requires room { 1 ≤ out.old.spare }
-    ensures outcome { made (role_of result) knows.now machine.new out.new ≡ renewal_refused now (role_of role) (made (role_of role) knows.now machine.old out.old) }
+    ensures outcome { (knows : Knowledge) → made (role_of result) knows machine.new out.new ≡ renewal_refused now (role_of role) (made (role_of role) knows machine.old out.old) }
     ensures room { out.old.spare ≤ out.new.spare + 1 }
 {
-    let _ = knows;
     match role {
         Role::Leader(writer) => lose(writer, machine, out, now, Reason::LeaderKeyLost),
         Role::Stray => {

@@ -8,17 +8,21 @@ mod decisions;
 mod heard;
 mod info;
 mod knowledge;
+mod laws;
 mod machine;
 mod output;
 mod outputs;
 mod role;
 mod snapshots;
+#[cfg(test)]
+mod tests;
 mod wake;
 mod who;
 
 pub use agent::Agent;
 pub use heard::Heard;
 pub use knowledge::{Knowledge, Question, Waited};
+pub use laws::{only_a_grant_lets_lead, only_a_grant_sets_deadlines, role_fits_server};
 pub use machine::Machine;
 pub use output::{Output, Target};
 pub use outputs::Outputs;

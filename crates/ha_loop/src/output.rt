@@ -22,19 +22,31 @@ pub enum Output {
     /// The server is promoted.
     Promote,
     /// The server starts as a replica of this member's, or of none.
-    StartReplica { leader: Option<MemberId> },
+    StartReplica {
+        leader: Option<MemberId>,
+    },
     /// The server starts as a primary again.
     StartPrimary,
     /// The agent ends the server, for this reason.
-    Stop { reason: Reason },
+    Stop {
+        reason: Reason,
+    },
     /// The server follows this member's from now on.
-    Follow { leader: MemberId },
+    Follow {
+        leader: MemberId,
+    },
     /// The server's commits wait for these from now on.
-    Require { required: Required },
+    Require {
+        required: Required,
+    },
     /// The watchdog got its first deadline, on the answer that was heard.
-    Armed { until: Ticks },
+    Armed {
+        until: Ticks,
+    },
     /// The watchdog got a new deadline, on the answer that was heard.
-    Fed { until: Ticks },
+    Fed {
+        until: Ticks,
+    },
     /// The watchdog has no deadline any more.
     Disarmed,
     /// The member needs a watchdog, and its device doesn't work.

@@ -10,7 +10,7 @@ ghost use Rattle.ha_loop.specs.Acting.{seconds_after, lease_span, counted, waiti
 ghost use Rattle.ha_loop.specs.Agents.{IsSound, IsWithin, Follower, role_of, made, latest};
 ghost use Rattle.ha_loop.specs.Info.{info_of};
 ghost use Rattle.ha_loop.specs.Outputs.{listed};
-ghost use Rattle.ha_loop.specs.Snapshots.{known_with, informed, status_told, row_at, missing_point, missing_row, row_told, renewal, turn_start, renewing, finds_own_key, own_key, starts_behind, is_upstream, follows_anew, follow_row, follows, others_key, creating, finds_free, no_key, led_by, led, is_active, is_read, awaits_read, read_noted, accepted, got};
+ghost use Rattle.ha_loop.specs.Snapshots.{known_with, informed, status_told, row_at, missing_point, missing_row, row_told, renewal, turn_start, renewing, finds_own_key, own_key, starts_behind, is_upstream, follows_anew, follow_row, follows, others_key, creating, free_in, finds_free, no_key, led_by, led, is_active, is_read, awaits_read, read_noted, accepted, got};
 
 mod following;
 mod renewing;
@@ -284,18 +284,13 @@ fn no_key(
 }
 
 /// Nobody leads: who has a running replica asks for the leader key, and a server that is down starts as a replica of none.
-fn finds_free(
-    knows: &mut Knowledge,
-    machine: &mut Machine,
-    out: &mut Outputs,
-    now: Ticks,
-) -> Role
+fn finds_free(knows: &mut Knowledge, machine: &mut Machine, out: &mut Outputs, now: Ticks) -> Role
     requires moment { now.0 ≤ latest }
     requires sound { IsSound knows.old }
     requires server { IsWithin machine.old.server }
     requires numbers { knows.old.sequence < 2 ^ 60 }
     requires room { 2 ≤ out.old.spare }
-    ensures outcome { made (role_of result) knows.new machine.new out.new ≡ finds_free now machine.old.server.state (made Follower knows.old machine.old out.old) }
+    ensures outcome { made (role_of result) knows.new machine.new out.new ≡ finds_free now (made Follower knows.old machine.old out.old) }
     ensures sound { IsSound knows.new }
     ensures numbers { knows.new.sequence ≤ knows.old.sequence + 1 }
     ensures room { out.old.spare ≤ out.new.spare + 2 }
@@ -327,5 +322,12 @@ fn create(knows: &mut Knowledge, machine: &Machine, out: &mut Outputs, now: Tick
         failsafe: None,
     };
     let until = now + knows.settings.retry_timeout_ticks();
-    ask(knows, out, now, Question::Creating, until, Body::Request(create));
+    ask(
+        knows,
+        out,
+        now,
+        Question::Creating,
+        until,
+        Body::Request(create),
+    );
 }

@@ -178,13 +178,7 @@ fn turned(role: &Role, knows: &mut Knowledge, machine: &Machine, out: &mut Outpu
 }
 
 /// A turn begins. Who ends its server only waits for that.
-fn turn_begins(
-    role: &Role,
-    knows: &mut Knowledge,
-    machine: &Machine,
-    out: &mut Outputs,
-    now: Ticks,
-)
+fn turn_begins(role: &Role, knows: &mut Knowledge, machine: &Machine, out: &mut Outputs, now: Ticks)
     requires moment { now.0 ≤ latest }
     requires sound { IsSound knows.old }
     requires numbers { knows.old.sequence < 2 ^ 60 }

@@ -38,7 +38,14 @@ pub(super) fn renew(
 {
     let renewal = renewal(now, history, revision, knows, &machine.server);
     let until = turn_start(now, knows) + knows.settings.retry_timeout_ticks();
-    ask(knows, out, now, Question::Renewing, until, Body::Request(renewal));
+    ask(
+        knows,
+        out,
+        now,
+        Question::Renewing,
+        until,
+        Body::Request(renewal),
+    );
 }
 
 /// When the turn began that asks this.

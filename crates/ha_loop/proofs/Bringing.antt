@@ -1,0 +1,151 @@
+-- An input without a grant brings an agent nothing of the leader key, and its server no power to write.
+use Rattle.std.proofs.Common.{◌≡◌, ℕ, Bool, true, false, Option, Some, None, List, refl, sym, subst, ◌∙◌}
+use Rattle.pat_base.specs.declared.member_id.MemberId.{MemberId}
+use Rattle.pat_base.specs.declared.ticks.Ticks.{Ticks}
+use Rattle.pat_base.specs.ServerState.{live}
+use Rattle.wal_model.specs.declared.entry.HistoryPoint.{HistoryPoint}
+use Rattle.cluster_config.specs.Snapshots.{SnapshotFacts}
+use Rattle.event_book.specs.Members.{server_id_of}
+use Rattle.ha_loop.specs.declared.role.Why.{Why}
+use Rattle.ha_loop.specs.declared.role.Why.TheVariants.{HandOver, Lost}
+use Rattle.ha_loop.specs.Acting.{disarming, touching, starting_replica, following_server, upstream_of, waiting_no_more}
+use Rattle.ha_loop.specs.Agents.{RoleFacts, Follower, Holder, Ready, Leader, Ending, Stray, Outcome}
+use Rattle.ha_loop.specs.Before.{leader_finds_ended, has_ended, finds_live, stray_finds_ended, before}
+use Rattle.ha_loop.specs.Decisions.{refused}
+use Rattle.ha_loop.specs.Powers.{BringsNothing, lease_of, leads, is_ready}
+use Rattle.ha_loop.specs.Snapshots.{leader_loses_key, stray_loses_key, renewing, follows, finds_free, creating, read_noted, got}
+use Rattle.ha_loop.specs.Wake.{leader_out_of_reach, stray_out_of_reach, reading, turn_noted, overdue, turned, woken}
+use Rattle.ha_loop.proofs.Living.{no-way, stop-live, start-live, follow-live}
+use Rattle.ha_loop.proofs.Rows.{BeforeRows, before-by, OverdueRows, overdue-by, TurnRows, turn-by, wake-by, GotRows, got-by, RefusedRows, refused-by, follow-by, free-by}
+
+none-some : {revision : ℕ} → ◌≡◌ {A = Option ℕ} None (Some revision) → ⊥
+none-some e = cc
+
+abbrev Lives : Outcome → Outcome → Type 0
+Lives o after = live after.machine.server.state ≡ true → live o.machine.server.state ≡ true
+
+ready-leads : (role : RoleFacts) → is_ready role ≡ true → leads role ≡ true
+ready-leads (Ready held) e = e
+ready-leads (Leader held) e = refl
+ready-leads Follower e = e
+ready-leads (Holder held) e = e
+ready-leads (Ending held why) e = e
+ready-leads Stray e = e
+
+-- the role stays
+same-role : (o after : Outcome) → after.role ≡ o.role → Lives o after → BringsNothing o after
+same-role o after is lives = record {
+  live = lives;
+  leads = λ e. subst (λ (r : RoleFacts). leads r ≡ true) is e;
+  ready = λ e. subst (λ (r : RoleFacts). is_ready r ≡ true) is e;
+  lease = λ revision e. subst (λ (r : RoleFacts). lease_of r ≡ Some revision) is e;
+}
+
+-- the agent rests without a lease
+no-lease : (o after : Outcome) → lease_of after.role ≡ None → leads after.role ≡ false → Lives o after → BringsNothing o after
+no-lease o after none rests lives = record {
+  live = lives;
+  leads = λ e. absurd (no-way (sym rests ∙ e));
+  ready = λ e. absurd (no-way (sym rests ∙ ready-leads after.role e));
+  lease = λ revision e. absurd (none-some (sym none ∙ e));
+}
+
+-- a leader rests with the lease that it had
+keeps-lease : (o after : Outcome) (held : ℕ) → o.role ≡ Leader held → lease_of after.role ≡ Some held → leads after.role ≡ false → Lives o after → BringsNothing o after
+keeps-lease o after held is same rests lives = record {
+  live = lives;
+  leads = λ e. absurd (no-way (sym rests ∙ e));
+  ready = λ e. absurd (no-way (sym rests ∙ ready-leads after.role e));
+  lease = λ revision e. subst (λ (r : RoleFacts). lease_of r ≡ Some revision) (sym is) (sym same ∙ e);
+}
+
+pub brings-then : (a b c : Outcome) → BringsNothing a b → BringsNothing b c → BringsNothing a c
+brings-then a b c first second = record {
+  live = λ e. first.live (second.live e);
+  leads = λ e. first.leads (second.leads e);
+  ready = λ e. first.ready (second.ready e);
+  lease = λ revision e. first.lease revision (second.lease revision e);
+}
+
+ended-brings : (why : Why) (held : ℕ) (o : Outcome) → BringsNothing o (has_ended why held o)
+ended-brings HandOver held o = no-lease o (has_ended HandOver held o) refl refl (λ e. e)
+ended-brings Lost held o = no-lease o (has_ended Lost held o) refl refl (λ e. e)
+
+pub before-brings : (now : Ticks) (o : Outcome) → BringsNothing o (before now o)
+before-brings now o = before-by (BringsNothing o) now o (record {
+  kept = λ _. same-role o o refl (λ e. e);
+  leader = λ held is _. keeps-lease o (leader_finds_ended now held o) held is refl refl (λ e. e);
+  ending = λ held why _ _. ended-brings why held o;
+  follower = λ _ _. no-lease o (finds_live o) refl refl (λ e. e);
+  holder = λ held _ _. no-lease o (finds_live o) refl refl (λ e. e);
+  ready = λ held _ _. no-lease o (finds_live (disarming o)) refl refl (λ e. e);
+  stray = λ _ _. no-lease o (stray_finds_ended o) refl refl (λ e. e);
+})
+
+pub overdue-brings : (now : Ticks) (o : Outcome) → BringsNothing o (overdue now o)
+overdue-brings now o = overdue-by (BringsNothing o) now o (record {
+  kept = same-role o o refl (λ e. e);
+  quiet = same-role o (waiting_no_more o) refl (λ e. e);
+  leader = λ held is. keeps-lease o (leader_out_of_reach now held (waiting_no_more o)) held is refl refl (stop-live now o.machine.server);
+  stray = λ _. same-role o (stray_out_of_reach now (waiting_no_more o)) refl (stop-live now o.machine.server);
+})
+
+pub turn-brings : (now : Ticks) (o : Outcome) → BringsNothing o (turned now o)
+turn-brings now o = turn-by (BringsNothing o) now o (record {
+  kept = same-role o o refl (λ e. e);
+  quiet = same-role o (record o { knows = turn_noted now o.knows }) refl (λ e. e);
+  reads = same-role o (reading now (record o { knows = turn_noted now o.knows })) refl (λ e. e);
+})
+
+pub wake-brings : (now : Ticks) (o : Outcome) → BringsNothing o (woken now o)
+wake-brings now o = wake-by (BringsNothing o) now o (before-brings now o)
+    (brings-then o (overdue now (before now o)) (turned now (overdue now (before now o)))
+    (brings-then o (before now o) (overdue now (before now o)) (before-brings now o) (overdue-brings now (before now o)))
+    (turn-brings now (overdue now (before now o))))
+
+-- a follower tells of itself, after what its server does
+follow-brings : (now : Ticks) (leader : MemberId) (o : Outcome) → BringsNothing o (follows now leader o)
+follow-brings now leader o = follow-by (λ (x : Outcome). BringsNothing o (touching x)) now leader o.machine.server.state (record o { role = Follower })
+    (no-lease o (touching (record o { role = Follower })) refl refl (λ e. e))
+    (no-lease o (touching (starting_replica now (Some leader) (record o { role = Follower }))) refl refl (start-live now (upstream_of (Some leader)) o.machine.server))
+    (no-lease o (touching (following_server leader (record o { role = Follower }))) refl refl (follow-live (server_id_of leader) o.machine.server))
+
+free-brings : (now : Ticks) (o : Outcome) → BringsNothing o (finds_free now o)
+free-brings now o = free-by (BringsNothing o) now o.machine.server.state (record o { role = Follower })
+    (no-lease o (touching (record o { role = Follower })) refl refl (λ e. e))
+    (no-lease o (touching (starting_replica now None (record o { role = Follower }))) refl refl (start-live now None o.machine.server))
+    (no-lease o (creating now (record o { role = Follower })) refl refl (λ e. e))
+
+read-then : (now : Ticks) (snapshot : SnapshotFacts) (o after : Outcome) → BringsNothing (record o { knows = read_noted now snapshot o.knows }) after → BringsNothing o after
+read-then now snapshot o after brings = record { live = brings.live; leads = brings.leads; ready = brings.ready; lease = brings.lease }
+
+pub got-brings : (now : Ticks) (points : List HistoryPoint) (sequence : ℕ) (snapshot : SnapshotFacts) (o : Outcome) → BringsNothing o (got now points sequence snapshot o)
+got-brings now points sequence snapshot o = let read : Outcome = record o { knows = read_noted now snapshot o.knows } in
+    got-by (BringsNothing o) now points sequence snapshot o (record {
+      kept = same-role o o refl (λ e. e);
+      quiet = same-role o (waiting_no_more o) refl (λ e. e);
+      other = same-role o read refl (λ e. e);
+      leader = λ held is. keeps-lease o (leader_loses_key now held read) held is refl refl (stop-live now o.machine.server);
+      stray = λ _. same-role o (stray_loses_key now read) refl (stop-live now o.machine.server);
+      renews = λ leader _ _. same-role o (renewing now points leader.revision read) refl (λ e. e);
+      touches = same-role o (touching read) refl (λ e. e);
+      follows = λ leader _ _. read-then now snapshot o (follows now leader.holder read) (follow-brings now leader.holder read);
+      free = λ _ _. read-then now snapshot o (finds_free now read) (free-brings now read);
+    })
+
+pub refused-brings : (now : Ticks) (sequence : ℕ) (o : Outcome) → BringsNothing o (refused now sequence o)
+refused-brings now sequence o = refused-by (BringsNothing o) now sequence o (record {
+  kept = same-role o o refl (λ e. e);
+  quiet = same-role o (waiting_no_more o) refl (λ e. e);
+  leader = λ held is. keeps-lease o (leader_loses_key now held (waiting_no_more o)) held is refl refl (stop-live now o.machine.server);
+  stray = λ _. same-role o (stray_loses_key now (waiting_no_more o)) refl (stop-live now o.machine.server);
+  follower = λ held _. no-lease o (record (waiting_no_more o) { role = Follower }) refl refl (λ e. e);
+})
+
+-- what the key store held when it answered a read
+pub read-brings : (now : Ticks) (points : List HistoryPoint) (sequence : ℕ) (snapshot : SnapshotFacts) (o : Outcome) → BringsNothing o (got now points sequence snapshot (before now o))
+read-brings now points sequence snapshot o = brings-then o (before now o) (got now points sequence snapshot (before now o)) (before-brings now o) (got-brings now points sequence snapshot (before now o))
+
+-- a refusal
+pub refusal-brings : (now : Ticks) (sequence : ℕ) (o : Outcome) → BringsNothing o (refused now sequence (before now o))
+refusal-brings now sequence o = brings-then o (before now o) (refused now sequence (before now o)) (before-brings now o) (refused-brings now sequence (before now o))

@@ -1,0 +1,117 @@
+-- What an input without a grant does to the watchdog and the hold.
+use Rattle.std.proofs.Common.{◌≡◌, ℕ, Bool, true, false, Option, Some, None, List, refl, sym, subst, ◌∙◌, inl, inr, ◌⊎◌}
+use Rattle.pat_base.specs.declared.member_id.MemberId.{MemberId}
+use Rattle.pat_base.specs.declared.ticks.Ticks.{Ticks}
+use Rattle.pat_base.specs.ServerState.{live}
+use Rattle.wal_model.specs.declared.entry.HistoryPoint.{HistoryPoint}
+use Rattle.leader_key.specs.Watchdog.{WatchdogFacts}
+use Rattle.cluster_config.specs.Snapshots.{SnapshotFacts}
+use Rattle.ha_loop.specs.declared.role.Why.{Why}
+use Rattle.ha_loop.specs.declared.role.Why.TheVariants.{HandOver, Lost}
+use Rattle.ha_loop.specs.Acting.{touching}
+use Rattle.ha_loop.specs.Agents.{RoleFacts, Follower, Ready, Outcome}
+use Rattle.ha_loop.specs.Before.{leader_finds_ended, has_ended, stray_finds_ended, before}
+use Rattle.ha_loop.specs.Decisions.{refused}
+use Rattle.ha_loop.specs.Powers.{BringsNothing, DeadlineMay, LeavesMachine, Acts, is_ready}
+use Rattle.ha_loop.specs.Powers.DeadlineMay.{Kept, Removed, Undone}
+use Rattle.ha_loop.specs.Snapshots.{follows, finds_free, read_noted, got}
+use Rattle.ha_loop.specs.Wake.{overdue, turned, woken}
+use Rattle.ha_loop.proofs.Bringing.{overdue-brings, turn-brings, got-brings, refused-brings, brings-then}
+use Rattle.ha_loop.proofs.Living.{no-way}
+use Rattle.ha_loop.proofs.Rows.{BeforeRows, before-by, OverdueRows, overdue-by, TurnRows, turn-by, wake-by, GotRows, got-by, RefusedRows, refused-by, follow-by, free-by}
+
+-- neither changes
+record Stays (o after : Outcome) : Type 0 where
+  watchdog : after.machine.watchdog ≡ o.machine.watchdog
+  hold : after.machine.hold ≡ o.machine.hold
+
+stays : {o : Outcome} → Stays o o
+stays = record { watchdog = refl; hold = refl }
+
+-- nobody acts whose server isn't live and who isn't about to begin
+rests-by : (o : Outcome) → live o.machine.server.state ≡ false → is_ready o.role ≡ false → Acts o → ⊥
+rests-by o ended unready (inl lives) = no-way (sym ended ∙ lives)
+rests-by o ended unready (inr ready) = no-way (sym unready ∙ ready)
+
+acts-before : (o after : Outcome) → BringsNothing o after → Acts after → Acts o
+acts-before o after brings (inl lives) = inl (brings.live lives)
+acts-before o after brings (inr ready) = inr (brings.ready ready)
+
+-- what comes behind leaves them as they are
+behind : (o middle after : Outcome) → LeavesMachine o middle → Stays middle after → BringsNothing middle after → LeavesMachine o after
+behind o middle after leaves stay brings = record {
+  deadline = elim leaves.deadline [
+    | Kept same ↦ Kept (stay.watchdog ∙ same)
+    | Removed is rests ↦ Removed (stay.watchdog ∙ is) (λ acts. rests (acts-before middle after brings acts))
+    | Undone is ready lives ↦ Undone (stay.watchdog ∙ is) ready lives
+  ];
+  hold = stay.hold ∙ leaves.hold;
+}
+
+ended-leaves : (why : Why) (held : ℕ) (o : Outcome) → live o.machine.server.state ≡ false → LeavesMachine o (has_ended why held o)
+ended-leaves HandOver held o ended = record { deadline = Removed refl (rests-by (has_ended HandOver held o) ended refl); hold = refl }
+ended-leaves Lost held o ended = record { deadline = Removed refl (rests-by (has_ended Lost held o) ended refl); hold = refl }
+
+ready-is : (role : RoleFacts) (held : ℕ) → role ≡ Ready held → is_ready role ≡ true
+ready-is role held is = rw is refl
+
+pub before-leaves : (now : Ticks) (o : Outcome) → LeavesMachine o (before now o)
+before-leaves now o = before-by (LeavesMachine o) now o (record {
+  kept = λ _. record { deadline = Kept refl; hold = refl };
+  leader = λ held _ ended. record { deadline = Removed refl (rests-by (leader_finds_ended now held o) ended refl); hold = refl };
+  ending = λ held why _ ended. ended-leaves why held o ended;
+  follower = λ _ _. record { deadline = Kept refl; hold = refl };
+  holder = λ held _ _. record { deadline = Kept refl; hold = refl };
+  ready = λ held is lives. record { deadline = Undone refl (ready-is o.role held is) lives; hold = refl };
+  stray = λ _ ended. record { deadline = Removed refl (rests-by (stray_finds_ended o) ended refl); hold = refl };
+})
+
+overdue-stays : (now : Ticks) (o : Outcome) → Stays o (overdue now o)
+overdue-stays now o = overdue-by (Stays o) now o (record { kept = stays; quiet = record { watchdog = refl; hold = refl }; leader = λ held _. record { watchdog = refl; hold = refl }; stray = λ _. record { watchdog = refl; hold = refl } })
+
+turn-stays : (now : Ticks) (o : Outcome) → Stays o (turned now o)
+turn-stays now o = turn-by (Stays o) now o (record { kept = stays; quiet = record { watchdog = refl; hold = refl }; reads = record { watchdog = refl; hold = refl } })
+
+pub wake-leaves : (now : Ticks) (o : Outcome) → LeavesMachine o (woken now o)
+wake-leaves now o = wake-by (LeavesMachine o) now o (before-leaves now o)
+    (behind o (overdue now (before now o)) (turned now (overdue now (before now o)))
+    (behind o (before now o) (overdue now (before now o)) (before-leaves now o) (overdue-stays now (before now o)) (overdue-brings now (before now o)))
+    (turn-stays now (overdue now (before now o))) (turn-brings now (overdue now (before now o))))
+
+follow-stays : (now : Ticks) (leader : MemberId) (o : Outcome) → Stays o (follows now leader o)
+follow-stays now leader o = follow-by (λ (x : Outcome). Stays o (touching x)) now leader o.machine.server.state (record o { role = Follower }) (record { watchdog = refl; hold = refl }) (record { watchdog = refl; hold = refl }) (record { watchdog = refl; hold = refl })
+
+free-stays : (now : Ticks) (o : Outcome) → Stays o (finds_free now o)
+free-stays now o = free-by (Stays o) now o.machine.server.state (record o { role = Follower }) (record { watchdog = refl; hold = refl }) (record { watchdog = refl; hold = refl }) (record { watchdog = refl; hold = refl })
+
+stays-read : (now : Ticks) (snapshot : SnapshotFacts) (o after : Outcome) → Stays (record o { knows = read_noted now snapshot o.knows }) after → Stays o after
+stays-read now snapshot o after stay = record { watchdog = stay.watchdog; hold = stay.hold }
+
+got-stays : (now : Ticks) (points : List HistoryPoint) (sequence : ℕ) (snapshot : SnapshotFacts) (o : Outcome) → Stays o (got now points sequence snapshot o)
+got-stays now points sequence snapshot o = let read : Outcome = record o { knows = read_noted now snapshot o.knows } in
+    got-by (Stays o) now points sequence snapshot o (record {
+      kept = stays;
+      quiet = record { watchdog = refl; hold = refl };
+      other = record { watchdog = refl; hold = refl };
+      leader = λ held _. record { watchdog = refl; hold = refl };
+      stray = λ _. record { watchdog = refl; hold = refl };
+      renews = λ leader _ _. record { watchdog = refl; hold = refl };
+      touches = record { watchdog = refl; hold = refl };
+      follows = λ leader _ _. stays-read now snapshot o (follows now leader.holder read) (follow-stays now leader.holder read);
+      free = λ _ _. stays-read now snapshot o (finds_free now read) (free-stays now read);
+    })
+
+refused-stays : (now : Ticks) (sequence : ℕ) (o : Outcome) → Stays o (refused now sequence o)
+refused-stays now sequence o = refused-by (Stays o) now sequence o (record {
+  kept = stays;
+  quiet = record { watchdog = refl; hold = refl };
+  leader = λ held _. record { watchdog = refl; hold = refl };
+  stray = λ _. record { watchdog = refl; hold = refl };
+  follower = λ held _. record { watchdog = refl; hold = refl };
+})
+
+pub read-leaves : (now : Ticks) (points : List HistoryPoint) (sequence : ℕ) (snapshot : SnapshotFacts) (o : Outcome) → LeavesMachine o (got now points sequence snapshot (before now o))
+read-leaves now points sequence snapshot o = behind o (before now o) (got now points sequence snapshot (before now o)) (before-leaves now o) (got-stays now points sequence snapshot (before now o)) (got-brings now points sequence snapshot (before now o))
+
+pub refusal-leaves : (now : Ticks) (sequence : ℕ) (o : Outcome) → LeavesMachine o (refused now sequence (before now o))
+refusal-leaves now sequence o = behind o (before now o) (refused now sequence (before now o)) (before-leaves now o) (refused-stays now sequence (before now o)) (refused-brings now sequence (before now o))

@@ -1,0 +1,206 @@
+-- The rows of the decision table, one by one: what holds of each row that applies holds of the whole.
+use Rattle.std.proofs.Common.{◌≡◌, ℕ, ◌==◌, ◌&&◌, nat_le, Bool, true, false, if◌then◌else◌, Option, Some, None, List, refl, subst}
+use Rattle.wal_model.specs.declared.entry.HistoryPoint.{HistoryPoint}
+use Rattle.cluster_config.specs.declared.snapshot.LeaderEntry.{LeaderEntry}
+use Rattle.cluster_config.specs.Snapshots.{SnapshotFacts, leader_in}
+use Rattle.pat_base.specs.declared.member_id.MemberId.{MemberId}
+use Rattle.pat_base.specs.declared.ticks.Ticks.{Ticks}
+use Rattle.pat_base.specs.declared.server_state.State.{State}
+use Rattle.pat_base.specs.declared.server_state.State.TheVariants as states
+use Rattle.pat_base.specs.ServerState.{live}
+use Rattle.ha_loop.specs.declared.knowledge.Question.{Question}
+use Rattle.ha_loop.specs.declared.knowledge.Question.TheVariants.{Reading, Creating, Renewing}
+use Rattle.ha_loop.specs.declared.knowledge.Waited.{Waited}
+use Rattle.ha_loop.specs.declared.role.Why.{Why}
+use Rattle.ha_loop.specs.Acting.{disarming, waiting_no_more, touching, starting_replica, following_server, is_held}
+use Rattle.ha_loop.specs.Agents.{RoleFacts, Follower, Holder, Ready, Leader, Ending, Stray, Outcome}
+use Rattle.ha_loop.specs.Before.{leader_finds_ended, has_ended, finds_live, stray_finds_ended, before_as, before}
+use Rattle.ha_loop.specs.Decisions.{may_create, is_decision, follower_for, create_refused, renewal_refused, refused_as, refused_for, refused}
+use Rattle.ha_loop.specs.Fits.{Fits}
+use Rattle.ha_loop.specs.Snapshots.{leader_loses_key, stray_loses_key, renewing, finds_own_key, own_key, starts_behind, is_upstream, follow_row, follows, others_key, creating, free_in, finds_free, no_key, led, is_active, awaits_read, read_noted, accepted, got}
+use Rattle.ha_loop.specs.Wake.{is_due, has_turn, leader_out_of_reach, stray_out_of_reach, out_of_reach_as, out_of_reach, unanswered, overdue_for, overdue, is_stopping, reading, turn_noted, turn_as, turn_begins, turned, woken}
+
+pub if-cases : {A : Type 0} (P : A → Type 0) (test : Bool) (x y : A) → (test ≡ true → P x) → (test ≡ false → P y) → P (if test then x else y)
+if-cases P true x y yes-case no-case = yes-case refl
+if-cases P false x y yes-case no-case = no-case refl
+
+-- what comes before an input
+pub record BeforeRows (P : Outcome → Type 0) (now : Ticks) (o : Outcome) : Type 0 where
+  pub kept : Fits o.role (live o.machine.server.state) → P o
+  pub leader : (revision : ℕ) → o.role ≡ Leader revision → live o.machine.server.state ≡ false → P (leader_finds_ended now revision o)
+  pub ending : (revision : ℕ) (why : Why) → o.role ≡ Ending revision why → live o.machine.server.state ≡ false → P (has_ended why revision o)
+  pub follower : o.role ≡ Follower → live o.machine.server.state ≡ true → P (finds_live o)
+  pub holder : (revision : ℕ) → o.role ≡ Holder revision → live o.machine.server.state ≡ true → P (finds_live o)
+  pub ready : (revision : ℕ) → o.role ≡ Ready revision → live o.machine.server.state ≡ true → P (finds_live (disarming o))
+  pub stray : o.role ≡ Stray → live o.machine.server.state ≡ false → P (stray_finds_ended o)
+
+fits-as : (role other : RoleFacts) (b : Bool) → role ≡ other → Fits other b → Fits role b
+fits-as role other b e fits = rw e fits
+
+before-as : (P : Outcome → Type 0) (now : Ticks) (role : RoleFacts) (o : Outcome) → o.role ≡ role → BeforeRows P now o → P (before_as now role o)
+before-as P now (Leader r) o is rows = if-cases P (live o.machine.server.state) o (leader_finds_ended now r o) (λ l. rows.kept (fits-as o.role (Leader r) (live o.machine.server.state) is l)) (λ l. rows.leader r is l)
+before-as P now (Ending r why) o is rows = if-cases P (live o.machine.server.state) o (has_ended why r o) (λ l. rows.kept (fits-as o.role (Ending r why) (live o.machine.server.state) is l)) (λ l. rows.ending r why is l)
+before-as P now Follower o is rows = if-cases P (live o.machine.server.state) (finds_live o) o (λ l. rows.follower is l) (λ l. rows.kept (fits-as o.role Follower (live o.machine.server.state) is l))
+before-as P now (Holder r) o is rows = if-cases P (live o.machine.server.state) (finds_live o) o (λ l. rows.holder r is l) (λ l. rows.kept (fits-as o.role (Holder r) (live o.machine.server.state) is l))
+before-as P now (Ready r) o is rows = if-cases P (live o.machine.server.state) (finds_live (disarming o)) o (λ l. rows.ready r is l) (λ l. rows.kept (fits-as o.role (Ready r) (live o.machine.server.state) is l))
+before-as P now Stray o is rows = if-cases P (live o.machine.server.state) o (stray_finds_ended o) (λ l. rows.kept (fits-as o.role Stray (live o.machine.server.state) is l)) (λ l. rows.stray is l)
+
+pub before-by : (P : Outcome → Type 0) (now : Ticks) (o : Outcome) → BeforeRows P now o → P (before now o)
+before-by P now o rows = before-as P now o.role o refl rows
+
+-- a deadline that has passed
+pub record OverdueRows (P : Outcome → Type 0) (now : Ticks) (o : Outcome) : Type 0 where
+  pub kept : P o
+  pub quiet : P (waiting_no_more o)
+  pub leader : (revision : ℕ) → o.role ≡ Leader revision → P (leader_out_of_reach now revision (waiting_no_more o))
+  pub stray : o.role ≡ Stray → P (stray_out_of_reach now (waiting_no_more o))
+
+out-of-reach-as : (P : Outcome → Type 0) (now : Ticks) (role : RoleFacts) (o : Outcome) → o.role ≡ role → OverdueRows P now o → P (out_of_reach_as now role (waiting_no_more o))
+out-of-reach-as P now (Leader r) o is rows = rows.leader r is
+out-of-reach-as P now Stray o is rows = rows.stray is
+out-of-reach-as P now Follower o is rows = rows.quiet
+out-of-reach-as P now (Holder r) o is rows = rows.quiet
+out-of-reach-as P now (Ready r) o is rows = rows.quiet
+out-of-reach-as P now (Ending r why) o is rows = rows.quiet
+
+unanswered-by : (P : Outcome → Type 0) (now : Ticks) (question : Question) (o : Outcome) → OverdueRows P now o → P (unanswered now question o)
+unanswered-by P now Reading o rows = out-of-reach-as P now o.role o refl rows
+unanswered-by P now Renewing o rows = out-of-reach-as P now o.role o refl rows
+unanswered-by P now Creating o rows = rows.quiet
+
+overdue-for : (P : Outcome → Type 0) (now : Ticks) (waited : Option Waited) (o : Outcome) → OverdueRows P now o → P (overdue_for now waited o)
+overdue-for P now None o rows = rows.kept
+overdue-for P now (Some waited) o rows = if-cases P (nat_le waited.until.0 now.0) (unanswered now waited.question o) o (λ _. unanswered-by P now waited.question o rows) (λ _. rows.kept)
+
+pub overdue-by : (P : Outcome → Type 0) (now : Ticks) (o : Outcome) → OverdueRows P now o → P (overdue now o)
+overdue-by P now o rows = overdue-for P now o.knows.waited o rows
+
+-- a turn
+pub record TurnRows (P : Outcome → Type 0) (now : Ticks) (o : Outcome) : Type 0 where
+  pub kept : P o
+  pub quiet : P (record o { knows = turn_noted now o.knows })
+  pub reads : P (reading now (record o { knows = turn_noted now o.knows }))
+
+turn-as : (P : Outcome → Type 0) (now : Ticks) (role : RoleFacts) (o : Outcome) → TurnRows P now o → P (turn_as now role (record o { knows = turn_noted now o.knows }))
+turn-as P now (Ending r why) o rows = rows.quiet
+turn-as P now Stray o rows = if-cases P (is_stopping o.machine.server.state) (record o { knows = turn_noted now o.knows }) (reading now (record o { knows = turn_noted now o.knows })) (λ _. rows.quiet) (λ _. rows.reads)
+turn-as P now Follower o rows = rows.reads
+turn-as P now (Holder r) o rows = rows.reads
+turn-as P now (Ready r) o rows = rows.reads
+turn-as P now (Leader r) o rows = rows.reads
+
+pub turn-by : (P : Outcome → Type 0) (now : Ticks) (o : Outcome) → TurnRows P now o → P (turned now o)
+turn-by P now o rows = if-cases P (has_turn now o.knows) (turn_begins now o) o (λ _. turn-as P now o.role o rows) (λ _. rows.kept)
+
+-- a wake: what comes before it alone, or with a deadline that has passed and a turn
+pub wake-by : (P : Outcome → Type 0) (now : Ticks) (o : Outcome) → P (before now o) → P (turned now (overdue now (before now o))) → P (woken now o)
+wake-by P now o idle due = if-cases P (is_due now o.role o.knows o.machine) (turned now (overdue now (before now o))) (before now o) (λ _. due) (λ _. idle)
+
+-- the answer to a read
+pub record GotRows (P : Outcome → Type 0) (now : Ticks) (points : List HistoryPoint) (snapshot : SnapshotFacts) (o : Outcome) : Type 0 where
+  pub kept : P o
+  pub quiet : P (waiting_no_more o)
+  pub other : P (record o { knows = read_noted now snapshot o.knows })
+  pub leader : (held : ℕ) → o.role ≡ Leader held → P (leader_loses_key now held (record o { knows = read_noted now snapshot o.knows }))
+  pub stray : o.role ≡ Stray → P (stray_loses_key now (record o { knows = read_noted now snapshot o.knows }))
+  pub renews : (leader : LeaderEntry) → leader_in snapshot ≡ Some leader → leader.holder.number == o.knows.who.me.number ≡ true → P (renewing now points leader.revision (record o { knows = read_noted now snapshot o.knows }))
+  pub touches : P (touching (record o { knows = read_noted now snapshot o.knows }))
+  pub follows : (leader : LeaderEntry) → leader_in snapshot ≡ Some leader → may_create o.role ≡ true → P (follows now leader.holder (record o { knows = read_noted now snapshot o.knows }))
+  pub free : leader_in snapshot ≡ None → may_create o.role ≡ true → P (finds_free now (record o { knows = read_noted now snapshot o.knows }))
+
+got-none : (P : Outcome → Type 0) (now : Ticks) (points : List HistoryPoint) (snapshot : SnapshotFacts) (role : RoleFacts) (o : Outcome) → o.role ≡ role → leader_in snapshot ≡ None → GotRows P now points snapshot o → P (no_key now role (record o { knows = read_noted now snapshot o.knows }))
+got-none P now points snapshot (Leader held) o is none rows = rows.leader held is
+got-none P now points snapshot Stray o is none rows = rows.stray is
+got-none P now points snapshot Follower o is none rows = rows.free none (rw is refl)
+got-none P now points snapshot (Holder held) o is none rows = rows.free none (rw is refl)
+got-none P now points snapshot (Ready held) o is none rows = rows.other
+got-none P now points snapshot (Ending held why) o is none rows = rows.other
+
+got-others : (P : Outcome → Type 0) (now : Ticks) (points : List HistoryPoint) (snapshot : SnapshotFacts) (leader : LeaderEntry) (role : RoleFacts) (o : Outcome) → o.role ≡ role → leader_in snapshot ≡ Some leader → GotRows P now points snapshot o → P (others_key now leader.holder role (record o { knows = read_noted now snapshot o.knows }))
+got-others P now points snapshot leader (Leader held) o is some rows = rows.leader held is
+got-others P now points snapshot leader Stray o is some rows = rows.stray is
+got-others P now points snapshot leader Follower o is some rows = rows.follows leader some (rw is refl)
+got-others P now points snapshot leader (Holder held) o is some rows = rows.follows leader some (rw is refl)
+got-others P now points snapshot leader (Ready held) o is some rows = rows.other
+got-others P now points snapshot leader (Ending held why) o is some rows = rows.other
+
+own-found : (P : Outcome → Type 0) (now : Ticks) (points : List HistoryPoint) (snapshot : SnapshotFacts) (leader : LeaderEntry) (o : Outcome) → leader_in snapshot ≡ Some leader → leader.holder.number == o.knows.who.me.number ≡ true → GotRows P now points snapshot o → P (finds_own_key now points leader.revision (record o { knows = read_noted now snapshot o.knows }))
+own-found P now points snapshot leader o some mine rows = if-cases P (is_held now o.machine.hold) (touching (record o { knows = read_noted now snapshot o.knows })) (renewing now points leader.revision (record o { knows = read_noted now snapshot o.knows })) (λ _. rows.touches) (λ _. rows.renews leader some mine)
+
+got-own : (P : Outcome → Type 0) (now : Ticks) (points : List HistoryPoint) (snapshot : SnapshotFacts) (leader : LeaderEntry) (role : RoleFacts) (o : Outcome) → leader_in snapshot ≡ Some leader → leader.holder.number == o.knows.who.me.number ≡ true → GotRows P now points snapshot o → P (own_key now points leader.revision role (record o { knows = read_noted now snapshot o.knows }))
+got-own P now points snapshot leader (Leader held) o some mine rows = rows.renews leader some mine
+got-own P now points snapshot leader Stray o some mine rows = rows.renews leader some mine
+got-own P now points snapshot leader Follower o some mine rows = own-found P now points snapshot leader o some mine rows
+got-own P now points snapshot leader (Holder held) o some mine rows = own-found P now points snapshot leader o some mine rows
+got-own P now points snapshot leader (Ready held) o some mine rows = rows.other
+got-own P now points snapshot leader (Ending held why) o some mine rows = rows.other
+
+got-led : (P : Outcome → Type 0) (now : Ticks) (points : List HistoryPoint) (snapshot : SnapshotFacts) (leader : Option LeaderEntry) (o : Outcome) → leader_in snapshot ≡ leader → GotRows P now points snapshot o → P (led now points leader (record o { knows = read_noted now snapshot o.knows }))
+got-led P now points snapshot None o is rows = got-none P now points snapshot o.role o refl is rows
+got-led P now points snapshot (Some leader) o is rows =
+    if-cases P (leader.holder.number == o.knows.who.me.number) (own_key now points leader.revision o.role (record o { knows = read_noted now snapshot o.knows })) (others_key now leader.holder o.role (record o { knows = read_noted now snapshot o.knows }))
+    (λ mine. got-own P now points snapshot leader o.role o is mine rows) (λ _. got-others P now points snapshot leader o.role o refl is rows)
+
+pub got-by : (P : Outcome → Type 0) (now : Ticks) (points : List HistoryPoint) (sequence : ℕ) (snapshot : SnapshotFacts) (o : Outcome) → GotRows P now points snapshot o → P (got now points sequence snapshot o)
+got-by P now points sequence snapshot o rows =
+    if-cases P (awaits_read o.knows.waited sequence) (accepted now points snapshot o) o
+    (λ _. if-cases P (is_active o.role) (led now points (leader_in snapshot) (record o { knows = read_noted now snapshot o.knows })) (waiting_no_more o) (λ _. got-led P now points snapshot (leader_in snapshot) o refl rows) (λ _. rows.quiet))
+    (λ _. rows.kept)
+
+-- a request was refused
+pub record RefusedRows (P : Outcome → Type 0) (now : Ticks) (o : Outcome) : Type 0 where
+  pub kept : P o
+  pub quiet : P (waiting_no_more o)
+  pub leader : (held : ℕ) → o.role ≡ Leader held → P (leader_loses_key now held (waiting_no_more o))
+  pub stray : o.role ≡ Stray → P (stray_loses_key now (waiting_no_more o))
+  pub follower : (held : ℕ) → o.role ≡ Holder held → P (record (waiting_no_more o) { role = Follower })
+
+renewal-refused : (P : Outcome → Type 0) (now : Ticks) (role : RoleFacts) (o : Outcome) → o.role ≡ role → RefusedRows P now o → P (renewal_refused now role (waiting_no_more o))
+renewal-refused P now (Leader held) o is rows = rows.leader held is
+renewal-refused P now Stray o is rows = rows.stray is
+renewal-refused P now (Holder held) o is rows = rows.follower held is
+renewal-refused P now Follower o is rows = rows.quiet
+renewal-refused P now (Ready held) o is rows = rows.quiet
+renewal-refused P now (Ending held why) o is rows = rows.quiet
+
+create-refused : (P : Outcome → Type 0) (now : Ticks) (role : RoleFacts) (o : Outcome) → o.role ≡ role → RefusedRows P now o → P (record (waiting_no_more o) { role = follower_for role })
+create-refused P now (Holder held) o is rows = rows.follower held is
+create-refused P now Follower o is rows = subst (λ (r : RoleFacts). P (record (waiting_no_more o) { role = r })) is rows.quiet
+create-refused P now (Ready held) o is rows = subst (λ (r : RoleFacts). P (record (waiting_no_more o) { role = r })) is rows.quiet
+create-refused P now (Leader held) o is rows = subst (λ (r : RoleFacts). P (record (waiting_no_more o) { role = r })) is rows.quiet
+create-refused P now (Ending held why) o is rows = subst (λ (r : RoleFacts). P (record (waiting_no_more o) { role = r })) is rows.quiet
+create-refused P now Stray o is rows = subst (λ (r : RoleFacts). P (record (waiting_no_more o) { role = r })) is rows.quiet
+
+refused-as : (P : Outcome → Type 0) (now : Ticks) (question : Question) (o : Outcome) → RefusedRows P now o → P (refused_as now question (waiting_no_more o))
+refused-as P now Creating o rows = create-refused P now o.role o refl rows
+refused-as P now Renewing o rows = renewal-refused P now o.role o refl rows
+refused-as P now Reading o rows = rows.quiet
+
+refused-for : (P : Outcome → Type 0) (now : Ticks) (sequence : ℕ) (waited : Option Waited) (o : Outcome) → RefusedRows P now o → P (refused_for now sequence waited o)
+refused-for P now sequence None o rows = rows.kept
+refused-for P now sequence (Some waited) o rows = if-cases P (is_decision waited sequence) (refused_as now waited.question (waiting_no_more o)) o (λ _. refused-as P now waited.question o rows) (λ _. rows.kept)
+
+pub refused-by : (P : Outcome → Type 0) (now : Ticks) (sequence : ℕ) (o : Outcome) → RefusedRows P now o → P (refused now sequence o)
+refused-by P now sequence o rows = refused-for P now sequence o.knows.waited o rows
+
+-- what the server of a member does under another leader, or under none
+starts-by : (P : Outcome → Type 0) (now : Ticks) (leader : Option MemberId) (o : Outcome) → P o → P (starting_replica now leader o) → P (starts_behind now leader o)
+starts-by P now leader o kept starts = if-cases P o.machine.server.diverged o (starting_replica now leader o) (λ _. kept) (λ _. starts)
+
+pub follow-by : (P : Outcome → Type 0) (now : Ticks) (leader : MemberId) (state : State) (o : Outcome) → P o → P (starting_replica now (Some leader) o) → P (following_server leader o) → P (follow_row now leader state o)
+follow-by P now leader states.Stopped o kept starts follows-it = starts-by P now (Some leader) o kept starts
+follow-by P now leader states.Crashed o kept starts follows-it = starts-by P now (Some leader) o kept starts
+follow-by P now leader states.Replica o kept starts follows-it = if-cases P (is_upstream leader o.machine.server.upstream) o (following_server leader o) (λ _. kept) (λ _. follows-it)
+follow-by P now leader states.Creating o kept starts follows-it = kept
+follow-by P now leader (states.Starting as_primary at) o kept starts follows-it = kept
+follow-by P now leader states.Primary o kept starts follows-it = kept
+follow-by P now leader (states.Stopping was_primary at) o kept starts follows-it = kept
+
+pub free-by : (P : Outcome → Type 0) (now : Ticks) (state : State) (o : Outcome) → P (touching o) → P (touching (starting_replica now None o)) → P (creating now o) → P (free_in now state o)
+free-by P now states.Stopped o kept starts creates = starts-by (λ (x : Outcome). P (touching x)) now None o kept starts
+free-by P now states.Crashed o kept starts creates = starts-by (λ (x : Outcome). P (touching x)) now None o kept starts
+free-by P now states.Replica o kept starts creates = creates
+free-by P now states.Creating o kept starts creates = kept
+free-by P now (states.Starting as_primary at) o kept starts creates = kept
+free-by P now states.Primary o kept starts creates = kept
+free-by P now (states.Stopping was_primary at) o kept starts creates = kept

@@ -1,0 +1,14 @@
+use Rattle.ha_loop.proofs.Bringing.{before-brings, wake-brings, read-brings, refusal-brings}
+use Rattle.ha_loop.proofs.laws.only_a_grant_lets_lead.Goals as goal
+
+pub returns-clause-wake : goal.returns-clause-wake
+returns-clause-wake c now points o = wake-brings now o
+
+pub returns-clause-read : goal.returns-clause-read
+returns-clause-read c now points sequence snapshot o = read-brings now points sequence snapshot o
+
+pub returns-clause-refusal : goal.returns-clause-refusal
+returns-clause-refusal c now points sequence key found o = refusal-brings now sequence o
+
+pub returns-clause-action : goal.returns-clause-action
+returns-clause-action c now o = before-brings now o

@@ -1,0 +1,14 @@
+use Rattle.ha_loop.proofs.Leaving.{before-leaves, wake-leaves, read-leaves, refusal-leaves}
+use Rattle.ha_loop.proofs.laws.only_a_grant_sets_deadlines.Goals as goal
+
+pub returns-clause-wake : goal.returns-clause-wake
+returns-clause-wake c now points o = wake-leaves now o
+
+pub returns-clause-read : goal.returns-clause-read
+returns-clause-read c now points sequence snapshot o = read-leaves now points sequence snapshot o
+
+pub returns-clause-refusal : goal.returns-clause-refusal
+returns-clause-refusal c now points sequence key found o = refusal-leaves now sequence o
+
+pub returns-clause-action : goal.returns-clause-action
+returns-clause-action c now o = before-leaves now o

@@ -1,0 +1,47 @@
+-- What an agent has of the leader key, and what an input brings it of that.
+use Rattle.std.specs.Prelude.{ℕ, ◌≡◌, ◌⊎◌, Bool, true, false, Option, Some, None}
+use Rattle.pat_base.specs.ServerState.{live}
+use Rattle.leader_key.specs.Watchdog.{WatchdogFacts}
+use Rattle.ha_loop.specs.Agents.{RoleFacts, Follower, Holder, Ready, Leader, Ending, Stray, Outcome}
+
+-- the revision of the lease that an agent has
+abbrev pub lease_of : RoleFacts → Option ℕ
+lease_of (Holder revision) = Some revision
+lease_of (Ready revision) = Some revision
+lease_of (Leader revision) = Some revision
+lease_of (Ending revision why) = Some revision
+lease_of _ = None
+
+-- an agent leads, or is about to
+abbrev pub leads : RoleFacts → Bool
+leads (Ready revision) = true
+leads (Leader revision) = true
+leads _ = false
+
+abbrev pub is_ready : RoleFacts → Bool
+is_ready (Ready revision) = true
+is_ready _ = false
+
+-- the server accepts writes or will, or the agent is about to begin
+abbrev pub Acts : Outcome → Type 0
+Acts o = (live o.machine.server.state ≡ true) ⊎ (is_ready o.role ≡ true)
+
+-- what comes of an input brings nothing: a server that is live after it was live before, who leads or is about to after it did
+-- before, and a lease after it is the one before
+pub record BringsNothing (o after : Outcome) : Type 0 where
+  pub live : live after.machine.server.state ≡ true → live o.machine.server.state ≡ true
+  pub leads : leads after.role ≡ true → leads o.role ≡ true
+  pub ready : is_ready after.role ≡ true → is_ready o.role ≡ true
+  pub lease : (revision : ℕ) → lease_of after.role ≡ Some revision → lease_of o.role ≡ Some revision
+
+-- what an input without a grant may do to its watchdog: nothing; or its deadline is removed, where nobody acts after it; or where
+-- an agent that was about to begin found its server live, which only an operator's promotion brings
+pub data DeadlineMay (o after : Outcome) : Type 0 where
+  Kept : (same : after.machine.watchdog ≡ o.machine.watchdog) → DeadlineMay o after
+  Removed : (is : after.machine.watchdog ≡ record o.machine.watchdog { deadline = None }) → (rests : Acts after → ⊥) → DeadlineMay o after
+  Undone : (is : after.machine.watchdog ≡ record o.machine.watchdog { deadline = None }) → (ready : is_ready o.role ≡ true) → (live : live o.machine.server.state ≡ true) → DeadlineMay o after
+
+-- what an input without a grant may do to its machine beside its server
+pub record LeavesMachine (o after : Outcome) : Type 0 where
+  pub deadline : DeadlineMay o after
+  pub hold : after.machine.hold ≡ o.machine.hold

@@ -1,0 +1,38 @@
+//! Laws of the decision table.
+ghost use Rattle.std.specs.Prelude.{ℕ, List};
+ghost use Rattle.pat_base.specs.declared.ticks.Ticks.{Ticks};
+ghost use Rattle.pat_base.specs.ServerState.{live};
+ghost use Rattle.lease_store.specs.declared.key.Key.{Key};
+ghost use Rattle.lease_store.specs.declared.txn.Expected.{Expected};
+ghost use Rattle.wal_model.specs.declared.entry.HistoryPoint.{HistoryPoint};
+ghost use Rattle.cluster_config.specs.Snapshots.{SnapshotFacts};
+ghost use Rattle.ha_loop.specs.declared.heard.Heard.TheVariants as heard;
+ghost use Rattle.ha_loop.specs.Agents.{Outcome};
+ghost use Rattle.ha_loop.specs.Before.{before};
+ghost use Rattle.ha_loop.specs.Fits.{Fits};
+ghost use Rattle.ha_loop.specs.Powers.{BringsNothing, LeavesMachine};
+ghost use Rattle.ha_loop.specs.Table.{step, act};
+
+/// What comes before an input makes the role fit the server: nobody is about to lead, or follows, whose server is live, and
+/// nobody leads whose server has ended.
+pub fn role_fits_server()
+    ensures { (now : Ticks) (o : Outcome) → Fits (before now o).role (live (before now o).machine.server.state) }
+{}
+
+/// Only a grant lets an agent lead: after any other input no server is live that wasn't live before, nobody leads who didn't lead
+/// before, and nobody has a lease that it didn't have before.
+pub fn only_a_grant_lets_lead()
+    ensures wake { (now : Ticks) (points : List HistoryPoint) (o : Outcome) → BringsNothing o (step now points heard.Wake o) }
+    ensures read { (now : Ticks) (points : List HistoryPoint) (sequence : ℕ) (snapshot : SnapshotFacts) (o : Outcome) → BringsNothing o (step now points (heard.Got sequence snapshot) o) }
+    ensures refusal { (now : Ticks) (points : List HistoryPoint) (sequence : ℕ) (key : Key) (found : Expected) (o : Outcome) → BringsNothing o (step now points (heard.Mismatch sequence key found) o) }
+    ensures action { (now : Ticks) (o : Outcome) → BringsNothing o (act now o) }
+{}
+
+/// Only a grant sets a deadline: any other input leaves the watchdog and the hold as they were, but for a deadline that is removed
+/// where nobody acts after it, or where an agent that was about to begin found its server live.
+pub fn only_a_grant_sets_deadlines()
+    ensures wake { (now : Ticks) (points : List HistoryPoint) (o : Outcome) → LeavesMachine o (step now points heard.Wake o) }
+    ensures read { (now : Ticks) (points : List HistoryPoint) (sequence : ℕ) (snapshot : SnapshotFacts) (o : Outcome) → LeavesMachine o (step now points (heard.Got sequence snapshot) o) }
+    ensures refusal { (now : Ticks) (points : List HistoryPoint) (sequence : ℕ) (key : Key) (found : Expected) (o : Outcome) → LeavesMachine o (step now points (heard.Mismatch sequence key found) o) }
+    ensures action { (now : Ticks) (o : Outcome) → LeavesMachine o (act now o) }
+{}

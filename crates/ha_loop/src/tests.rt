@@ -1,0 +1,229 @@
+//! Inputs of an agent, worked by hand.
+ghost use Rattle.std.specs.Prelude.{◌≡◌};
+
+use crate::info::info_of;
+use crate::{Agent, Heard, Machine, Output, Outputs, Who};
+use cluster_config::{RoleWord, Snapshot};
+use event_book::{Body, Reason};
+use leader_key::{Mode, Watchdog};
+use lease_store::{ConfigValue, Store, Txn, TxnKind};
+use pat_base::{Host, Lsn, MemberId, Name, State, Tags, Ticks};
+use pg_model::ServerStatus;
+use std::alloc::Global;
+use std::process::Abort;
+use std::test::Fail;
+use wal_model::History;
+
+fn who(rt: &impl Abort) -> Who {
+    Who {
+        me: MemberId::new(0).expect(rt, "a member"),
+        members: 1,
+        scope: Name::read(b"demo").expect(rt, "a name"),
+        name: Name::read(b"a").expect(rt, "a name"),
+        host: Host::local(),
+        tags: Tags {
+            nofailover: false,
+            nosync: false,
+            noloadbalance: false,
+            failover_priority: 1,
+        },
+    }
+}
+
+fn server(rt: &impl Abort) -> ServerStatus {
+    ServerStatus {
+        state: State::Replica,
+        timeline: 1,
+        end: Some(Lsn::new(83_886_080).expect(rt, "a position")),
+        upstream: None,
+        receives: false,
+        diverged: false,
+        was_primary: false,
+        stop_delay: Ticks(0),
+        start_delay: Ticks(0),
+    }
+}
+
+/// What an output does, in a word.
+fn word(output: &Output) -> &'static str {
+    match output {
+        Output::Send { body, .. } => request(body),
+        Output::Promote => "promote",
+        Output::StartReplica { .. } => "start as a replica",
+        Output::Stop {
+            reason: Reason::StoreOutOfReach,
+        } => "out of reach",
+        Output::Require { .. } => "require",
+        Output::Armed { until: Ticks(251) } => "armed until 251",
+        Output::Fed { until: Ticks(351) } => "fed until 351",
+        Output::Disarmed => "disarmed",
+        _ => "another",
+    }
+}
+
+fn request(body: &Body) -> &'static str {
+    match body {
+        Body::Read => "read",
+        Body::Request(txn) => match txn.kind() {
+            TxnKind::Create => "create",
+            TxnKind::Renewal => "renewal",
+            TxnKind::Touch => "touch",
+            _ => "another request",
+        },
+        _ => "another message",
+    }
+}
+
+/// One input, and the words of what it does.
+fn input(
+    rt: &impl Abort,
+    agent: Agent,
+    at: Ticks,
+    heard: Heard,
+    history: &History,
+    machine: &mut Machine,
+    out: &mut Outputs,
+    wanted: &[&str],
+) -> Agent {
+    assert!(rt; at <= Ticks(10_000));
+    assert!(rt; agent.room() >= 40);
+    assert!(rt; out.spare() >= 40);
+    assert!(rt; machine.server.timeline < 1000);
+    assert!(rt; machine.server.stop_delay == Ticks(0));
+    assert!(rt; machine.server.start_delay == Ticks(0));
+    let agent = agent.step(at, heard, history, machine, out);
+    for word_wanted in wanted {
+        let output = out.take().expect(rt, "an output");
+        assert_eq!(rt; word(&output), *word_wanted);
+    }
+    assert!(rt; out.take().is_none());
+    agent
+}
+
+/// What the store of one member holds at a moment.
+fn snapshot(alloc: Global, rt: &impl Abort, store: &Store, at: Ticks) -> Result<Snapshot, Fail> {
+    let whose = who(rt);
+    let entries = store.entries(at)?;
+    Ok(Snapshot::read(alloc, whose.scope, &[(whose.name, whose.host)], entries)?)
+}
+
+#[test]
+fn one_member(rt: HostRuntime) -> Result<(), Fail> {
+    let mut store = Store::new(rt.alloc(), ConfigValue::defaults(rt.alloc())?)?;
+    let history = History::new(rt.alloc());
+    let mut out = Outputs::new(rt.alloc());
+    out.reserve(40)?;
+    let free = snapshot(rt.alloc(), &rt, &store, Ticks(1))?;
+    let create = Txn::Create {
+        info: info_of(&who(&rt), &server(&rt)),
+        ttl: Ticks(300),
+        failsafe: None,
+    };
+    let granted = store.apply(Ticks(1), who(&rt).me, create)?;
+    let held = snapshot(rt.alloc(), &rt, &store, Ticks(1))?;
+    let read = snapshot(rt.alloc(), &rt, &store, Ticks(101))?;
+    let mut machine = Machine {
+        server: server(&rt),
+        watchdog: Watchdog::new(Mode::Automatic, true, Some(Ticks(50))),
+        hold: None,
+    };
+    let agent = Agent::start(who(&rt), Ticks(0), 1, &mut machine);
+    let agent = input(
+        &rt,
+        agent,
+        Ticks(1),
+        Heard::Wake,
+        &history,
+        &mut machine,
+        &mut out,
+        &["read"],
+    );
+    let got = Heard::Got {
+        sequence: 1,
+        snapshot: free,
+    };
+    let agent = input(
+        &rt,
+        agent,
+        Ticks(1),
+        got,
+        &history,
+        &mut machine,
+        &mut out,
+        &["create"],
+    );
+    let grant = Heard::Granted {
+        sequence: 2,
+        granted,
+        snapshot: held,
+    };
+    let begun = ["armed until 251", "require", "promote"];
+    let agent = input(
+        &rt,
+        agent,
+        Ticks(1),
+        grant,
+        &history,
+        &mut machine,
+        &mut out,
+        &begun,
+    );
+    let agent = input(
+        &rt,
+        agent,
+        Ticks(100),
+        Heard::Wake,
+        &history,
+        &mut machine,
+        &mut out,
+        &[],
+    );
+    let agent = input(
+        &rt,
+        agent,
+        Ticks(101),
+        Heard::Wake,
+        &history,
+        &mut machine,
+        &mut out,
+        &["read"],
+    );
+    let got = Heard::Got {
+        sequence: 3,
+        snapshot: read,
+    };
+    let agent = input(
+        &rt,
+        agent,
+        Ticks(101),
+        got,
+        &history,
+        &mut machine,
+        &mut out,
+        &["renewal"],
+    );
+    let agent = input(
+        &rt,
+        agent,
+        Ticks(201),
+        Heard::Wake,
+        &history,
+        &mut machine,
+        &mut out,
+        &["out of reach"],
+    );
+    let ended = input(
+        &rt,
+        agent,
+        Ticks(202),
+        Heard::Wake,
+        &history,
+        &mut machine,
+        &mut out,
+        &["disarmed"],
+    );
+    let is_follower = ended.view(Ticks(202), &machine).role == RoleWord::Follower;
+    ended.wreck();
+    assert!(rt; is_follower);
+    Ok(())
+}
