@@ -1,6 +1,5 @@
 //! The agent: what it does on what it hears.
 ghost use Rattle.std.specs.Prelude.{◌≡◌, ◌≤◌, ◌<◌, ◌+◌, ◌*◌, ◌^◌, Some, option_copied};
-ghost use Rattle.lease_store.specs.Answers.{holder_of};
 ghost use Rattle.pat_world.specs.Turns.{seconds_after, fresh_phase, is_overdue, has_turn, is_due, idle, asking, begun, rested, turned, woken, is_same_question, awaits, awaits_lease, settings_by, settings_or, informed, lease, creating, renewing, following, led_by, led, told, is_lease_of, granted, refused, heard_body, heard};
 ghost use Rattle.pat_world.specs.Short.{AsksShortly};
 
@@ -181,7 +180,7 @@ fn led(now: Ticks, me: MemberId, leader: Option<&Held>, phase: Phase) -> Reactio
 {
     match leader {
         None => creating(now, phase),
-        Some(held) => led_by(me, held.revision, holder_of(&held.value), phase),
+        Some(held) => led_by(me, held.revision, held.value.holder(), phase),
     }
 }
 
@@ -293,16 +292,6 @@ fn settings_by(settings: Config, value: &Value) -> Config
     match value {
         Value::Config(config) => config.config(),
         _ => settings,
-    }
-}
-
-/// The member that a value of the leader key names.
-fn holder_of(value: &Value) -> Option<MemberId>
-    ensures { result ≡ holder_of value.now }
-{
-    match value {
-        Value::Leader(member) => Some(*member),
-        _ => None,
     }
 }
 
