@@ -9,7 +9,7 @@ use Rattle.pat_base.specs.declared.name.Name.{Name}
 use Rattle.lease_store.specs.declared.config.Config.{Config}
 use Rattle.lease_store.specs.declared.key.Key.{Key}
 use Rattle.lease_store.specs.declared.key.Key.TheVariants as keys
-use Rattle.lease_store.specs.declared.value.Held.{Held}
+use Rattle.lease_store.specs.declared.value.KeyEntry.{KeyEntry}
 use Rattle.lease_store.specs.declared.value.Value.{Value}
 use Rattle.lease_store.specs.declared.value.Value.TheVariants as values
 use Rattle.lease_store.specs.Kept.{AreOfKind}
@@ -21,23 +21,23 @@ use Rattle.cluster_config.specs.declared.snapshot.LeaderEntry.{LeaderEntry}
 pub record SnapshotFacts : Type 0 where
   pub scope : Name
   pub members : List (Name × Host)
-  pub entries : List (Key × Held)
+  pub entries : List (Key × KeyEntry)
 
 -- the keys rise, each value is of its key's kind, and the configuration is there
-pub record IsRead (entries : List (Key × Held)) : Type 0 where
+pub record IsRead (entries : List (Key × KeyEntry)) : Type 0 where
   pub order : IsTrue (is_sorted key_cmp entries)
   pub kinds : AreOfKind entries
   pub config : IsSome (find key_cmp keys.Config entries)
 
 -- what is held at a key, if it was present
-abbrev pub held_in : Key → SnapshotFacts → Option Held
+abbrev pub held_in : Key → SnapshotFacts → Option KeyEntry
 held_in key snapshot = find key_cmp key snapshot.entries
 
 abbrev pub leader_by : ℕ → Value → Option LeaderEntry
 leader_by revision (values.Leader member) = Some (record { holder = member; revision = revision })
 leader_by revision _ = None
 
-abbrev pub leader_held : Option Held → Option LeaderEntry
+abbrev pub leader_held : Option KeyEntry → Option LeaderEntry
 leader_held None = None
 leader_held (Some held) = leader_by held.revision held.value
 
@@ -49,7 +49,7 @@ abbrev pub settings_by : Config → Value → Config
 settings_by settings (values.Config config) = config.config
 settings_by settings _ = settings
 
-abbrev pub settings_held : Config → Option Held → Config
+abbrev pub settings_held : Config → Option KeyEntry → Config
 settings_held settings None = settings
 settings_held settings (Some held) = settings_by settings held.value
 
@@ -61,7 +61,7 @@ abbrev pub failsafe_by : Value → Option MemberSet
 failsafe_by (values.Failsafe members) = Some members
 failsafe_by _ = None
 
-abbrev pub failsafe_held : Option Held → Option MemberSet
+abbrev pub failsafe_held : Option KeyEntry → Option MemberSet
 failsafe_held None = None
 failsafe_held (Some held) = failsafe_by held.value
 

@@ -5,7 +5,7 @@ ghost use Rattle.lease_store.specs.Kept.{AreOfKind};
 ghost use Rattle.lease_store.specs.KeyOrder.{key_cmp};
 ghost use Rattle.cluster_config.specs.Snapshots.{IsRead, held_in, leader_by, leader_held, leader_in, settings_by, settings_held, settings_in, failsafe_by, failsafe_held, failsafe_in, has_row};
 
-use lease_store::{Config, Held, Key, Value, held_at};
+use lease_store::{Config, Key, KeyEntry, Value, key_entry_at};
 use pat_base::{Host, MemberId, MemberSet, Name};
 use std::alloc::{AllocError, Global};
 use std::marker::Model;
@@ -16,7 +16,7 @@ use std::marker::Model;
 pub struct Snapshot {
     scope: Name,
     members: Vec<(Name, Host)>,
-    entries: Vec<(Key, Held)>,
+    entries: Vec<(Key, KeyEntry)>,
 }
 
 impl Model for Snapshot {
@@ -42,7 +42,7 @@ impl Snapshot {
         alloc: Global,
         scope: Name,
         members: &[(Name, Host)],
-        entries: Vec<(Key, Held)>,
+        entries: Vec<(Key, KeyEntry)>,
     ) -> Result<Snapshot, AllocError>
         requires { IsRead entries.items }
         ensures { IfOk result (λ snapshot. snapshot ≡ record { scope = scope; members = members.now; entries = entries.items }) }
@@ -69,7 +69,7 @@ impl Snapshot {
     }
 
     /// The keys that were present, in their order, each once and with a value of its kind, the configuration always among them.
-    pub fn entries(&self) -> &[(Key, Held)]
+    pub fn entries(&self) -> &[(Key, KeyEntry)]
         ensures entries { result.now ≡ self.now.entries }
         ensures read { IsRead self.now.entries }
     {
@@ -77,10 +77,10 @@ impl Snapshot {
     }
 
     /// What is held at a key. `None` exactly where the key was absent.
-    pub fn held(&self, key: Key) -> Option<&Held>
+    pub fn held(&self, key: Key) -> Option<&KeyEntry>
         ensures { option_copied result ≡ held_in key self.now }
     {
-        held_at(&self.entries, key)
+        key_entry_at(&self.entries, key)
     }
 
     /// Who leads. `None` exactly where the leader key was absent.
@@ -112,7 +112,7 @@ impl Snapshot {
     }
 }
 
-fn leader_held(held: Option<&Held>) -> Option<LeaderEntry>
+fn leader_held(held: Option<&KeyEntry>) -> Option<LeaderEntry>
     ensures { result ≡ leader_held (option_copied held.entry) }
 {
     let held = held?;
@@ -131,7 +131,7 @@ fn leader_by(revision: u64, value: &Value) -> Option<LeaderEntry>
     }
 }
 
-fn settings_held(settings: Config, held: Option<&Held>) -> Config
+fn settings_held(settings: Config, held: Option<&KeyEntry>) -> Config
     ensures { result ≡ settings_held settings (option_copied held.entry) }
 {
     match held {
@@ -149,7 +149,7 @@ fn settings_by(settings: Config, value: &Value) -> Config
     }
 }
 
-fn failsafe_held(held: Option<&Held>) -> Option<MemberSet>
+fn failsafe_held(held: Option<&KeyEntry>) -> Option<MemberSet>
     ensures { result ≡ failsafe_held (option_copied held.entry) }
 {
     let held = held?;

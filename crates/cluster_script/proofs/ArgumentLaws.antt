@@ -11,12 +11,12 @@ use Rattle.pat_base.specs.declared.name.Name.{Name}
 use Rattle.pat_base.specs.declared.member_id.MemberId.{MemberId}
 use Rattle.pat_base.proofs.Members.{number-member_of}
 use Rattle.pat_base.proofs.Names.{name_of-text}
-use Rattle.cluster_script.specs.Arguments.{number_in, switch_in, transition_in, commit_size_in, delay_in, declared_member, member_in, end_in, line_end, last_word, one_word, word_behind, two_words, words_behind, three_words, same_end, apart, two_ends, commit_in, stream_in, slow_in, command, line_of_words}
+use Rattle.cluster_script.specs.Arguments.{number_in, switch_in, slowed_call_in, commit_size_in, delay_in, known_member, member_in, end_in, line_end, last_word, one_word, word_behind, two_words, words_behind, three_words, same_end, apart, two_ends, commit_in, stream_in, slow_in, command, line_of_words}
 use Rattle.cluster_script.specs.Faults.{on_ok, both}
 use Rattle.cluster_script.specs.Members.{place_of, member_named}
 use Rattle.cluster_script.specs.Numbers.{number}
 use Rattle.cluster_script.specs.Ranges.{commit_size_of, delay_of}
-use Rattle.cluster_script.specs.Script.{text_of_name, member_text, end_text, switch_text, transition_text, two_texts, line_text, IsMember, IsEnd, IsLink, IsLine}
+use Rattle.cluster_script.specs.Script.{text_of_name, member_text, end_word, switch_text, slowed_call_text, two_texts, line_text, IsMember, IsEnd, IsLink, IsLine}
 use Rattle.cluster_script.specs.Words.{spelled, cut_word}
 use Rattle.cluster_script.specs.declared.fault.Fault.{Fault}
 use Rattle.cluster_script.specs.declared.fault.Fault.TheVariants as faults
@@ -28,8 +28,8 @@ use Rattle.cluster_script.specs.declared.line.Command.{Command}
 use Rattle.cluster_script.specs.declared.line.Command.TheVariants as commands
 use Rattle.cluster_script.specs.declared.line.Line.{Line}
 use Rattle.cluster_script.specs.declared.line.Line.TheVariants as lines
-use Rattle.cluster_script.specs.declared.line.Transition.{Transition}
-use Rattle.cluster_script.specs.declared.line.Transition.TheVariants as transitions
+use Rattle.cluster_script.specs.declared.line.SlowedCall.{SlowedCall}
+use Rattle.cluster_script.specs.declared.line.SlowedCall.TheVariants as slowed_calls
 use Rattle.cluster_script.specs.declared.ranges.CommitSize.{CommitSize}
 use Rattle.cluster_script.specs.declared.ranges.Delay.{Delay}
 use Rattle.cluster_script.proofs.NameLaws.{place_of-Some}
@@ -43,7 +43,7 @@ pub record IsNamed (members : List Name) (word : List ℕ) (m : MemberId) : Type
   pub text : member_text members m ≡ word
   pub member : IsMember members m
 
-member-named : (members : List Name) (word : List ℕ) (m : MemberId) (o : Option Name) → name_of word ≡ o → declared_member members o ≡ Ok m → IsNamed members word m
+member-named : (members : List Name) (word : List ℕ) (m : MemberId) (o : Option Name) → name_of word ≡ o → known_member members o ≡ Ok m → IsNamed members word m
 member-named members word m None is e = absurd (err_is _ m e)
 member-named members word m (Some name) is e =
     let p = and_then-Some member_of (place_of members name) m (ok_or-Ok (member_named members name) faults.UnknownName m e) in
@@ -60,7 +60,7 @@ member_in-Ok members word m e = member-named members word m (name_of word) refl 
 
 -- an end that a word names
 pub record IsEndNamed (members : List Name) (word : List ℕ) (x : End) : Type 0 where
-  pub text : end_text members x ≡ word
+  pub text : end_word members x ≡ word
   pub is_end : IsEnd members x
 
 end-named : (members : List Name) (word : List ℕ) (x : End) (t : Bool) → bytes_eq word (codes "store") ≡ t → cond t (Ok ends.Store) (on_ok (member_in members word) (λ m. Ok (ends.Member m))) ≡ Ok x → IsEndNamed members word x
@@ -167,7 +167,7 @@ three_words-Ok members first second third (Some words) p e =
 pub record HasLink (members : List Name) (rest : Option (List ℕ)) (first second : End) : Type 0 where
   pub words : List ℕ
   pub is : rest ≡ Some words
-  pub text : two_texts (end_text members first) (end_text members second) ≡ words
+  pub text : two_texts (end_word members first) (end_word members second) ≡ words
   pub link : IsLink members first second
 
 same_end-refl : (x : End) → same_end x x ≡ true
@@ -188,7 +188,7 @@ two_ends-Ok members rest p e =
     subst (λ (r : End × End). HasLink members rest r.0 r.1) same (record {
       words = two_texts w.word w.other;
       is = w.is;
-      text = ap (λ t. two_texts t (end_text members q.0.1)) x.text ∙ ap (λ t. two_texts w.word t) y.text;
+      text = ap (λ t. two_texts t (end_word members q.0.1)) x.text ∙ ap (λ t. two_texts w.word t) y.text;
       link = record { first_is = x.is_end; second_is = y.is_end; apart = different q.0.0 q.0.1 d.0 };
     })
 
@@ -209,21 +209,21 @@ delay_in-Ok word delay e =
     ap decimal same ∙ sym (number-is word p.0 (number_in-Ok word p.0 p.1))
 
 -- 'stop' and 'start'
-start-Ok : (word : List ℕ) (transition : Transition) (t : Bool) → bytes_eq word (codes "start") ≡ t → cond t (Ok transitions.Start) (Err faults.BadOption) ≡ Ok transition → transition_text transition ≡ word
-start-Ok word transition true is e =
-    let same : transitions.Start ≡ transition = ok_is transitions.Start transition e in
-    ap transition_text (sym same) ∙ sym ((bytes_eq-Decides word (codes "start")).0 is)
-start-Ok word transition false is e = absurd (err_is _ transition e)
+start-Ok : (word : List ℕ) (slowed : SlowedCall) (t : Bool) → bytes_eq word (codes "start") ≡ t → cond t (Ok slowed_calls.Start) (Err faults.BadOption) ≡ Ok slowed → slowed_call_text slowed ≡ word
+start-Ok word slowed true is e =
+    let same : slowed_calls.Start ≡ slowed = ok_is slowed_calls.Start slowed e in
+    ap slowed_call_text (sym same) ∙ sym ((bytes_eq-Decides word (codes "start")).0 is)
+start-Ok word slowed false is e = absurd (err_is _ slowed e)
 
-stop-Ok : (word : List ℕ) (transition : Transition) (t : Bool) → bytes_eq word (codes "stop") ≡ t → cond t (Ok transitions.Stop) (cond (bytes_eq word (codes "start")) (Ok transitions.Start) (Err faults.BadOption)) ≡ Ok transition
-    → transition_text transition ≡ word
-stop-Ok word transition true is e =
-    let same : transitions.Stop ≡ transition = ok_is transitions.Stop transition e in
-    ap transition_text (sym same) ∙ sym ((bytes_eq-Decides word (codes "stop")).0 is)
-stop-Ok word transition false is e = start-Ok word transition (bytes_eq word (codes "start")) refl e
+stop-Ok : (word : List ℕ) (slowed : SlowedCall) (t : Bool) → bytes_eq word (codes "stop") ≡ t → cond t (Ok slowed_calls.Stop) (cond (bytes_eq word (codes "start")) (Ok slowed_calls.Start) (Err faults.BadOption)) ≡ Ok slowed
+    → slowed_call_text slowed ≡ word
+stop-Ok word slowed true is e =
+    let same : slowed_calls.Stop ≡ slowed = ok_is slowed_calls.Stop slowed e in
+    ap slowed_call_text (sym same) ∙ sym ((bytes_eq-Decides word (codes "stop")).0 is)
+stop-Ok word slowed false is e = start-Ok word slowed (bytes_eq word (codes "start")) refl e
 
-transition_in-Ok : (word : List ℕ) (transition : Transition) → transition_in word ≡ Ok transition → transition_text transition ≡ word
-transition_in-Ok word transition e = stop-Ok word transition (bytes_eq word (codes "stop")) refl e
+slowed_call_in-Ok : (word : List ℕ) (slowed : SlowedCall) → slowed_call_in word ≡ Ok slowed → slowed_call_text slowed ≡ word
+slowed_call_in-Ok word slowed e = stop-Ok word slowed (bytes_eq word (codes "stop")) refl e
 
 -- 'on' and 'off'
 off-Ok : (word : List ℕ) (on : Bool) (t : Bool) → bytes_eq word (codes "off") ≡ t → cond t (Ok false) (Err faults.BadOption) ≡ Ok on → switch_text on ≡ word
@@ -269,7 +269,7 @@ member-line members keyword make text is_line rest line e =
     let m = member_in-Ok members w.word member w.value in
     record { words = w.word; is = w.is; text = text member ∙ ap (spelled keyword) m.text; fits = is_line member m.member })
 
-link-line : (members : List Name) (keyword : Keyword) (make : End → End → Line) → ((x y : End) → line_text members (make x y) ≡ spelled keyword (two_texts (end_text members x) (end_text members y))) → ((x y : End) → IsLink members x y → IsLine members (make x y))
+link-line : (members : List Name) (keyword : Keyword) (make : End → End → Line) → ((x y : End) → line_text members (make x y) ≡ spelled keyword (two_texts (end_word members x) (end_word members y))) → ((x y : End) → IsLink members x y → IsLine members (make x y))
     → (rest : Option (List ℕ)) (line : Line) → on_ok (two_ends members rest) (λ link. Ok (make link.0 link.1)) ≡ Ok line → Says members keyword rest line
 link-line members keyword make text is_line rest line e =
     on_ok-made (Says members keyword rest) (two_ends members rest) (λ link. make link.0 link.1) line e (λ link is.
@@ -316,14 +316,14 @@ stream-line members rest line e =
 
 slow-line : (members : List Name) (rest : Option (List ℕ)) (line : Line) → on_ok (slow_in members rest) command ≡ Ok line → Says members words.Slow rest line
 slow-line members rest line e =
-    command-line members words.Slow rest (three_words members (member_in members) transition_in delay_in rest) (λ said. commands.Slow said.0.0 said.0.1 said.1) line e (λ said is.
-    let w = three_words-Ok members (member_in members) transition_in delay_in rest said is in
+    command-line members words.Slow rest (three_words members (member_in members) slowed_call_in delay_in rest) (λ said. commands.Slow said.0.0 said.0.1 said.1) line e (λ said is.
+    let w = three_words-Ok members (member_in members) slowed_call_in delay_in rest said is in
     let m = member_in-Ok members w.word said.0.0 w.value in
     record {
       words = two_texts w.word (two_texts w.middle w.last);
       is = w.is;
-      text = ap (λ t. spelled words.Slow (two_texts t (two_texts (transition_text said.0.1) (decimal said.1.ticks)))) m.text
-          ∙ ap (λ t. spelled words.Slow (two_texts w.word (two_texts t (decimal said.1.ticks)))) (transition_in-Ok w.middle said.0.1 w.middle_value)
+      text = ap (λ t. spelled words.Slow (two_texts t (two_texts (slowed_call_text said.0.1) (decimal said.1.ticks)))) m.text
+          ∙ ap (λ t. spelled words.Slow (two_texts w.word (two_texts t (decimal said.1.ticks)))) (slowed_call_in-Ok w.middle said.0.1 w.middle_value)
           ∙ ap (λ t. spelled words.Slow (two_texts w.word (two_texts w.middle t))) (delay_in-Ok w.last said.1 w.last_value);
       fits = m.member;
     })

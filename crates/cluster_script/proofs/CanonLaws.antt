@@ -15,7 +15,7 @@ use Rattle.pat_base.specs.declared.name.Name.{Name}
 use Rattle.pat_base.specs.declared.member_id.MemberId.{MemberId}
 use Rattle.cluster_script.specs.Lines.{ended, lines_in, is_skipped, counted_lines}
 use Rattle.cluster_script.specs.Reading.{script_of}
-use Rattle.cluster_script.specs.Script.{ScriptText, IsScript, IsCommand, IsLine, AllAreLines, text_of_name, member_text, end_text, switch_text, transition_text, two_texts, command_text, member_line_text, line_text, member_lines, default_base, base_or_default, base_lines, base_to_say, head_lines, body_lines, lines_of, spelling_of, AllInForm, Spells}
+use Rattle.cluster_script.specs.Script.{ScriptText, IsScript, IsCommand, IsLine, AllAreLines, text_of_name, member_text, end_word, switch_text, slowed_call_text, two_texts, command_text, member_line_text, line_text, member_lines, default_base, base_or_default, base_lines, base_to_say, head_lines, body_lines, script_lines, spelling_of, AllInForm, Spells}
 use Rattle.cluster_script.specs.Words.{spelled, word_of}
 use Rattle.cluster_script.specs.declared.keyword.Keyword.{Keyword}
 use Rattle.cluster_script.specs.declared.keyword.Keyword.TheVariants as words
@@ -25,8 +25,8 @@ use Rattle.cluster_script.specs.declared.line.Command.{Command}
 use Rattle.cluster_script.specs.declared.line.Command.TheVariants as commands
 use Rattle.cluster_script.specs.declared.line.Line.{Line}
 use Rattle.cluster_script.specs.declared.line.Line.TheVariants as lines
-use Rattle.cluster_script.specs.declared.line.Transition.{Transition}
-use Rattle.cluster_script.specs.declared.line.Transition.TheVariants as transitions
+use Rattle.cluster_script.specs.declared.line.SlowedCall.{SlowedCall}
+use Rattle.cluster_script.specs.declared.line.SlowedCall.TheVariants as slowed_calls
 use Rattle.cluster_script.proofs.SpellLaws.{size-fits, delay-fits, base-fits, spelled-is-read}
 use Rattle.cluster_script.proofs.WordLaws.{spelled-counts}
 
@@ -70,7 +70,7 @@ some_name-IsPlain : (o : Option Name) → IsPlain (text_of_name o) 32
 some_name-IsPlain None = record { plain = refl; short = omega arith }
 some_name-IsPlain (Some name) = name-IsPlain name
 
-end-IsPlain : (members : List Name) (x : End) → IsPlain (end_text members x) 32
+end-IsPlain : (members : List Name) (x : End) → IsPlain (end_word members x) 32
 end-IsPlain members ends.Store = record { plain = refl; short = omega arith }
 end-IsPlain members (ends.Member m) = some_name-IsPlain (slice_get members m.number)
 
@@ -121,10 +121,10 @@ spelled-IsLineText keyword rest h =
     let p : IsPlain (spelled keyword rest) (7 + (100 + 1)) = IsPlain-append (word_of keyword) (32 ∷ rest) 7 (100 + 1) (word-IsPlain keyword) (blank-IsPlain rest 100 h) in
     record { plain = p.plain; short = omega (arith, p.short); counts = spelled-counts keyword rest }
 
-link-IsPlain : (members : List Name) (x y : End) → IsPlain (two_texts (end_text members x) (end_text members y)) 100
+link-IsPlain : (members : List Name) (x y : End) → IsPlain (two_texts (end_word members x) (end_word members y)) 100
 link-IsPlain members x y =
-    IsPlain-most (two_texts (end_text members x) (end_text members y)) (32 + (32 + 1)) 100 (omega arith)
-    (IsPlain-append (end_text members x) (32 ∷ end_text members y) 32 (32 + 1) (end-IsPlain members x) (blank-IsPlain (end_text members y) 32 (end-IsPlain members y)))
+    IsPlain-most (two_texts (end_word members x) (end_word members y)) (32 + (32 + 1)) 100 (omega arith)
+    (IsPlain-append (end_word members x) (32 ∷ end_word members y) 32 (32 + 1) (end-IsPlain members x) (blank-IsPlain (end_word members y) 32 (end-IsPlain members y)))
 
 switch-IsPlain : (on : Bool) → IsPlain (switch_text on) 100
 switch-IsPlain true = record { plain = refl; short = omega arith }
@@ -136,9 +136,9 @@ number-IsPlain n fits = IsPlain-most (decimal n) 20 100 (omega arith) (decimal-I
 member-IsPlain : (members : List Name) (m : MemberId) → IsPlain (member_text members m) 100
 member-IsPlain members m = IsPlain-most (member_text members m) 32 100 (omega arith) (some_name-IsPlain (slice_get members m.number))
 
-transition-IsPlain : (transition : Transition) → IsPlain (transition_text transition) 5
-transition-IsPlain transitions.Stop = record { plain = refl; short = omega arith }
-transition-IsPlain transitions.Start = record { plain = refl; short = omega arith }
+slowed-IsPlain : (slowed : SlowedCall) → IsPlain (slowed_call_text slowed) 5
+slowed-IsPlain slowed_calls.Stop = record { plain = refl; short = omega arith }
+slowed-IsPlain slowed_calls.Start = record { plain = refl; short = omega arith }
 
 -- a member's name and a number
 member_number-IsPlain : (members : List Name) (m : MemberId) (n : ℕ) → n < 2 ^ 64 → IsPlain (two_texts (member_text members m) (decimal n)) 100
@@ -147,13 +147,13 @@ member_number-IsPlain members m n fits =
     (IsPlain-append (member_text members m) (32 ∷ decimal n) 32 (20 + 1) (some_name-IsPlain (slice_get members m.number)) (blank-IsPlain (decimal n) 20 (decimal-IsPlain n fits)))
 
 -- a member's name, what is delayed and a number
-delay-IsPlain : (members : List Name) (m : MemberId) (transition : Transition) (n : ℕ) → n < 2 ^ 64 → IsPlain (two_texts (member_text members m) (two_texts (transition_text transition) (decimal n))) 100
-delay-IsPlain members m transition n fits =
-    let behind : IsPlain (two_texts (transition_text transition) (decimal n)) (5 + (20 + 1)) =
-    IsPlain-append (transition_text transition) (32 ∷ decimal n) 5 (20 + 1) (transition-IsPlain transition) (blank-IsPlain (decimal n) 20 (decimal-IsPlain n fits))
+delay-IsPlain : (members : List Name) (m : MemberId) (slowed : SlowedCall) (n : ℕ) → n < 2 ^ 64 → IsPlain (two_texts (member_text members m) (two_texts (slowed_call_text slowed) (decimal n))) 100
+delay-IsPlain members m slowed n fits =
+    let behind : IsPlain (two_texts (slowed_call_text slowed) (decimal n)) (5 + (20 + 1)) =
+    IsPlain-append (slowed_call_text slowed) (32 ∷ decimal n) 5 (20 + 1) (slowed-IsPlain slowed) (blank-IsPlain (decimal n) 20 (decimal-IsPlain n fits))
     in
-    IsPlain-most (two_texts (member_text members m) (two_texts (transition_text transition) (decimal n))) (32 + ((5 + (20 + 1)) + 1)) 100 (omega arith)
-    (IsPlain-append (member_text members m) (32 ∷ two_texts (transition_text transition) (decimal n)) 32 ((5 + (20 + 1)) + 1) (some_name-IsPlain (slice_get members m.number)) (blank-IsPlain (two_texts (transition_text transition) (decimal n)) (5 + (20 + 1)) behind))
+    IsPlain-most (two_texts (member_text members m) (two_texts (slowed_call_text slowed) (decimal n))) (32 + ((5 + (20 + 1)) + 1)) 100 (omega arith)
+    (IsPlain-append (member_text members m) (32 ∷ two_texts (slowed_call_text slowed) (decimal n)) 32 ((5 + (20 + 1)) + 1) (some_name-IsPlain (slice_get members m.number)) (blank-IsPlain (two_texts (slowed_call_text slowed) (decimal n)) (5 + (20 + 1)) behind))
 
 command-IsLineText : (members : List Name) (c : Command) → IsCommand members c → IsLineText (command_text members c)
 command-IsLineText members (commands.Turn m) is = spelled-IsLineText words.Turn (member_text members m) (member-IsPlain members m)
@@ -169,9 +169,9 @@ command-IsLineText members (commands.Commit m size) is = spelled-IsLineText word
 command-IsLineText members (commands.Stream m n) is = spelled-IsLineText words.Stream (two_texts (member_text members m) (decimal n)) (member_number-IsPlain members m n is.1)
 command-IsLineText members (commands.Freeze m) is = spelled-IsLineText words.Freeze (member_text members m) (member-IsPlain members m)
 command-IsLineText members (commands.Thaw m) is = spelled-IsLineText words.Thaw (member_text members m) (member-IsPlain members m)
-command-IsLineText members (commands.Slow m transition delay) is = spelled-IsLineText words.Slow (two_texts (member_text members m) (two_texts (transition_text transition) (decimal delay.ticks))) (delay-IsPlain members m transition delay.ticks (delay-fits delay))
-command-IsLineText members (commands.Cut x y) is = spelled-IsLineText words.Cut (two_texts (end_text members x) (end_text members y)) (link-IsPlain members x y)
-command-IsLineText members (commands.Join x y) is = spelled-IsLineText words.Join (two_texts (end_text members x) (end_text members y)) (link-IsPlain members x y)
+command-IsLineText members (commands.Slow m slowed delay) is = spelled-IsLineText words.Slow (two_texts (member_text members m) (two_texts (slowed_call_text slowed) (decimal delay.ticks))) (delay-IsPlain members m slowed delay.ticks (delay-fits delay))
+command-IsLineText members (commands.Cut x y) is = spelled-IsLineText words.Cut (two_texts (end_word members x) (end_word members y)) (link-IsPlain members x y)
+command-IsLineText members (commands.Join x y) is = spelled-IsLineText words.Join (two_texts (end_word members x) (end_word members y)) (link-IsPlain members x y)
 command-IsLineText members (commands.Trace on) is = spelled-IsLineText words.Trace (switch_text on) (switch-IsPlain on)
 
 line-IsLineText : (members : List Name) (line : Line) → IsLine members line → IsLineText (line_text members line)
@@ -210,7 +210,7 @@ body-AllLineTexts : (members : List Name) (body : List Line) → AllAreLines mem
 body-AllLineTexts members [] is = tt
 body-AllLineTexts members (line ∷ body) is = (line-IsLineText members line is.0, body-AllLineTexts members body is.1)
 
-script-AllLineTexts : (s : ScriptText) → IsScript s → AllLineTexts (lines_of s)
+script-AllLineTexts : (s : ScriptText) → IsScript s → AllLineTexts (script_lines s)
 script-AllLineTexts s h =
     let fits : base_or_default (base_to_say s.head.base) < 2 ^ 64 = subst (λ (n : ℕ). n < 2 ^ 64) (sym (base-is-said s.head.base)) (base-fits s.head.base h.head.base_most) in (
       name-line words.Cluster s.head.cluster,
@@ -249,12 +249,12 @@ all-in-form (line ∷ lines) h = (record { text = plain-is_utf8 line h.0.plain; 
 
 pub spelling-Spells : (s : ScriptText) → IsScript s → Spells (spelling_of s) s
 spelling-Spells s h =
-    let texts : AllLineTexts (lines_of s) = script-AllLineTexts s h in
+    let texts : AllLineTexts (script_lines s) = script-AllLineTexts s h in
     record {
-      form = subst AllInForm (sym (lines-again (lines_of s) texts)) (all-in-form (lines_of s) texts);
+      form = subst AllInForm (sym (lines-again (script_lines s) texts)) (all-in-form (script_lines s) texts);
       head = head_lines s.head;
       says = record { before = []; said = base_to_say s.head.base; behind = s.head.members; members = refl; base = base-is-said s.head.base; order = refl };
-      lines = ap counted_lines (lines-again (lines_of s) texts) ∙ all-count (lines_of s) texts;
+      lines = ap counted_lines (lines-again (script_lines s) texts) ∙ all-count (script_lines s) texts;
     }
 
 pub spelling-is-read : (s : ScriptText) → IsScript s → script_of (spelling_of s) ≡ Ok s

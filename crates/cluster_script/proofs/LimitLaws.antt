@@ -6,7 +6,7 @@ use Rattle.std.proofs.lemmas.List.{length-map}
 use Rattle.std.proofs.lemmas.List.Sums.{sum_by-append, sum_by-cons}
 use Rattle.pat_base.specs.declared.name.Name.{Name}
 use Rattle.cluster_script.specs.Lines.{lines_in, is_skipped, counted_lines}
-use Rattle.cluster_script.specs.Limits.{members_in, ticks_or_none, ticks_in_line, ticks_in, limit_of_lines, limit_of}
+use Rattle.cluster_script.specs.Limits.{member_line_count, ticks_or_none, ticks_in_line, ticks_in, limit_of_lines, limit_of}
 use Rattle.cluster_script.specs.Reading.{script_of}
 use Rattle.cluster_script.specs.Script.{ScriptText, IsLine, AllAreLines, line_text, body_lines}
 use Rattle.cluster_script.specs.Steps.{ticks_of_line, total_ticks}
@@ -66,7 +66,7 @@ least n h = omega arith
 lines-within : (ls : List (List ℕ)) → limit_of_lines ls ≡ None → (length ls ≤ 100000) × (sum_by ticks_in_line ls ≤ 1000000)
 lines-within ls none =
     let l = none_passed (nat_lt 100000 (length ls)) limits.Lines _ none in
-    let m = none_passed (nat_lt 16 (members_in ls)) limits.Members _ l.1 in
+    let m = none_passed (nat_lt 16 (member_line_count ls)) limits.Members _ l.1 in
     let t = none_passed (nat_lt 1000000 (ticks_in ls)) limits.Ticks None m.1 in
     (not-more 100000 (length ls) l.0, least (sum_by ticks_in_line ls) (not-more 1000000 (ticks_in ls) t.0))
 

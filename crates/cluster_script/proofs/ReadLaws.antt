@@ -12,7 +12,7 @@ use Rattle.cluster_script.specs.Draft.{DraftText, script_so_far}
 use Rattle.cluster_script.specs.Faults.{on_ok}
 use Rattle.cluster_script.specs.Lines.{lines_in, is_skipped, counted_lines}
 use Rattle.cluster_script.specs.Members.{place_of}
-use Rattle.cluster_script.specs.Reading.{has_option, declared_in_head, declared_once, named_member, new_member, next_member, ranged_base, base_in, head_end, base_end, next_base, addition_of, known_addition, addition_in, with_addition, with_line, alone, cluster_named, cluster_of, begun_by, first_line, begun, after_counted, after_text, after_line, after_lines, at_line, with_some, finished, script_of}
+use Rattle.cluster_script.specs.Reading.{has_option, declared_in_head, declared_once, named_member, new_member, next_member, ranged_base, base_in, head_end, base_end, next_base, addition_of, known_addition, addition_in, with_addition, with_line, alone, cluster_named, cluster_in, cluster_by_keyword, first_line, first_draft, after_counted, after_text, after_line, after_lines, at_line, with_some, finished, script_of}
 use Rattle.cluster_script.specs.Script.{AreDifferent, ScriptText, IsScript, IsLine, AllAreLines, cluster_text, member_line_text, base_text, line_text, member_lines, base_or_default, head_with_base, IsHeadLines, body_lines, IsInForm, AllInForm, Spells}
 use Rattle.cluster_script.specs.Words.{spelled, keyword_of, cut_word}
 use Rattle.cluster_script.specs.declared.addition.Addition.{Addition}
@@ -316,24 +316,24 @@ cluster_named-Ok word (Some name) rest x is e =
     let p = alone-Ok name x rest e in
     (ap name_bytes (sym p.0) ∙ name_of-text word name is, p.1)
 
-cluster_of-Ok : (rest : Option (List ℕ)) (x : Name) → cluster_of rest ≡ Ok x → rest ≡ Some (name_bytes x)
-cluster_of-Ok None x e = absurd (err_is _ x e)
-cluster_of-Ok (Some words) x e =
+cluster_in-Ok : (rest : Option (List ℕ)) (x : Name) → cluster_in rest ≡ Ok x → rest ≡ Some (name_bytes x)
+cluster_in-Ok None x e = absurd (err_is _ x e)
+cluster_in-Ok (Some words) x e =
     let p = cluster_named-Ok (cut_word words).0 (name_of (cut_word words).0) (cut_word words).1 x refl e in
     ap Some (sym (p.0 ∙ cut_word-None words p.1))
 
-begun_by-Ok : (line : List ℕ) (o : Option Keyword) (x : Name) → keyword_of (cut_word line).0 ≡ o → begun_by o (cut_word line).1 ≡ Ok x → cluster_text x ≡ line
-begun_by-Ok line (Some words.Cluster) x k e = line-is line words.Cluster (name_bytes x) k (cluster_of-Ok (cut_word line).1 x e)
-begun_by-Ok line _ x k e = absurd (err_is _ x e)
+cluster_by_keyword-Ok : (line : List ℕ) (o : Option Keyword) (x : Name) → keyword_of (cut_word line).0 ≡ o → cluster_by_keyword o (cut_word line).1 ≡ Ok x → cluster_text x ≡ line
+cluster_by_keyword-Ok line (Some words.Cluster) x k e = line-is line words.Cluster (name_bytes x) k (cluster_in-Ok (cut_word line).1 x e)
+cluster_by_keyword-Ok line _ x k e = absurd (err_is _ x e)
 
 first_line-Ok : (line : List ℕ) (x : Name) → first_line line ≡ Ok x → cluster_text x ≡ line
-first_line-Ok line x e = begun_by-Ok line (keyword_of (cut_word line).0) x refl e
+first_line-Ok line x e = cluster_by_keyword-Ok line (keyword_of (cut_word line).0) x refl e
 
 nothing-AreDifferent : AreDifferent []
 nothing-AreDifferent i j name p q = cc
 
-begun-Adds : (name : Name) → Adds (begun name) (cluster_text name ∷ [])
-begun-Adds name = record {
+first_draft-Adds : (name : Name) → Adds (first_draft name) (cluster_text name ∷ [])
+first_draft-Adds name = record {
   says = record { before = []; behind = []; members = refl; no_base = λ _. refl; lines = refl };
   begun = record { base = tt; few = omega arith; different = nothing-AreDifferent; body = tt };
 }
@@ -345,9 +345,9 @@ AddsIfAny (Some d) ls = Adds d ls
 
 counted-Adds : (o p : Option DraftText) (ls : List (List ℕ)) (line : List ℕ) → AddsIfAny o ls → after_counted o line ≡ Ok p → AddsIfAny p (ls ++ line ∷ [])
 counted-Adds None p ls line h e =
-    let q = on_ok-Ok (first_line line) (λ name. Ok (Some (begun name))) p e in
+    let q = on_ok-Ok (first_line line) (λ name. Ok (Some (first_draft name))) p e in
     let all : cluster_text q.0 ∷ [] ≡ ls ++ line ∷ [] = ap (λ t. t ∷ []) (first_line-Ok line q.0 q.1) ∙ ap (λ t. t ++ line ∷ []) (sym h) in
-    subst (λ (x : Option DraftText). AddsIfAny x (ls ++ line ∷ [])) (ok_is (Some (begun q.0)) p q.2) (subst (Adds (begun q.0)) all (begun-Adds q.0))
+    subst (λ (x : Option DraftText). AddsIfAny x (ls ++ line ∷ [])) (ok_is (Some (first_draft q.0)) p q.2) (subst (Adds (first_draft q.0)) all (first_draft-Adds q.0))
 counted-Adds (Some d) p ls line h e =
     let q = on_ok-Ok (with_line d line) (λ t. Ok (Some t)) p e in
     subst (λ (x : Option DraftText). AddsIfAny x (ls ++ line ∷ [])) (ok_is (Some q.0) p q.2) (line-Adds d q.0 ls line h q.1)

@@ -17,16 +17,16 @@ use Rattle.pat_base.proofs.Names.{name_of-name_bytes}
 use Rattle.cluster_script.specs.Numbers.{number}
 use Rattle.cluster_script.specs.Lines.{first_at}
 use Rattle.cluster_script.specs.Ranges.{commit_size_of, delay_of}
-use Rattle.cluster_script.specs.Arguments.{number_in, switch_in, transition_in, commit_size_in, delay_in, declared_member, member_in, end_in, line_end, last_word, one_word, word_behind, two_words, words_behind, same_end, apart, two_ends, commit_in, stream_in, slow_in, command}
+use Rattle.cluster_script.specs.Arguments.{number_in, switch_in, slowed_call_in, commit_size_in, delay_in, known_member, member_in, end_in, line_end, last_word, one_word, word_behind, two_words, words_behind, same_end, apart, two_ends, commit_in, stream_in, slow_in, command}
 use Rattle.cluster_script.specs.Draft.{DraftText, script_so_far}
 use Rattle.cluster_script.specs.Faults.{both}
-use Rattle.cluster_script.specs.Script.{end_text, switch_text, transition_text, two_texts, base_text, member_lines, base_or_default, base_lines, head_with_base, IsHeadLines}
+use Rattle.cluster_script.specs.Script.{end_word, switch_text, slowed_call_text, two_texts, base_text, member_lines, base_or_default, base_lines, head_with_base, IsHeadLines}
 use Rattle.pat_base.specs.Name.{name_bytes, name_of}
 use Rattle.pat_base.specs.declared.name.Name.{Name}
 use Rattle.cluster_script.specs.Faults.{on_ok}
 use Rattle.cluster_script.specs.Lines.{lines_in, is_skipped, counted_lines}
 use Rattle.cluster_script.specs.Members.{place_of}
-use Rattle.cluster_script.specs.Reading.{has_option, declared_once, named_member, new_member, next_member, ranged_base, base_in, base_end, next_base, addition_of, known_addition, addition_in, with_addition, with_line, cluster_named, begun_by, first_line, begun, after_counted, after_text, after_line, after_lines, at_line, with_some, finished, script_of}
+use Rattle.cluster_script.specs.Reading.{has_option, declared_once, named_member, new_member, next_member, ranged_base, base_in, base_end, next_base, addition_of, known_addition, addition_in, with_addition, with_line, cluster_named, cluster_by_keyword, first_line, first_draft, after_counted, after_text, after_line, after_lines, at_line, with_some, finished, script_of}
 use Rattle.cluster_script.specs.Script.{AreDifferent, ScriptText, IsScript, IsMember, IsEnd, IsLink, IsCommand, IsLine, AllAreLines, cluster_text, member_line_text, line_text, body_lines, IsInForm, AllInForm, Spells, member_text, text_of_name}
 use Rattle.cluster_script.specs.Words.{spelled, keyword_of, cut_word}
 use Rattle.cluster_script.specs.declared.addition.Addition.TheVariants as additions
@@ -40,8 +40,8 @@ use Rattle.cluster_script.specs.declared.line.Command.{Command}
 use Rattle.cluster_script.specs.declared.line.Command.TheVariants as commands
 use Rattle.cluster_script.specs.declared.line.Line.{Line}
 use Rattle.cluster_script.specs.declared.line.Line.TheVariants as lines
-use Rattle.cluster_script.specs.declared.line.Transition.{Transition}
-use Rattle.cluster_script.specs.declared.line.Transition.TheVariants as transitions
+use Rattle.cluster_script.specs.declared.line.SlowedCall.{SlowedCall}
+use Rattle.cluster_script.specs.declared.line.SlowedCall.TheVariants as slowed_calls
 use Rattle.cluster_script.specs.declared.ranges.CommitSize.{CommitSize}
 use Rattle.cluster_script.specs.declared.ranges.Delay.{Delay}
 use Rattle.cluster_script.proofs.NameLaws.{place_of-Some, place_of-None}
@@ -69,7 +69,7 @@ first_at-some_name : (o : Option Name) → first_at 32 (text_of_name o) ≡ None
 first_at-some_name None = refl
 first_at-some_name (Some name) = first_at-name name
 
-first_at-end : (members : List Name) (x : End) → first_at 32 (end_text members x) ≡ None
+first_at-end : (members : List Name) (x : End) → first_at 32 (end_word members x) ≡ None
 first_at-end members ends.Store = refl
 first_at-end members (ends.Member m) = first_at-some_name (slice_get members m.number)
 
@@ -83,10 +83,10 @@ past [] i e = omega arith
 past (x ∷ xs) zero e = cc
 past (x ∷ xs) (suc i) e = omega (arith, past xs i e)
 
-named : (members : List Name) (m : MemberId) (o : Option Name) → AreDifferent members → m.number < length members → slice_get members m.number ≡ o → declared_member members (name_of (text_of_name o)) ≡ Ok m
+named : (members : List Name) (m : MemberId) (o : Option Name) → AreDifferent members → m.number < length members → slice_get members m.number ≡ o → known_member members (name_of (text_of_name o)) ≡ Ok m
 named members m None h small at = absurd (omega (arith, past members m.number at))
 named members m (Some name) h small at =
-    ap (declared_member members) (name_of-name_bytes name)
+    ap (known_member members) (name_of-name_bytes name)
     ∙ ap (λ o. ok_or (option_and_then member_of o) faults.UnknownName) (placed members name m.number (place_of members name) h at refl)
     ∙ ap (λ o. ok_or o faults.UnknownName) (member_of-number m)
 
@@ -112,7 +112,7 @@ unequal : (word : List ℕ) (t : Bool) → bytes_eq word (codes "store") ≡ t �
 unequal word true is other = absurd (other ((bytes_eq-Decides word (codes "store")).0 is))
 unequal word false is other = refl
 
-end_in-again : (members : List Name) (x : End) → AreDifferent members → IsEnd members x → end_in members (end_text members x) ≡ Ok x
+end_in-again : (members : List Name) (x : End) → AreDifferent members → IsEnd members x → end_in members (end_word members x) ≡ Ok x
 end_in-again members ends.Store h is = refl
 end_in-again members (ends.Member m) h is =
     ap (λ t. cond t (Ok ends.Store) (on_ok (member_in members (member_text members m)) (λ m. Ok (ends.Member m)))) (unequal (member_text members m) (bytes_eq (member_text members m) (codes "store")) refl is.1)
@@ -149,10 +149,10 @@ words_behind-again members x read last word other y z some plain value other_pla
     ∙ ap (λ r. word_behind members (both (Ok x) r) last (Some other)) value
     ∙ word_behind-again members (x, y) last other z some other_plain other_value
 
-two_ends-again : (members : List Name) (x y : End) → 0 < length members → AreDifferent members → IsLink members x y → two_ends members (Some (two_texts (end_text members x) (end_text members y))) ≡ Ok (x, y)
+two_ends-again : (members : List Name) (x y : End) → 0 < length members → AreDifferent members → IsLink members x y → two_ends members (Some (two_texts (end_word members x) (end_word members y))) ≡ Ok (x, y)
 two_ends-again members x y some h link =
     ap (λ r. on_ok r apart)
-    (two_words-again members (end_in members) (end_in members) (end_text members x) (end_text members y) x y some (first_at-end members x) (end_in-again members x h link.first_is) (first_at-end members y) (end_in-again members y h link.second_is))
+    (two_words-again members (end_in members) (end_in members) (end_word members x) (end_word members y) x y some (first_at-end members x) (end_in-again members x h link.first_is) (first_at-end members y) (end_in-again members y h link.second_is))
     ∙ ap (λ t. cond t (Err faults.SameEnds) (Ok (x, y))) (other_end x y (same_end x y) refl link.apart)
 
 -- lines of the body
@@ -186,13 +186,13 @@ delay_in-again delay =
     ap (λ r. on_ok r (λ n. ok_or (delay_of n) faults.BadNumber)) (number_in-again delay.ticks (delay-fits delay))
     ∙ ap (λ o. ok_or o faults.BadNumber) (delay_of-Some delay.ticks delay refl)
 
-transition_in-again : (transition : Transition) → transition_in (transition_text transition) ≡ Ok transition
-transition_in-again transitions.Stop = refl
-transition_in-again transitions.Start = refl
+slowed_call_in-again : (slowed : SlowedCall) → slowed_call_in (slowed_call_text slowed) ≡ Ok slowed
+slowed_call_in-again slowed_calls.Stop = refl
+slowed_call_in-again slowed_calls.Start = refl
 
-first_at-transition : (transition : Transition) → first_at 32 (transition_text transition) ≡ None
-first_at-transition transitions.Stop = refl
-first_at-transition transitions.Start = refl
+first_at-slowed : (slowed : SlowedCall) → first_at 32 (slowed_call_text slowed) ≡ None
+first_at-slowed slowed_calls.Stop = refl
+first_at-slowed slowed_calls.Start = refl
 
 first_at-member : (members : List Name) (m : MemberId) → first_at 32 (member_text members m) ≡ None
 first_at-member members m = first_at-some_name (slice_get members m.number)
@@ -210,14 +210,14 @@ stream-again members m n some h is fits =
     (two_words-again members (member_in members) number_in (member_text members m) (decimal n) m n some (first_at-member members m) (member_in-again members m h is) (first_at-decimal 32 n (omega arith) fits) (number_in-again n fits))
 
 -- a member, what is delayed, and by how long
-slow-again : (members : List Name) (m : MemberId) (transition : Transition) (delay : Delay) → 0 < length members → AreDifferent members → IsMember members m
-    → slow_in members (Some (two_texts (member_text members m) (two_texts (transition_text transition) (decimal delay.ticks)))) ≡ Ok (commands.Slow m transition delay)
-slow-again members m transition delay some h is =
-    let words : List ℕ = two_texts (transition_text transition) (decimal delay.ticks) in
+slow-again : (members : List Name) (m : MemberId) (slowed : SlowedCall) (delay : Delay) → 0 < length members → AreDifferent members → IsMember members m
+    → slow_in members (Some (two_texts (member_text members m) (two_texts (slowed_call_text slowed) (decimal delay.ticks)))) ≡ Ok (commands.Slow m slowed delay)
+slow-again members m slowed delay some h is =
+    let words : List ℕ = two_texts (slowed_call_text slowed) (decimal delay.ticks) in
     ap (λ r. on_ok r (λ said. Ok (commands.Slow said.0.0 said.0.1 said.1)))
-    (ap (λ p. words_behind members (member_in members p.0) transition_in delay_in p.1) (cut_word-again (member_text members m) words (first_at-member members m))
-    ∙ ap (λ r. words_behind members r transition_in delay_in (Some words)) (member_in-again members m h is)
-    ∙ words_behind-again members m transition_in delay_in (transition_text transition) (decimal delay.ticks) transition delay some (first_at-transition transition) (transition_in-again transition) (first_at-decimal 32 delay.ticks (omega arith) (delay-fits delay)) (delay_in-again delay))
+    (ap (λ p. words_behind members (member_in members p.0) slowed_call_in delay_in p.1) (cut_word-again (member_text members m) words (first_at-member members m))
+    ∙ ap (λ r. words_behind members r slowed_call_in delay_in (Some words)) (member_in-again members m h is)
+    ∙ words_behind-again members m slowed_call_in delay_in (slowed_call_text slowed) (decimal delay.ticks) slowed delay some (first_at-slowed slowed) (slowed_call_in-again slowed) (first_at-decimal 32 delay.ticks (omega arith) (delay-fits delay)) (delay_in-again delay))
 
 -- a line with its first word and the words behind it
 record IsSaid (members : List Name) (line : Line) : Type 0 where
@@ -244,9 +244,9 @@ command-IsSaid members (commands.Deliver n) some h is = record { keyword = words
 command-IsSaid members (commands.Lose n) some h is = record { keyword = words.Lose; words = decimal n; text = refl; in_body = λ base body. added _ _ (ap (λ r. on_ok r (λ n. command (commands.Lose n))) (number-again members n some is)) }
 command-IsSaid members (commands.Commit m size) some h is = record { keyword = words.Commit; words = two_texts (member_text members m) (decimal size.bytes); text = refl; in_body = λ base body. added _ _ (ap (λ r. on_ok r command) (commit-again members m size some h is)) }
 command-IsSaid members (commands.Stream m n) some h is = record { keyword = words.Stream; words = two_texts (member_text members m) (decimal n); text = refl; in_body = λ base body. added _ _ (ap (λ r. on_ok r command) (stream-again members m n some h is.0 is.1)) }
-command-IsSaid members (commands.Slow m transition delay) some h is = record { keyword = words.Slow; words = two_texts (member_text members m) (two_texts (transition_text transition) (decimal delay.ticks)); text = refl; in_body = λ base body. added _ _ (ap (λ r. on_ok r command) (slow-again members m transition delay some h is)) }
-command-IsSaid members (commands.Cut x y) some h is = record { keyword = words.Cut; words = two_texts (end_text members x) (end_text members y); text = refl; in_body = λ base body. added _ _ (ap (λ r. on_ok r (λ link. command (commands.Cut link.0 link.1))) (two_ends-again members x y some h is)) }
-command-IsSaid members (commands.Join x y) some h is = record { keyword = words.Join; words = two_texts (end_text members x) (end_text members y); text = refl; in_body = λ base body. added _ _ (ap (λ r. on_ok r (λ link. command (commands.Join link.0 link.1))) (two_ends-again members x y some h is)) }
+command-IsSaid members (commands.Slow m slowed delay) some h is = record { keyword = words.Slow; words = two_texts (member_text members m) (two_texts (slowed_call_text slowed) (decimal delay.ticks)); text = refl; in_body = λ base body. added _ _ (ap (λ r. on_ok r command) (slow-again members m slowed delay some h is)) }
+command-IsSaid members (commands.Cut x y) some h is = record { keyword = words.Cut; words = two_texts (end_word members x) (end_word members y); text = refl; in_body = λ base body. added _ _ (ap (λ r. on_ok r (λ link. command (commands.Cut link.0 link.1))) (two_ends-again members x y some h is)) }
+command-IsSaid members (commands.Join x y) some h is = record { keyword = words.Join; words = two_texts (end_word members x) (end_word members y); text = refl; in_body = λ base body. added _ _ (ap (λ r. on_ok r (λ link. command (commands.Join link.0 link.1))) (two_ends-again members x y some h is)) }
 command-IsSaid members (commands.Trace on) some h is = record { keyword = words.Trace; words = switch_text on; text = refl; in_body = λ base body. added _ _ (ap (λ r. on_ok r (λ on. command (commands.Trace on))) (switch-again members on some)) }
 
 line-IsSaid : (members : List Name) (line : Line) → 0 < length members → AreDifferent members → IsLine members line → IsSaid members line
@@ -376,8 +376,8 @@ body-again d front (line ∷ back) some h is = (
 
 first-again : (cluster : Name) → first_line (cluster_text cluster) ≡ Ok cluster
 first-again cluster =
-    ap (λ p. begun_by (keyword_of p.0) p.1) (cut_word-spelled words.Cluster (name_bytes cluster))
-    ∙ ap (λ k. begun_by k (Some (name_bytes cluster))) (keyword_of-word_of words.Cluster)
+    ap (λ p. cluster_by_keyword (keyword_of p.0) p.1) (cut_word-spelled words.Cluster (name_bytes cluster))
+    ∙ ap (λ k. cluster_by_keyword k (Some (name_bytes cluster))) (keyword_of-word_of words.Cluster)
     ∙ ap (λ p. cluster_named (name_of p.0) p.1) (cut_word-alone (name_bytes cluster) (first_at-name cluster))
     ∙ ap (λ o. cluster_named o None) (name_of-name_bytes cluster)
 
@@ -391,7 +391,7 @@ head-again : (cluster : Name) (before : List Name) (said : Option ℕ) (behind :
 unfolding Chain start
 head-again cluster before said behind h small least most = (
   Some (start cluster None []),
-  ap (λ r. on_ok r (λ name. Ok (Some (begun name)))) (first-again cluster),
+  ap (λ r. on_ok r (λ name. Ok (Some (first_draft name)))) (first-again cluster),
   chain-append (Some (start cluster None [])) (Some (start cluster None before)) (Some (start cluster said (before ++ behind))) (member_lines before) (base_lines said ++ member_lines behind)
       (members-again cluster None [] before (front-AreDifferent before behind h) (omega (arith, length-append before behind)))
       (chain-append (Some (start cluster None before)) (Some (start cluster said before)) (Some (start cluster said (before ++ behind))) (base_lines said) (member_lines behind)

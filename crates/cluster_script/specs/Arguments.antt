@@ -18,8 +18,8 @@ use Rattle.cluster_script.specs.declared.line.End.{End}
 use Rattle.cluster_script.specs.declared.line.End.TheVariants as ends
 use Rattle.cluster_script.specs.declared.line.Command.{Command}
 use Rattle.cluster_script.specs.declared.line.Command.TheVariants as commands
-use Rattle.cluster_script.specs.declared.line.Transition.{Transition}
-use Rattle.cluster_script.specs.declared.line.Transition.TheVariants as transitions
+use Rattle.cluster_script.specs.declared.line.SlowedCall.{SlowedCall}
+use Rattle.cluster_script.specs.declared.line.SlowedCall.TheVariants as slowed_calls
 use Rattle.cluster_script.specs.declared.line.Line.{Line}
 use Rattle.cluster_script.specs.declared.line.Line.TheVariants as lines
 use Rattle.cluster_script.specs.declared.ranges.CommitSize.{CommitSize}
@@ -34,8 +34,8 @@ abbrev pub switch_in : List ℕ → Result Bool Fault
 switch_in word = if bytes_eq word (codes "on") then Ok true else if bytes_eq word (codes "off") then Ok false else Err faults.BadOption
 
 -- 'stop' or 'start'
-abbrev pub transition_in : List ℕ → Result Transition Fault
-transition_in word = if bytes_eq word (codes "stop") then Ok transitions.Stop else if bytes_eq word (codes "start") then Ok transitions.Start else Err faults.BadOption
+abbrev pub slowed_call_in : List ℕ → Result SlowedCall Fault
+slowed_call_in word = if bytes_eq word (codes "stop") then Ok slowed_calls.Stop else if bytes_eq word (codes "start") then Ok slowed_calls.Start else Err faults.BadOption
 
 -- a number in the range of commits
 abbrev pub commit_size_in : List ℕ → Result CommitSize Fault
@@ -46,13 +46,13 @@ abbrev pub delay_in : List ℕ → Result Delay Fault
 delay_in word = on_ok (number_in word) (λ n. ok_or (delay_of n) faults.BadNumber)
 
 -- the member that a name declares
-abbrev pub declared_member : List Name → Option Name → Result MemberId Fault
-declared_member members None = Err faults.BadName
-declared_member members (Some name) = ok_or (member_named members name) faults.UnknownName
+abbrev pub known_member : List Name → Option Name → Result MemberId Fault
+known_member members None = Err faults.BadName
+known_member members (Some name) = ok_or (member_named members name) faults.UnknownName
 
 -- the name of a member
 abbrev pub member_in : List Name → List ℕ → Result MemberId Fault
-member_in members word = declared_member members (name_of word)
+member_in members word = known_member members (name_of word)
 
 -- an end of a link: 'store', or the name of a member
 abbrev pub end_in : List Name → List ℕ → Result End Fault
@@ -132,7 +132,7 @@ stream_in members rest = on_ok (two_words members (member_in members) number_in 
 
 -- a member, what is delayed, and by how long
 abbrev pub slow_in : List Name → Option (List ℕ) → Result Command Fault
-slow_in members rest = on_ok (three_words members (member_in members) transition_in delay_in rest) (λ said. Ok (commands.Slow said.0.0 said.0.1 said.1))
+slow_in members rest = on_ok (three_words members (member_in members) slowed_call_in delay_in rest) (λ said. Ok (commands.Slow said.0.0 said.0.1 said.1))
 
 -- a line that is a command
 abbrev pub command : Command → Result Line Fault

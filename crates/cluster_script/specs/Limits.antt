@@ -25,8 +25,8 @@ abbrev pub is_member_line : List ℕ → Bool
 is_member_line line = is_member_word (keyword_of (cut_word line).0)
 
 -- the lines of members
-abbrev pub members_in : List (List ℕ) → ℕ
-members_in lines = count_by is_member_line lines
+abbrev pub member_line_count : List (List ℕ) → ℕ
+member_line_count lines = count_by is_member_line lines
 
 -- a number, or no ticks
 abbrev pub ticks_or_none : Option ℕ → ℕ
@@ -54,7 +54,7 @@ ticks_in lines = min (sum_by ticks_in_line lines) (2 ^ 64 - 1)
 
 -- the first limit that lines pass, if they pass any
 abbrev pub limit_of_lines : List (List ℕ) → Option Limit
-limit_of_lines lines = if nat_lt 100000 (length lines) then Some limits.Lines else if nat_lt 16 (members_in lines) then Some limits.Members else if nat_lt 1000000 (ticks_in lines) then Some limits.Ticks else None
+limit_of_lines lines = if nat_lt 100000 (length lines) then Some limits.Lines else if nat_lt 16 (member_line_count lines) then Some limits.Members else if nat_lt 1000000 (ticks_in lines) then Some limits.Ticks else None
 
 -- the first limit that the bytes pass, if they pass any
 abbrev pub limit_of : List ℕ → Option Limit

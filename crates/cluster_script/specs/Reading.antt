@@ -157,26 +157,26 @@ cluster_named None rest = Err faults.BadName
 cluster_named (Some name) rest = alone name rest
 
 -- the line 'cluster'
-abbrev pub cluster_of : Option (List ℕ) → Result Name Fault
-cluster_of None = Err faults.WordCount
-cluster_of (Some words) = cluster_named (name_of (cut_word words).0) (cut_word words).1
+abbrev pub cluster_in : Option (List ℕ) → Result Name Fault
+cluster_in None = Err faults.WordCount
+cluster_in (Some words) = cluster_named (name_of (cut_word words).0) (cut_word words).1
 
 -- the cluster, from the first word of a line and what stands behind it
-abbrev pub begun_by : Option Keyword → Option (List ℕ) → Result Name Fault
-begun_by (Some words.Cluster) rest = cluster_of rest
-begun_by _ rest = Err faults.NoCluster
+abbrev pub cluster_by_keyword : Option Keyword → Option (List ℕ) → Result Name Fault
+cluster_by_keyword (Some words.Cluster) rest = cluster_in rest
+cluster_by_keyword _ rest = Err faults.NoCluster
 
 -- the cluster of the first line that counts
 abbrev pub first_line : List ℕ → Result Name Fault
-first_line line = begun_by (keyword_of (cut_word line).0) (cut_word line).1
+first_line line = cluster_by_keyword (keyword_of (cut_word line).0) (cut_word line).1
 
 -- what the first line alone says
-abbrev pub begun : Name → DraftText
-begun name = record { cluster = name; base = None; members = []; body = [] }
+abbrev pub first_draft : Name → DraftText
+first_draft name = record { cluster = name; base = None; members = []; body = [] }
 
 -- a line that counts, behind those before it
 abbrev pub after_counted : Option DraftText → List ℕ → Result (Option DraftText) Fault
-after_counted None line = on_ok (first_line line) (λ name. Ok (Some (begun name)))
+after_counted None line = on_ok (first_line line) (λ name. Ok (Some (first_draft name)))
 after_counted (Some d) line = on_ok (with_line d line) (λ e. Ok (Some e))
 
 -- a line of text, behind those before it

@@ -12,8 +12,8 @@ use Rattle.cluster_script.specs.declared.line.End.{End}
 use Rattle.cluster_script.specs.declared.line.End.TheVariants as ends
 use Rattle.cluster_script.specs.declared.line.Command.{Command}
 use Rattle.cluster_script.specs.declared.line.Command.TheVariants as commands
-use Rattle.cluster_script.specs.declared.line.Transition.{Transition}
-use Rattle.cluster_script.specs.declared.line.Transition.TheVariants as transitions
+use Rattle.cluster_script.specs.declared.line.SlowedCall.{SlowedCall}
+use Rattle.cluster_script.specs.declared.line.SlowedCall.TheVariants as slowed_calls
 use Rattle.cluster_script.specs.declared.line.Line.{Line}
 use Rattle.cluster_script.specs.declared.line.Line.TheVariants as lines
 
@@ -38,9 +38,9 @@ abbrev pub member_text : List Name → MemberId → List ℕ
 member_text members member = text_of_name (slice_get members member.number)
 
 -- the text of an end of a link
-abbrev pub end_text : List Name → End → List ℕ
-end_text members ends.Store = codes "store"
-end_text members (ends.Member member) = member_text members member
+abbrev pub end_word : List Name → End → List ℕ
+end_word members ends.Store = codes "store"
+end_word members (ends.Member member) = member_text members member
 
 -- the word of a switch
 abbrev pub switch_text : Bool → List ℕ
@@ -48,9 +48,9 @@ switch_text true = codes "on"
 switch_text false = codes "off"
 
 -- the word of a transition
-abbrev pub transition_text : Transition → List ℕ
-transition_text transitions.Stop = codes "stop"
-transition_text transitions.Start = codes "start"
+abbrev pub slowed_call_text : SlowedCall → List ℕ
+slowed_call_text slowed_calls.Stop = codes "stop"
+slowed_call_text slowed_calls.Start = codes "start"
 
 -- two words, with one blank between them
 abbrev pub two_texts : List ℕ → List ℕ → List ℕ
@@ -83,9 +83,9 @@ command_text members (commands.Commit member size) = spelled words.Commit (two_t
 command_text members (commands.Stream member n) = spelled words.Stream (two_texts (member_text members member) (decimal n))
 command_text members (commands.Freeze member) = spelled words.Freeze (member_text members member)
 command_text members (commands.Thaw member) = spelled words.Thaw (member_text members member)
-command_text members (commands.Slow member transition delay) = spelled words.Slow (two_texts (member_text members member) (two_texts (transition_text transition) (decimal delay.ticks)))
-command_text members (commands.Cut first second) = spelled words.Cut (two_texts (end_text members first) (end_text members second))
-command_text members (commands.Join first second) = spelled words.Join (two_texts (end_text members first) (end_text members second))
+command_text members (commands.Slow member slowed delay) = spelled words.Slow (two_texts (member_text members member) (two_texts (slowed_call_text slowed) (decimal delay.ticks)))
+command_text members (commands.Cut first second) = spelled words.Cut (two_texts (end_word members first) (end_word members second))
+command_text members (commands.Join first second) = spelled words.Join (two_texts (end_word members first) (end_word members second))
 command_text members (commands.Trace on) = spelled words.Trace (switch_text on)
 
 -- a line of the body
@@ -138,12 +138,12 @@ abbrev pub body_lines : List Name → List Line → List (List ℕ)
 body_lines members body = map (line_text members) body
 
 -- all lines of a script, in order: those of its head, then those of its body
-abbrev pub lines_of : ScriptText → List (List ℕ)
-lines_of s = head_lines s.head ++ body_lines s.head.members s.body
+abbrev pub script_lines : ScriptText → List (List ℕ)
+script_lines s = head_lines s.head ++ body_lines s.head.members s.body
 
 -- the bytes of a script: its lines and nothing else
 abbrev pub spelling_of : ScriptText → List ℕ
-spelling_of s = ended (lines_of s)
+spelling_of s = ended (script_lines s)
 
 -- lines that a script may have at all: text of at most 8,192 bytes
 pub record IsInForm (line : List ℕ) : Type 0 where
@@ -204,7 +204,7 @@ IsCommand members (commands.Commit member size) = IsMember members member
 IsCommand members (commands.Stream member n) = IsMember members member × (n < 2 ^ 64)
 IsCommand members (commands.Freeze member) = IsMember members member
 IsCommand members (commands.Thaw member) = IsMember members member
-IsCommand members (commands.Slow member transition delay) = IsMember members member
+IsCommand members (commands.Slow member slowed delay) = IsMember members member
 IsCommand members (commands.Cut first second) = IsLink members first second
 IsCommand members (commands.Join first second) = IsLink members first second
 IsCommand members (commands.Trace on) = Unit {0}

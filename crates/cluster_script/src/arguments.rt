@@ -3,14 +3,14 @@ ghost use Rattle.std.specs.Prelude.{ℕ, ◌≡◌, ◌≤◌, List, length, map
 ghost use Rattle.std.specs.Option.{option_copied};
 ghost use Rattle.indexmap.specs.IndexMap.{keys};
 ghost use Rattle.cluster_script.specs.Faults.{both};
-ghost use Rattle.cluster_script.specs.Arguments.{number_in, switch_in, transition_in, commit_size_in, delay_in, member_in, end_in, missing_word, missing_behind, line_end, last_word, one_word, word_behind, words_behind, same_end, two_ends, commit_in, stream_in, slow_in, line_of_words};
+ghost use Rattle.cluster_script.specs.Arguments.{number_in, switch_in, slowed_call_in, commit_size_in, delay_in, member_in, end_in, missing_word, missing_behind, line_end, last_word, one_word, word_behind, words_behind, same_end, two_ends, commit_in, stream_in, slow_in, line_of_words};
 
 use crate::fault::earlier;
 use crate::keyword::Keyword;
 use crate::members::{Members, member_named};
 use crate::numbers::number;
 use crate::words::cut_word;
-use crate::{Command, CommitSize, Delay, End, Fault, Line, Transition};
+use crate::{Command, CommitSize, Delay, End, Fault, Line, SlowedCall};
 use pat_base::{MemberId, Name};
 
 /// A number.
@@ -35,13 +35,13 @@ fn switch_in(word: &[u8]) -> Result<bool, Fault>
     }
 }
 
-fn transition_in(word: &[u8]) -> Result<Transition, Fault>
-    ensures { result ≡ transition_in word.now }
+fn slowed_call_in(word: &[u8]) -> Result<SlowedCall, Fault>
+    ensures { result ≡ slowed_call_in word.now }
 {
     if word == b"stop".as_slice() {
-        Ok(Transition::Stop)
+        Ok(SlowedCall::Stop)
     } else if word == b"start".as_slice() {
-        Ok(Transition::Start)
+        Ok(SlowedCall::Start)
     } else {
         Err(Fault::BadOption)
     }
@@ -246,9 +246,9 @@ fn number_behind(
 
 fn delay_behind(
     members: &Members,
-    before: Result<(MemberId, Transition), Fault>,
+    before: Result<(MemberId, SlowedCall), Fault>,
     rest: Option<&[u8]>,
-) -> Result<((MemberId, Transition), Delay), Fault>
+) -> Result<((MemberId, SlowedCall), Delay), Fault>
     ensures { result ≡ word_behind (keys members.now) before delay_in (option_copied rest.entry) }
 {
     let Some(words) = rest else {
@@ -258,18 +258,18 @@ fn delay_behind(
     last_both(members, before, delay_in(word), rest)
 }
 
-fn transition_behind(
+fn slowed_call_behind(
     members: &Members,
     before: Result<MemberId, Fault>,
     rest: Option<&[u8]>,
-) -> Result<((MemberId, Transition), Delay), Fault>
-    ensures { result ≡ words_behind (keys members.now) before transition_in delay_in (option_copied rest.entry) }
+) -> Result<((MemberId, SlowedCall), Delay), Fault>
+    ensures { result ≡ words_behind (keys members.now) before slowed_call_in delay_in (option_copied rest.entry) }
 {
     let Some(words) = rest else {
         return Err(missing_behind(members, before));
     };
     let (word, rest) = cut_word(words);
-    delay_behind(members, both(before, transition_in(word)), rest)
+    delay_behind(members, both(before, slowed_call_in(word)), rest)
 }
 
 fn two_ends(members: &Members, rest: Option<&[u8]>) -> Result<(End, End), Fault>
@@ -320,8 +320,8 @@ fn slow_in(members: &Members, rest: Option<&[u8]>) -> Result<Command, Fault>
         return Err(missing_word(members));
     };
     let (word, rest) = cut_word(words);
-    let ((member, transition), delay) = transition_behind(members, member_in(members, word), rest)?;
-    Ok(Command::Slow(member, transition, delay))
+    let ((member, slowed), delay) = slowed_call_behind(members, member_in(members, word), rest)?;
+    Ok(Command::Slow(member, slowed, delay))
 }
 
 /// The line of the body with this first word, and these words behind it.

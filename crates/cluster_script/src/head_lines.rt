@@ -3,7 +3,7 @@ ghost use Rattle.std.specs.Prelude.{ℕ, ◌≡◌, ◌<◌, ◌≤◌, ◌^◌,
 ghost use Rattle.std.specs.Option.{option_copied};
 ghost use Rattle.indexmap.specs.IndexMap.{keys};
 ghost use Rattle.cluster_script.specs.Members.{place_of};
-ghost use Rattle.cluster_script.specs.Reading.{begins_option, has_option, in_head, declared_once, new_member, next_member, base_in, head_end, base_end, base_missing, next_base, second_cluster, cluster_of, first_line};
+ghost use Rattle.cluster_script.specs.Reading.{begins_option, has_option, in_head, declared_once, new_member, next_member, base_in, head_end, base_end, base_missing, next_base, second_cluster, cluster_in, first_line};
 
 use crate::arguments::number_in;
 use crate::keyword::Keyword;
@@ -168,8 +168,8 @@ pub fn second_cluster(rest: Option<&[u8]>) -> Fault
     }
 }
 
-fn cluster_of(rest: Option<&[u8]>) -> Result<Name, Fault>
-    ensures { result ≡ cluster_of (option_copied rest.entry) }
+fn cluster_in(rest: Option<&[u8]>) -> Result<Name, Fault>
+    ensures { result ≡ cluster_in (option_copied rest.entry) }
 {
     let Some(words) = rest else {
         return Err(Fault::WordCount);
@@ -190,7 +190,7 @@ pub fn first_line(line: &[u8]) -> Result<Name, Fault>
 {
     let (word, rest) = cut_word(line);
     match keyword_of(word) {
-        Some(Keyword::Cluster) => cluster_of(rest),
+        Some(Keyword::Cluster) => cluster_in(rest),
         _ => Err(Fault::NoCluster),
     }
 }

@@ -24,7 +24,7 @@ pub use fault::{Fault, fault_text};
 pub use head::{Head, MemberOptions};
 pub use laws::{canonical_spelling_is_read, read_is_spelled, spelled_is_read};
 pub use limits::{Limit, limit_passed, limit_text, within_limits};
-pub use line::{Command, End, Line, Step, Transition};
+pub use line::{Command, End, Line, SlowedCall, Step};
 pub use ranges::{CommitSize, Delay};
 pub use reader::read;
 pub use script::Script;

@@ -1,7 +1,7 @@
 //! The limits of a script. Bytes that pass one are judged by it before any fault of their lines.
 ghost use Rattle.std.specs.Prelude.{ℕ, ◌≡◌, ◌≤◌, List, length, map, IfOk, None, Ok};
 ghost use Rattle.std.specs.Option.{option_copied};
-ghost use Rattle.cluster_script.specs.Limits.{limit_text, is_member_line, members_in, ticks_or_none, ticks_behind, ticks_in_line, ticks_in, limit_of_lines, limit_of};
+ghost use Rattle.cluster_script.specs.Limits.{limit_text, is_member_line, member_line_count, ticks_or_none, ticks_behind, ticks_in_line, ticks_in, limit_of_lines, limit_of};
 ghost use Rattle.cluster_script.specs.Reading.{script_of};
 ghost use Rattle.cluster_script.specs.Script.{ScriptText};
 ghost use Rattle.cluster_script.specs.Steps.{total_ticks};
@@ -70,8 +70,8 @@ fn is_member_line(line: &[u8]) -> bool
     matches!(keyword_of(word), Some(Keyword::Member))
 }
 
-fn members_in(lines: &[&[u8]]) -> usize
-    ensures { result ≡ members_in (map (λ line. line.now) lines.now) }
+fn member_line_count(lines: &[&[u8]]) -> usize
+    ensures { result ≡ member_line_count (map (λ line. line.now) lines.now) }
 {
     lines.iter().filter(|line| is_member_line(line)).count()
 }
@@ -117,7 +117,7 @@ fn limit_of_lines(lines: &[&[u8]]) -> Option<Limit>
 {
     if lines.len() > MOST_LINES {
         Some(Limit::Lines)
-    } else if members_in(lines) > MOST_MEMBERS {
+    } else if member_line_count(lines) > MOST_MEMBERS {
         Some(Limit::Members)
     } else if ticks_in(lines) > MOST_TICKS {
         Some(Limit::Ticks)

@@ -13,7 +13,7 @@ pub enum End {
 
 /// What a line `slow` delays: the stop or the start of a server.
 #[derive(Clone, Copy, Debug, PartialEq, Eq)]
-pub enum Transition {
+pub enum SlowedCall {
     /// From a shutdown's beginning to its end.
     Stop,
     /// From a start's beginning until the server is ready.
@@ -50,7 +50,7 @@ pub enum Command {
     /// `thaw M`: from here on `run` streams to the server of this member again.
     Thaw(MemberId),
     /// `slow M stop N`, `slow M start N`: from here on a stop or a start of the server of this member takes N ticks.
-    Slow(MemberId, Transition, Delay),
+    Slow(MemberId, SlowedCall, Delay),
     /// `cut X Y`: the link between two ends, which differ, carries nothing.
     Cut(End, End),
     /// `join X Y`: the link between two ends, which differ, carries messages again.

@@ -5,8 +5,8 @@ use Rattle.pat_base.specs.declared.lsn.Lsn.{Lsn}
 use Rattle.pat_base.specs.declared.server_state.Required.{Required}
 use Rattle.lease_store.specs.declared.txn.Txn.{Txn}
 use Rattle.lease_store.specs.declared.txn.Txn.TheVariants as txns
-use Rattle.event_book.specs.declared.event.Kind.{Kind}
-use Rattle.event_book.specs.declared.event.Kind.TheVariants as kinds
+use Rattle.event_book.specs.declared.event.EventKind.{EventKind}
+use Rattle.event_book.specs.declared.event.EventKind.TheVariants as kinds
 use Rattle.event_book.specs.declared.event.MessageEvent.TheVariants as messages
 use Rattle.event_book.specs.declared.event.StoreEvent.TheVariants as stores
 use Rattle.event_book.specs.declared.link.LinkEnd.{LinkEnd}
@@ -16,7 +16,7 @@ use Rattle.event_book.specs.declared.message.Body.TheVariants as bodies
 use Rattle.event_book.specs.Logs.{Logs}
 use Rattle.lease_law.specs.Leases.{LeaderKey}
 use Rattle.lease_law.specs.Past.{extended_by, leader_granted, query_of as lease_query_of}
-use Rattle.lease_law.proofs.Calm.{key-known}
+use Rattle.lease_law.proofs.Uncontended.{key-known}
 use Rattle.lease_law.proofs.Tools.{some-is, none-some, both, put-all}
 use Rattle.commit_law.specs.Actions.{MayRenew}
 use Rattle.commit_law.specs.Past.{Setup, Past, VolatileState, Query, CarryQuery, OtherQuery, query_of, query_sent, is_holder, was_live_by_txn, was_live_by_message, was_live_by_grant, past_after, first_past, leader_revision, state_of}
@@ -83,7 +83,7 @@ granted-live past by (txns.SetFailover failover ttl) i m r key old asked is same
 granted-live past by (txns.DropFailover revision) i m r key old asked is same mine = old.live i m r key asked is same mine
 granted-live past by (txns.SetConfig revision config) i m r key old asked is same mine = old.live i m r key asked is same mine
 
-pub carried-each : (past : Past) (kind : Kind) → ComparesGiven past kind → AreCarriedLive past → AreCarriedLive (past_after past kind)
+pub carried-each : (past : Past) (kind : EventKind) → ComparesGiven past kind → AreCarriedLive past → AreCarriedLive (past_after past kind)
 carried-each past kinds.Tick read old = record { given = old.given; live = λ i m r key asked is. old.live i m r key asked (key-known (past.clock + 1) past.leader key is) }
 carried-each past (kinds.Message (messages.Sent number message)) read old =
     let q : Query = query_sent message.from message.run message.sequence message.body in

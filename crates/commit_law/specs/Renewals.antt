@@ -1,13 +1,13 @@
 -- Renewals that carry a set for the failsafe key: who asks for one is live.
 use Rattle.std.specs.Prelude.{ℕ, ◌≡◌, ◌≤◌, true, Some}
-use Rattle.event_book.specs.declared.event.Kind.{Kind}
-use Rattle.event_book.specs.declared.event.Kind.TheVariants as kinds
+use Rattle.event_book.specs.declared.event.EventKind.{EventKind}
+use Rattle.event_book.specs.declared.event.EventKind.TheVariants as kinds
 use Rattle.event_book.specs.declared.event.MessageEvent.TheVariants.{Sent}
 use Rattle.lease_law.specs.Leases.{LeaderKey}
 use Rattle.commit_law.specs.Past.{Past, CarryQuery, query_sent}
 
 -- a renewal that is sent, and carries a set, compares a revision that was given before: it was read
-abbrev pub ComparesGiven : Past → Kind → Type 0
+abbrev pub ComparesGiven : Past → EventKind → Type 0
 ComparesGiven past (kinds.Message (Sent number message)) = (m r : ℕ) → query_sent message.from message.run message.sequence message.body ≡ CarryQuery m r → r ≤ past.revision
 ComparesGiven past _ = Unit {0}
 

@@ -16,7 +16,7 @@ use Rattle.wal_model.specs.Log.{common_of, end_of}
 use Rattle.pg_model.specs.Facts.{entries_of}
 use Rattle.event_book.specs.declared.event.AgentEvent.TheVariants as agents
 use Rattle.event_book.specs.declared.event.Event.{Event}
-use Rattle.event_book.specs.declared.event.Kind.TheVariants as kinds
+use Rattle.event_book.specs.declared.event.EventKind.TheVariants as kinds
 use Rattle.event_book.specs.declared.event.LogEvent.TheVariants as logs
 use Rattle.event_book.specs.declared.event.MessageEvent.TheVariants as messages
 use Rattle.event_book.specs.declared.event.ReplicationEvent.TheVariants as replications
@@ -37,7 +37,7 @@ use Rattle.commit_law.specs.Inputs.{Sending}
 use Rattle.commit_law.specs.Actions.{Commit, Acknowledge, Receive, Confirm, Rewind, Clone, Wipe, Accept, Cease, End, Create, Renew, Expire, Release, OtherWrite, SendSnapshot, Decide, Lose, AnswerRace, Start, Kill, Note, Input, send, fresh_agent, is_as_read, is_granted}
 use Rattle.commit_law.specs.Past.{Setup, Past, past_over, renew_query, VolatileState, log_found, front_to, need_of, LeaseQuery, SyncQuery, OtherQuery, leader_revision, claim_request, publish_request, create_request, revision_in, is_keyless, is_leaderless}
 use Rattle.commit_law.specs.Books.{IsShown}
-use Rattle.lease_law.specs.Telling.{granted_events, refused_events, read_events}
+use Rattle.lease_law.specs.Showing.{granted_events, refused_events, read_events}
 use Rattle.commit_law.specs.Showing.{event_at, decided_events, AreOwn, with_server_down, carries_set, IsOtherTxn, AreIdle}
 
 -- for each action, the events that show it, and on which condition

@@ -3,8 +3,8 @@ use Rattle.std.proofs.Common.{ℕ, ◌≡◌, ◌≢◌, ◌+◌, ◌*◌, ◌<�
 use Rattle.std.proofs.lemmas.Bool.Decides.{nat_tests}
 use Rattle.std.proofs.lemmas.Grind.{get_or-set_at}
 use Rattle.std.proofs.lemmas.List.{get_or-replicate, get_or-set_other, length-set, length-replicate}
-use Rattle.event_book.specs.declared.event.Kind.{Kind}
-use Rattle.event_book.specs.declared.event.Kind.TheVariants as kinds
+use Rattle.event_book.specs.declared.event.EventKind.{EventKind}
+use Rattle.event_book.specs.declared.event.EventKind.TheVariants as kinds
 use Rattle.event_book.specs.declared.event.LinkEvent.TheVariants as links
 use Rattle.event_book.specs.declared.link.Link.{Link}
 use Rattle.event_book.specs.declared.link.LinkEnd.{LinkEnd}
@@ -61,7 +61,7 @@ joined-told cuts joined link = by (is_same_link joined link) refl
     by true is = ap (λ place. get_or (set cuts (link_place joined) false) place false) (same-place joined link is) ∙ cleared cuts (link_place joined)
     by false is = get_or-set_other cuts (link_place joined) (link_place link) false false (other-place joined link is)
 
-pub cuts-long : (cuts : CutLinks) (kind : Kind) → length (cuts_after cuts kind) ≡ length cuts
+pub cuts-long : (cuts : CutLinks) (kind : EventKind) → length (cuts_after cuts kind) ≡ length cuts
 cuts-long cuts (kinds.Link (links.Cut link)) = length-set cuts (link_place link) true
 cuts-long cuts (kinds.Link (links.Joined link)) = length-set cuts (link_place link) false
 cuts-long cuts _ = refl

@@ -5,9 +5,9 @@ use Rattle.pat_base.specs.declared.server_state.State.TheVariants as states
 use Rattle.pat_base.specs.declared.ticks.Ticks.{Ticks}
 use Rattle.pat_base.specs.ServerState.{live}
 use Rattle.pg_model.specs.Facts.{ServerFacts, is_down}
-use Rattle.pg_model.specs.Running.{completed, crashed, delayed, later, replica_started, started, stopped}
+use Rattle.pg_model.specs.Running.{completed, crashed, delayed, moment_after, replica_started, started, stopped}
 use Rattle.pg_model.specs.Replication.{following}
-use Rattle.pg_model.specs.Servers.{quietly_ticked}
+use Rattle.pg_model.specs.Servers.{ticked_unless_live}
 use Rattle.event_book.specs.declared.event.LogEvent.{LogEvent}
 use Rattle.event_book.specs.declared.event.LogEvent.TheVariants as logs
 use Rattle.event_book.specs.declared.event.ReplicationEvent.{ReplicationEvent}
@@ -16,7 +16,7 @@ use Rattle.event_book.specs.declared.event.ServerEvent.{ServerEvent}
 use Rattle.event_book.specs.declared.event.ServerEvent.TheVariants as servers
 use Rattle.event_book.specs.declared.event.WatchdogEvent.{WatchdogEvent}
 use Rattle.event_book.specs.declared.event.WatchdogEvent.TheVariants as watchdogs
-use Rattle.event_book.specs.Servers.{starts_as_replica, servers_by, received_by, copied_by, servers_logged, servers_replicated, servers_watched}
+use Rattle.event_book.specs.Servers.{starts_as_replica, servers_by, received_by, copied_by, servers_by_log, servers_by_replication, servers_by_watchdog}
 use Rattle.event_book.specs.Writers.{BeginsServer}
 use Rattle.event_book.proofs.Changed.{kept-one, kept-each, same-if}
 
@@ -30,15 +30,15 @@ module _ {B : Type 0} (f : ServerFacts → B)
   completed-kept now (states.Stopping primary at) s = same-if f (nat_le at.0 now.0) (stopped s) s (f s) (reads _ _ refl refl refl) refl
   completed-kept now _ s = refl
 
-  pub ticked-kept : (now : Ticks) (known : List ServerFacts) → map f (map (quietly_ticked now) known) ≡ map f known
+  pub ticked-kept : (now : Ticks) (known : List ServerFacts) → map f (map (ticked_unless_live now) known) ≡ map f known
   ticked-kept now known =
-      kept-each f (quietly_ticked now) (λ s. same-if f (live s.state) s (completed now s.state s) (f s) refl (completed-kept now s.state s)) known
+      kept-each f (ticked_unless_live now) (λ s. same-if f (live s.state) s (completed now s.state s) (f s) refl (completed-kept now s.state s)) known
 
   replica-kept : (now : ℕ) (s : ServerFacts) → f (starts_as_replica now s) ≡ f s
   replica-kept now s =
       let at : Ticks = record { 0 = now } in
       let told : ServerFacts = record s { upstream = None; was_primary = false } in
-      let waits : ServerFacts = record told { state = states.Starting false (later at s.start_delay) } in
+      let waits : ServerFacts = record told { state = states.Starting false (moment_after at s.start_delay) } in
       same-if f (is_down s.state) (replica_started at None s) s (f s)
       (same-if f (s.start_delay.0 == 0) (started false told) waits (f s) (reads (started false told) s refl refl refl) (reads waits s refl refl refl))
       refl
@@ -54,7 +54,7 @@ module _ {B : Type 0} (f : ServerFacts → B)
   others-kept now known (servers.Slowed server stop start) none = kept-one f known _ _ (λ s. reads (delayed stop start s) s refl refl refl)
   others-kept now known _ none = refl
 
-  pub watched-kept : (known : List ServerFacts) (happening : WatchdogEvent) → map f (servers_watched known happening) ≡ map f known
+  pub watched-kept : (known : List ServerFacts) (happening : WatchdogEvent) → map f (servers_by_watchdog known happening) ≡ map f known
   watched-kept known (watchdogs.Reset member) = kept-one f known _ _ (λ s. reads (crashed s) s refl refl refl)
   watched-kept known _ = refl
 
@@ -69,13 +69,13 @@ module _ {B : Type 0} (f : ServerFacts → B)
   copied-kept known number None = refl
   copied-kept known number (Some source) = kept-one f known _ _ (λ s. reads _ s refl refl refl)
 
-  pub logged-kept : (known : List ServerFacts) (happening : LogEvent) → map f (servers_logged known happening) ≡ map f known
+  pub logged-kept : (known : List ServerFacts) (happening : LogEvent) → map f (servers_by_log known happening) ≡ map f known
   logged-kept known (logs.Received server from count) = received-kept known server.id.number count (slice_get known from.id.number)
   logged-kept known (logs.Copied server from) = copied-kept known server.id.number (slice_get known from.id.number)
   logged-kept known _ = kept-one f known _ _ (λ s. reads _ s refl refl refl)
 
 -- what only the state and the log determine stays where a required list, what was confirmed, or what waits for acknowledgement changes
 module _ {B : Type 0} (f : ServerFacts → B) (reads : (s t : ServerFacts) → s.state ≡ t.state → s.log ≡ t.log → f s ≡ f t) where
-  pub replicated-kept : (known : List ServerFacts) (happening : ReplicationEvent) → map f (servers_replicated known happening) ≡ map f known
+  pub replicated-kept : (known : List ServerFacts) (happening : ReplicationEvent) → map f (servers_by_replication known happening) ≡ map f known
   replicated-kept known (replications.RequiredSet server required names) = kept-one f known _ _ (λ s. reads _ s refl refl)
   replicated-kept known _ = kept-one f known _ _ (λ s. reads _ s refl refl)

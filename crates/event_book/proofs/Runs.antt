@@ -2,12 +2,12 @@
 use Rattle.std.proofs.Common.{◌≡◌, Bool, ℕ, ◌+◌, ◌<◌, List, [], ◌∷◌, ◌++◌, length, drop, get_or, append_assoc, refl, ◌∙◌, ap, sym}
 use Rattle.std.proofs.lemmas.List.{drop_more}
 use Rattle.event_book.specs.declared.event.Event.{Event}
-use Rattle.event_book.specs.Facts.{Facts, after, after_all}
+use Rattle.event_book.specs.Facts.{Facts, facts_after, facts_over}
 use Rattle.event_book.specs.Text.{lines_of, line_of, bytes_or_none}
 
-pub after_all-append : (facts : Facts) (xs ys : List Event) → after_all facts (xs ++ ys) ≡ after_all (after_all facts xs) ys
-after_all-append facts [] ys = refl
-after_all-append facts (x ∷ xs) ys = after_all-append (after facts x.kind) xs ys
+pub facts_over-append : (facts : Facts) (xs ys : List Event) → facts_over facts (xs ++ ys) ≡ facts_over (facts_over facts xs) ys
+facts_over-append facts [] ys = refl
+facts_over-append facts (x ∷ xs) ys = facts_over-append (facts_after facts x.kind) xs ys
 
 pub lines_of-append : (trace : Bool) (xs ys : List Event) → lines_of trace (xs ++ ys) ≡ lines_of trace xs ++ lines_of trace ys
 lines_of-append trace [] ys = refl

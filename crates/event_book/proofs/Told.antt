@@ -12,11 +12,11 @@ use Rattle.pat_base.specs.declared.ticks.Ticks.{Ticks}
 use Rattle.pat_base.specs.Changes.{changed_at, changed_by}
 use Rattle.pat_base.specs.ServerState.{writes, live}
 use Rattle.pg_model.specs.Facts.{ServerFacts, is_down, none_confirmed}
-use Rattle.pg_model.specs.Running.{completed, crashed_state, later, replica_started, started, stopped}
-use Rattle.pg_model.specs.Servers.{quietly_ticked}
+use Rattle.pg_model.specs.Running.{completed, crashed_state, moment_after, replica_started, started, stopped}
+use Rattle.pg_model.specs.Servers.{ticked_unless_live}
 use Rattle.event_book.specs.declared.event.Event.{Event}
-use Rattle.event_book.specs.declared.event.Kind.{Kind}
-use Rattle.event_book.specs.declared.event.Kind.TheVariants as kinds
+use Rattle.event_book.specs.declared.event.EventKind.{EventKind}
+use Rattle.event_book.specs.declared.event.EventKind.TheVariants as kinds
 use Rattle.event_book.specs.declared.event.LogEvent.{LogEvent}
 use Rattle.event_book.specs.declared.event.LogEvent.TheVariants as logs
 use Rattle.event_book.specs.declared.event.ReplicationEvent.{ReplicationEvent}
@@ -25,25 +25,25 @@ use Rattle.event_book.specs.declared.event.ServerEvent.{ServerEvent}
 use Rattle.event_book.specs.declared.event.ServerEvent.TheVariants as servers
 use Rattle.event_book.specs.declared.event.WatchdogEvent.{WatchdogEvent}
 use Rattle.event_book.specs.declared.event.WatchdogEvent.TheVariants as watchdogs
-use Rattle.event_book.specs.Acknowledged.{acknowledged_after, acknowledged_by, acknowledged_in}
+use Rattle.event_book.specs.Acknowledged.{acknowledged_after, acknowledged_of, acknowledged_in}
 use Rattle.event_book.specs.Clock.{now_after}
-use Rattle.event_book.specs.Facts.{Facts, after, after_all}
+use Rattle.event_book.specs.Facts.{Facts, facts_after, facts_over}
 use Rattle.event_book.specs.Functions.{put_at}
-use Rattle.event_book.specs.Logs.{log_received, log_copied, logs_in, logs_by, logs_at, logs_after}
-use Rattle.event_book.specs.Required.{required_in, required_at, required_after, confirmed_in, confirmed_at, confirmed_after}
-use Rattle.event_book.specs.Servers.{begun_in, servers_by, received_by, copied_by, servers_logged, servers_replicated, servers_watched, servers_after}
-use Rattle.event_book.specs.Writers.{writes_now, writes_in, writes_by, writes_by_server, writes_by_watchdog, writes_after}
+use Rattle.event_book.specs.Logs.{log_received, log_copied, logs_in, logs_by, logs_after, logs_over}
+use Rattle.event_book.specs.Required.{required_in, required_after, required_over, confirmed_in, confirmed_after, confirmed_over}
+use Rattle.event_book.specs.Servers.{begun_in, servers_by, received_by, copied_by, servers_by_log, servers_by_replication, servers_by_watchdog, servers_after}
+use Rattle.event_book.specs.Writers.{writes_now, writes_in, writes_after, writes_by_server, writes_by_watchdog, writes_over}
 use Rattle.event_book.proofs.Parts.{ticked-kept, others-kept, watched-kept, logged-kept, replicated-kept}
 use Rattle.event_book.proofs.Changed.{changed-one, kept-one, kept-each, same-if, length-one}
 
 -- a part of the servers that one event changes by itself is, after a book, what the book's events make of it, one by one
-part-told : {A : Type 0} (part : List ServerFacts → A) (one : A → Kind → A) (each : A → List Event → A)
+part-told : {A : Type 0} (part : List ServerFacts → A) (one : A → EventKind → A) (each : A → List Event → A)
     → ((x : A) → each x [] ≡ x) → ((x : A) (event : Event) (events : List Event) → each x (event ∷ events) ≡ each (one x event.kind) events)
-    → ((now : ℕ) (known : List ServerFacts) (kind : Kind) → part (servers_after now known kind) ≡ one (part known) kind)
-    → (facts : Facts) (book : List Event) → part (after_all facts book).servers ≡ each (part facts.servers) book
+    → ((now : ℕ) (known : List ServerFacts) (kind : EventKind) → part (servers_after now known kind) ≡ one (part known) kind)
+    → (facts : Facts) (book : List Event) → part (facts_over facts book).servers ≡ each (part facts.servers) book
 part-told part one each none more of facts [] = sym (none (part facts.servers))
 part-told part one each none more of facts (event ∷ events) =
-    part-told part one each none more of (after facts event.kind) events
+    part-told part one each none more of (facts_after facts event.kind) events
     ∙ ap (λ x. each x events) (of (now_after facts.clock event.kind) facts.servers event.kind)
     ∙ sym (more (part facts.servers) event events)
 
@@ -67,7 +67,7 @@ logs-copied : (known : List ServerFacts) (number : ℕ) (found : Option ServerFa
 logs-copied known number None = refl
 logs-copied known number (Some source) = changed-one (λ s. s.log) known number _ _ (λ s. refl)
 
-logs-logged : (known : List ServerFacts) (happening : LogEvent) → logs_in (servers_logged known happening) ≡ logs_by (logs_in known) happening
+logs-logged : (known : List ServerFacts) (happening : LogEvent) → logs_in (servers_by_log known happening) ≡ logs_by (logs_in known) happening
 logs-logged known (logs.Appended server entry) = changed-one (λ s. s.log) known server.id.number _ _ (λ s. refl)
 logs-logged known (logs.Received server from count) =
     logs-received known server.id.number count (slice_get known from.id.number)
@@ -78,7 +78,7 @@ logs-logged known (logs.Copied server from) =
     ∙ ap (λ o. log_copied (logs_in known) server.id.number o) (sym (slice_get-map (λ s. s.log) known from.id.number))
 logs-logged known (logs.Wiped server) = changed-one (λ s. s.log) known server.id.number _ _ (λ s. refl)
 
-pub logs-of : (now : ℕ) (known : List ServerFacts) (kind : Kind) → logs_in (servers_after now known kind) ≡ logs_at (logs_in known) kind
+pub logs-of : (now : ℕ) (known : List ServerFacts) (kind : EventKind) → logs_in (servers_after now known kind) ≡ logs_after (logs_in known) kind
 logs-of now known kinds.Tick = ticked-kept (λ s. s.log) (λ s t log required confirmed. log) (record { 0 = now }) known
 logs-of now known (kinds.Server happening) = logs-by-server now known happening
 logs-of now known (kinds.Log happening) = logs-logged known happening
@@ -86,8 +86,8 @@ logs-of now known (kinds.Replication happening) = replicated-kept (λ s. s.log) 
 logs-of now known (kinds.Watchdog happening) = watched-kept (λ s. s.log) (λ s t log required confirmed. log) known happening
 logs-of now known _ = refl
 
-pub logs-told : (facts : Facts) (book : List Event) → logs_in (after_all facts book).servers ≡ logs_after (logs_in facts.servers) book
-logs-told = part-told logs_in logs_at logs_after (λ known. refl) (λ known event events. refl) logs-of
+pub logs-told : (facts : Facts) (book : List Event) → logs_in (facts_over facts book).servers ≡ logs_over (logs_in facts.servers) book
+logs-told = part-told logs_in logs_after logs_over (λ known. refl) (λ known event events. refl) logs-of
 
 -- whose confirmation their commits wait for
 
@@ -100,11 +100,11 @@ required-by-server now known (servers.Began server timeline) = kept-one (λ s. s
 required-by-server now known happening = others-kept (λ s. s.required) (λ s t log required confirmed. required) now known happening tt
 
 required-replicated : (known : List ServerFacts) (happening : ReplicationEvent)
-    → required_in (servers_replicated known happening) ≡ required_at (required_in known) (kinds.Replication happening)
+    → required_in (servers_by_replication known happening) ≡ required_after (required_in known) (kinds.Replication happening)
 required-replicated known (replications.RequiredSet server required names) = changed-one (λ s. s.required) known server.id.number _ _ (λ s. refl)
 required-replicated known _ = kept-one (λ s. s.required) known _ _ (λ s. refl)
 
-pub required-of : (now : ℕ) (known : List ServerFacts) (kind : Kind) → required_in (servers_after now known kind) ≡ required_at (required_in known) kind
+pub required-of : (now : ℕ) (known : List ServerFacts) (kind : EventKind) → required_in (servers_after now known kind) ≡ required_after (required_in known) kind
 required-of now known kinds.Tick = ticked-kept (λ s. s.required) (λ s t log required confirmed. required) (record { 0 = now }) known
 required-of now known (kinds.Server happening) = required-by-server now known happening
 required-of now known (kinds.Log happening) = logged-kept (λ s. s.required) (λ s t state required confirmed. required) known happening
@@ -112,8 +112,8 @@ required-of now known (kinds.Replication happening) = required-replicated known 
 required-of now known (kinds.Watchdog happening) = watched-kept (λ s. s.required) (λ s t log required confirmed. required) known happening
 required-of now known _ = refl
 
-pub required-told : (facts : Facts) (book : List Event) → required_in (after_all facts book).servers ≡ required_after (required_in facts.servers) book
-required-told = part-told required_in required_at required_after (λ known. refl) (λ known event events. refl) required-of
+pub required-told : (facts : Facts) (book : List Event) → required_in (facts_over facts book).servers ≡ required_over (required_in facts.servers) book
+required-told = part-told required_in required_after required_over (λ known. refl) (λ known event events. refl) required-of
 
 -- what was confirmed to them
 
@@ -122,16 +122,16 @@ confirmed-begun states.Replica s = refl
 confirmed-begun _ s = refl
 
 confirmed-by-server : (now : ℕ) (known : List ServerFacts) (happening : ServerEvent)
-    → confirmed_in (servers_by now known happening) ≡ confirmed_at (confirmed_in known) (kinds.Server happening)
+    → confirmed_in (servers_by now known happening) ≡ confirmed_after (confirmed_in known) (kinds.Server happening)
 confirmed-by-server now known (servers.Began server timeline) = changed-one (λ s. s.confirmed) known server.id.number _ _ (λ s. confirmed-begun s.state s)
 confirmed-by-server now known happening = others-kept (λ s. s.confirmed) (λ s t log required confirmed. confirmed) now known happening tt
 
 confirmed-replicated : (known : List ServerFacts) (happening : ReplicationEvent)
-    → confirmed_in (servers_replicated known happening) ≡ confirmed_at (confirmed_in known) (kinds.Replication happening)
+    → confirmed_in (servers_by_replication known happening) ≡ confirmed_after (confirmed_in known) (kinds.Replication happening)
 confirmed-replicated known (replications.Confirmed server by end) = changed-one (λ s. s.confirmed) known server.id.number _ _ (λ s. refl)
 confirmed-replicated known _ = kept-one (λ s. s.confirmed) known _ _ (λ s. refl)
 
-pub confirmed-of : (now : ℕ) (known : List ServerFacts) (kind : Kind) → confirmed_in (servers_after now known kind) ≡ confirmed_at (confirmed_in known) kind
+pub confirmed-of : (now : ℕ) (known : List ServerFacts) (kind : EventKind) → confirmed_in (servers_after now known kind) ≡ confirmed_after (confirmed_in known) kind
 confirmed-of now known kinds.Tick = ticked-kept (λ s. s.confirmed) (λ s t log required confirmed. confirmed) (record { 0 = now }) known
 confirmed-of now known (kinds.Server happening) = confirmed-by-server now known happening
 confirmed-of now known (kinds.Log happening) = logged-kept (λ s. s.confirmed) (λ s t state required confirmed. confirmed) known happening
@@ -139,26 +139,26 @@ confirmed-of now known (kinds.Replication happening) = confirmed-replicated know
 confirmed-of now known (kinds.Watchdog happening) = watched-kept (λ s. s.confirmed) (λ s t log required confirmed. confirmed) known happening
 confirmed-of now known _ = refl
 
-pub confirmed-told : (facts : Facts) (book : List Event) → confirmed_in (after_all facts book).servers ≡ confirmed_after (confirmed_in facts.servers) book
-confirmed-told = part-told confirmed_in confirmed_at confirmed_after (λ known. refl) (λ known event events. refl) confirmed-of
+pub confirmed-told : (facts : Facts) (book : List Event) → confirmed_in (facts_over facts book).servers ≡ confirmed_over (confirmed_in facts.servers) book
+confirmed-told = part-told confirmed_in confirmed_after confirmed_over (λ known. refl) (λ known event events. refl) confirmed-of
 
 -- the commits that were acknowledged
 
 acknowledged-replicated : (told : List ℕ) (happening : ReplicationEvent)
-    → acknowledged_after told (kinds.Replication happening) ≡ told ++ acknowledged_by (kinds.Replication happening)
+    → acknowledged_after told (kinds.Replication happening) ≡ told ++ acknowledged_of (kinds.Replication happening)
 acknowledged-replicated told (replications.Acknowledged server commit) = refl
 acknowledged-replicated told _ = sym (append-nil told)
 
-pub acknowledged-of : (told : List ℕ) (kind : Kind) → acknowledged_after told kind ≡ told ++ acknowledged_by kind
+pub acknowledged-of : (told : List ℕ) (kind : EventKind) → acknowledged_after told kind ≡ told ++ acknowledged_of kind
 acknowledged-of told (kinds.Replication happening) = acknowledged-replicated told happening
 acknowledged-of told _ = sym (append-nil told)
 
-pub acknowledged-told : (facts : Facts) (book : List Event) → (after_all facts book).acknowledged ≡ facts.acknowledged ++ acknowledged_in book
+pub acknowledged-told : (facts : Facts) (book : List Event) → (facts_over facts book).acknowledged ≡ facts.acknowledged ++ acknowledged_in book
 acknowledged-told facts [] = sym (append-nil facts.acknowledged)
 acknowledged-told facts (event ∷ events) =
-    acknowledged-told (after facts event.kind) events
+    acknowledged-told (facts_after facts event.kind) events
     ∙ ap (λ told. told ++ acknowledged_in events) (acknowledged-of facts.acknowledged event.kind)
-    ∙ append_assoc facts.acknowledged (acknowledged_by event.kind) (acknowledged_in events)
+    ∙ append_assoc facts.acknowledged (acknowledged_of event.kind) (acknowledged_in events)
 
 -- how many there are: events change servers, and neither add any nor take any away
 
@@ -172,15 +172,15 @@ count-by : (now : ℕ) (known : List ServerFacts) (happening : ServerEvent) → 
 count-by now known (servers.Began server timeline) = length-one known _ _
 count-by now known happening = length-kept known (servers_by now known happening) (others-kept seen-as-one (λ s t log required confirmed. refl) now known happening tt)
 
-pub count-of : (now : ℕ) (known : List ServerFacts) (kind : Kind) → length (servers_after now known kind) ≡ length known
+pub count-of : (now : ℕ) (known : List ServerFacts) (kind : EventKind) → length (servers_after now known kind) ≡ length known
 count-of now known kinds.Tick = length-map known _
 count-of now known (kinds.Server happening) = count-by now known happening
-count-of now known (kinds.Log happening) = length-kept known (servers_logged known happening) (logged-kept seen-as-one (λ s t state required confirmed. refl) known happening)
-count-of now known (kinds.Replication happening) = length-kept known (servers_replicated known happening) (replicated-kept seen-as-one (λ s t state log. refl) known happening)
-count-of now known (kinds.Watchdog happening) = length-kept known (servers_watched known happening) (watched-kept seen-as-one (λ s t log required confirmed. refl) known happening)
+count-of now known (kinds.Log happening) = length-kept known (servers_by_log known happening) (logged-kept seen-as-one (λ s t state required confirmed. refl) known happening)
+count-of now known (kinds.Replication happening) = length-kept known (servers_by_replication known happening) (replicated-kept seen-as-one (λ s t state log. refl) known happening)
+count-of now known (kinds.Watchdog happening) = length-kept known (servers_by_watchdog known happening) (watched-kept seen-as-one (λ s t log required confirmed. refl) known happening)
 count-of now known _ = refl
 
-pub count-told : (facts : Facts) (book : List Event) → length (after_all facts book).servers ≡ length facts.servers
+pub count-told : (facts : Facts) (book : List Event) → length (facts_over facts book).servers ≡ length facts.servers
 count-told = part-told (λ known. length known) (λ count kind. count) (λ count events. count) (λ count. refl) (λ count event events. refl) count-of
 
 -- which of them accept writes
@@ -239,7 +239,7 @@ writes-completed now _ s is = refl
 writes-starts : (now : Ticks) (s : ServerFacts) → writes (replica_started now None s).state ≡ false
 writes-starts now s =
     let told : ServerFacts = record s { upstream = None; was_primary = false } in
-    same-if (λ s. writes s.state) (s.start_delay.0 == 0) (started false told) (record told { state = states.Starting false (later now s.start_delay) }) false refl refl
+    same-if (λ s. writes s.state) (s.start_delay.0 == 0) (started false told) (record told { state = states.Starting false (moment_after now s.start_delay) }) false refl refl
 
 writes-down : (now : ℕ) (state : State) (s : ServerFacts) → s.state ≡ state
     → writes (cond (is_down state) (replica_started (record { 0 = now }) None s) s).state ≡ writes s.state
@@ -267,19 +267,19 @@ writes-by-server now known (servers.Slowed server stop start) n small = writes-o
 writes-by-server now known _ n small = refl
 
 writes-watched : (known : List ServerFacts) (happening : WatchdogEvent) (n : ℕ) → n < length known
-    → writes_in (servers_watched known happening) n ≡ writes_by_watchdog (writes_in known) happening n
+    → writes_in (servers_by_watchdog known happening) n ≡ writes_by_watchdog (writes_in known) happening n
 writes-watched known (watchdogs.Reset member) n small = writes-put known _ n _ false small (λ s. writes-crashed s.state)
 writes-watched known _ n small = refl
 
-pub writes-of : (now : ℕ) (known : List ServerFacts) (kind : Kind) (n : ℕ) → n < length known → writes_in (servers_after now known kind) n ≡ writes_by (writes_in known) kind n
+pub writes-of : (now : ℕ) (known : List ServerFacts) (kind : EventKind) (n : ℕ) → n < length known → writes_in (servers_after now known kind) n ≡ writes_after (writes_in known) kind n
 writes-of now known kinds.Tick n small =
     let at : Ticks = record { 0 = now } in
-    writes-kept known _ n (kept-each (λ s. writes s.state) (quietly_ticked at) (λ s. writes-completed at s.state s refl) known)
+    writes-kept known _ n (kept-each (λ s. writes s.state) (ticked_unless_live at) (λ s. writes-completed at s.state s refl) known)
 writes-of now known (kinds.Server happening) n small = writes-by-server now known happening n small
 writes-of now known (kinds.Log happening) n small =
-    writes-kept known (servers_logged known happening) n (logged-kept (λ s. writes s.state) (λ s t state required confirmed. ap writes state) known happening)
+    writes-kept known (servers_by_log known happening) n (logged-kept (λ s. writes s.state) (λ s t state required confirmed. ap writes state) known happening)
 writes-of now known (kinds.Replication happening) n small =
-    writes-kept known (servers_replicated known happening) n (replicated-kept (λ s. writes s.state) (λ s t state log. ap writes state) known happening)
+    writes-kept known (servers_by_replication known happening) n (replicated-kept (λ s. writes s.state) (λ s t state log. ap writes state) known happening)
 writes-of now known (kinds.Watchdog happening) n small = writes-watched known happening n small
 writes-of now known _ n small = refl
 
@@ -297,20 +297,20 @@ writes-same-watchdog : (f g : ℕ → Bool) (happening : WatchdogEvent) (n : ℕ
 writes-same-watchdog f g (watchdogs.Reset member) n same = put-same f g _ n false same
 writes-same-watchdog f g _ n same = same
 
-writes-same-kind : (f g : ℕ → Bool) (kind : Kind) (n : ℕ) → f n ≡ g n → writes_by f kind n ≡ writes_by g kind n
+writes-same-kind : (f g : ℕ → Bool) (kind : EventKind) (n : ℕ) → f n ≡ g n → writes_after f kind n ≡ writes_after g kind n
 writes-same-kind f g (kinds.Server happening) n same = writes-same-server f g happening n same
 writes-same-kind f g (kinds.Watchdog happening) n same = writes-same-watchdog f g happening n same
 writes-same-kind f g _ n same = same
 
-pub writes-same : (f g : ℕ → Bool) (book : List Event) (n : ℕ) → f n ≡ g n → writes_after f book n ≡ writes_after g book n
+pub writes-same : (f g : ℕ → Bool) (book : List Event) (n : ℕ) → f n ≡ g n → writes_over f book n ≡ writes_over g book n
 writes-same f g [] n same = same
-writes-same f g (event ∷ events) n same = writes-same (writes_by f event.kind) (writes_by g event.kind) events n (writes-same-kind f g event.kind n same)
+writes-same f g (event ∷ events) n same = writes-same (writes_after f event.kind) (writes_after g event.kind) events n (writes-same-kind f g event.kind n same)
 
-pub writes-told : (facts : Facts) (book : List Event) (n : ℕ) → n < length facts.servers → writes_in (after_all facts book).servers n ≡ writes_after (writes_in facts.servers) book n
+pub writes-told : (facts : Facts) (book : List Event) (n : ℕ) → n < length facts.servers → writes_in (facts_over facts book).servers n ≡ writes_over (writes_in facts.servers) book n
 writes-told facts [] n small = refl
 writes-told facts (event ∷ events) n small =
     let now : ℕ = now_after facts.clock event.kind in
     let known : List ServerFacts = servers_after now facts.servers event.kind in
     let few : n < length known = rw (count-of now facts.servers event.kind) small in
-    writes-told (after facts event.kind) events n few
-    ∙ writes-same (writes_in known) (writes_by (writes_in facts.servers) event.kind) events n (writes-of now facts.servers event.kind n small)
+    writes-told (facts_after facts event.kind) events n few
+    ∙ writes-same (writes_in known) (writes_after (writes_in facts.servers) event.kind) events n (writes-of now facts.servers event.kind n small)

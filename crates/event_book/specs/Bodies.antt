@@ -1,17 +1,17 @@
 -- The kinds of messages in words.
 use Rattle.std.specs.Prelude.{ℕ, List, codes}
-use Rattle.lease_store.specs.TxnKinds.{kind_of}
+use Rattle.lease_store.specs.TxnKinds.{txn_kind_of}
 use Rattle.lease_store.specs.Words.{kind_text}
 use Rattle.event_book.specs.declared.message.Body.{Body}
 use Rattle.event_book.specs.declared.message.Body.TheVariants as bodies
 
 abbrev pub body_text : Body → List ℕ
 body_text bodies.Read = codes "read"
-body_text (bodies.Request txn) = kind_text (kind_of txn)
+body_text (bodies.Request txn) = kind_text (txn_kind_of txn)
 body_text bodies.Snapshot = codes "snapshot"
 body_text (bodies.Granted request leased) = codes "granted"
 body_text (bodies.Refused request key found) = codes "refused"
 body_text bodies.Ask = codes "ask"
 body_text (bodies.Answer answer) = codes "answer"
-body_text (bodies.Beg ttl) = codes "failsafe"
-body_text (bodies.Held accepted) = codes "failsafe answer"
+body_text (bodies.FailsafeRequest ttl) = codes "failsafe"
+body_text (bodies.FailsafeAnswer accepted) = codes "failsafe answer"

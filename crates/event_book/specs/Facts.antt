@@ -5,15 +5,15 @@ use Rattle.lease_store.specs.Defaults.{default_settings}
 use Rattle.lease_store.specs.Keys.{Keys, first_keys}
 use Rattle.pg_model.specs.Facts.{ServerFacts, fresh}
 use Rattle.event_book.specs.declared.event.Event.{Event}
-use Rattle.event_book.specs.declared.event.Kind.{Kind}
+use Rattle.event_book.specs.declared.event.EventKind.{EventKind}
 use Rattle.event_book.specs.declared.member.Member.{Member}
-use Rattle.event_book.specs.declared.agent_state.AgentState.{AgentState}
+use Rattle.event_book.specs.declared.agent_process.AgentProcess.{AgentProcess}
 use Rattle.event_book.specs.Acknowledged.{acknowledged_after, commits_after}
 use Rattle.event_book.specs.Agents.{agents_after, first_agents}
 use Rattle.event_book.specs.Clock.{now_after}
-use Rattle.event_book.specs.Flight.{Flight, flight_at, sent_after}
+use Rattle.event_book.specs.Flight.{Flight, flight_after, sent_after}
 use Rattle.event_book.specs.Frozen.{frozen_after}
-use Rattle.event_book.specs.Keys.{keys_at}
+use Rattle.event_book.specs.Keys.{keys_after}
 use Rattle.event_book.specs.Links.{CutLinks, cuts_after, none_cut}
 use Rattle.event_book.specs.Members.{members_from}
 use Rattle.event_book.specs.Servers.{servers_after}
@@ -25,7 +25,7 @@ pub record Facts : Type 0 where
   pub clock : ℕ
   pub keys : Keys
   pub members : List Member
-  pub agents : List AgentState
+  pub agents : List AgentProcess
   pub cuts : CutLinks
   pub flight : Flight
   pub sent : ℕ
@@ -35,14 +35,14 @@ pub record Facts : Type 0 where
   pub acknowledged : List ℕ
 
 -- what one more event leaves
-abbrev pub after : Facts → Kind → Facts
-after facts kind = record {
+abbrev pub facts_after : Facts → EventKind → Facts
+facts_after facts kind = record {
   clock = now_after facts.clock kind;
-  keys = keys_at (now_after facts.clock kind) facts.keys kind;
+  keys = keys_after (now_after facts.clock kind) facts.keys kind;
   members = facts.members;
   agents = agents_after facts.agents kind;
   cuts = cuts_after facts.cuts kind;
-  flight = flight_at facts.clock facts.keys facts.flight kind;
+  flight = flight_after facts.clock facts.keys facts.flight kind;
   sent = sent_after facts.sent kind;
   servers = servers_after (now_after facts.clock kind) facts.servers kind;
   frozen = frozen_after facts.frozen kind;
@@ -51,9 +51,9 @@ after facts kind = record {
 }
 
 -- what these events leave
-abbrev pub after_all : Facts → List Event → Facts
-after_all facts [] = facts
-after_all facts (event ∷ events) = after_all (after facts event.kind) events
+abbrev pub facts_over : Facts → List Event → Facts
+facts_over facts [] = facts
+facts_over facts (event ∷ events) = facts_over (facts_after facts event.kind) events
 
 -- what there is before the first event, over members of these names, each with a server whose log has so many bytes of data
 abbrev pub start_of : List Name → ℕ → Facts

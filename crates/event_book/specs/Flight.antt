@@ -6,10 +6,10 @@ use Rattle.std.specs.Map.{remove_entry, lookup}
 use Rattle.lease_store.specs.Answers.{present_pairs}
 use Rattle.lease_store.specs.declared.granted.Granted.{Granted}
 use Rattle.lease_store.specs.declared.key.Key.{Key}
-use Rattle.lease_store.specs.declared.value.Held.{Held}
+use Rattle.lease_store.specs.declared.value.KeyEntry.{KeyEntry}
 use Rattle.lease_store.specs.Keys.{Keys}
-use Rattle.event_book.specs.declared.event.Kind.{Kind}
-use Rattle.event_book.specs.declared.event.Kind.TheVariants as kinds
+use Rattle.event_book.specs.declared.event.EventKind.{EventKind}
+use Rattle.event_book.specs.declared.event.EventKind.TheVariants as kinds
 use Rattle.event_book.specs.declared.event.MessageEvent.{MessageEvent}
 use Rattle.event_book.specs.declared.event.MessageEvent.TheVariants.{Sent, Delivered, Lost}
 use Rattle.event_book.specs.declared.link.LinkEnd.{LinkEnd}
@@ -21,7 +21,7 @@ use Rattle.event_book.specs.declared.message.Message.{Message}
 -- a message on its way, with what an answer of the store carries beside its words: what the store held, and the grant
 pub record InFlightFacts : Type 0 where
   pub message : Message
-  pub snapshot : List (Key × Held)
+  pub snapshot : List (Key × KeyEntry)
   pub grant : Option Granted
 
 -- messages in flight by their numbers
@@ -29,7 +29,7 @@ abbrev pub Flight : Type 0
 Flight = List (ℕ × InFlightFacts)
 
 -- what the store holds, for an answer that tells it
-abbrev pub snapshot_for : Body → List (Key × Held) → List (Key × Held)
+abbrev pub snapshot_for : Body → List (Key × KeyEntry) → List (Key × KeyEntry)
 snapshot_for bodies.Snapshot present = present
 snapshot_for (bodies.Granted request leased) present = present
 snapshot_for _ present = []
@@ -55,25 +55,25 @@ launched now known message = record {
 abbrev pub in_flight : Flight → ℕ → Option InFlightFacts
 in_flight flight number = lookup (is_at (nat_cmp number)) flight
 
-abbrev pub landed : Flight → ℕ → Flight
-landed flight number = remove_entry (is_at (nat_cmp number)) flight
+abbrev pub without_message : Flight → ℕ → Flight
+without_message flight number = remove_entry (is_at (nat_cmp number)) flight
 
 -- the messages in flight after what happens to one at this moment
 abbrev pub flight_by : ℕ → Keys → Flight → MessageEvent → Flight
 flight_by now known flight (Sent number message) = insert_entry nat_cmp flight number (launched now known message)
-flight_by now known flight (Delivered number) = landed flight number
-flight_by now known flight (Lost number) = landed flight number
+flight_by now known flight (Delivered number) = without_message flight number
+flight_by now known flight (Lost number) = without_message flight number
 
 -- the messages in flight after an event of this moment
-abbrev pub flight_at : ℕ → Keys → Flight → Kind → Flight
-flight_at now known flight (kinds.Message happening) = flight_by now known flight happening
-flight_at now known flight _ = flight
+abbrev pub flight_after : ℕ → Keys → Flight → EventKind → Flight
+flight_after now known flight (kinds.Message happening) = flight_by now known flight happening
+flight_after now known flight _ = flight
 
 abbrev pub sent_by : ℕ → MessageEvent → ℕ
 sent_by last (Sent number message) = number
 sent_by last _ = last
 
 -- the number of the message that was sent last
-abbrev pub sent_after : ℕ → Kind → ℕ
+abbrev pub sent_after : ℕ → EventKind → ℕ
 sent_after last (kinds.Message happening) = sent_by last happening
 sent_after last _ = last

@@ -4,8 +4,8 @@ use Rattle.pat_base.specs.Name.{name_bytes}
 use Rattle.event_book.specs.declared.link.Link.{Link}
 use Rattle.event_book.specs.declared.link.LinkEnd.{LinkEnd}
 use Rattle.event_book.specs.declared.link.LinkEnd.TheVariants.{Store, Member}
-use Rattle.event_book.specs.declared.event.Kind.{Kind}
-use Rattle.event_book.specs.declared.event.Kind.TheVariants as kinds
+use Rattle.event_book.specs.declared.event.EventKind.{EventKind}
+use Rattle.event_book.specs.declared.event.EventKind.TheVariants as kinds
 use Rattle.event_book.specs.declared.event.LinkEvent.TheVariants as links
 
 -- the number of a member, or 16 for the key store
@@ -48,7 +48,7 @@ abbrev pub is_cut : CutLinks → Link → Bool
 is_cut cuts link = slice_index_or cuts (link_place link) false
 
 -- which links are cut after an event
-abbrev pub cuts_after : CutLinks → Kind → CutLinks
+abbrev pub cuts_after : CutLinks → EventKind → CutLinks
 cuts_after cuts (kinds.Link (links.Cut link)) = slice_set cuts (link_place link) true
 cuts_after cuts (kinds.Link (links.Joined link)) = slice_set cuts (link_place link) false
 cuts_after cuts _ = cuts

@@ -5,8 +5,8 @@ use Rattle.wal_model.specs.declared.entry.Entry.{Entry}
 use Rattle.wal_model.specs.Log.{received}
 use Rattle.pg_model.specs.Facts.{ServerFacts, entries_of}
 use Rattle.event_book.specs.declared.event.Event.{Event}
-use Rattle.event_book.specs.declared.event.Kind.{Kind}
-use Rattle.event_book.specs.declared.event.Kind.TheVariants as kinds
+use Rattle.event_book.specs.declared.event.EventKind.{EventKind}
+use Rattle.event_book.specs.declared.event.EventKind.TheVariants as kinds
 use Rattle.event_book.specs.declared.event.LogEvent.{LogEvent}
 use Rattle.event_book.specs.declared.event.LogEvent.TheVariants as logs
 
@@ -35,11 +35,11 @@ logs_by known (logs.Rewound server from kept at) = changed_by known server.id.nu
 logs_by known (logs.Copied server from) = log_copied known server.id.number (slice_get known from.id.number)
 logs_by known (logs.Wiped server) = changed_by known server.id.number (λ log. None)
 
-abbrev pub logs_at : Logs → Kind → Logs
-logs_at known (kinds.Log happening) = logs_by known happening
-logs_at known _ = known
+abbrev pub logs_after : Logs → EventKind → Logs
+logs_after known (kinds.Log happening) = logs_by known happening
+logs_after known _ = known
 
 -- the logs at the end of a book that began with these
-abbrev pub logs_after : Logs → List Event → Logs
-logs_after known [] = known
-logs_after known (event ∷ events) = logs_after (logs_at known event.kind) events
+abbrev pub logs_over : Logs → List Event → Logs
+logs_over known [] = known
+logs_over known (event ∷ events) = logs_over (logs_after known event.kind) events

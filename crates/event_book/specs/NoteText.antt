@@ -13,8 +13,8 @@ answered_line tick name status (byte ∷ bytes) =
     Some (decimal tick ++ (codes " " ++ (name ++ (codes " answers " ++ (decimal status ++ (codes " " ++ ((byte ∷ bytes) ++ codes "\n")))))))
 
 -- a line that patronictl prints, which stands without its moment
-abbrev pub told_line : List ℕ → Option (List ℕ)
-told_line line = Some (line ++ codes "\n")
+abbrev pub ctl_line : List ℕ → Option (List ℕ)
+ctl_line line = Some (line ++ codes "\n")
 
 -- what the lines of a script are answered
 abbrev pub reply_line : ℕ → Note → Option (List ℕ)
@@ -25,7 +25,7 @@ reply_line tick (notes.Undeliverable number) = Some (decimal tick ++ (codes " me
 reply_line tick (notes.Answered agent status body) = answered_line tick (name_bytes agent.name) status body
 reply_line tick (notes.NoAnswer agent) = Some (decimal tick ++ (codes " " ++ (name_bytes agent.name ++ codes " gives no answer\n")))
 reply_line tick notes.ConnectionFailed = Some (decimal tick ++ codes " connection failed\n")
-reply_line tick (notes.Told line) = told_line line
+reply_line tick (notes.CtlLine line) = ctl_line line
 reply_line tick _ = None
 
 -- the line of a note about one member alone

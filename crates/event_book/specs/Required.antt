@@ -5,8 +5,8 @@ use Rattle.pat_base.specs.declared.server_state.Required.{Required}
 use Rattle.pat_base.specs.Changes.{changed_by}
 use Rattle.pg_model.specs.Facts.{ServerFacts, none_confirmed}
 use Rattle.event_book.specs.declared.event.Event.{Event}
-use Rattle.event_book.specs.declared.event.Kind.{Kind}
-use Rattle.event_book.specs.declared.event.Kind.TheVariants as kinds
+use Rattle.event_book.specs.declared.event.EventKind.{EventKind}
+use Rattle.event_book.specs.declared.event.EventKind.TheVariants as kinds
 use Rattle.event_book.specs.declared.event.ReplicationEvent.TheVariants as replications
 use Rattle.event_book.specs.declared.event.ServerEvent.TheVariants as servers
 
@@ -19,22 +19,22 @@ abbrev pub confirmed_in : List ServerFacts → List (List (Option Lsn))
 confirmed_in servers = map (λ s. s.confirmed) servers
 
 -- the required lists after an event, by the numbers of their servers
-abbrev pub required_at : List Required → Kind → List Required
-required_at known (kinds.Replication (replications.RequiredSet server required names)) = changed_by known server.id.number (λ before. required)
-required_at known _ = known
+abbrev pub required_after : List Required → EventKind → List Required
+required_after known (kinds.Replication (replications.RequiredSet server required names)) = changed_by known server.id.number (λ before. required)
+required_after known _ = known
 
 -- the required list of each server is the last one that was set
-abbrev pub required_after : List Required → List Event → List Required
-required_after known [] = known
-required_after known (event ∷ events) = required_after (required_at known event.kind) events
+abbrev pub required_over : List Required → List Event → List Required
+required_over known [] = known
+required_over known (event ∷ events) = required_over (required_after known event.kind) events
 
 -- the positions that members confirmed to each server, after an event; those from before it began count no more
-abbrev pub confirmed_at : List (List (Option Lsn)) → Kind → List (List (Option Lsn))
-confirmed_at known (kinds.Server (servers.Began server timeline)) = changed_by known server.id.number (λ before. none_confirmed)
-confirmed_at known (kinds.Replication (replications.Confirmed server by end)) = changed_by known server.id.number (λ before. slice_set before by.id.number (Some end))
-confirmed_at known _ = known
+abbrev pub confirmed_after : List (List (Option Lsn)) → EventKind → List (List (Option Lsn))
+confirmed_after known (kinds.Server (servers.Began server timeline)) = changed_by known server.id.number (λ before. none_confirmed)
+confirmed_after known (kinds.Replication (replications.Confirmed server by end)) = changed_by known server.id.number (λ before. slice_set before by.id.number (Some end))
+confirmed_after known _ = known
 
 -- what was confirmed to each server since it last began
-abbrev pub confirmed_after : List (List (Option Lsn)) → List Event → List (List (Option Lsn))
-confirmed_after known [] = known
-confirmed_after known (event ∷ events) = confirmed_after (confirmed_at known event.kind) events
+abbrev pub confirmed_over : List (List (Option Lsn)) → List Event → List (List (Option Lsn))
+confirmed_over known [] = known
+confirmed_over known (event ∷ events) = confirmed_over (confirmed_after known event.kind) events

@@ -6,9 +6,9 @@ use Rattle.pat_base.specs.Changes.{changed_by}
 use Rattle.pg_model.specs.Facts.{ServerFacts, none_confirmed, entries_of, is_down}
 use Rattle.pg_model.specs.Replication.{appended, confirming, following, received_from}
 use Rattle.pg_model.specs.Running.{crashed, delayed, promoted, replica_started, started, stopped}
-use Rattle.pg_model.specs.Servers.{quietly_ticked, requiring}
-use Rattle.event_book.specs.declared.event.Kind.{Kind}
-use Rattle.event_book.specs.declared.event.Kind.TheVariants as kinds
+use Rattle.pg_model.specs.Servers.{ticked_unless_live, requiring}
+use Rattle.event_book.specs.declared.event.EventKind.{EventKind}
+use Rattle.event_book.specs.declared.event.EventKind.TheVariants as kinds
 use Rattle.event_book.specs.declared.event.LogEvent.{LogEvent}
 use Rattle.event_book.specs.declared.event.LogEvent.TheVariants as logs
 use Rattle.event_book.specs.declared.event.ReplicationEvent.{ReplicationEvent}
@@ -18,13 +18,13 @@ use Rattle.event_book.specs.declared.event.ServerEvent.TheVariants as servers
 use Rattle.event_book.specs.declared.event.WatchdogEvent.{WatchdogEvent}
 use Rattle.event_book.specs.declared.event.WatchdogEvent.TheVariants as watchdogs
 
--- it accepts writes from now on: a standby by its promotion, and else one that started as a primary again; what was
+-- it accepts writes from now on: a replica by its promotion, and else one that started as a primary again; what was
 -- confirmed before counts no more
 abbrev pub begun_in : State → ServerFacts → ServerFacts
 begun_in states.Replica s = promoted s
 begun_in _ s = started true (record s { confirmed = none_confirmed })
 
--- it starts as a standby of none, where it is down
+-- it starts as a replica of none, where it is down
 abbrev pub starts_as_replica : ℕ → ServerFacts → ServerFacts
 starts_as_replica now s = if is_down s.state then replica_started (record { 0 = now }) None s else s
 
@@ -48,28 +48,28 @@ copied_by known number None = known
 copied_by known number (Some source) = changed_by known number (λ s. record s { log = source.log })
 
 -- the servers after what happens to a log. What a rewind, a copy and a wipe change beside it is to come with them
-abbrev pub servers_logged : List ServerFacts → LogEvent → List ServerFacts
-servers_logged known (logs.Appended server entry) = changed_by known server.id.number (appended entry)
-servers_logged known (logs.Received server from count) = received_by known server.id.number count (slice_get known from.id.number)
-servers_logged known (logs.Rewound server from kept at) = changed_by known server.id.number (λ s. record s { log = Some (take kept (entries_of s.log)) })
-servers_logged known (logs.Copied server from) = copied_by known server.id.number (slice_get known from.id.number)
-servers_logged known (logs.Wiped server) = changed_by known server.id.number (λ s. record s { log = None })
+abbrev pub servers_by_log : List ServerFacts → LogEvent → List ServerFacts
+servers_by_log known (logs.Appended server entry) = changed_by known server.id.number (appended entry)
+servers_by_log known (logs.Received server from count) = received_by known server.id.number count (slice_get known from.id.number)
+servers_by_log known (logs.Rewound server from kept at) = changed_by known server.id.number (λ s. record s { log = Some (take kept (entries_of s.log)) })
+servers_by_log known (logs.Copied server from) = copied_by known server.id.number (slice_get known from.id.number)
+servers_by_log known (logs.Wiped server) = changed_by known server.id.number (λ s. record s { log = None })
 
-abbrev pub servers_replicated : List ServerFacts → ReplicationEvent → List ServerFacts
-servers_replicated known (replications.RequiredSet server required names) = changed_by known server.id.number (requiring required)
-servers_replicated known (replications.Confirmed server by end) = changed_by known server.id.number (confirming by.id end)
-servers_replicated known (replications.Acknowledged server commit) = changed_by known server.id.number (λ s. record s { waiting = drop 1 s.waiting })
+abbrev pub servers_by_replication : List ServerFacts → ReplicationEvent → List ServerFacts
+servers_by_replication known (replications.RequiredSet server required names) = changed_by known server.id.number (requiring required)
+servers_by_replication known (replications.Confirmed server by end) = changed_by known server.id.number (confirming by.id end)
+servers_by_replication known (replications.Acknowledged server commit) = changed_by known server.id.number (λ s. record s { waiting = drop 1 s.waiting })
 
 -- a reset of its machine crashes a server
-abbrev pub servers_watched : List ServerFacts → WatchdogEvent → List ServerFacts
-servers_watched known (watchdogs.Reset member) = changed_by known member.id.number crashed
-servers_watched known _ = known
+abbrev pub servers_by_watchdog : List ServerFacts → WatchdogEvent → List ServerFacts
+servers_by_watchdog known (watchdogs.Reset member) = changed_by known member.id.number crashed
+servers_by_watchdog known _ = known
 
 -- the servers after an event of this moment: a tick completes the starts and stops that no event tells
-abbrev pub servers_after : ℕ → List ServerFacts → Kind → List ServerFacts
-servers_after now known kinds.Tick = map (quietly_ticked (record { 0 = now })) known
+abbrev pub servers_after : ℕ → List ServerFacts → EventKind → List ServerFacts
+servers_after now known kinds.Tick = map (ticked_unless_live (record { 0 = now })) known
 servers_after now known (kinds.Server happening) = servers_by now known happening
-servers_after now known (kinds.Log happening) = servers_logged known happening
-servers_after now known (kinds.Replication happening) = servers_replicated known happening
-servers_after now known (kinds.Watchdog happening) = servers_watched known happening
+servers_after now known (kinds.Log happening) = servers_by_log known happening
+servers_after now known (kinds.Replication happening) = servers_by_replication known happening
+servers_after now known (kinds.Watchdog happening) = servers_by_watchdog known happening
 servers_after now known _ = known

@@ -3,8 +3,8 @@ use Rattle.std.specs.Prelude.{ℕ, Bool, List, [], ◌∷◌, ◌++◌, Option, 
 use Rattle.std.specs.Fmt.{decimal}
 use Rattle.pat_base.specs.Name.{name_bytes}
 use Rattle.event_book.specs.declared.event.Event.{Event}
-use Rattle.event_book.specs.declared.event.Kind.{Kind}
-use Rattle.event_book.specs.declared.event.Kind.TheVariants as kinds
+use Rattle.event_book.specs.declared.event.EventKind.{EventKind}
+use Rattle.event_book.specs.declared.event.EventKind.TheVariants as kinds
 use Rattle.event_book.specs.declared.event.MessageEvent.{MessageEvent}
 use Rattle.event_book.specs.declared.event.MessageEvent.TheVariants as messages
 use Rattle.event_book.specs.declared.event.AgentEvent.{AgentEvent}
@@ -35,7 +35,7 @@ abbrev pub link_line : ℕ → LinkEvent → Option (List ℕ)
 link_line tick (links.Cut link) = Some (decimal tick ++ (codes " " ++ (end_text link.first ++ (codes " and " ++ (end_text link.second ++ codes " are cut\n")))))
 link_line tick (links.Joined link) = Some (decimal tick ++ (codes " " ++ (end_text link.first ++ (codes " and " ++ (end_text link.second ++ codes " are joined\n")))))
 
-abbrev pub kind_line : Bool → ℕ → Kind → Option (List ℕ)
+abbrev pub kind_line : Bool → ℕ → EventKind → Option (List ℕ)
 kind_line trace tick kinds.Tick = None
 kind_line trace tick (kinds.Message happening) = message_line trace tick happening
 kind_line trace tick (kinds.Store happening) = store_line tick happening

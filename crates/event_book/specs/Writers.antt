@@ -3,8 +3,8 @@ use Rattle.std.specs.Prelude.{ℕ, ◌≡◌, Bool, true, false, List, [], ◌�
 use Rattle.pat_base.specs.ServerState.{writes}
 use Rattle.pg_model.specs.Facts.{ServerFacts}
 use Rattle.event_book.specs.declared.event.Event.{Event}
-use Rattle.event_book.specs.declared.event.Kind.{Kind}
-use Rattle.event_book.specs.declared.event.Kind.TheVariants as kinds
+use Rattle.event_book.specs.declared.event.EventKind.{EventKind}
+use Rattle.event_book.specs.declared.event.EventKind.TheVariants as kinds
 use Rattle.event_book.specs.declared.event.ServerEvent.{ServerEvent}
 use Rattle.event_book.specs.declared.event.ServerEvent.TheVariants as servers
 use Rattle.event_book.specs.declared.event.WatchdogEvent.{WatchdogEvent}
@@ -31,19 +31,19 @@ abbrev pub writes_by_watchdog : (ℕ → Bool) → WatchdogEvent → ℕ → Boo
 writes_by_watchdog writes (watchdogs.Reset member) = put_at writes member.id.number false
 writes_by_watchdog writes _ = writes
 
-abbrev pub writes_by : (ℕ → Bool) → Kind → ℕ → Bool
-writes_by writes (kinds.Server happening) = writes_by_server writes happening
-writes_by writes (kinds.Watchdog happening) = writes_by_watchdog writes happening
-writes_by writes _ = writes
+abbrev pub writes_after : (ℕ → Bool) → EventKind → ℕ → Bool
+writes_after writes (kinds.Server happening) = writes_by_server writes happening
+writes_after writes (kinds.Watchdog happening) = writes_by_watchdog writes happening
+writes_after writes _ = writes
 
-abbrev pub writes_after : (ℕ → Bool) → List Event → ℕ → Bool
-writes_after writes [] = writes
-writes_after writes (event ∷ events) = writes_after (writes_by writes event.kind) events
+abbrev pub writes_over : (ℕ → Bool) → List Event → ℕ → Bool
+writes_over writes [] = writes
+writes_over writes (event ∷ events) = writes_over (writes_after writes event.kind) events
 
 -- at the end of this book the server of this number accepts writes: of what the book says of its beginnings, ends, crashes and
 -- resets, the last is a beginning
 abbrev pub AcceptsWrites : List Event → ℕ → Type 0
-AcceptsWrites book server = writes_after (λ n. false) book server ≡ true
+AcceptsWrites book server = writes_over (λ n. false) book server ≡ true
 
 -- at the end of this book at most one server accepts writes
 abbrev pub HasOneWriter : List Event → Type 0
@@ -54,7 +54,7 @@ abbrev pub BeginsServer : (ℕ → Type 0) → ServerEvent → Type 0
 BeginsServer P (servers.Began server timeline) = P server.id.number
 BeginsServer P _ = Unit {0}
 
-abbrev pub BeginsKind : (ℕ → Type 0) → Kind → Type 0
+abbrev pub BeginsKind : (ℕ → Type 0) → EventKind → Type 0
 BeginsKind P (kinds.Server happening) = BeginsServer P happening
 BeginsKind P _ = Unit {0}
 

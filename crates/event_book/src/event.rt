@@ -1,7 +1,7 @@
 //! What can happen. An event stands in the book only where something changed. It has the names that its line prints.
 
 use crate::{Basis, Bytes, Link, Member, Message, Names, Reason, ServerOf};
-use lease_store::{Action, Bar, Expected, Key, Txn, TxnKind};
+use lease_store::{Bar, Expected, Key, OperatorAction, Txn, TxnKind};
 use pat_base::{Lsn, Name, Required, Ticks};
 use wal_model::Entry;
 
@@ -9,12 +9,12 @@ use wal_model::Entry;
 #[derive(Debug, Drop)]
 pub struct Event {
     pub tick: Ticks,
-    pub kind: Kind,
+    pub kind: EventKind,
 }
 
 /// Happenings by what they concern.
 #[derive(Debug, Drop)]
-pub enum Kind {
+pub enum EventKind {
     /// The clock grew by one tick.
     Tick,
     Message(MessageEvent),
@@ -42,7 +42,7 @@ pub enum MessageEvent {
 /// What happens at the key store.
 #[derive(Debug, Drop)]
 pub enum StoreEvent {
-    /// The request that this message carries was granted. `standbys` are the names that a sync write publishes.
+    /// The request that this message carries was granted. `replicas` are the names that a sync write publishes.
     Granted {
         number: u64,
         by: Member,
@@ -210,19 +210,35 @@ pub enum ReplicationEvent {
 #[derive(Debug, Drop)]
 pub enum AgentEvent {
     /// The agent was woken.
-    Woken { agent: Member },
-    /// The agent is held: it does nothing until it goes on.
-    Suspended { agent: Member },
-    /// A held agent goes on.
-    Resumed { agent: Member },
+    Woken {
+        agent: Member,
+    },
+    /// The agent is suspended: it does nothing until it goes on.
+    Suspended {
+        agent: Member,
+    },
+    /// A suspended agent goes on.
+    Resumed {
+        agent: Member,
+    },
     /// The agent ended.
-    Killed { agent: Member },
+    Killed {
+        agent: Member,
+    },
     /// An agent that had ended was started. This is its run of this number.
-    Started { agent: Member, run: u64 },
+    Started {
+        agent: Member,
+        run: u64,
+    },
     /// A request of an operator, which passed its checks, came to the agent.
-    Operated { agent: Member, action: Action },
+    Operated {
+        agent: Member,
+        action: OperatorAction,
+    },
     /// The agent took the leader key though the sync key doesn't name it, since a failover names it.
-    Passed { agent: Member },
+    Passed {
+        agent: Member,
+    },
 }
 
 /// What happens to links.
@@ -283,7 +299,7 @@ pub enum Note {
     NoMessage {
         number: u64,
     },
-    /// The link of this message is cut, or its receiver is held.
+    /// The link of this message is cut, or its receiver is suspended.
     Undeliverable {
         number: u64,
     },
@@ -293,13 +309,13 @@ pub enum Note {
         status: u16,
         body: Bytes,
     },
-    /// The agent is held or doesn't run, so its REST interface answers nothing.
+    /// The agent is suspended or doesn't run, so its REST interface answers nothing.
     NoAnswer {
         agent: Member,
     },
     ConnectionFailed,
     /// A line that patronictl prints.
-    Told {
+    CtlLine {
         line: Bytes,
     },
 }

@@ -1,27 +1,27 @@
 //! Laws of books.
 ghost use Rattle.std.specs.Prelude.{ℕ, ◌≡◌, ◌<◌, ◌++◌, ◌&&◌, ◌||◌, not, false, List, length};
 ghost use Rattle.event_book.specs.declared.event.Event.{Event};
-ghost use Rattle.event_book.specs.declared.event.Kind.{Kind};
-ghost use Rattle.event_book.specs.declared.event.Kind.TheVariants as kinds;
+ghost use Rattle.event_book.specs.declared.event.EventKind.{EventKind};
+ghost use Rattle.event_book.specs.declared.event.EventKind.TheVariants as kinds;
 ghost use Rattle.event_book.specs.declared.event.LinkEvent.TheVariants as links;
 ghost use Rattle.event_book.specs.declared.link.Link.{Link};
 ghost use Rattle.event_book.specs.Acknowledged.{acknowledged_in};
-ghost use Rattle.event_book.specs.Facts.{Facts, after_all};
+ghost use Rattle.event_book.specs.Facts.{Facts, facts_over};
 ghost use Rattle.event_book.specs.Links.{CutLinks, cuts_after, is_cut, is_same_link, none_cut, place_count};
-ghost use Rattle.event_book.specs.Logs.{logs_in, logs_after};
-ghost use Rattle.event_book.specs.Required.{required_in, required_after, confirmed_in, confirmed_after};
-ghost use Rattle.event_book.specs.Writers.{writes_in, writes_after};
+ghost use Rattle.event_book.specs.Logs.{logs_in, logs_over};
+ghost use Rattle.event_book.specs.Required.{required_in, required_over, confirmed_in, confirmed_over};
+ghost use Rattle.event_book.specs.Writers.{writes_in, writes_over};
 
 /// What a book leaves of the servers is, part by part, what the book alone says: their logs, whose confirmation their commits wait
 /// for, what was confirmed to them, which of them accept writes, and which commits were acknowledged.
-pub fn servers_are_told()
-    ensures logs { (facts : Facts) (book : List Event) → logs_in (after_all facts book).servers ≡ logs_after (logs_in facts.servers) book }
-    ensures required { (facts : Facts) (book : List Event) → required_in (after_all facts book).servers ≡ required_after (required_in facts.servers) book }
-    ensures confirmed { (facts : Facts) (book : List Event) → confirmed_in (after_all facts book).servers ≡ confirmed_after (confirmed_in facts.servers) book }
-    ensures writers { (facts : Facts) (book : List Event) (n : ℕ) → n < length facts.servers → writes_in (after_all facts book).servers n ≡ writes_after (writes_in facts.servers) book n }
-    ensures acknowledged { (facts : Facts) (book : List Event) → (after_all facts book).acknowledged ≡ facts.acknowledged ++ acknowledged_in book }
+pub fn servers_match_events()
+    ensures logs { (facts : Facts) (book : List Event) → logs_in (facts_over facts book).servers ≡ logs_over (logs_in facts.servers) book }
+    ensures required { (facts : Facts) (book : List Event) → required_in (facts_over facts book).servers ≡ required_over (required_in facts.servers) book }
+    ensures confirmed { (facts : Facts) (book : List Event) → confirmed_in (facts_over facts book).servers ≡ confirmed_over (confirmed_in facts.servers) book }
+    ensures writers { (facts : Facts) (book : List Event) (n : ℕ) → n < length facts.servers → writes_in (facts_over facts book).servers n ≡ writes_over (writes_in facts.servers) book n }
+    ensures acknowledged { (facts : Facts) (book : List Event) → (facts_over facts book).acknowledged ≡ facts.acknowledged ++ acknowledged_in book }
     // No event adds a server, or takes one away.
-    ensures count { (facts : Facts) (book : List Event) → length (after_all facts book).servers ≡ length facts.servers }
+    ensures count { (facts : Facts) (book : List Event) → length (facts_over facts book).servers ≡ length facts.servers }
 {}
 
 /// What the table of links says is what cuts and joins say: after a cut that link is cut and after a join it isn't, whichever
@@ -32,5 +32,5 @@ pub fn links_are_told()
     ensures joined { (cuts : CutLinks) (joined link : Link) → is_cut (cuts_after cuts (kinds.Link (links.Joined joined))) link ≡ (not (is_same_link joined link) && is_cut cuts link) }
     // The table has a place for each link, before the first event and after each.
     ensures whole { length none_cut ≡ place_count }
-    ensures count { (cuts : CutLinks) (kind : Kind) → length (cuts_after cuts kind) ≡ length cuts }
+    ensures count { (cuts : CutLinks) (kind : EventKind) → length (cuts_after cuts kind) ≡ length cuts }
 {}

@@ -1,7 +1,7 @@
 //! The book of a run: the list of what happened, what it leaves, and how it is printed.
 #![tactic(auto)]
 
-mod agent_state;
+mod agent_process;
 mod event;
 mod laws;
 mod link;
@@ -17,12 +17,12 @@ mod reason;
 mod server_printing;
 mod store_printing;
 
-pub use agent_state::AgentState;
+pub use agent_process::AgentProcess;
 pub use event::{
-    AgentEvent, Event, Kind, LinkEvent, LogEvent, MessageEvent, Note, ReplicationEvent,
+    AgentEvent, Event, EventKind, LinkEvent, LogEvent, MessageEvent, Note, ReplicationEvent,
     ServerEvent, StoreEvent, WatchdogEvent,
 };
-pub use laws::{links_are_told, servers_are_told};
+pub use laws::{links_are_told, servers_match_events};
 pub use link::{Link, LinkEnd};
 pub use member::{Member, ServerOf};
 pub use message::{Body, Message};

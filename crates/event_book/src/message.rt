@@ -44,11 +44,11 @@ pub enum Body {
     /// An agent's answer to `Ask`.
     Answer(PeerAnswer),
     /// To another agent, by a leader that can't reach the store: may I stay primary for `ttl` from now on?
-    Beg {
+    FailsafeRequest {
         ttl: Ticks,
     },
-    /// An agent's answer to `Beg`.
-    Held {
+    /// An agent's answer to `FailsafeRequest`.
+    FailsafeAnswer {
         yes: bool,
     },
 }
@@ -72,20 +72,20 @@ impl fmt::Display for Body {
             Body::Refused { .. } => f.write_str("refused"),
             Body::Ask => f.write_str("ask"),
             Body::Answer(_) => f.write_str("answer"),
-            Body::Beg { .. } => f.write_str("failsafe"),
-            Body::Held { .. } => f.write_str("failsafe answer"),
+            Body::FailsafeRequest { .. } => f.write_str("failsafe"),
+            Body::FailsafeAnswer { .. } => f.write_str("failsafe answer"),
         }
     }
 }
 
 impl Body {
     /// Another alike. It fails only for want of memory.
-    pub fn copy(&self) -> Result<Body, AllocError>
+    pub fn try_clone(&self) -> Result<Body, AllocError>
         ensures { IfOk result (λ body. body ≡ self.now) }
     {
         let copy = match self {
             Body::Read => Body::Read,
-            Body::Request(txn) => Body::Request(txn.copy()?),
+            Body::Request(txn) => Body::Request(txn.try_clone()?),
             Body::Snapshot => Body::Snapshot,
             Body::Granted { request, leased } => Body::Granted {
                 request: *request,
@@ -102,8 +102,8 @@ impl Body {
             },
             Body::Ask => Body::Ask,
             Body::Answer(answer) => Body::Answer(*answer),
-            Body::Beg { ttl } => Body::Beg { ttl: *ttl },
-            Body::Held { yes } => Body::Held { yes: *yes },
+            Body::FailsafeRequest { ttl } => Body::FailsafeRequest { ttl: *ttl },
+            Body::FailsafeAnswer { yes } => Body::FailsafeAnswer { yes: *yes },
         };
         Ok(copy)
     }
@@ -111,7 +111,7 @@ impl Body {
 
 impl Message {
     /// Another alike. It fails only for want of memory.
-    pub fn copy(&self) -> Result<Message, AllocError>
+    pub fn try_clone(&self) -> Result<Message, AllocError>
         ensures { IfOk result (λ message. message ≡ self.now) }
     {
         Ok(Message {
@@ -119,7 +119,7 @@ impl Message {
             to: self.to,
             run: self.run,
             sequence: self.sequence,
-            body: self.body.copy()?,
+            body: self.body.try_clone()?,
         })
     }
 }

@@ -1,7 +1,7 @@
 //! The printed lines of notes.
 ghost use Rattle.std.specs.Prelude.{◌≡◌, IfOk, option_map, string_bytes};
 ghost use Rattle.pat_base.specs.Name.{name_bytes};
-ghost use Rattle.event_book.specs.NoteText.{note_line, own_note_line, reply_line, answered_line, told_line};
+ghost use Rattle.event_book.specs.NoteText.{note_line, own_note_line, reply_line, answered_line, ctl_line};
 
 use crate::reason::BarText;
 use crate::{Bytes, Note};
@@ -85,7 +85,7 @@ fn reply_line(alloc: Global, tick: Ticks, note: &Note) -> Result<Option<String>,
             Ok(Some(format!(in alloc; "{tick} {name} gives no answer\n")?))
         }
         Note::ConnectionFailed => Ok(Some(format!(in alloc; "{tick} connection failed\n")?)),
-        Note::Told { line } => told_line(alloc, line),
+        Note::CtlLine { line } => ctl_line(alloc, line),
         _ => Ok(None),
     }
 }
@@ -107,8 +107,8 @@ fn answered_line(
 }
 
 /// A line that patronictl prints, which stands without its moment.
-fn told_line(alloc: Global, line: &Bytes) -> Result<Option<String>, AllocError>
-    ensures { IfOk result (λ told. option_map string_bytes told ≡ told_line line.now) }
+fn ctl_line(alloc: Global, line: &Bytes) -> Result<Option<String>, AllocError>
+    ensures { IfOk result (λ told. option_map string_bytes told ≡ ctl_line line.now) }
 {
     let line = line.as_str();
     Ok(Some(format!(in alloc; "{line}\n")?))

@@ -5,7 +5,7 @@ ghost use Rattle.event_book.specs.Text.{line_of, message_line, agent_line, link_
 use crate::note_printing::note_line;
 use crate::server_printing::{log_line, replication_line, server_line, watchdog_line};
 use crate::store_printing::store_line;
-use crate::{AgentEvent, Event, Kind, LinkEvent, MessageEvent};
+use crate::{AgentEvent, Event, EventKind, LinkEvent, MessageEvent};
 use pat_base::Ticks;
 use std::alloc::{AllocError, Global};
 
@@ -15,16 +15,16 @@ pub fn text(alloc: Global, event: &Event, trace: bool) -> Result<Option<String>,
     ensures { IfOk result (λ line. option_map string_bytes line ≡ line_of trace event.now) }
 {
     match &event.kind {
-        Kind::Tick => Ok(None),
-        Kind::Message(happening) => message_line(alloc, trace, event.tick, happening),
-        Kind::Store(happening) => store_line(alloc, event.tick, happening),
-        Kind::Watchdog(happening) => watchdog_line(alloc, trace, event.tick, happening),
-        Kind::Server(happening) => server_line(alloc, event.tick, happening),
-        Kind::Log(happening) => log_line(alloc, event.tick, happening),
-        Kind::Replication(happening) => replication_line(alloc, event.tick, happening),
-        Kind::Agent(happening) => agent_line(alloc, event.tick, happening),
-        Kind::Link(happening) => link_line(alloc, event.tick, happening),
-        Kind::Note(note) => note_line(alloc, event.tick, note),
+        EventKind::Tick => Ok(None),
+        EventKind::Message(happening) => message_line(alloc, trace, event.tick, happening),
+        EventKind::Store(happening) => store_line(alloc, event.tick, happening),
+        EventKind::Watchdog(happening) => watchdog_line(alloc, trace, event.tick, happening),
+        EventKind::Server(happening) => server_line(alloc, event.tick, happening),
+        EventKind::Log(happening) => log_line(alloc, event.tick, happening),
+        EventKind::Replication(happening) => replication_line(alloc, event.tick, happening),
+        EventKind::Agent(happening) => agent_line(alloc, event.tick, happening),
+        EventKind::Link(happening) => link_line(alloc, event.tick, happening),
+        EventKind::Note(note) => note_line(alloc, event.tick, note),
     }
 }
 

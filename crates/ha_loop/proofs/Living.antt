@@ -7,7 +7,7 @@ use Rattle.pat_base.specs.declared.ticks.Ticks.{Ticks}
 use Rattle.pat_base.specs.ServerState.{live}
 use Rattle.pg_model.specs.declared.status.ServerStatus.{ServerStatus}
 use Rattle.pg_model.specs.Facts.{is_up, is_down, is_replica}
-use Rattle.pg_model.specs.Running.{is_primary, later}
+use Rattle.pg_model.specs.Running.{is_primary, moment_after}
 use Rattle.pg_model.specs.Status.{status_stopping, status_ending, status_starting, status_started, status_replica_started, status_following}
 use Rattle.ha_loop.proofs.Rows.{if-cases}
 
@@ -28,13 +28,13 @@ LiveBefore s after = live after.state ≡ true → live s.state ≡ true
 
 pub stop-live : (now : Ticks) (s : ServerStatus) → LiveBefore s (status_stopping now s)
 stop-live now s = if-cases (LiveBefore s) (is_up s.state) (status_ending now s) s
-    (λ _. if-cases (LiveBefore s) (s.stop_delay.0 == 0) (record s { state = states.Stopped }) (record s { state = states.Stopping (is_primary s.state) (later now s.stop_delay) })
+    (λ _. if-cases (LiveBefore s) (s.stop_delay.0 == 0) (record s { state = states.Stopped }) (record s { state = states.Stopping (is_primary s.state) (moment_after now s.stop_delay) })
     (λ _ e. absurd (no-way e)) (λ _ e. primary-live s.state e))
     (λ _ e. e)
 
 pub start-live : (now : Ticks) (upstream : Option ServerId) (s : ServerStatus) → LiveBefore s (status_replica_started now upstream s)
 start-live now upstream s = if-cases (LiveBefore s) (is_down s.state) (status_starting false now (record s { upstream = upstream; was_primary = false })) s
-    (λ _. if-cases (LiveBefore s) (s.start_delay.0 == 0) (status_started false (record s { upstream = upstream; was_primary = false })) (record s { upstream = upstream; was_primary = false; state = states.Starting false (later now s.start_delay) })
+    (λ _. if-cases (LiveBefore s) (s.start_delay.0 == 0) (status_started false (record s { upstream = upstream; was_primary = false })) (record s { upstream = upstream; was_primary = false; state = states.Starting false (moment_after now s.start_delay) })
     (λ _ e. absurd (no-way e)) (λ _ e. absurd (no-way e)))
     (λ _ e. e)
 

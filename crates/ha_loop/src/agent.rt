@@ -10,9 +10,9 @@ use crate::decisions::{granted, refused};
 use crate::role::Role;
 use crate::snapshots::got;
 use crate::wake::{is_due, wake};
-use crate::{Heard, Knowledge, Machine, Outputs, Who};
+use crate::{CaughtUp, Knowledge, Machine, Outputs, Who};
 use cluster_config::{AgentView, RoleWord};
-use lease_store::{Action, Config};
+use lease_store::{Config, OperatorAction};
 use pat_base::{MemberSet, Ticks};
 use std::marker::Model;
 use wal_model::History;
@@ -66,7 +66,7 @@ impl Agent {
     pub fn step(
         self,
         now: Ticks,
-        heard: Heard,
+        heard: CaughtUp,
         history: &History,
         machine: &mut Machine,
         out: &mut Outputs,
@@ -85,7 +85,13 @@ impl Agent {
     }
 
     /// A request of an operator, which passed its checks. Nothing is asked of agents yet, so it only takes note of its server.
-    pub fn act(self, now: Ticks, _action: Action, machine: &mut Machine, out: &mut Outputs) -> Agent
+    pub fn act(
+        self,
+        now: Ticks,
+        _action: OperatorAction,
+        machine: &mut Machine,
+        out: &mut Outputs,
+    ) -> Agent
         requires numbers { self.knows.sequence + 40 ≤ 2 ^ 60 }
         requires room { 40 ≤ out.old.spare }
         ensures outcome { made result.role result.knows machine.new out.new ≡ act now (made self.role self.knows machine.old out.old) }
@@ -180,7 +186,7 @@ fn hear(
     machine: &mut Machine,
     out: &mut Outputs,
     now: Ticks,
-    heard: Heard,
+    heard: CaughtUp,
     history: &History,
 ) -> Role
     requires moment { now.0 ≤ latest }
@@ -194,12 +200,12 @@ fn hear(
     ensures room { out.old.spare ≤ out.new.spare + 40 }
 {
     match heard {
-        Heard::Wake => wake(role, knows, machine, out, now),
-        Heard::Got { sequence, snapshot } => {
+        CaughtUp::Wake => wake(role, knows, machine, out, now),
+        CaughtUp::Got { sequence, snapshot } => {
             let role = before(role, knows, machine, out, now);
             got(role, knows, machine, out, now, history, sequence, snapshot)
         }
-        Heard::Granted {
+        CaughtUp::Granted {
             sequence,
             granted: grant,
             snapshot,
@@ -207,7 +213,7 @@ fn hear(
             let role = before(role, knows, machine, out, now);
             granted(role, knows, machine, out, now, sequence, grant, snapshot)
         }
-        Heard::Mismatch { sequence, .. } => {
+        CaughtUp::Mismatch { sequence, .. } => {
             let role = before(role, knows, machine, out, now);
             refused(role, knows, machine, out, now, sequence)
         }

@@ -20,7 +20,7 @@ mod wake;
 mod who;
 
 pub use agent::Agent;
-pub use heard::Heard;
+pub use heard::CaughtUp;
 pub use knowledge::{Knowledge, Question, Waited};
 pub use laws::{only_a_grant_lets_lead, only_a_grant_sets_deadlines, role_fits_server};
 pub use machine::Machine;

@@ -5,8 +5,8 @@ use Rattle.lease_store.specs.declared.value.MemberInfo.{MemberInfo}
 use Rattle.lease_store.specs.declared.txn.Txn.{Txn}
 use Rattle.lease_store.specs.declared.txn.Txn.TheVariants as txns
 use Rattle.event_book.specs.declared.event.Event.{Event}
-use Rattle.event_book.specs.declared.event.Kind.{Kind}
-use Rattle.event_book.specs.declared.event.Kind.TheVariants as kinds
+use Rattle.event_book.specs.declared.event.EventKind.{EventKind}
+use Rattle.event_book.specs.declared.event.EventKind.TheVariants as kinds
 use Rattle.event_book.specs.declared.event.MessageEvent.TheVariants as messages
 use Rattle.event_book.specs.declared.event.StoreEvent.TheVariants as stores
 use Rattle.event_book.specs.declared.event.ServerEvent.TheVariants as servers
@@ -16,18 +16,18 @@ use Rattle.event_book.specs.declared.member.Member.{Member}
 use Rattle.event_book.specs.declared.member.ServerOf.{ServerOf}
 use Rattle.event_book.specs.declared.message.Body.TheVariants as bodies
 use Rattle.event_book.specs.Functions.{put_at}
-use Rattle.event_book.specs.Writers.{writes_after, AcceptsWrites}
-use Rattle.lease_law.specs.Leases.{Create, Request, Grant, Answer, Flying, Requested, Answered}
+use Rattle.event_book.specs.Writers.{writes_over, AcceptsWrites}
+use Rattle.lease_law.specs.Leases.{Create, Question, Grant, Answer, Flying, Requested, Answered}
 use Rattle.lease_law.specs.States.{Agent, Declared, State, Acts, fresh_agent}
-use Rattle.lease_law.specs.Inputs.{Move, FedKnown, Removed, SetByGrant, MaySend, IsLawful}
+use Rattle.lease_law.specs.Inputs.{AgentInput, FedKnown, Removed, SetByGrant, MaySend, IsLawful}
 use Rattle.lease_law.specs.Actions.{Deliver, Input, act}
-use Rattle.lease_law.specs.Past.{Past, past_of, Mind, state_of}
-use Rattle.lease_law.specs.Books.{Page, first_minds, book_of}
+use Rattle.lease_law.specs.Past.{Past, past_of, VolatileState, state_of}
+use Rattle.lease_law.specs.Books.{Transition, first_volatile_states, book_of}
 use Rattle.lease_law.specs.Premises.{IsTimely, ShowsFeed}
 use Rattle.lease_law.specs.Claims.{IsArmedIn, AreLawful}
-use Rattle.lease_law.specs.Telling.{move_of}
+use Rattle.lease_law.specs.Showing.{input_of}
 use Rattle.lease_law.proofs.Tools.{some-is, none-some, both, put-all}
-use Rattle.lease_law.proofs.Telling.{input-told-of}
+use Rattle.lease_law.proofs.Showing.{input-told-of}
 
 abbrev pub declared : Declared
 declared = record { margin = λ m. Some 50; failsafe = false }
@@ -38,7 +38,7 @@ member name = record { id = record { number = 0; below = omega arith }; name = n
 abbrev server : Name → ServerOf
 server name = record { id = record { number = 0; within = omega arith }; name = name }
 
-abbrev at0 : Kind → Event
+abbrev at0 : EventKind → Event
 at0 kind = record { tick = record { 0 = 0 }; kind = kind }
 
 abbrev create : MemberInfo → Txn
@@ -67,14 +67,14 @@ waiting = record (fresh_agent 1) { last = 1; waits = Some 1 }
 abbrev leading : Agent
 leading = record (fresh_agent 1) { last = 1; lease = Some 2; leads = true }
 
-abbrev asked : Mind
+abbrev asked : VolatileState
 asked = record { live = false; agent = Some waiting }
 
-abbrev leads : Mind
+abbrev leads : VolatileState
 leads = record { live = true; agent = Some leading }
 
-abbrev asked_minds : ℕ → Mind
-asked_minds = put_at first_minds 0 asked
+abbrev asked_volatile_states : ℕ → VolatileState
+asked_volatile_states = put_at first_volatile_states 0 asked
 
 abbrev past1 : Name → MemberInfo → Past
 past1 name info = past_of (asking name info)
@@ -82,29 +82,29 @@ past1 name info = past_of (asking name info)
 abbrev past2 : Name → MemberInfo → List Name → Past
 past2 name info standbys = past_of (asking name info ++ granting name info standbys)
 
-abbrev asks : Name → MemberInfo → Move
-asks name info = move_of (past_of []) 0 asked None false None (asking name info)
+abbrev asks : Name → MemberInfo → AgentInput
+asks name info = input_of (past_of []) 0 asked None false None (asking name info)
 
-abbrev hears : Name → MemberInfo → List Name → Move
-hears name info standbys = move_of (past2 name info standbys) 0 leads (Some 2) true None (beginning name)
+abbrev hears : Name → MemberInfo → List Name → AgentInput
+hears name info standbys = input_of (past2 name info standbys) 0 leads (Some 2) true None (beginning name)
 
-abbrev pub pages : Name → MemberInfo → List Name → List Page
-pages name info standbys =
-    record { action = Input 0 (asks name info); events = asking name info; minds = asked_minds }
-    ∷ record { action = Deliver 1 2 true; events = granting name info standbys; minds = asked_minds }
-    ∷ record { action = Input 0 (hears name info standbys); events = beginning name; minds = put_at asked_minds 0 leads }
+abbrev pub transitions : Name → MemberInfo → List Name → List Transition
+transitions name info standbys =
+    record { action = Input 0 (asks name info); events = asking name info; volatile_states = asked_volatile_states }
+    ∷ record { action = Deliver 1 2 true; events = granting name info standbys; volatile_states = asked_volatile_states }
+    ∷ record { action = Input 0 (hears name info standbys); events = beginning name; volatile_states = put_at asked_volatile_states 0 leads }
     ∷ []
 
 abbrev s0 : State
-s0 = state_of declared (past_of []) first_minds
+s0 = state_of declared (past_of []) first_volatile_states
 
 abbrev s1 : Name → MemberInfo → State
-s1 name info = state_of declared (past1 name info) asked_minds
+s1 name info = state_of declared (past1 name info) asked_volatile_states
 
 abbrev s2 : Name → MemberInfo → List Name → State
-s2 name info standbys = state_of declared (past2 name info standbys) asked_minds
+s2 name info standbys = state_of declared (past2 name info standbys) asked_volatile_states
 
-abbrev question : Request
+abbrev question : Question
 question = record { member = 0; run = 1; sequence = 1; sent = 0; query = Create 300 None }
 
 abbrev grant : Grant
@@ -128,14 +128,14 @@ asks-lawful name info = record {
   last = omega arith;
   watchdog = Removed (at-rest name info);
   hold = omega arith;
-  takes = λ beg e. absurd (none-some beg e);
+  takes = λ failsafe_request e. absurd (none-some failsafe_request e);
   parted = λ r. refl;
   ready_by_grant = λ r. refl;
   gone = λ number e. absurd (none-some number e);
   flight = put-all (λ i. None) 1 (Some (Requested question)) (λ i o. (f : Flying) → o ≡ Some f → ◌≡◌ {A = Option Flying} None (Some f) ⊎ MaySend s0 0 (asks name info) (fresh_agent 1) waiting f)
       (λ f e. inr (subst (λ (x : Flying). MaySend s0 0 (asks name info) (fresh_agent 1) waiting x) (some-is (Requested question) f e) (record { member = refl; run = refl; later = omega arith; counted = omega arith; sent = refl; query = refl })))
       (λ i other f e. inl e);
-  begging = λ b e. absurd (none-some b e);
+  failsafe_check = λ b e. absurd (none-some b e);
   known = λ p e. e;
   leads = λ e. absurd (both e);
   informed = λ e. absurd (both e);
@@ -176,12 +176,12 @@ hears-lawful name info standbys = record {
   last = omega arith;
   watchdog = SetByGrant (fed name info standbys) refl refl (λ a. inr (omega arith));
   hold = omega arith;
-  takes = λ beg e. absurd (none-some beg e);
+  takes = λ failsafe_request e. absurd (none-some failsafe_request e);
   parted = λ r. absurd (both r);
   ready_by_grant = λ r. absurd (both r);
   gone = λ number e. nothing number;
   flight = λ i f e. absurd (none-some f (sym (nothing i) ∙ e));
-  begging = λ b e. absurd (none-some b e);
+  failsafe_check = λ b e. absurd (none-some b e);
   known = λ p e. e;
   leads = λ e. inr (fed name info standbys);
   informed = λ e. absurd (both e);
@@ -208,15 +208,15 @@ armed name = record {
   fed = (refl, refl);
 }
 
-live-there : (name : Name) (info : MemberInfo) (standbys : List Name) (n : ℕ) → writes_after (λ k. false) (beginning name) n ≡ true → ((act (s2 name info standbys) (Input 0 (hears name info standbys))).members n).live ≡ true
+live-there : (name : Name) (info : MemberInfo) (standbys : List Name) (n : ℕ) → writes_over (λ k. false) (beginning name) n ≡ true → ((act (s2 name info standbys) (Input 0 (hears name info standbys))).members n).live ≡ true
 live-there name info standbys = put-all (s2 name info standbys).members 0 (hears name info standbys).machine (λ n z. put_at (λ k. false) 0 true n ≡ true → z.live ≡ true) (λ e. refl)
     (λ n other e. absurd (put-all (λ m. false) 0 true (λ k b. (k ≡ 0 → ⊥) → b ≡ true → ⊥) (λ not-zero f. not-zero refl) (λ k o no-zero f. both f) n other e))
 
-pub lawful : (name : Name) (info : MemberInfo) (standbys : List Name) → AreLawful declared [] first_minds (pages name info standbys)
+pub lawful : (name : Name) (info : MemberInfo) (standbys : List Name) → AreLawful declared [] first_volatile_states (transitions name info standbys)
 lawful name info standbys = (
   record { lawful = asks-lawful name info; shows = inl refl; begins = (tt, tt); lives = λ n e. absurd (both e) },
   (
-    input-told-of declared [] first_minds 0 asked None false None (asking name info) (tt, tt) refl,
+    input-told-of declared [] first_volatile_states 0 asked None false None (asking name info) (tt, tt) refl,
     (
       record { lawful = tt; shows = tt; begins = (tt, (tt, (tt, tt))); lives = λ n e. absurd (both e) },
       (
@@ -229,7 +229,7 @@ lawful name info standbys = (
             lives = live-there name info standbys;
           },
           (
-            input-told-of declared (asking name info ++ granting name info standbys) asked_minds 0 leads (Some 2) true None (beginning name) (tt, (refl, (tt, tt))) refl,
+            input-told-of declared (asking name info ++ granting name info standbys) asked_volatile_states 0 leads (Some 2) true None (beginning name) (tt, (refl, (tt, tt))) refl,
             tt,
           ),
         ),
@@ -238,8 +238,8 @@ lawful name info standbys = (
   ),
 )
 
-pub timely : (name : Name) (info : MemberInfo) (standbys : List Name) → IsTimely declared.margin (book_of (pages name info standbys))
+pub timely : (name : Name) (info : MemberInfo) (standbys : List Name) → IsTimely declared.margin (book_of (transitions name info standbys))
 timely name info standbys = (tt, (tt, (tt, (tt, (tt, (omega arith, (tt, tt)))))))
 
-pub writes : (name : Name) (info : MemberInfo) (standbys : List Name) → AcceptsWrites (book_of (pages name info standbys)) 0
+pub writes : (name : Name) (info : MemberInfo) (standbys : List Name) → AcceptsWrites (book_of (transitions name info standbys)) 0
 writes name info standbys = refl

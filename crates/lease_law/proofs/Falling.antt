@@ -2,11 +2,11 @@
 use Rattle.std.proofs.Common.{ℕ, List, [], ◌∷◌, ◌++◌, Option, Bool}
 use Rattle.lease_store.specs.Settings.{Settings}
 use Rattle.event_book.specs.declared.event.Event.{Event}
-use Rattle.lease_law.specs.Premises.{Moments, moments_by, first_moments, AreInTime, IsTimely, AreHandsOff, IsHandsOff}
+use Rattle.lease_law.specs.Premises.{Moments, moments_after, first_moments, AreInTime, IsTimely, AreHandsOff, IsHandsOff}
 
 in-time-front : (margin : ℕ → Option ℕ) (moments : Moments) (front rest : List Event) → AreInTime margin moments (front ++ rest) → AreInTime margin moments front
 in-time-front margin moments [] rest is = tt
-in-time-front margin moments (event ∷ front) rest is = (is.0, in-time-front margin (moments_by moments event.kind) front rest is.1)
+in-time-front margin moments (event ∷ front) rest is = (is.0, in-time-front margin (moments_after moments event.kind) front rest is.1)
 
 pub timely-front : (margin : ℕ → Option ℕ) (front rest : List Event) → IsTimely margin (front ++ rest) → IsTimely margin front
 timely-front margin front rest is = in-time-front margin first_moments front rest is

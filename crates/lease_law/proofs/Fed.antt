@@ -1,8 +1,8 @@
 -- What an input does with the watchdog: who acts after it, and what guards it.
 use Rattle.std.proofs.Common.{◌≡◌, ◌⊎◌, ℕ, ◌+◌, ◌≤◌, ◌<◌, Bool, true, List, Option, Some, None, refl, ◌∙◌, ap, sym, subst, arith, inl, inr}
-use Rattle.lease_law.specs.Leases.{LeaderKey, FailsafeKey, Query, Renew, Release, Request, Grant, Requested, Taking}
-use Rattle.lease_law.specs.States.{Begging, Agent, Machine, State, Acts}
-use Rattle.lease_law.specs.Inputs.{Move, HeardGrant, HeardYes, IsDeadline, IsOnTime, Fed, FedKnown, AllYes, WatchdogMay, Kept, Removed, SetByGrant, SetByFailsafe, SetAlone, Undone, Owns, MayCarry, MayCarryIf, MayQuery, MayRequest, IsLawful, IsInTime}
+use Rattle.lease_law.specs.Leases.{LeaderKey, FailsafeKey, Query, Renew, Release, Question, Grant, Requested, Taking}
+use Rattle.lease_law.specs.States.{FailsafeCheck, Agent, Machine, State, Acts}
+use Rattle.lease_law.specs.Inputs.{AgentInput, HeardGrant, HeardYes, IsDeadline, IsOnTime, Fed, FedKnown, AllYes, WatchdogMay, Kept, Removed, SetByGrant, SetByFailsafe, SetAlone, Undone, Owns, MayCarry, MayCarryIf, MayQuery, MayAsk, IsLawful, IsInTime}
 use Rattle.lease_law.proofs.Tools.{some-is, not-false, decide-eq}
 use Rattle.lease_law.specs.Carried.{Spans, IsGuarded, IsThere, ActsAlone, IsAtRest, HasTaken, IsPresent, IsSound}
 use Rattle.lease_law.proofs.Onward.{spans-sub, holds-grow}
@@ -28,8 +28,8 @@ fed-ok s m heard inv fed time =
     let set = set-in-time (s.declared.margin m) s.clock fed.grant.ttl fed.grant.sent fed.grant.moment fed.deadline fed.deadline_is time ((inv.said h.number h.answer h.is).order fed.grant h.grant_is) in
     record { later = set.0; lasts = set.1; present = heard-present s m heard fed.grant inv h (omega (arith, set.0, set.1)) }
 
-pub known-ok : (s : State) (m : ℕ) (move : Move) (agent : Agent) → IsSound s → IsInTime s m move → (fed : FedKnown s m move agent) → FedOk s m fed.fed.grant fed.fed.deadline
-known-ok s m move agent inv timely fed = fed-ok s m move.heard inv fed.fed (timely.by_grant fed.feeds fed.by_grant fed.fed.grant fed.fed.hears)
+pub known-ok : (s : State) (m : ℕ) (input : AgentInput) (agent : Agent) → IsSound s → IsInTime s m input → (fed : FedKnown s m input agent) → FedOk s m fed.fed.grant fed.fed.deadline
+known-ok s m input agent inv timely fed = fed-ok s m input.heard inv fed.fed (timely.by_grant fed.feeds fed.by_grant fed.fed.grant fed.fed.hears)
 
 -- whoever is fed by a grant, without a hold, finds no other that acts
 pub newcomer : (s : State) (m : ℕ) (heard : Option ℕ) → IsSound s → (fed : Fed s m heard) → IsOnTime (s.declared.margin m) s.clock fed.grant.moment → (s.members m).hold ≤ s.clock → (n : ℕ) → Acts (s.members n) → n ≡ m
@@ -37,8 +37,8 @@ newcomer s m heard inv fed time free n acts =
     let p = (fed-ok s m heard inv fed time).present in
     let g = inv.guarded n acts in
     elim g.cover [
-      | inl c ↦ let h = c.1 in sym h.holder ∙ ap (λ (x : LeaderKey). x.holder) (some-is h.held p.held (sym h.key_is ∙ p.key_is)) ∙ p.holder
-      | inr c ↦ let h = c.1 in elim (h.owner p.held p.key_is) [
+      | inl c ↦ let h = c.1 in sym h.holder ∙ ap (λ (x : LeaderKey). x.holder) (some-is h.found_key p.found_key (sym h.key_is ∙ p.key_is)) ∙ p.holder
+      | inr c ↦ let h = c.1 in elim (h.owner p.found_key p.key_is) [
         | inl e ↦ sym e ∙ p.holder
         | inr e ↦ elim (decide-eq m n) [
           | inl same ↦ sym same
@@ -48,67 +48,67 @@ newcomer s m heard inv fed time free n acts =
     ]
 
 -- where m acts after its input, no other did before it
-pub sole-new : (s : State) (m : ℕ) (move : Move) (was agent : Agent) → IsSound s → IsInTime s m move → WatchdogMay s m move was agent → Acts move.machine → (n : ℕ) → Acts (s.members n) → (n ≡ m → ⊥) → ⊥
-sole-new s m move was agent inv timely (Kept same basis acts) ya n an other = other (inv.sole n m an (acts ya))
-sole-new s m move was agent inv timely (Removed rests) ya n an other = rests ya
-sole-new s m move was agent inv timely (SetByGrant fed is none free) ya n an other = elim (free ya) [
+pub sole-new : (s : State) (m : ℕ) (input : AgentInput) (was agent : Agent) → IsSound s → IsInTime s m input → WatchdogMay s m input was agent → Acts input.machine → (n : ℕ) → Acts (s.members n) → (n ≡ m → ⊥) → ⊥
+sole-new s m input was agent inv timely (Kept same basis acts) ya n an other = other (inv.sole n m an (acts ya))
+sole-new s m input was agent inv timely (Removed rests) ya n an other = rests ya
+sole-new s m input was agent inv timely (SetByGrant fed is none free) ya n an other = elim (free ya) [
   | inl ax ↦ other (inv.sole n m an ax)
-  | inr idle ↦ other (newcomer s m move.heard inv fed.fed (timely.by_grant fed.feeds fed.by_grant fed.fed.grant fed.fed.hears) idle n an)
+  | inr idle ↦ other (newcomer s m input.heard inv fed.fed (timely.by_grant fed.feeds fed.by_grant fed.fed.grant fed.fed.hears) idle n an)
 ]
-sole-new s m move was agent inv timely (SetByFailsafe until feeds is basis acts all) ya n an other = other (inv.sole n m an (acts ya))
-sole-new s m move was agent inv timely (SetAlone until is basis acts alone) ya n an other = other (inv.sole n m an (acts ya))
-sole-new s m move was agent inv timely (Undone ready live) ya n an other = not-false (s.members m).live (inv.parted m ready) live
+sole-new s m input was agent inv timely (SetByFailsafe until feeds is basis acts all) ya n an other = other (inv.sole n m an (acts ya))
+sole-new s m input was agent inv timely (SetAlone until is basis acts alone) ya n an other = other (inv.sole n m an (acts ya))
+sole-new s m input was agent inv timely (Undone ready live) ya n an other = not-false (s.members m).live (inv.parted m ready) live
 
 -- m acted before, or is fed by a grant and begs nothing
-pub was-acting : (s : State) (m : ℕ) (move : Move) (was agent : Agent) → IsSound s → WatchdogMay s m move was agent → Acts move.machine → Acts (s.members m) ⊎ (FedKnown s m move agent × (agent.begging ≡ None))
-was-acting s m move was agent inv (Kept same basis acts) ya = inl (acts ya)
-was-acting s m move was agent inv (Removed rests) ya = absurd (rests ya)
-was-acting s m move was agent inv (SetByGrant fed is none free) ya = inr (fed, none)
-was-acting s m move was agent inv (SetByFailsafe until feeds is basis acts all) ya = inl (acts ya)
-was-acting s m move was agent inv (SetAlone until is basis acts alone) ya = inl (acts ya)
-was-acting s m move was agent inv (Undone ready live) ya = absurd (not-false (s.members m).live (inv.parted m ready) live)
+pub was-acting : (s : State) (m : ℕ) (input : AgentInput) (was agent : Agent) → IsSound s → WatchdogMay s m input was agent → Acts input.machine → Acts (s.members m) ⊎ (FedKnown s m input agent × (agent.failsafe_check ≡ None))
+was-acting s m input was agent inv (Kept same basis acts) ya = inl (acts ya)
+was-acting s m input was agent inv (Removed rests) ya = absurd (rests ya)
+was-acting s m input was agent inv (SetByGrant fed is none free) ya = inr (fed, none)
+was-acting s m input was agent inv (SetByFailsafe until feeds is basis acts all) ya = inl (acts ya)
+was-acting s m input was agent inv (SetAlone until is basis acts alone) ya = inl (acts ya)
+was-acting s m input was agent inv (Undone ready live) ya = absurd (not-false (s.members m).live (inv.parted m ready) live)
 
-pub may-renew : (s : State) (m : ℕ) (move : Move) (was agent : Agent) (seq : ℕ) (query : Query) (compared ttl : ℕ) (carried : Option (ℕ → Bool)) → MayQuery s m move was agent seq query → query ≡ Renew compared ttl carried → (agent.leader ≡ Some (record { holder = m; revision = compared })) × (agent.waits ≡ Some seq) × MayCarryIf s move agent carried
-may-renew s m move was agent seq query compared ttl carried may is = subst (λ (t : Query). MayQuery s m move was agent seq t) is may
+pub may-renew : (s : State) (m : ℕ) (input : AgentInput) (was agent : Agent) (seq : ℕ) (query : Query) (compared ttl : ℕ) (carried : Option (ℕ → Bool)) → MayQuery s m input was agent seq query → query ≡ Renew compared ttl carried → (agent.leader ≡ Some (record { holder = m; revision = compared })) × (agent.waits ≡ Some seq) × MayCarryIf s input agent carried
+may-renew s m input was agent seq query compared ttl carried may is = subst (λ (t : Query). MayQuery s m input was agent seq t) is may
 
-pub may-release : (s : State) (m : ℕ) (move : Move) (was agent : Agent) (seq : ℕ) (query : Query) (compared : ℕ) → MayQuery s m move was agent seq query → query ≡ Release compared → (Acts move.machine → ⊥) × Owns s m move.heard was compared
-may-release s m move was agent seq query compared may is = subst (λ (t : Query). MayQuery s m move was agent seq t) is may
+pub may-release : (s : State) (m : ℕ) (input : AgentInput) (was agent : Agent) (seq : ℕ) (query : Query) (compared : ℕ) → MayQuery s m input was agent seq query → query ≡ Release compared → (Acts input.machine → ⊥) × Owns s m input.heard was compared
+may-release s m input was agent seq query compared may is = subst (λ (t : Query). MayQuery s m input was agent seq t) is may
 
-abbrev pub Sends : State → ℕ → Move → Agent → Agent → Type 0
-Sends s m move was agent = (i : ℕ) (q : Request) → move.flight i ≡ Some (Requested q) → (s.flight i ≡ Some (Requested q)) ⊎ MayRequest s m move was agent q
+abbrev pub Sends : State → ℕ → AgentInput → Agent → Agent → Type 0
+Sends s m input was agent = (i : ℕ) (q : Question) → input.flight i ≡ Some (Requested q) → (s.flight i ≡ Some (Requested q)) ⊎ MayAsk s m input was agent q
 
 -- the renewals that this input sends carry only sets of which the same holds
-pub spans-input : (s : State) (m : ℕ) (move : Move) (was agent : Agent) (n : ℕ) (X : ℕ → Type 0) → Sends s m move was agent → ((set : ℕ → Bool) → MayCarry s move agent set → (p : ℕ) → set p ≡ true → X p) → Spans s.failsafe s.leader s.flight n X → Spans s.failsafe s.leader move.flight n X
-spans-input s m move was agent n X sends carries old = record {
+pub spans-input : (s : State) (m : ℕ) (input : AgentInput) (was agent : Agent) (n : ℕ) (X : ℕ → Type 0) → Sends s m input was agent → ((set : ℕ → Bool) → MayCarry s input agent set → (p : ℕ) → set p ≡ true → X p) → Spans s.failsafe s.leader s.flight n X → Spans s.failsafe s.leader input.flight n X
+spans-input s m input was agent n X sends carries old = record {
   listed = old.listed;
   coming = λ j q compared ttl set k at txn is same p e other. elim (sends j q at) [
     | inl before ↦ old.coming j q compared ttl set k before txn is same p e other
-    | inr new ↦ carries set (may-renew s m move was agent q.sequence q.query compared ttl (Some set) new.query txn).2 p e
+    | inr new ↦ carries set (may-renew s m input was agent q.sequence q.query compared ttl (Some set) new.query txn).2 p e
   ];
 }
 
 -- after a grant that is acted on, what is known spans the failsafe key
-spans-fed : (s : State) (m : ℕ) (move : Move) (was agent : Agent) → IsSound s → IsInTime s m move → Sends s m move was agent → FedKnown s m move agent → Spans s.failsafe s.leader move.flight m (λ p. agent.known p ≡ true)
-spans-fed s m move was agent inv timely sends fed =
-    let p = (known-ok s m move agent inv timely fed).present in
+spans-fed : (s : State) (m : ℕ) (input : AgentInput) (was agent : Agent) → IsSound s → IsInTime s m input → Sends s m input was agent → FedKnown s m input agent → Spans s.failsafe s.leader input.flight m (λ p. agent.known p ≡ true)
+spans-fed s m input was agent inv timely sends fed =
+    let p = (known-ok s m input agent inv timely fed).present in
     record {
       listed = λ f is n e other. fed.known f (sym p.listed ∙ is) n e;
       coming = λ j q compared ttl set k at txn is same n e other. elim (sends j q at) [
-        | inl before ↦ absurd (p.alone j q compared ttl (Some set) before txn (sym same ∙ ap (λ (x : LeaderKey). x.revision) (some-is k p.held (sym is ∙ p.key_is)) ∙ p.revision))
-        | inr new ↦ (may-renew s m move was agent q.sequence q.query compared ttl (Some set) new.query txn).2.known n e
+        | inl before ↦ absurd (p.alone j q compared ttl (Some set) before txn (sym same ∙ ap (λ (x : LeaderKey). x.revision) (some-is k p.found_key (sym is ∙ p.key_is)) ∙ p.revision))
+        | inr new ↦ (may-renew s m input was agent q.sequence q.query compared ttl (Some set) new.query txn).2.known n e
       ];
     }
 
-pub sends-of : (s : State) (m : ℕ) (move : Move) → (law : IsLawful s m move) → Sends s m move law.was law.agent
-sends-of s m move law i q at = law.flight i (Requested q) at
+pub sends-of : (s : State) (m : ℕ) (input : AgentInput) → (law : IsLawful s m input) → Sends s m input law.was law.agent
+sends-of s m input law i q at = law.flight i (Requested q) at
 
-pub spans-listed : (s : State) (m : ℕ) (move : Move) → IsSound s → IsInTime s m move → (law : IsLawful s m move) → Acts move.machine → law.agent.leads ≡ true → Spans s.failsafe s.leader move.flight m (λ p. law.agent.known p ≡ true)
-spans-listed s m move inv timely law ya leads =
-    let fed : (FedKnown s m move law.agent → Spans s.failsafe s.leader move.flight m (λ p. law.agent.known p ≡ true)) =
-    λ f. spans-fed s m move law.was law.agent inv timely (sends-of s m move law) f in
-    elim (was-acting s m move law.was law.agent inv law.watchdog ya) [
+pub spans-listed : (s : State) (m : ℕ) (input : AgentInput) → IsSound s → IsInTime s m input → (law : IsLawful s m input) → Acts input.machine → law.agent.leads ≡ true → Spans s.failsafe s.leader input.flight m (λ p. law.agent.known p ≡ true)
+spans-listed s m input inv timely law ya leads =
+    let fed : (FedKnown s m input law.agent → Spans s.failsafe s.leader input.flight m (λ p. law.agent.known p ≡ true)) =
+    λ f. spans-fed s m input law.was law.agent inv timely (sends-of s m input law) f in
+    elim (was-acting s m input law.was law.agent inv law.watchdog ya) [
       | inl ax ↦ elim (law.leads leads) [
-        | inl led ↦ spans-input s m move law.was law.agent m (λ p. law.agent.known p ≡ true) (sends-of s m move law) (λ set c p e. c.known p e)
+        | inl led ↦ spans-input s m input law.was law.agent m (λ p. law.agent.known p ≡ true) (sends-of s m input law) (λ set c p e. c.known p e)
             (spans-sub s.failsafe s.leader s.flight m (λ p. law.was.known p ≡ true) (λ p. law.agent.known p ≡ true) (λ p other e. law.known p e) (inv.spans m law.was law.was_is ax led))
         | inr f ↦ fed f
       ]
@@ -120,36 +120,36 @@ took-same taken p p' m m' run run' seq seq' e f g h t =
     subst (λ (x : ℕ). HasTaken taken x m' run' seq') e (subst (λ (x : ℕ). HasTaken taken p x run' seq') f (subst (λ (x : ℕ). HasTaken taken p m x seq') g (subst (λ (x : ℕ). HasTaken taken p m run x) h t)))
 
 -- who said yes took a hold
-pub said-yes : (s : State) (m : ℕ) (was : Agent) (b : Begging) (p : ℕ) → IsSound s → (s.members m).agent ≡ Some was → was.begging ≡ Some b → (b.yes p ≡ true) ⊎ HeardYes s m was.run b.sequence p → HasTaken s.taken p m was.run b.sequence
-said-yes s m was b p inv was_is beg (inl e) = (inv.begging m was b was_is beg).yes p e
-said-yes s m was b p inv was_is beg (inr h) = took-same s.taken h.said.by p h.said.member m h.said.run was.run h.said.sequence b.sequence h.by h.member h.run_is h.sequence_is (inv.yeses h.number h.said h.is)
+pub said-yes : (s : State) (m : ℕ) (was : Agent) (b : FailsafeCheck) (p : ℕ) → IsSound s → (s.members m).agent ≡ Some was → was.failsafe_check ≡ Some b → (b.yes p ≡ true) ⊎ HeardYes s m was.run b.sequence p → HasTaken s.taken p m was.run b.sequence
+said-yes s m was b p inv was_is failsafe_request (inl e) = (inv.failsafe_check m was b was_is failsafe_request).yes p e
+said-yes s m was b p inv was_is failsafe_request (inr h) = took-same s.taken h.said.by p h.said.member m h.said.run was.run h.said.sequence b.sequence h.by h.member h.run_is h.sequence_is (inv.yeses h.number h.said h.is)
 
 -- who owns the key while m acts
 owner-of : (s : State) (m : ℕ) (f : FailsafeKey) → IsSound s → Acts (s.members m) → s.failsafe ≡ Some f → (k : LeaderKey) → s.leader ≡ Some k → (k.holder ≡ m) ⊎ (f.members k.holder ≡ true)
 owner-of s m f inv acts is k k_is = elim (inv.guarded m acts).cover [
-  | inl c ↦ let h = c.1 in inl (ap (λ (x : LeaderKey). x.holder) (some-is k h.held (sym k_is ∙ h.key_is)) ∙ h.holder)
+  | inl c ↦ let h = c.1 in inl (ap (λ (x : LeaderKey). x.holder) (some-is k h.found_key (sym k_is ∙ h.key_is)) ∙ h.holder)
   | inr c ↦ let h = c.1 in elim (h.owner k k_is) [
     | inl e ↦ inl e
     | inr e ↦ inr (ap (λ (g : FailsafeKey). g.members k.holder) (some-is f h.f (sym is ∙ h.is)) ∙ e)
   ]
 ]
 
-pub informed-there : (s : State) (m : ℕ) (move : Move) → IsSound s → (law : IsLawful s m move) → law.agent.informed ≡ true → IsThere s.failsafe
-informed-there s m move inv law informed = elim (law.informed informed) [
+pub informed-there : (s : State) (m : ℕ) (input : AgentInput) → IsSound s → (law : IsLawful s m input) → law.agent.informed ≡ true → IsThere s.failsafe
+informed-there s m input inv law informed = elim (law.informed informed) [
   | inl e ↦ (inv.kept m law.was law.was_is).informed e
   | inr o ↦ let h = o.1 in ((inv.said h.number h.answer h.is).listed o.0 h.key_is).there
 ]
 
 -- the holds of those that acknowledged last until the deadline that is set on them
-yes-holds : (s : State) (m : ℕ) (move : Move) (was : Agent) (until : ℕ) → IsSound s → IsInTime s m move → (s.members m).agent ≡ Some was → move.feeds ≡ true → move.machine.by_failsafe ≡ true → (all : AllYes s m was until) → (p : ℕ) → all.begging.members p ≡ true → until ≤ (s.members p).hold
-yes-holds s m move was until inv timely was_is feeds basis all p e =
-    let t = said-yes s m was all.begging p inv was_is all.is (all.yes p e) in
-    let y = (inv.taken (record { by = p; from = m; run = was.run; sequence = all.begging.sequence; moment = t.moment }) t.is).matches all.begging (record { agent = was; is = was_is; run_is = refl; begging = all.is; sequence_is = refl }) in
-    let time = timely.by_failsafe feeds basis was all.begging was_is all.is p t.moment e t.is in
-    omega (arith, (set-in-time (s.declared.margin m) s.clock all.begging.ttl all.begging.sent t.moment until all.deadline_is time y.1).1, y.0)
+yes-holds : (s : State) (m : ℕ) (input : AgentInput) (was : Agent) (until : ℕ) → IsSound s → IsInTime s m input → (s.members m).agent ≡ Some was → input.feeds ≡ true → input.machine.by_failsafe ≡ true → (all : AllYes s m was until) → (p : ℕ) → all.failsafe_check.members p ≡ true → until ≤ (s.members p).hold
+yes-holds s m input was until inv timely was_is feeds basis all p e =
+    let t = said-yes s m was all.failsafe_check p inv was_is all.is (all.yes p e) in
+    let y = (inv.taken (record { by = p; from = m; run = was.run; sequence = all.failsafe_check.sequence; moment = t.moment }) t.is).matches all.failsafe_check (record { agent = was; is = was_is; run_is = refl; failsafe_check = all.is; sequence_is = refl }) in
+    let time = timely.by_failsafe feeds basis was all.failsafe_check was_is all.is p t.moment e t.is in
+    omega (arith, (set-in-time (s.declared.margin m) s.clock all.failsafe_check.ttl all.failsafe_check.sent t.moment until all.deadline_is time y.1).1, y.0)
 
-pub watchdog-guards : (s : State) (m : ℕ) (move : Move) (members : ℕ → Machine) → IsSound s → IsInTime s m move → (law : IsLawful s m move) → WatchdogMay s m move law.was law.agent → ((p : ℕ) → (s.members p).hold ≤ (members p).hold) → Acts move.machine → IsGuarded s.clock s.failsafe s.leader move.flight members m move.machine.deadline move.machine.by_failsafe
-watchdog-guards s m move members inv timely law (Kept same basis acts) grow ya =
+pub watchdog-guards : (s : State) (m : ℕ) (input : AgentInput) (members : ℕ → Machine) → IsSound s → IsInTime s m input → (law : IsLawful s m input) → WatchdogMay s m input law.was law.agent → ((p : ℕ) → (s.members p).hold ≤ (members p).hold) → Acts input.machine → IsGuarded s.clock s.failsafe s.leader input.flight members m input.machine.deadline input.machine.by_failsafe
+watchdog-guards s m input members inv timely law (Kept same basis acts) grow ya =
     let g = inv.guarded m (acts ya) in
     record {
       until = g.until;
@@ -164,18 +164,18 @@ watchdog-guards s m move members inv timely law (Kept same basis acts) grow ya =
                 f = h.f;
                 is = h.is;
                 owner = h.owner;
-                spans = spans-input s m move law.was law.agent m (λ p. g.until ≤ (members p).hold) (sends-of s m move law) (λ set r p e. absurd (not-false move.machine.by_failsafe r.by_grant (basis ∙ c.0))) h.spans;
+                spans = spans-input s m input law.was law.agent m (λ p. g.until ≤ (members p).hold) (sends-of s m input law) (λ set r p e. absurd (not-false input.machine.by_failsafe r.by_grant (basis ∙ c.0))) h.spans;
               },
             )
       ];
     }
-watchdog-guards s m move members inv timely law (Removed rests) grow ya = absurd (rests ya)
-watchdog-guards s m move members inv timely law (SetByGrant fed is none free) grow ya =
-    let ok = known-ok s m move law.agent inv timely fed in
+watchdog-guards s m input members inv timely law (Removed rests) grow ya = absurd (rests ya)
+watchdog-guards s m input members inv timely law (SetByGrant fed is none free) grow ya =
+    let ok = known-ok s m input law.agent inv timely fed in
     let p = ok.present in
-    record { until = fed.fed.deadline; is = is; later = ok.later; cover = inl (fed.by_grant, record { held = p.held; key_is = p.key_is; holder = p.holder; lasts = omega (arith, ok.lasts, p.lasts) }) }
-watchdog-guards s m move members inv timely law (SetByFailsafe until feeds is basis acts all) grow ya =
-    let b = inv.begging m law.was all.begging law.was_is all.is in
+    record { until = fed.fed.deadline; is = is; later = ok.later; cover = inl (fed.by_grant, record { found_key = p.found_key; key_is = p.key_is; holder = p.holder; lasts = omega (arith, ok.lasts, p.lasts) }) }
+watchdog-guards s m input members inv timely law (SetByFailsafe until feeds is basis acts all) grow ya =
+    let b = inv.failsafe_check m law.was all.failsafe_check law.was_is all.is in
     record {
       until = until;
       is = is;
@@ -186,15 +186,15 @@ watchdog-guards s m move members inv timely law (SetByFailsafe until feeds is ba
           f = b.there.f;
           is = b.there.is;
           owner = owner-of s m b.there.f inv (acts ya) b.there.is;
-          spans = spans-input s m move law.was law.agent m (λ p. until ≤ (members p).hold) (sends-of s m move law) (λ set r p e. absurd (not-false move.machine.by_failsafe r.by_grant basis))
-              (spans-sub s.failsafe s.leader s.flight m (λ p. all.begging.members p ≡ true) (λ p. until ≤ (members p).hold)
-              (λ p other e. omega (arith, yes-holds s m move law.was until inv timely law.was_is feeds basis all p e, grow p))
+          spans = spans-input s m input law.was law.agent m (λ p. until ≤ (members p).hold) (sends-of s m input law) (λ set r p e. absurd (not-false input.machine.by_failsafe r.by_grant basis))
+              (spans-sub s.failsafe s.leader s.flight m (λ p. all.failsafe_check.members p ≡ true) (λ p. until ≤ (members p).hold)
+              (λ p other e. omega (arith, yes-holds s m input law.was until inv timely law.was_is feeds basis all p e, grow p))
               (b.spans (acts ya)));
         },
       );
     }
-watchdog-guards s m move members inv timely law (SetAlone until is basis acts alone) grow ya =
-    let there = informed-there s m move inv law alone.informed in
+watchdog-guards s m input members inv timely law (SetAlone until is basis acts alone) grow ya =
+    let there = informed-there s m input inv law alone.informed in
     record {
       until = until;
       is = is;
@@ -205,29 +205,29 @@ watchdog-guards s m move members inv timely law (SetAlone until is basis acts al
           f = there.f;
           is = there.is;
           owner = owner-of s m there.f inv (acts ya) there.is;
-          spans = spans-sub s.failsafe s.leader move.flight m (λ p. law.agent.known p ≡ true) (λ p. until ≤ (members p).hold)
+          spans = spans-sub s.failsafe s.leader input.flight m (λ p. law.agent.known p ≡ true) (λ p. until ≤ (members p).hold)
               (λ p other e. absurd (other (alone.alone p e)))
-              (spans-listed s m move inv timely law ya alone.leads);
+              (spans-listed s m input inv timely law ya alone.leads);
         },
       );
     }
-watchdog-guards s m move members inv timely law (Undone ready live) grow ya = absurd (not-false (s.members m).live (inv.parted m ready) live)
+watchdog-guards s m input members inv timely law (Undone ready live) grow ya = absurd (not-false (s.members m).live (inv.parted m ready) live)
 
 -- a release in flight still finds its member at rest, and a carried set its sender alone
-pub watchdog-quiet : (s : State) (m : ℕ) (move : Move) (was agent : Agent) (j : ℕ) (q : Request) (r : ℕ) → IsSound s → IsInTime s m move → WatchdogMay s m move was agent → s.flight j ≡ Some (Requested q) → q.query ≡ Release r → IsAtRest s.leader (s.members m) r → IsAtRest s.leader move.machine r
-watchdog-quiet s m move was agent j q r inv timely dog at txn quiet k k_is e a = elim (was-acting s m move was agent inv dog a) [
+pub watchdog-quiet : (s : State) (m : ℕ) (input : AgentInput) (was agent : Agent) (j : ℕ) (q : Question) (r : ℕ) → IsSound s → IsInTime s m input → WatchdogMay s m input was agent → s.flight j ≡ Some (Requested q) → q.query ≡ Release r → IsAtRest s.leader (s.members m) r → IsAtRest s.leader input.machine r
+watchdog-quiet s m input was agent j q r inv timely dog at txn quiet k k_is e a = elim (was-acting s m input was agent inv dog a) [
   | inl ax ↦ quiet k k_is e ax
   | inr f ↦
-      let p = (known-ok s m move agent inv timely f.0).present in
+      let p = (known-ok s m input agent inv timely f.0).present in
       let h = f.0.fed.hears in
-      let same : r ≡ f.0.fed.grant.revision = sym e ∙ ap (λ (x : LeaderKey). x.revision) (some-is k p.held (sym k_is ∙ p.key_is)) ∙ p.revision in
+      let same : r ≡ f.0.fed.grant.revision = sym e ∙ ap (λ (x : LeaderKey). x.revision) (some-is k p.found_key (sym k_is ∙ p.key_is)) ∙ p.revision in
       (inv.tokens h.number h.answer f.0.fed.grant h.is h.grant_is).released j q at (txn ∙ ap (λ (n : ℕ). Release n) same)
 ]
 
-pub watchdog-carrier : (s : State) (m : ℕ) (move : Move) (was agent : Agent) (j : ℕ) (q : Request) (compared ttl : ℕ) (set : ℕ → Bool) → IsSound s → IsInTime s m move → WatchdogMay s m move was agent → s.flight j ≡ Some (Requested q) → q.query ≡ Renew compared ttl (Some set) → ActsAlone s.leader s.members q.member compared → (k : LeaderKey) → s.leader ≡ Some k → k.revision ≡ compared → Acts move.machine → m ≡ q.member
-watchdog-carrier s m move was agent j q compared ttl set inv timely dog at txn c k k_is e a = elim (was-acting s m move was agent inv dog a) [
+pub watchdog-carrier : (s : State) (m : ℕ) (input : AgentInput) (was agent : Agent) (j : ℕ) (q : Question) (compared ttl : ℕ) (set : ℕ → Bool) → IsSound s → IsInTime s m input → WatchdogMay s m input was agent → s.flight j ≡ Some (Requested q) → q.query ≡ Renew compared ttl (Some set) → ActsAlone s.leader s.members q.member compared → (k : LeaderKey) → s.leader ≡ Some k → k.revision ≡ compared → Acts input.machine → m ≡ q.member
+watchdog-carrier s m input was agent j q compared ttl set inv timely dog at txn c k k_is e a = elim (was-acting s m input was agent inv dog a) [
   | inl ax ↦ c k k_is e m ax
   | inr f ↦
-      let p = (known-ok s m move agent inv timely f.0).present in
-      absurd (p.alone j q compared ttl (Some set) at txn (sym e ∙ ap (λ (x : LeaderKey). x.revision) (some-is k p.held (sym k_is ∙ p.key_is)) ∙ p.revision))
+      let p = (known-ok s m input agent inv timely f.0).present in
+      absurd (p.alone j q compared ttl (Some set) at txn (sym e ∙ ap (λ (x : LeaderKey). x.revision) (some-is k p.found_key (sym k_is ∙ p.key_is)) ∙ p.revision))
 ]

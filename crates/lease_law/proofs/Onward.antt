@@ -1,9 +1,9 @@
 -- What is said of keys and revisions stays true as they go on: a key that is there is the old one, or has a new revision.
 use Rattle.std.proofs.Common.{◌≡◌, ◌⊎◌, ℕ, ◌≤◌, ◌<◌, Bool, Option, Some, None, arith, inl, inr}
 use Rattle.lease_store.specs.declared.txn.Expected.TheVariants.{Absent, Revision}
-use Rattle.lease_law.specs.Leases.{LeaderKey, FailsafeKey, Query, Create, Renew, Release, Write, Read, Request, Grant, Answer, Flying, Requested}
+use Rattle.lease_law.specs.Leases.{LeaderKey, FailsafeKey, Query, Create, Renew, Release, Write, Read, Question, Grant, Answer, Flying, Requested}
 use Rattle.lease_law.specs.States.{Agent, Machine}
-use Rattle.lease_law.specs.Carried.{Spans, HoldsCover, IsThere, IsFailsafeVouched, IsListed, IsVouched, IsQueryKept, IsRequestKept, IsAnswerKept, IsAgentKept, IsPresent}
+use Rattle.lease_law.specs.Carried.{Spans, HoldsCover, IsThere, IsFailsafeVouched, IsListed, IsVouched, IsQueryKept, IsQuestionKept, IsAnswerKept, IsAgentKept, IsPresent}
 
 pub record KeyAfter (key : Option LeaderKey) (top : ℕ) (key' : Option LeaderKey) (top' : ℕ) : Type 0 where
   pub grows : top ≤ top'
@@ -53,7 +53,7 @@ asked-after mode key key' fkey fkey' top top' members m (Create ttl (Some (Revis
 asked-after mode key key' fkey fkey' top top' members m Write a b v = tt
 asked-after mode key key' fkey fkey' top top' members m Read a b v = tt
 
-pub request-after : (mode : Bool) (clock clock' : ℕ) (key key' : Option LeaderKey) (fkey fkey' : Option FailsafeKey) (top top' : ℕ) (members : ℕ → Machine) (q : Request) → clock ≤ clock' → KeyAfter key top key' top' → FAfter fkey top fkey' top' → IsRequestKept mode clock key fkey top members q → IsRequestKept mode clock' key' fkey' top' members q
+pub request-after : (mode : Bool) (clock clock' : ℕ) (key key' : Option LeaderKey) (fkey fkey' : Option FailsafeKey) (top top' : ℕ) (members : ℕ → Machine) (q : Question) → clock ≤ clock' → KeyAfter key top key' top' → FAfter fkey top fkey' top' → IsQuestionKept mode clock key fkey top members q → IsQuestionKept mode clock' key' fkey' top' members q
 request-after mode clock clock' key key' fkey fkey' top top' members q later a b ok = record { numbered = ok.numbered; sent = omega (arith, ok.sent, later); query = asked-after mode key key' fkey fkey' top top' members q.member q.query a b ok.query }
 
 pub answer-after : (key key' : Option LeaderKey) (fkey fkey' : Option FailsafeKey) (top top' : ℕ) (x : Machine) (c : Answer) → KeyAfter key top key' top' → FAfter fkey top fkey' top' → IsAnswerKept key fkey top x c → IsAnswerKept key' fkey' top' x c
@@ -75,10 +75,10 @@ agent-after key key' fkey fkey' top top' m runs agent a b ok = record {
 }
 
 -- with fewer questions in flight
-pub present-fewer : (key : Option LeaderKey) (fkey : Option FailsafeKey) (flight flight' : ℕ → Option Flying) (m : ℕ) (grant : Grant) → ((i : ℕ) (q : Request) → flight' i ≡ Some (Requested q) → flight i ≡ Some (Requested q)) → IsPresent key fkey flight m grant → IsPresent key fkey flight' m grant
-present-fewer key fkey flight flight' m grant fewer p = record { held = p.held; key_is = p.key_is; revision = p.revision; holder = p.holder; lasts = p.lasts; alone = λ j q compared ttl carried at is same. p.alone j q compared ttl carried (fewer j q at) is same; listed = p.listed }
+pub present-fewer : (key : Option LeaderKey) (fkey : Option FailsafeKey) (flight flight' : ℕ → Option Flying) (m : ℕ) (grant : Grant) → ((i : ℕ) (q : Question) → flight' i ≡ Some (Requested q) → flight i ≡ Some (Requested q)) → IsPresent key fkey flight m grant → IsPresent key fkey flight' m grant
+present-fewer key fkey flight flight' m grant fewer p = record { found_key = p.found_key; key_is = p.key_is; revision = p.revision; holder = p.holder; lasts = p.lasts; alone = λ j q compared ttl carried at is same. p.alone j q compared ttl carried (fewer j q at) is same; listed = p.listed }
 
-pub spans-fewer : (fkey : Option FailsafeKey) (key : Option LeaderKey) (flight flight' : ℕ → Option Flying) (m : ℕ) (X : ℕ → Type 0) → ((i : ℕ) (q : Request) → flight' i ≡ Some (Requested q) → flight i ≡ Some (Requested q)) → Spans fkey key flight m X → Spans fkey key flight' m X
+pub spans-fewer : (fkey : Option FailsafeKey) (key : Option LeaderKey) (flight flight' : ℕ → Option Flying) (m : ℕ) (X : ℕ → Type 0) → ((i : ℕ) (q : Question) → flight' i ≡ Some (Requested q) → flight i ≡ Some (Requested q)) → Spans fkey key flight m X → Spans fkey key flight' m X
 spans-fewer fkey key flight flight' m X fewer p = record { listed = p.listed; coming = λ j q compared ttl set k at is. p.coming j q compared ttl set k (fewer j q at) is }
 
 -- what holds of the spanned members may be weakened

@@ -9,27 +9,27 @@ use Rattle.pat_base.specs.declared.member_set.MemberSet.{MemberSet}
 use Rattle.lease_store.specs.declared.key.Key.TheVariants as keys
 use Rattle.lease_store.specs.declared.txn.Txn.{Txn}
 use Rattle.lease_store.specs.declared.txn.Txn.TheVariants as txns
-use Rattle.lease_store.specs.declared.value.Held.{Held}
+use Rattle.lease_store.specs.declared.value.KeyEntry.{KeyEntry}
 use Rattle.lease_store.specs.declared.value.Value.{Value}
 use Rattle.lease_store.specs.declared.value.Value.TheVariants as values
 use Rattle.lease_store.specs.KeyOrder.{key_cmp}
 use Rattle.lease_store.specs.Keys.{is_present, present}
-use Rattle.lease_store.specs.Writes.{later}
+use Rattle.lease_store.specs.Writes.{extended_expiry}
 use Rattle.lease_store.specs.Defaults.{default_settings}
 use Rattle.lease_store.proofs.Keeping.{kept_after, kept_present, find_present}
 use Rattle.lease_store.proofs.Fences.{kept_first}
 use Rattle.lease_store.proofs.OneKey.{renewed as held_renewed, leader_after, find_leader_after, failsafe_written, failsafe_after, find_failsafe_after}
-use Rattle.event_book.specs.declared.event.Kind.{Kind}
-use Rattle.event_book.specs.declared.event.Kind.TheVariants as kinds
+use Rattle.event_book.specs.declared.event.EventKind.{EventKind}
+use Rattle.event_book.specs.declared.event.EventKind.TheVariants as kinds
 use Rattle.event_book.specs.declared.event.StoreEvent.TheVariants as stores
 use Rattle.event_book.specs.declared.member.Member.{Member}
-use Rattle.event_book.specs.Facts.{Facts, after, start_of}
+use Rattle.event_book.specs.Facts.{Facts, facts_after, start_of}
 use Rattle.lease_law.specs.Leases.{LeaderKey, FailsafeKey}
 use Rattle.lease_law.specs.States.{kept_if, leader_kept}
 use Rattle.lease_law.specs.Outcomes.{failsafe_carried, renewed}
-use Rattle.lease_law.specs.Past.{Past, members_if, query_of, extended_by, leader_granted, failsafe_granted, past_by, first_past}
+use Rattle.lease_law.specs.Past.{Past, members_if, query_of, extended_by, leader_granted, failsafe_granted, past_after, first_past}
 use Rattle.lease_law.proofs.Tools.{some-is, none-some, le-from, gt-from}
-use Rattle.lease_law.specs.Stores.{leader_value, leader_held, failsafe_held, IsLeased, IsEndless, IsSpannedTxn, IsSpanned, IsSameStore}
+use Rattle.lease_law.specs.Stores.{leader_value, leader_key_of, failsafe_key_of, IsLeased, IsEndless, IsSpannedTxn, IsSpanned, IsSameStore}
 
 pub same-first : (names : List Name) (base : ℕ) → IsSameStore first_past (start_of names base)
 same-first names base = record { clock = refl; revision = refl; leader = refl; failsafe = refl; kept = kept_first default_settings; leased = tt; endless = tt; present = λ key e. absurd (none-some key e) }
@@ -41,46 +41,46 @@ pub ge-from : (m n : ℕ) → nat_lt m n ≡ false → n ≤ m
 ge-from m n e = grind (arith, nat_tests)
 
 -- a tick drops the leader key at its expiry
-held-none : (b : Bool) (o : Option Held) → leader_held o ≡ None → leader_held (cond b o None) ≡ None
-held-none true o e = e
-held-none false o e = refl
+found_key-none : (b : Bool) (o : Option KeyEntry) → leader_key_of o ≡ None → leader_key_of (cond b o None) ≡ None
+found_key-none true o e = e
+found_key-none false o e = refl
 
 kept-by : (now revision : ℕ) (member : MemberId) (expiry : Ticks) (a b : Bool) → nat_le expiry.0 now ≡ a → nat_lt now expiry.0 ≡ b →
-    kept_if a (record { holder = member.number; revision = revision; expiry = expiry.0 }) ≡ leader_held (cond b (Some (record { value = values.Leader member; revision = revision; expiry = Some expiry })) None)
+    kept_if a (record { holder = member.number; revision = revision; expiry = expiry.0 }) ≡ leader_key_of (cond b (Some (record { value = values.Leader member; revision = revision; expiry = Some expiry })) None)
 kept-by now revision member expiry true false e f = refl
 kept-by now revision member expiry false true e f = refl
 kept-by now revision member expiry true true e f = absurd (omega (arith, le-from expiry.0 now e, lt-from now expiry.0 f))
 kept-by now revision member expiry false false e f = absurd (omega (arith, gt-from expiry.0 now e, ge-from now expiry.0 f))
 
-kept-value : (now revision : ℕ) (value : Value) (expiry : Option Ticks) → leader_kept now (leader_value value revision expiry) ≡ leader_held (present now (Some (record { value = value; revision = revision; expiry = expiry })))
+kept-value : (now revision : ℕ) (value : Value) (expiry : Option Ticks) → leader_kept now (leader_value value revision expiry) ≡ leader_key_of (present now (Some (record { value = value; revision = revision; expiry = expiry })))
 kept-value now revision (values.Leader member) (Some expiry) = kept-by now revision member expiry (nat_le expiry.0 now) (nat_lt now expiry.0) refl refl
 kept-value now revision (values.Leader member) None = refl
-kept-value now revision (values.Config config) expiry = sym (held-none (is_present now expiry) (Some (record { value = values.Config config; revision = revision; expiry = expiry })) refl)
-kept-value now revision (values.Member info) expiry = sym (held-none (is_present now expiry) (Some (record { value = values.Member info; revision = revision; expiry = expiry })) refl)
-kept-value now revision (values.Failover key) expiry = sym (held-none (is_present now expiry) (Some (record { value = values.Failover key; revision = revision; expiry = expiry })) refl)
-kept-value now revision (values.Sync key) expiry = sym (held-none (is_present now expiry) (Some (record { value = values.Sync key; revision = revision; expiry = expiry })) refl)
-kept-value now revision (values.Status end) expiry = sym (held-none (is_present now expiry) (Some (record { value = values.Status end; revision = revision; expiry = expiry })) refl)
-kept-value now revision (values.History row) expiry = sym (held-none (is_present now expiry) (Some (record { value = values.History row; revision = revision; expiry = expiry })) refl)
-kept-value now revision (values.Failsafe members) expiry = sym (held-none (is_present now expiry) (Some (record { value = values.Failsafe members; revision = revision; expiry = expiry })) refl)
+kept-value now revision (values.Config config) expiry = sym (found_key-none (is_present now expiry) (Some (record { value = values.Config config; revision = revision; expiry = expiry })) refl)
+kept-value now revision (values.Member info) expiry = sym (found_key-none (is_present now expiry) (Some (record { value = values.Member info; revision = revision; expiry = expiry })) refl)
+kept-value now revision (values.Failover key) expiry = sym (found_key-none (is_present now expiry) (Some (record { value = values.Failover key; revision = revision; expiry = expiry })) refl)
+kept-value now revision (values.Sync key) expiry = sym (found_key-none (is_present now expiry) (Some (record { value = values.Sync key; revision = revision; expiry = expiry })) refl)
+kept-value now revision (values.Status end) expiry = sym (found_key-none (is_present now expiry) (Some (record { value = values.Status end; revision = revision; expiry = expiry })) refl)
+kept-value now revision (values.History row) expiry = sym (found_key-none (is_present now expiry) (Some (record { value = values.History row; revision = revision; expiry = expiry })) refl)
+kept-value now revision (values.Failsafe members) expiry = sym (found_key-none (is_present now expiry) (Some (record { value = values.Failsafe members; revision = revision; expiry = expiry })) refl)
 
-kept-leader : (now : ℕ) (found : Option Held) → leader_kept now (leader_held found) ≡ leader_held (present now found)
+kept-leader : (now : ℕ) (found : Option KeyEntry) → leader_kept now (leader_key_of found) ≡ leader_key_of (present now found)
 kept-leader now None = refl
-kept-leader now (Some held) = kept-value now held.revision held.value held.expiry
+kept-leader now (Some found_key) = kept-value now found_key.revision found_key.value found_key.expiry
 
-pub present-endless : (now : ℕ) (found : Option Held) → IsEndless found → present now found ≡ found
+pub present-endless : (now : ℕ) (found : Option KeyEntry) → IsEndless found → present now found ≡ found
 present-endless now None e = refl
-present-endless now (Some held) e = ap (λ (x : Option Ticks). cond (is_present now x) (Some held) None) e
+present-endless now (Some found_key) e = ap (λ (x : Option Ticks). cond (is_present now x) (Some found_key) None) e
 
-leased-if : (b : Bool) (o : Option Held) → IsLeased o → IsLeased (cond b o None)
+leased-if : (b : Bool) (o : Option KeyEntry) → IsLeased o → IsLeased (cond b o None)
 leased-if true o e = e
 leased-if false o e = tt
 
-leased-present : (now : ℕ) (found : Option Held) → IsLeased found → IsLeased (present now found)
+leased-present : (now : ℕ) (found : Option KeyEntry) → IsLeased found → IsLeased (present now found)
 leased-present now None e = tt
-leased-present now (Some held) e = leased-if (is_present now held.expiry) (Some held) e
+leased-present now (Some found_key) e = leased-if (is_present now found_key.expiry) (Some found_key) e
 
 -- a granted transaction
-extended-value : (now revision ttl old : ℕ) (value : Value) (expiry : Option Ticks) → extended_by now revision ttl (leader_value value old expiry) ≡ leader_value value revision (later (now + ttl) expiry)
+extended-value : (now revision ttl old : ℕ) (value : Value) (expiry : Option Ticks) → extended_by now revision ttl (leader_value value old expiry) ≡ leader_value value revision (extended_expiry (now + ttl) expiry)
 extended-value now revision ttl old (values.Leader member) (Some expiry) = refl
 extended-value now revision ttl old (values.Leader member) None = refl
 extended-value now revision ttl old (values.Config config) expiry = refl
@@ -91,42 +91,42 @@ extended-value now revision ttl old (values.Status end) expiry = refl
 extended-value now revision ttl old (values.History row) expiry = refl
 extended-value now revision ttl old (values.Failsafe members) expiry = refl
 
-extended-leader : (now revision ttl : ℕ) (found : Option Held) → extended_by now revision ttl (leader_held found) ≡ leader_held (held_renewed revision (now + ttl) found)
+extended-leader : (now revision ttl : ℕ) (found : Option KeyEntry) → extended_by now revision ttl (leader_key_of found) ≡ leader_key_of (held_renewed revision (now + ttl) found)
 extended-leader now revision ttl None = refl
-extended-leader now revision ttl (Some held) = extended-value now revision ttl held.revision held.value held.expiry
+extended-leader now revision ttl (Some found_key) = extended-value now revision ttl found_key.revision found_key.value found_key.expiry
 
-granted-leader : (now revision : ℕ) (by : MemberId) (txn : Txn) (found : Option Held) → leader_granted now revision (leader_held found) by.number (query_of txn) ≡ leader_held (leader_after (revision + 1) now by txn found)
+granted-leader : (now revision : ℕ) (by : MemberId) (txn : Txn) (found : Option KeyEntry) → leader_granted now revision (leader_key_of found) by.number (query_of txn) ≡ leader_key_of (leader_after (revision + 1) now by txn found)
 granted-leader now revision by (txns.Create info ttl failsafe sync) found = refl
 granted-leader now revision by (txns.Renew compared info ttl status row failsafe) found = extended-leader now (revision + 1) ttl.0 found
 granted-leader now revision by _ found = refl
 
-later-some : (until : ℕ) (expiry : Option Ticks) → IsSome expiry → IsSome (later until expiry)
+later-some : (until : ℕ) (expiry : Option Ticks) → IsSome expiry → IsSome (extended_expiry until expiry)
 later-some until None e = e
 later-some until (Some expiry) e = refl
 
-leased-renewed : (revision until : ℕ) (found : Option Held) → IsLeased found → IsLeased (held_renewed revision until found)
+leased-renewed : (revision until : ℕ) (found : Option KeyEntry) → IsLeased found → IsLeased (held_renewed revision until found)
 leased-renewed revision until None e = tt
-leased-renewed revision until (Some held) e = later-some until held.expiry e
+leased-renewed revision until (Some found_key) e = later-some until found_key.expiry e
 
-granted-leased : (now revision : ℕ) (by : MemberId) (txn : Txn) (found : Option Held) → IsLeased found → IsLeased (leader_after revision now by txn found)
+granted-leased : (now revision : ℕ) (by : MemberId) (txn : Txn) (found : Option KeyEntry) → IsLeased found → IsLeased (leader_after revision now by txn found)
 granted-leased now revision by (txns.Create info ttl failsafe sync) found e = refl
 granted-leased now revision by (txns.Renew compared info ttl status row failsafe) found e = leased-renewed revision (now + ttl.0) found e
 granted-leased now revision by (txns.Release compared) found e = tt
 granted-leased now revision by _ found e = e
 
-carried-failsafe : (revision : ℕ) (members : Option MemberSet) (found : Option Held) → failsafe_carried revision (members_if members) (failsafe_held found) ≡ failsafe_held (failsafe_written revision members found)
+carried-failsafe : (revision : ℕ) (members : Option MemberSet) (found : Option KeyEntry) → failsafe_carried revision (members_if members) (failsafe_key_of found) ≡ failsafe_key_of (failsafe_written revision members found)
 carried-failsafe revision None found = refl
 carried-failsafe revision (Some members) found = refl
 
-granted-failsafe : (revision : ℕ) (txn : Txn) (found : Option Held) → failsafe_granted revision (failsafe_held found) (query_of txn) ≡ failsafe_held (failsafe_after (revision + 1) txn found)
+granted-failsafe : (revision : ℕ) (txn : Txn) (found : Option KeyEntry) → failsafe_granted revision (failsafe_key_of found) (query_of txn) ≡ failsafe_key_of (failsafe_after (revision + 1) txn found)
 granted-failsafe revision (txns.Renew compared info ttl status row failsafe) found = carried-failsafe (revision + 1) failsafe found
 granted-failsafe revision _ found = refl
 
-endless-written : (revision : ℕ) (members : Option MemberSet) (found : Option Held) → IsEndless found → IsEndless (failsafe_written revision members found)
+endless-written : (revision : ℕ) (members : Option MemberSet) (found : Option KeyEntry) → IsEndless found → IsEndless (failsafe_written revision members found)
 endless-written revision None found e = e
 endless-written revision (Some members) found e = refl
 
-granted-endless : (revision : ℕ) (txn : Txn) (found : Option Held) → IsEndless found → IsEndless (failsafe_after revision txn found)
+granted-endless : (revision : ℕ) (txn : Txn) (found : Option KeyEntry) → IsEndless found → IsEndless (failsafe_after revision txn found)
 granted-endless revision (txns.Renew compared info ttl status row failsafe) found e = endless-written revision failsafe found e
 granted-endless revision _ found e = e
 
@@ -149,7 +149,7 @@ tick-present : (now : ℕ) (leader : Option LeaderKey) (k : LeaderKey) → leade
 tick-present now None k is = absurd (none-some k is)
 tick-present now (Some key) k is = kept-present (nat_le key.expiry now) now key k refl is
 
-same-granted : (past : Past) (facts : Facts) (number : ℕ) (by : Member) (txn : Txn) (standbys : List Name) → IsSpannedTxn txn → IsSameStore past facts → IsSameStore (past_by past (kinds.Store (stores.Granted number by txn standbys))) (after facts (kinds.Store (stores.Granted number by txn standbys)))
+same-granted : (past : Past) (facts : Facts) (number : ℕ) (by : Member) (txn : Txn) (standbys : List Name) → IsSpannedTxn txn → IsSameStore past facts → IsSameStore (past_after past (kinds.Store (stores.Granted number by txn standbys))) (facts_after facts (kinds.Store (stores.Granted number by txn standbys)))
 same-granted past facts number by txn standbys span same =
     let leader = find_leader_after facts.keys facts.clock by.id txn in
     let failsafe = find_failsafe_after facts.keys facts.clock by.id txn in
@@ -160,18 +160,18 @@ same-granted past facts number by txn standbys span same =
           ∙ ap (λ (r : ℕ). leader_granted facts.clock r past.leader by.id.number (query_of txn)) same.revision
           ∙ ap (λ (l : Option LeaderKey). leader_granted facts.clock facts.keys.revision l by.id.number (query_of txn)) same.leader
           ∙ granted-leader facts.clock facts.keys.revision by.id txn (find key_cmp keys.Leader facts.keys.pairs)
-          ∙ ap leader_held (sym leader);
+          ∙ ap leader_key_of (sym leader);
       failsafe = ap (λ (r : ℕ). failsafe_granted r past.failsafe (query_of txn)) same.revision
           ∙ ap (λ (f : Option FailsafeKey). failsafe_granted facts.keys.revision f (query_of txn)) same.failsafe
           ∙ granted-failsafe facts.keys.revision txn (find key_cmp keys.Failsafe facts.keys.pairs)
-          ∙ ap failsafe_held (sym failsafe);
+          ∙ ap failsafe_key_of (sym failsafe);
       kept = kept_after (facts.keys.revision + 1) facts.clock by.id txn facts.keys.pairs same.kept;
-      leased = subst (λ (o : Option Held). IsLeased o) (sym leader) (granted-leased facts.clock (facts.keys.revision + 1) by.id txn (find key_cmp keys.Leader facts.keys.pairs) same.leased);
-      endless = subst (λ (o : Option Held). IsEndless o) (sym failsafe) (granted-endless (facts.keys.revision + 1) txn (find key_cmp keys.Failsafe facts.keys.pairs) same.endless);
+      leased = subst (λ (o : Option KeyEntry). IsLeased o) (sym leader) (granted-leased facts.clock (facts.keys.revision + 1) by.id txn (find key_cmp keys.Leader facts.keys.pairs) same.leased);
+      endless = subst (λ (o : Option KeyEntry). IsEndless o) (sym failsafe) (granted-endless (facts.keys.revision + 1) txn (find key_cmp keys.Failsafe facts.keys.pairs) same.endless);
       present = granted-present past.clock past.revision by.id.number past.leader txn span same.present;
     }
 
-same-tick : (past : Past) (facts : Facts) → IsSameStore past facts → IsSameStore (past_by past kinds.Tick) (after facts kinds.Tick)
+same-tick : (past : Past) (facts : Facts) → IsSameStore past facts → IsSameStore (past_after past kinds.Tick) (facts_after facts kinds.Tick)
 same-tick past facts same =
     let now : ℕ = facts.clock + 1 in
     let leader = find_present now keys.Leader facts.keys.pairs same.kept.order in
@@ -182,15 +182,15 @@ same-tick past facts same =
       leader = ap (λ (c : ℕ). leader_kept (c + 1) past.leader) same.clock
           ∙ ap (λ (l : Option LeaderKey). leader_kept now l) same.leader
           ∙ kept-leader now (find key_cmp keys.Leader facts.keys.pairs)
-          ∙ ap leader_held (sym leader);
-      failsafe = same.failsafe ∙ ap failsafe_held (sym failsafe);
+          ∙ ap leader_key_of (sym leader);
+      failsafe = same.failsafe ∙ ap failsafe_key_of (sym failsafe);
       kept = kept_present now facts.keys.pairs same.kept;
-      leased = subst (λ (o : Option Held). IsLeased o) (sym leader) (leased-present now (find key_cmp keys.Leader facts.keys.pairs) same.leased);
-      endless = subst (λ (o : Option Held). IsEndless o) (sym failsafe) same.endless;
+      leased = subst (λ (o : Option KeyEntry). IsLeased o) (sym leader) (leased-present now (find key_cmp keys.Leader facts.keys.pairs) same.leased);
+      endless = subst (λ (o : Option KeyEntry). IsEndless o) (sym failsafe) same.endless;
       present = tick-present (past.clock + 1) past.leader;
     }
 
-pub same-by : (past : Past) (facts : Facts) (kind : Kind) → IsSpanned kind → IsSameStore past facts → IsSameStore (past_by past kind) (after facts kind)
+pub same-by : (past : Past) (facts : Facts) (kind : EventKind) → IsSpanned kind → IsSameStore past facts → IsSameStore (past_after past kind) (facts_after facts kind)
 same-by past facts kinds.Tick span same = same-tick past facts same
 same-by past facts (kinds.Store (stores.Granted number by txn standbys)) span same = same-granted past facts number by txn standbys span same
 same-by past facts _ span same = record { clock = same.clock; revision = same.revision; leader = same.leader; failsafe = same.failsafe; kept = same.kept; leased = same.leased; endless = same.endless; present = same.present }

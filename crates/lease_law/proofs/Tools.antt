@@ -2,7 +2,7 @@
 use Rattle.std.proofs.Common.{◌≡◌, ◌⊎◌, ℕ, ◌≤◌, ◌<◌, ◌==◌, ◌&&◌, nat_le, Bool, true, false, cond, Option, Some, None, refl, ◌∙◌, sym, subst, arith, inl, inr}
 use Rattle.std.proofs.lemmas.Bool.Decides.{nat_tests}
 use Rattle.event_book.specs.Functions.{put_at}
-use Rattle.lease_law.specs.Leases.{Request, Answer, Beg, Acknowledgement, Flying, Requested, Answered, Begged, Acknowledged}
+use Rattle.lease_law.specs.Leases.{Question, Answer, FailsafeRequest, Acknowledgement, Flying, Requested, Answered, FailsafeRequested, Acknowledged}
 
 pub some-is : {A : Type 0} (x y : A) → ◌≡◌ {A = Option A} (Some x) (Some y) → x ≡ y
 some-is x y e = cc
@@ -58,11 +58,11 @@ pub decide-eq : (m n : ℕ) → (m ≡ n) ⊎ (m ≡ n → ⊥)
 decide-eq m n = decide-at (m == n) m n refl
 
 -- messages of one kind are none of another
-pub answered-requested : (a : Answer) (q : Request) → ◌≡◌ {A = Option Flying} (Some (Answered a)) (Some (Requested q)) → ⊥
+pub answered-requested : (a : Answer) (q : Question) → ◌≡◌ {A = Option Flying} (Some (Answered a)) (Some (Requested q)) → ⊥
 answered-requested a q e = cc
 
-pub answered-begged : (a : Answer) (q : Beg) → ◌≡◌ {A = Option Flying} (Some (Answered a)) (Some (Begged q)) → ⊥
-answered-begged a q e = cc
+pub answered-failsafe_requested : (a : Answer) (q : FailsafeRequest) → ◌≡◌ {A = Option Flying} (Some (Answered a)) (Some (FailsafeRequested q)) → ⊥
+answered-failsafe_requested a q e = cc
 
 pub answered-acknowledged : (a : Answer) (q : Acknowledgement) → ◌≡◌ {A = Option Flying} (Some (Answered a)) (Some (Acknowledged q)) → ⊥
 answered-acknowledged a q e = cc

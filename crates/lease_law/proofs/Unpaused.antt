@@ -15,44 +15,44 @@ use Rattle.lease_store.specs.declared.key.Key.TheVariants as keys
 use Rattle.lease_store.specs.declared.txn.Txn.{Txn}
 use Rattle.lease_store.specs.declared.txn.Txn.TheVariants as txns
 use Rattle.lease_store.specs.declared.value.HistoryRow.{HistoryRow}
-use Rattle.lease_store.specs.declared.value.Held.{Held}
+use Rattle.lease_store.specs.declared.value.KeyEntry.{KeyEntry}
 use Rattle.lease_store.specs.KeyOrder.{key_cmp}
 use Rattle.lease_store.specs.Keys.{Keys, is_present, present}
 use Rattle.lease_store.specs.Kept.{IsKept}
 use Rattle.lease_store.specs.Answers.{present_pairs}
-use Rattle.lease_store.specs.Writes.{keys_after, writes_of, status_carried, row_carried, failsafe_carried}
+use Rattle.lease_store.specs.Writes.{keys_after_grant, writes_of, status_writes, row_writes, failsafe_writes}
 use Rattle.lease_store.specs.Defaults.{default_settings}
 use Rattle.lease_store.proofs.Keeping.{kept_after, kept_present, find_present}
 use Rattle.lease_store.proofs.Fences.{kept_first}
 use Rattle.lease_store.proofs.OneKey.{found_after_all, find_all_written}
-use Rattle.event_book.specs.declared.event.Kind.{Kind}
-use Rattle.event_book.specs.declared.event.Kind.TheVariants as kinds
+use Rattle.event_book.specs.declared.event.EventKind.{EventKind}
+use Rattle.event_book.specs.declared.event.EventKind.TheVariants as kinds
 use Rattle.event_book.specs.declared.event.MessageEvent.{MessageEvent}
 use Rattle.event_book.specs.declared.event.MessageEvent.TheVariants as messages
 use Rattle.event_book.specs.declared.event.StoreEvent.TheVariants as stores
 use Rattle.event_book.specs.declared.message.Body.{Body}
 use Rattle.event_book.specs.declared.message.Body.TheVariants as bodies
 use Rattle.event_book.specs.Flight.{InFlightFacts, Flight, snapshot_for, launched, flight_by}
-use Rattle.event_book.specs.Facts.{Facts, after, start_of}
+use Rattle.event_book.specs.Facts.{Facts, facts_after, start_of}
 use Rattle.lease_law.specs.Premises.{IsUnpaused, IsHandsOffKind}
 use Rattle.lease_law.specs.Pauses.{IsUnpausedHeld, IsUnpausedIn, AreUnpaused, NobodyPauses}
 
 pub pauses-first : (names : List Name) (base : ℕ) → NobodyPauses (start_of names base)
 pauses-first names base = record { store = refl; flight = tt; kept = kept_first default_settings }
 
-unpaused-if : (b : Bool) (o : Option Held) → IsUnpausedHeld o → IsUnpausedHeld (cond b o None)
+unpaused-if : (b : Bool) (o : Option KeyEntry) → IsUnpausedHeld o → IsUnpausedHeld (cond b o None)
 unpaused-if true o is = is
 unpaused-if false o is = tt
 
-unpaused-present : (now : ℕ) (found : Option Held) → IsUnpausedHeld found → IsUnpausedHeld (present now found)
+unpaused-present : (now : ℕ) (found : Option KeyEntry) → IsUnpausedHeld found → IsUnpausedHeld (present now found)
 unpaused-present now None is = is
-unpaused-present now (Some held) is = unpaused-if (is_present now held.expiry) (Some held) is
+unpaused-present now (Some found_key) is = unpaused-if (is_present now found_key.expiry) (Some found_key) is
 
-unpaused-snapshot : (now : ℕ) (pairs : List (Key × Held)) → IsKept pairs → IsUnpausedIn pairs → IsUnpausedIn (present_pairs now pairs)
-unpaused-snapshot now pairs kept is = subst (λ (o : Option Held). IsUnpausedHeld o) (sym (find_present now keys.Config pairs kept.order)) (unpaused-present now (find key_cmp keys.Config pairs) is)
+unpaused-snapshot : (now : ℕ) (pairs : List (Key × KeyEntry)) → IsKept pairs → IsUnpausedIn pairs → IsUnpausedIn (present_pairs now pairs)
+unpaused-snapshot now pairs kept is = subst (λ (o : Option KeyEntry). IsUnpausedHeld o) (sym (find_present now keys.Config pairs kept.order)) (unpaused-present now (find key_cmp keys.Config pairs) is)
 
 -- a granted transaction
-carried-config : (revision now : ℕ) (found : Option Held) (status : Option Lsn) (row : Option HistoryRow) (failsafe : Option MemberSet) → found_after_all revision now keys.Config found (status_carried status ++ (row_carried row ++ failsafe_carried failsafe)) ≡ found
+carried-config : (revision now : ℕ) (found : Option KeyEntry) (status : Option Lsn) (row : Option HistoryRow) (failsafe : Option MemberSet) → found_after_all revision now keys.Config found (status_writes status ++ (row_writes row ++ failsafe_writes failsafe)) ≡ found
 carried-config revision now found None None None = refl
 carried-config revision now found None None (Some members) = refl
 carried-config revision now found None (Some row) None = refl
@@ -62,10 +62,10 @@ carried-config revision now found (Some end) None (Some members) = refl
 carried-config revision now found (Some end) (Some row) None = refl
 carried-config revision now found (Some end) (Some row) (Some members) = refl
 
-config-written : (revision now : ℕ) (by : MemberId) (txn : Txn) (found : Option Held) → IsUnpaused txn → IsUnpausedHeld found → IsUnpausedHeld (found_after_all revision now keys.Config found (writes_of by txn))
+config-written : (revision now : ℕ) (by : MemberId) (txn : Txn) (found : Option KeyEntry) → IsUnpaused txn → IsUnpausedHeld found → IsUnpausedHeld (found_after_all revision now keys.Config found (writes_of by txn))
 config-written revision now by (txns.Touch info ttl) found is old = old
 config-written revision now by (txns.Create info ttl failsafe sync) found is old = old
-config-written revision now by (txns.Renew compared info ttl status row failsafe) found is old = subst (λ (o : Option Held). IsUnpausedHeld o) (sym (carried-config revision now found status row failsafe)) old
+config-written revision now by (txns.Renew compared info ttl status row failsafe) found is old = subst (λ (o : Option KeyEntry). IsUnpausedHeld o) (sym (carried-config revision now found status row failsafe)) old
 config-written revision now by (txns.Release compared) found is old = old
 config-written revision now by (txns.Claim compared sync) found is old = old
 config-written revision now by (txns.SetSync compared sync standbys) found is old = old
@@ -74,8 +74,8 @@ config-written revision now by (txns.SetFailover failover ttl) found is old = ol
 config-written revision now by (txns.DropFailover compared) found is old = old
 config-written revision now by (txns.SetConfig compared config) found is old = is
 
-unpaused-granted : (store : Keys) (now : ℕ) (by : MemberId) (txn : Txn) → IsUnpaused txn → IsUnpausedIn store.pairs → IsUnpausedIn (keys_after store now by txn).pairs
-unpaused-granted store now by txn is old = subst (λ (o : Option Held). IsUnpausedHeld o) (sym (find_all_written (store.revision + 1) now keys.Config store.pairs (writes_of by txn)))
+unpaused-granted : (store : Keys) (now : ℕ) (by : MemberId) (txn : Txn) → IsUnpaused txn → IsUnpausedIn store.pairs → IsUnpausedIn (keys_after_grant store now by txn).pairs
+unpaused-granted store now by txn is old = subst (λ (o : Option KeyEntry). IsUnpausedHeld o) (sym (find_all_written (store.revision + 1) now keys.Config store.pairs (writes_of by txn)))
     (config-written (store.revision + 1) now by txn (find key_cmp keys.Config store.pairs) is old)
 
 -- messages
@@ -96,7 +96,7 @@ unpaused-without : (entries : Flight) (number : ℕ) → AreUnpaused entries →
 unpaused-without [] number old = tt
 unpaused-without (entry ∷ entries) number old = unpaused-chosen (is_at (nat_cmp number) entry.0) entry entries (remove_entry (is_at (nat_cmp number)) entries) old.0 old.1 (unpaused-without entries number old.1)
 
-unpaused-body : (body : Body) (snapshot : List (Key × Held)) → IsUnpausedIn snapshot → IsUnpausedIn (snapshot_for body snapshot)
+unpaused-body : (body : Body) (snapshot : List (Key × KeyEntry)) → IsUnpausedIn snapshot → IsUnpausedIn (snapshot_for body snapshot)
 unpaused-body bodies.Snapshot snapshot is = is
 unpaused-body (bodies.Granted request leased) snapshot is = is
 unpaused-body _ snapshot is = tt
@@ -107,7 +107,7 @@ unpaused-message facts (messages.Sent number message) old = unpaused-with facts.
 unpaused-message facts (messages.Delivered number) old = unpaused-without facts.flight number old.flight
 unpaused-message facts (messages.Lost number) old = unpaused-without facts.flight number old.flight
 
-pub pauses-by : (facts : Facts) (kind : Kind) → IsHandsOffKind kind → NobodyPauses facts → NobodyPauses (after facts kind)
+pub pauses-by : (facts : Facts) (kind : EventKind) → IsHandsOffKind kind → NobodyPauses facts → NobodyPauses (facts_after facts kind)
 pauses-by facts kinds.Tick is old = record { store = unpaused-snapshot (facts.clock + 1) facts.keys.pairs old.kept old.store; flight = old.flight; kept = kept_present (facts.clock + 1) facts.keys.pairs old.kept }
 pauses-by facts (kinds.Store (stores.Granted number by txn standbys)) is old = record {
   store = unpaused-granted facts.keys facts.clock by.id txn is old.store;

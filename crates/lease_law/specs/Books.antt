@@ -2,33 +2,33 @@
 use Rattle.std.specs.Prelude.{ℕ, ◌≡◌, List, [], ◌∷◌, ◌++◌}
 use Rattle.event_book.specs.declared.event.Event.{Event}
 use Rattle.lease_law.specs.States.{Declared}
-use Rattle.lease_law.specs.Past.{Mind, first_mind, past_of, state_of}
+use Rattle.lease_law.specs.Past.{VolatileState, first_volatile_state, past_of, state_of}
 use Rattle.lease_law.specs.Actions.{Action, state_after, IsAllowed}
 
--- an action, its events, and the minds after it
-pub record Page : Type 0 where
+-- an action, its events, and the volatile states after it
+pub record Transition : Type 0 where
   pub action : Action
   pub events : List Event
-  pub minds : ℕ → Mind
+  pub volatile_states : ℕ → VolatileState
 
--- the book with these events, and these minds, tell the action: they are the state after it
-abbrev pub IsTold : Declared → List Event → (ℕ → Mind) → Page → Type 0
-IsTold declared book minds page = state_of declared (past_of (book ++ page.events)) page.minds ≡ state_after (state_of declared (past_of book) minds) page.action page.events
+-- the book with these events, and these volatile states, tell the action: they are the state after it
+abbrev pub IsShown : Declared → List Event → (ℕ → VolatileState) → Transition → Type 0
+IsShown declared book volatile_states transition = state_of declared (past_of (book ++ transition.events)) transition.volatile_states ≡ state_after (state_of declared (past_of book) volatile_states) transition.action transition.events
 
--- each page is allowed behind this book, and told by its events
-abbrev pub AreAllowed : Declared → List Event → (ℕ → Mind) → List Page → Type 0
-AreAllowed declared book minds [] = Unit {0}
-AreAllowed declared book minds (page ∷ pages) =
-    IsAllowed (state_of declared (past_of book) minds) page.action page.events × (IsTold declared book minds page × AreAllowed declared (book ++ page.events) page.minds pages)
+-- each transition is allowed behind this book, and told by its events
+abbrev pub AreAllowed : Declared → List Event → (ℕ → VolatileState) → List Transition → Type 0
+AreAllowed declared book volatile_states [] = Unit {0}
+AreAllowed declared book volatile_states (transition ∷ transitions) =
+    IsAllowed (state_of declared (past_of book) volatile_states) transition.action transition.events × (IsShown declared book volatile_states transition × AreAllowed declared (book ++ transition.events) transition.volatile_states transitions)
 
-abbrev pub first_minds : ℕ → Mind
-first_minds m = first_mind
+abbrev pub first_volatile_states : ℕ → VolatileState
+first_volatile_states m = first_volatile_state
 
-abbrev pub book_of : List Page → List Event
+abbrev pub book_of : List Transition → List Event
 book_of [] = []
-book_of (page ∷ pages) = page.events ++ book_of pages
+book_of (transition ∷ transitions) = transition.events ++ book_of transitions
 
--- the minds behind these pages
-abbrev pub minds_after : (ℕ → Mind) → List Page → ℕ → Mind
-minds_after minds [] = minds
-minds_after minds (page ∷ pages) = minds_after page.minds pages
+-- the volatile states behind these transitions
+abbrev pub volatile_states_over : (ℕ → VolatileState) → List Transition → ℕ → VolatileState
+volatile_states_over volatile_states [] = volatile_states
+volatile_states_over volatile_states (transition ∷ transitions) = volatile_states_over transition.volatile_states transitions

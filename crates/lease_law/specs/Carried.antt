@@ -1,21 +1,21 @@
 -- What holds between two actions of an allowed run.
 use Rattle.std.specs.Prelude.{ℕ, ◌≡◌, ◌⊎◌, ◌+◌, ◌≤◌, ◌<◌, Bool, true, false, List, Option, Some, None}
 use Rattle.lease_store.specs.declared.txn.Expected.TheVariants.{Absent, Revision}
-use Rattle.lease_law.specs.Leases.{LeaderKey, LeaderSeen, FailsafeKey, Query, Create, Renew, Release, Write, Read, Request, Grant, Answer, Beg, Acknowledgement, Flying, Requested, Answered, Begged, Acknowledged, Taking, IsTaken}
-use Rattle.lease_law.specs.States.{Begging, Agent, Machine, State, is_ready, Acts}
+use Rattle.lease_law.specs.Leases.{LeaderKey, LeaderSeen, FailsafeKey, Query, Create, Renew, Release, Write, Read, Question, Grant, Answer, FailsafeRequest, Acknowledgement, Flying, Requested, Answered, FailsafeRequested, Acknowledged, Taking, IsTaken}
+use Rattle.lease_law.specs.States.{FailsafeCheck, Agent, Machine, State, is_ready, Acts}
 use Rattle.lease_law.specs.Inputs.{Waits}
 
 -- the key is m's at least until then
 pub record Covers (key : Option LeaderKey) (m until : ℕ) : Type 0 where
-  pub held : LeaderKey
-  pub key_is : key ≡ Some held
-  pub holder : held.holder ≡ m
-  pub lasts : until ≤ held.expiry
+  pub found_key : LeaderKey
+  pub key_is : key ≡ Some found_key
+  pub holder : found_key.holder ≡ m
+  pub lasts : until ≤ found_key.expiry
 
 -- of each other member that the failsafe key lists, now or by a renewal in flight that may be granted, this holds
 pub record Spans (failsafe_key : Option FailsafeKey) (key : Option LeaderKey) (flight : ℕ → Option Flying) (m : ℕ) (X : ℕ → Type 0) : Type 0 where
   pub listed : (f : FailsafeKey) → failsafe_key ≡ Some f → (p : ℕ) → f.members p ≡ true → (p ≡ m → ⊥) → X p
-  pub coming : (j : ℕ) (q : Request) (compared ttl : ℕ) (set : ℕ → Bool) (k : LeaderKey) → flight j ≡ Some (Requested q) → q.query ≡ Renew compared ttl (Some set) → key ≡ Some k → k.revision ≡ compared → (p : ℕ) → set p ≡ true → (p ≡ m → ⊥) → X p
+  pub coming : (j : ℕ) (q : Question) (compared ttl : ℕ) (set : ℕ → Bool) (k : LeaderKey) → flight j ≡ Some (Requested q) → q.query ≡ Renew compared ttl (Some set) → key ≡ Some k → k.revision ≡ compared → (p : ℕ) → set p ≡ true → (p ≡ m → ⊥) → X p
 
 -- all that could take the key have a hold at least until then, its present owner included
 pub record HoldsCover (failsafe_key : Option FailsafeKey) (key : Option LeaderKey) (flight : ℕ → Option Flying) (members : ℕ → Machine) (m until : ℕ) : Type 0 where
@@ -77,29 +77,29 @@ pub record IsNumbered (machine : Machine) (run sequence : ℕ) : Type 0 where
   pub sequence_old : (agent : Agent) → machine.agent ≡ Some agent → agent.run ≡ run → sequence ≤ agent.last
 
 -- a question in flight
-pub record IsRequestKept (mode : Bool) (clock : ℕ) (key : Option LeaderKey) (failsafe_key : Option FailsafeKey) (greatest : ℕ) (members : ℕ → Machine) (q : Request) : Type 0 where
+pub record IsQuestionKept (mode : Bool) (clock : ℕ) (key : Option LeaderKey) (failsafe_key : Option FailsafeKey) (greatest : ℕ) (members : ℕ → Machine) (q : Question) : Type 0 where
   pub numbered : IsNumbered (members q.member) q.run q.sequence
   pub sent : q.sent ≤ clock
   pub query : IsQueryKept mode key failsafe_key greatest members q.member q.query
 
 -- what is waited for that a failsafe request or its acknowledgement belongs to
-pub record AwaitsIt (machine : Machine) (run sequence : ℕ) (b : Begging) : Type 0 where
+pub record AwaitsIt (machine : Machine) (run sequence : ℕ) (b : FailsafeCheck) : Type 0 where
   pub agent : Agent
   pub is : machine.agent ≡ Some agent
   pub run_is : agent.run ≡ run
-  pub begging : agent.begging ≡ Some b
+  pub failsafe_check : agent.failsafe_check ≡ Some b
   pub sequence_is : b.sequence ≡ sequence
 
 -- a failsafe request in flight says the span and the moment of what is waited for
-pub record IsBegKept (clock : ℕ) (machine : Machine) (q : Beg) : Type 0 where
+pub record IsFailsafeRequestKept (clock : ℕ) (machine : Machine) (q : FailsafeRequest) : Type 0 where
   pub numbered : IsNumbered machine q.run q.sequence
   pub sent : q.sent ≤ clock
-  pub matches : (b : Begging) → AwaitsIt machine q.run q.sequence b → (q.ttl ≡ b.ttl) × (q.sent ≡ b.sent)
+  pub matches : (b : FailsafeCheck) → AwaitsIt machine q.run q.sequence b → (q.ttl ≡ b.ttl) × (q.sent ≡ b.sent)
 
 -- a hold that was taken for what is waited for lasts for its span from then on
 pub record IsTakingKept (machine : Machine) (hold : ℕ) (t : Taking) : Type 0 where
   pub numbered : IsNumbered machine t.run t.sequence
-  pub matches : (b : Begging) → AwaitsIt machine t.run t.sequence b → (t.moment + b.ttl ≤ hold) × (b.sent ≤ t.moment)
+  pub matches : (b : FailsafeCheck) → AwaitsIt machine t.run t.sequence b → (t.moment + b.ttl ≤ hold) × (b.sent ≤ t.moment)
 
 -- p took a hold for this failsafe request of m
 pub record HasTaken (taken : List Taking) (p m run sequence : ℕ) : Type 0 where
@@ -107,7 +107,7 @@ pub record HasTaken (taken : List Taking) (p m run sequence : ℕ) : Type 0 wher
   pub is : IsTaken taken (record { by = p; from = m; run = run; sequence = sequence; moment = moment })
 
 -- while acknowledgements are waited for: the members that were asked span the failsafe key, and who said yes took a hold
-pub record IsBeggingKept (failsafe_key : Option FailsafeKey) (key : Option LeaderKey) (flight : ℕ → Option Flying) (taken : List Taking) (m : ℕ) (machine : Machine) (agent : Agent) (b : Begging) : Type 0 where
+pub record IsFailsafeCheckKept (failsafe_key : Option FailsafeKey) (key : Option LeaderKey) (flight : ℕ → Option Flying) (taken : List Taking) (m : ℕ) (machine : Machine) (agent : Agent) (b : FailsafeCheck) : Type 0 where
   pub counted : b.sequence ≤ agent.last
   pub there : IsThere failsafe_key
   pub spans : Acts machine → Spans failsafe_key key flight m (λ p. b.members p ≡ true)
@@ -131,12 +131,12 @@ pub record IsAgentKept (key : Option LeaderKey) (failsafe_key : Option FailsafeK
 
 -- where a grant isn't over: the key is m's by this very grant, and no request in flight could renew it
 pub record IsPresent (key : Option LeaderKey) (failsafe_key : Option FailsafeKey) (flight : ℕ → Option Flying) (m : ℕ) (grant : Grant) : Type 0 where
-  pub held : LeaderKey
-  pub key_is : key ≡ Some held
-  pub revision : held.revision ≡ grant.revision
-  pub holder : held.holder ≡ m
-  pub lasts : grant.moment + grant.ttl ≤ held.expiry
-  pub alone : (j : ℕ) (q : Request) (compared ttl : ℕ) (carried : Option (ℕ → Bool)) → flight j ≡ Some (Requested q) → q.query ≡ Renew compared ttl carried → compared ≡ grant.revision → ⊥
+  pub found_key : LeaderKey
+  pub key_is : key ≡ Some found_key
+  pub revision : found_key.revision ≡ grant.revision
+  pub holder : found_key.holder ≡ m
+  pub lasts : grant.moment + grant.ttl ≤ found_key.expiry
+  pub alone : (j : ℕ) (q : Question) (compared ttl : ℕ) (carried : Option (ℕ → Bool)) → flight j ≡ Some (Requested q) → q.query ≡ Renew compared ttl carried → compared ≡ grant.revision → ⊥
   pub listed : failsafe_key ≡ grant.failsafe
 
 -- a grant that is waited for is over, or gave the key that is there
@@ -145,7 +145,7 @@ IsFresh clock key failsafe_key flight m grant = (grant.moment + grant.ttl ≤ cl
 
 -- a revision that an answer in flight hands out is nowhere else: in no release, no lease value, no other answer
 pub record IsToken (flight : ℕ → Option Flying) (members : ℕ → Machine) (i r : ℕ) : Type 0 where
-  pub released : (j : ℕ) (q : Request) → flight j ≡ Some (Requested q) → q.query ≡ Release r → ⊥
+  pub released : (j : ℕ) (q : Question) → flight j ≡ Some (Requested q) → q.query ≡ Release r → ⊥
   pub valued : (m : ℕ) (agent : Agent) → (members m).agent ≡ Some agent → agent.lease ≡ Some r → ⊥
   pub single : (j : ℕ) (b : Answer) (h : Grant) → flight j ≡ Some (Answered b) → b.grant ≡ Some h → h.revision ≡ r → j ≡ i
 
@@ -163,15 +163,15 @@ pub record IsSound (s : State) : Type 0 where
   pub bounded : (k : LeaderKey) → s.leader ≡ Some k → k.revision ≤ s.revision
   pub failsafe_bounded : (f : FailsafeKey) → s.failsafe ≡ Some f → f.revision ≤ s.revision
   -- messages in flight, holds that were taken, and agents
-  pub asked : (i : ℕ) (q : Request) → s.flight i ≡ Some (Requested q) → IsRequestKept s.declared.failsafe s.clock s.leader s.failsafe s.revision s.members q
+  pub asked : (i : ℕ) (q : Question) → s.flight i ≡ Some (Requested q) → IsQuestionKept s.declared.failsafe s.clock s.leader s.failsafe s.revision s.members q
   pub said : (i : ℕ) (a : Answer) → s.flight i ≡ Some (Answered a) → IsAnswerKept s.leader s.failsafe s.revision (s.members a.member) a
-  pub begs : (i : ℕ) (q : Beg) → s.flight i ≡ Some (Begged q) → IsBegKept s.clock (s.members q.member) q
+  pub failsafe_requests : (i : ℕ) (q : FailsafeRequest) → s.flight i ≡ Some (FailsafeRequested q) → IsFailsafeRequestKept s.clock (s.members q.member) q
   pub yeses : (i : ℕ) (h : Acknowledgement) → s.flight i ≡ Some (Acknowledged h) → HasTaken s.taken h.by h.member h.run h.sequence
   pub taken : (t : Taking) → IsTaken s.taken t → IsTakingKept (s.members t.from) (s.members t.by).hold t
   pub kept : (m : ℕ) (agent : Agent) → (s.members m).agent ≡ Some agent → IsAgentKept s.leader s.failsafe s.revision m (s.members m).runs agent
   -- while a member acts whose agent is Ready or Leader, the members that it knows span the failsafe key
   pub spans : (m : ℕ) (agent : Agent) → (s.members m).agent ≡ Some agent → Acts (s.members m) → agent.leads ≡ true → Spans s.failsafe s.leader s.flight m (λ p. agent.known p ≡ true)
-  pub begging : (m : ℕ) (agent : Agent) (b : Begging) → (s.members m).agent ≡ Some agent → agent.begging ≡ Some b → IsBeggingKept s.failsafe s.leader s.flight s.taken m (s.members m) agent b
+  pub failsafe_check : (m : ℕ) (agent : Agent) (b : FailsafeCheck) → (s.members m).agent ≡ Some agent → agent.failsafe_check ≡ Some b → IsFailsafeCheckKept s.failsafe s.leader s.flight s.taken m (s.members m) agent b
   -- grants in flight
   pub fresh : (i : ℕ) (a : Answer) (grant : Grant) → s.flight i ≡ Some (Answered a) → a.grant ≡ Some grant → Waits (s.members a.member) a → IsFresh s.clock s.leader s.failsafe s.flight a.member grant
   pub tokens : (i : ℕ) (a : Answer) (grant : Grant) → s.flight i ≡ Some (Answered a) → a.grant ≡ Some grant → IsToken s.flight s.members i grant.revision

@@ -28,7 +28,7 @@ pub data Query : Type 0 where
   Read : Query
 
 -- a question to the key store: its sender, the sender's run, its number in that run, and the moment of its sending
-pub record Request : Type 0 where
+pub record Question : Type 0 where
   pub member : ℕ
   pub run : ℕ
   pub sequence : ℕ
@@ -53,7 +53,7 @@ pub record Answer : Type 0 where
   pub grant : Option Grant
 
 -- a failsafe request of this member
-pub record Beg : Type 0 where
+pub record FailsafeRequest : Type 0 where
   pub member : ℕ
   pub run : ℕ
   pub sequence : ℕ
@@ -69,9 +69,9 @@ pub record Acknowledgement : Type 0 where
 
 -- a message in flight
 pub data Flying : Type 0 where
-  Requested : (request : Request) → Flying
+  Requested : (request : Question) → Flying
   Answered : (answer : Answer) → Flying
-  Begged : (beg : Beg) → Flying
+  FailsafeRequested : (failsafe_request : FailsafeRequest) → Flying
   Acknowledged : (acknowledgement : Acknowledgement) → Flying
 
 -- a member took a hold at this moment, for a failsafe request of another

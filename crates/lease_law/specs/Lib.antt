@@ -7,7 +7,7 @@ pub mod Carried
 pub mod Past
 pub mod Premises
 pub mod Books
-pub mod Telling
+pub mod Showing
 pub mod Stores
 pub mod Pauses
 pub mod Claims

@@ -3,7 +3,7 @@ use Rattle.std.specs.Prelude.{ℕ, ◌+◌, ◌==◌, ◌&&◌, Bool, true, fals
 use Rattle.lease_store.specs.declared.txn.Expected.{Expected}
 use Rattle.lease_store.specs.declared.txn.Expected.TheVariants.{Absent, Revision}
 use Rattle.event_book.specs.Functions.{put_at}
-use Rattle.lease_law.specs.Leases.{LeaderKey, LeaderSeen, FailsafeKey, Query, Create, Renew, Release, Write, Read, Request, Grant, Answer, Flying, Requested, Answered}
+use Rattle.lease_law.specs.Leases.{LeaderKey, LeaderSeen, FailsafeKey, Query, Create, Renew, Release, Write, Read, Question, Grant, Answer, Flying, Requested, Answered}
 use Rattle.lease_law.specs.States.{State}
 
 abbrev pub seen_of : Option LeaderKey → Option LeaderSeen
@@ -18,8 +18,8 @@ pub record Outcome : Type 0 where
   pub snapshot : Bool
   pub grant : Option Grant
 
-abbrev pub refused : Option LeaderKey → Option FailsafeKey → ℕ → Outcome
-refused leader failsafe revision = record { leader = leader; failsafe = failsafe; revision = revision; snapshot = false; grant = None }
+abbrev pub refused_outcome : Option LeaderKey → Option FailsafeKey → ℕ → Outcome
+refused_outcome leader failsafe revision = record { leader = leader; failsafe = failsafe; revision = revision; snapshot = false; grant = None }
 
 -- the failsafe key is as a create expects it
 abbrev pub is_as_read : Option Expected → Option FailsafeKey → Bool
@@ -37,12 +37,12 @@ create_if true clock failsafe revision by sent ttl = record {
   snapshot = true;
   grant = Some (record { revision = revision + 1; sent = sent; moment = clock; ttl = ttl; failsafe = failsafe });
 }
-create_if false clock failsafe revision by sent ttl = refused None failsafe revision
+create_if false clock failsafe revision by sent ttl = refused_outcome None failsafe revision
 
 -- a create may compare the sync key too, which is no key of the lease: it may be refused where the keys of the lease are as expected
 abbrev pub create_on : Bool → ℕ → Option LeaderKey → Option FailsafeKey → ℕ → ℕ → ℕ → ℕ → Option Expected → Outcome
 create_on granted clock None failsafe revision by sent ttl expected = create_if (is_as_read expected failsafe && granted) clock failsafe revision by sent ttl
-create_on granted clock (Some key) failsafe revision by sent ttl expected = refused (Some key) failsafe revision
+create_on granted clock (Some key) failsafe revision by sent ttl expected = refused_outcome (Some key) failsafe revision
 
 -- the failsafe key after a renewal of this revision that carries these members
 abbrev pub failsafe_carried : ℕ → Option (ℕ → Bool) → Option FailsafeKey → Option FailsafeKey
@@ -61,26 +61,26 @@ renew_if true clock key failsafe revision sent ttl carried = record {
   snapshot = true;
   grant = Some (record { revision = revision + 1; sent = sent; moment = clock; ttl = ttl; failsafe = failsafe_carried (revision + 1) carried failsafe });
 }
-renew_if false clock key failsafe revision sent ttl carried = refused (Some key) failsafe revision
+renew_if false clock key failsafe revision sent ttl carried = refused_outcome (Some key) failsafe revision
 
 abbrev pub renew_on : ℕ → Option LeaderKey → Option FailsafeKey → ℕ → ℕ → ℕ → ℕ → Option (ℕ → Bool) → Outcome
-renew_on clock None failsafe revision compared sent ttl carried = refused None failsafe revision
+renew_on clock None failsafe revision compared sent ttl carried = refused_outcome None failsafe revision
 renew_on clock (Some key) failsafe revision compared sent ttl carried = renew_if (key.revision == compared) clock key failsafe revision sent ttl carried
 
 abbrev pub release_if : Bool → LeaderKey → Option FailsafeKey → ℕ → Outcome
 release_if true key failsafe revision = record { leader = None; failsafe = failsafe; revision = revision + 1; snapshot = true; grant = None }
-release_if false key failsafe revision = refused (Some key) failsafe revision
+release_if false key failsafe revision = refused_outcome (Some key) failsafe revision
 
 abbrev pub release_on : Option LeaderKey → Option FailsafeKey → ℕ → ℕ → Outcome
-release_on None failsafe revision compared = refused None failsafe revision
+release_on None failsafe revision compared = refused_outcome None failsafe revision
 release_on (Some key) failsafe revision compared = release_if (key.revision == compared) key failsafe revision
 
 -- what another write compares is no key of the lease, so the keys of the lease don't tell whether it is granted
 abbrev pub write_if : Bool → Option LeaderKey → Option FailsafeKey → ℕ → Outcome
 write_if true leader failsafe revision = record { leader = leader; failsafe = failsafe; revision = revision + 1; snapshot = true; grant = None }
-write_if false leader failsafe revision = refused leader failsafe revision
+write_if false leader failsafe revision = refused_outcome leader failsafe revision
 
--- what a question of this member, sent at this moment, leaves; `granted` tells whether it was granted, where the keys of the lease
+-- what a question of this member, sent at this moment, leaves; `state_by_grant` tells whether it was granted, where the keys of the lease
 -- don't tell that: of a create that compares the sync key, and of another write
 abbrev pub outcome_of : ℕ → Option LeaderKey → Option FailsafeKey → ℕ → ℕ → ℕ → Bool → Query → Outcome
 outcome_of clock leader failsafe revision by sent granted (Create ttl expected) = create_on granted clock leader failsafe revision by sent ttl expected
@@ -89,26 +89,26 @@ outcome_of clock leader failsafe revision by sent granted (Release compared) = r
 outcome_of clock leader failsafe revision by sent granted Write = write_if granted leader failsafe revision
 outcome_of clock leader failsafe revision by sent granted Read = record { leader = leader; failsafe = failsafe; revision = revision; snapshot = true; grant = None }
 
-abbrev pub told_if : {A : Type 0} → Bool → Option A → Option A
-told_if true told = told
-told_if false told = None
+abbrev pub shown_if : {A : Type 0} → Bool → Option A → Option A
+shown_if true told = told
+shown_if false told = None
 
-abbrev pub answer_to : Request → Outcome → Answer
-answer_to request outcome = record {
+abbrev pub outcome_answer : Question → Outcome → Answer
+outcome_answer request outcome = record {
   member = request.member;
   run = request.run;
   sequence = request.sequence;
-  leader = told_if outcome.snapshot (seen_of outcome.leader);
-  failsafe = told_if outcome.snapshot outcome.failsafe;
+  leader = shown_if outcome.snapshot (seen_of outcome.leader);
+  failsafe = shown_if outcome.snapshot outcome.failsafe;
   grant = outcome.grant;
 }
 
-abbrev pub with_outcome : State → ℕ → ℕ → Request → Outcome → State
+abbrev pub with_outcome : State → ℕ → ℕ → Question → Outcome → State
 with_outcome s number answer request outcome = record s {
   leader = outcome.leader;
   failsafe = outcome.failsafe;
   revision = outcome.revision;
-  flight = put_at (put_at s.flight number None) answer (Some (Answered (answer_to request outcome)));
+  flight = put_at (put_at s.flight number None) answer (Some (Answered (outcome_answer request outcome)));
 }
 
 abbrev pub with_question : State → ℕ → ℕ → Bool → Option Flying → State

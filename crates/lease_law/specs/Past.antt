@@ -5,8 +5,8 @@ use Rattle.pat_base.specs.declared.member_set.MemberSet.{MemberSet}
 use Rattle.lease_store.specs.declared.txn.Txn.{Txn}
 use Rattle.lease_store.specs.declared.txn.Txn.TheVariants as txns
 use Rattle.event_book.specs.declared.event.Event.{Event}
-use Rattle.event_book.specs.declared.event.Kind.{Kind}
-use Rattle.event_book.specs.declared.event.Kind.TheVariants as kinds
+use Rattle.event_book.specs.declared.event.EventKind.{EventKind}
+use Rattle.event_book.specs.declared.event.EventKind.TheVariants as kinds
 use Rattle.event_book.specs.declared.event.MessageEvent.{MessageEvent}
 use Rattle.event_book.specs.declared.event.MessageEvent.TheVariants.{Sent, Delivered, Lost}
 use Rattle.event_book.specs.declared.event.StoreEvent.TheVariants as stores
@@ -21,17 +21,17 @@ use Rattle.event_book.specs.declared.message.Body.{Body}
 use Rattle.event_book.specs.declared.message.Body.TheVariants as bodies
 use Rattle.event_book.specs.Clock.{now_after}
 use Rattle.event_book.specs.Functions.{put_at}
-use Rattle.event_book.specs.Writers.{writes_by}
-use Rattle.lease_law.specs.Leases.{LeaderKey, FailsafeKey, Query, Create, Renew, Release, Write, Read, Request, Grant, Answer, Flying, Requested, Answered, Begged, Acknowledged, Taking}
-use Rattle.lease_law.specs.Outcomes.{seen_of, told_if, failsafe_carried, renewed}
+use Rattle.event_book.specs.Writers.{writes_after}
+use Rattle.lease_law.specs.Leases.{LeaderKey, FailsafeKey, Query, Create, Renew, Release, Write, Read, Question, Grant, Answer, Flying, Requested, Answered, FailsafeRequested, Acknowledged, Taking}
+use Rattle.lease_law.specs.Outcomes.{seen_of, shown_if, failsafe_carried, renewed}
 use Rattle.lease_law.specs.States.{Agent, Machine, Declared, State, leader_kept, fresh_agent}
 
-abbrev pub members_in : MemberSet → ℕ → Bool
-members_in set p = bit_at set.bits p == 1
+abbrev pub set_members : MemberSet → ℕ → Bool
+set_members set p = bit_at set.bits p == 1
 
 abbrev pub members_if : Option MemberSet → Option (ℕ → Bool)
 members_if None = None
-members_if (Some set) = Some (members_in set)
+members_if (Some set) = Some (set_members set)
 
 -- what the lease reads of a transaction
 abbrev pub query_of : Txn → Query
@@ -52,7 +52,7 @@ pub record Past : Type 0 where
   pub failsafe : Option FailsafeKey
   pub revision : ℕ
   -- every question to the key store so far, by the number of its message
-  pub asked : ℕ → Option Request
+  pub asked : ℕ → Option Question
   -- the moment at which each message was sent
   pub sent : ℕ → Option ℕ
   pub flight : ℕ → Option Flying
@@ -74,81 +74,81 @@ leader_granted clock revision leader by (Renew compared ttl carried) = extended_
 leader_granted clock revision leader by (Release compared) = None
 leader_granted clock revision leader by _ = leader
 
-abbrev pub leader_by : ℕ → ℕ → Option LeaderKey → Kind → Option LeaderKey
-leader_by clock revision leader kinds.Tick = leader_kept (clock + 1) leader
-leader_by clock revision leader (kinds.Store (stores.Granted number by txn standbys)) = leader_granted clock revision leader by.id.number (query_of txn)
-leader_by clock revision leader _ = leader
+abbrev pub leader_after : ℕ → ℕ → Option LeaderKey → EventKind → Option LeaderKey
+leader_after clock revision leader kinds.Tick = leader_kept (clock + 1) leader
+leader_after clock revision leader (kinds.Store (stores.Granted number by txn standbys)) = leader_granted clock revision leader by.id.number (query_of txn)
+leader_after clock revision leader _ = leader
 
 abbrev pub failsafe_granted : ℕ → Option FailsafeKey → Query → Option FailsafeKey
 failsafe_granted revision failsafe (Renew compared ttl carried) = failsafe_carried (revision + 1) carried failsafe
 failsafe_granted revision failsafe _ = failsafe
 
-abbrev pub failsafe_by : ℕ → Option FailsafeKey → Kind → Option FailsafeKey
-failsafe_by revision failsafe (kinds.Store (stores.Granted number by txn standbys)) = failsafe_granted revision failsafe (query_of txn)
-failsafe_by revision failsafe _ = failsafe
+abbrev pub failsafe_after : ℕ → Option FailsafeKey → EventKind → Option FailsafeKey
+failsafe_after revision failsafe (kinds.Store (stores.Granted number by txn standbys)) = failsafe_granted revision failsafe (query_of txn)
+failsafe_after revision failsafe _ = failsafe
 
-abbrev pub revision_by : ℕ → Kind → ℕ
-revision_by revision (kinds.Store (stores.Granted number by txn standbys)) = revision + 1
-revision_by revision _ = revision
+abbrev pub revision_after : ℕ → EventKind → ℕ
+revision_after revision (kinds.Store (stores.Granted number by txn standbys)) = revision + 1
+revision_after revision _ = revision
 
 -- the grant that an answer tells: that of the last revision, to this question
-abbrev pub grant_of : Bool → Past → Option Request → Option Grant
+abbrev pub grant_of : Bool → Past → Option Question → Option Grant
 grant_of true past (Some request) = Some (record { revision = past.revision; sent = request.sent; moment = past.clock; ttl = lease_span request.query; failsafe = past.failsafe })
 grant_of _ past _ = None
 
 abbrev pub answer_of : Past → ℕ → ℕ → ℕ → Bool → Option Grant → Answer
-answer_of past member run sequence snapshot grant = record { member = member; run = run; sequence = sequence; leader = told_if snapshot (seen_of past.leader); failsafe = told_if snapshot past.failsafe; grant = grant }
+answer_of past member run sequence snapshot grant = record { member = member; run = run; sequence = sequence; leader = shown_if snapshot (seen_of past.leader); failsafe = shown_if snapshot past.failsafe; grant = grant }
 
 -- a message of this member to the key store
-abbrev pub asked_of : Past → ℕ → ℕ → ℕ → Body → Option Flying
-asked_of past member run sequence bodies.Read = Some (Requested (record { member = member; run = run; sequence = sequence; sent = past.clock; query = Read }))
-asked_of past member run sequence (bodies.Request txn) = Some (Requested (record { member = member; run = run; sequence = sequence; sent = past.clock; query = query_of txn }))
-asked_of past member run sequence _ = None
+abbrev pub question_in_flight_of : Past → ℕ → ℕ → ℕ → Body → Option Flying
+question_in_flight_of past member run sequence bodies.Read = Some (Requested (record { member = member; run = run; sequence = sequence; sent = past.clock; query = Read }))
+question_in_flight_of past member run sequence (bodies.Request txn) = Some (Requested (record { member = member; run = run; sequence = sequence; sent = past.clock; query = query_of txn }))
+question_in_flight_of past member run sequence _ = None
 
 -- a message of the key store to this member
-abbrev pub told_of : Past → ℕ → ℕ → ℕ → Body → Option Flying
-told_of past member run sequence bodies.Snapshot = Some (Answered (answer_of past member run sequence true None))
-told_of past member run sequence (bodies.Granted request leased) = Some (Answered (answer_of past member run sequence true (grant_of leased past (past.asked request))))
-told_of past member run sequence (bodies.Refused request key found) = Some (Answered (answer_of past member run sequence false None))
-told_of past member run sequence _ = None
+abbrev pub answer_in_flight_of : Past → ℕ → ℕ → ℕ → Body → Option Flying
+answer_in_flight_of past member run sequence bodies.Snapshot = Some (Answered (answer_of past member run sequence true None))
+answer_in_flight_of past member run sequence (bodies.Granted request leased) = Some (Answered (answer_of past member run sequence true (grant_of leased past (past.asked request))))
+answer_in_flight_of past member run sequence (bodies.Refused request key found) = Some (Answered (answer_of past member run sequence false None))
+answer_in_flight_of past member run sequence _ = None
 
 -- a message of the first member to the second
-abbrev pub said_of : Past → ℕ → ℕ → ℕ → ℕ → Body → Option Flying
-said_of past by member run sequence (bodies.Beg ttl) = Some (Begged (record { member = by; run = run; sequence = sequence; ttl = ttl.0; sent = past.clock }))
-said_of past by member run sequence (bodies.Held true) = Some (Acknowledged (record { member = member; run = run; sequence = sequence; by = by }))
-said_of past by member run sequence _ = None
+abbrev pub peer_in_flight_of : Past → ℕ → ℕ → ℕ → ℕ → Body → Option Flying
+peer_in_flight_of past by member run sequence (bodies.FailsafeRequest ttl) = Some (FailsafeRequested (record { member = by; run = run; sequence = sequence; ttl = ttl.0; sent = past.clock }))
+peer_in_flight_of past by member run sequence (bodies.FailsafeAnswer true) = Some (Acknowledged (record { member = member; run = run; sequence = sequence; by = by }))
+peer_in_flight_of past by member run sequence _ = None
 
 -- what the lease reads of a message that is sent
 abbrev pub flying_of : Past → LinkEnd → LinkEnd → ℕ → ℕ → Body → Option Flying
-flying_of past (ends.Member member) ends.Store run sequence body = asked_of past member.id.number run sequence body
-flying_of past ends.Store (ends.Member member) run sequence body = told_of past member.id.number run sequence body
-flying_of past (ends.Member by) (ends.Member member) run sequence body = said_of past by.id.number member.id.number run sequence body
+flying_of past (ends.Member member) ends.Store run sequence body = question_in_flight_of past member.id.number run sequence body
+flying_of past ends.Store (ends.Member member) run sequence body = answer_in_flight_of past member.id.number run sequence body
+flying_of past (ends.Member by) (ends.Member member) run sequence body = peer_in_flight_of past by.id.number member.id.number run sequence body
 flying_of past ends.Store ends.Store run sequence body = None
 
-abbrev pub asked_with : (ℕ → Option Request) → ℕ → Option Flying → ℕ → Option Request
+abbrev pub asked_with : (ℕ → Option Question) → ℕ → Option Flying → ℕ → Option Question
 asked_with asked number (Some (Requested request)) = put_at asked number (Some request)
 asked_with asked number _ = asked
 
-abbrev pub flight_by : Past → MessageEvent → ℕ → Option Flying
-flight_by past (Sent number message) = put_at past.flight number (flying_of past message.from message.to message.run message.sequence message.body)
-flight_by past (Delivered number) = put_at past.flight number None
-flight_by past (Lost number) = put_at past.flight number None
+abbrev pub past_flight_by : Past → MessageEvent → ℕ → Option Flying
+past_flight_by past (Sent number message) = put_at past.flight number (flying_of past message.from message.to message.run message.sequence message.body)
+past_flight_by past (Delivered number) = put_at past.flight number None
+past_flight_by past (Lost number) = put_at past.flight number None
 
-abbrev pub asked_by : Past → MessageEvent → ℕ → Option Request
+abbrev pub asked_by : Past → MessageEvent → ℕ → Option Question
 asked_by past (Sent number message) = asked_with past.asked number (flying_of past message.from message.to message.run message.sequence message.body)
 asked_by past _ = past.asked
 
-abbrev pub flight_after : Past → Kind → ℕ → Option Flying
-flight_after past (kinds.Message happening) = flight_by past happening
-flight_after past _ = past.flight
+abbrev pub past_flight_after : Past → EventKind → ℕ → Option Flying
+past_flight_after past (kinds.Message happening) = past_flight_by past happening
+past_flight_after past _ = past.flight
 
-abbrev pub asked_after : Past → Kind → ℕ → Option Request
+abbrev pub asked_after : Past → EventKind → ℕ → Option Question
 asked_after past (kinds.Message happening) = asked_by past happening
 asked_after past _ = past.asked
 
-abbrev pub sent_after : ℕ → (ℕ → Option ℕ) → Kind → ℕ → Option ℕ
-sent_after clock sent (kinds.Message (Sent number message)) = put_at sent number (Some clock)
-sent_after clock sent _ = sent
+abbrev pub moments_sent_after : ℕ → (ℕ → Option ℕ) → EventKind → ℕ → Option ℕ
+moments_sent_after clock sent (kinds.Message (Sent number message)) = put_at sent number (Some clock)
+moments_sent_after clock sent _ = sent
 
 abbrev pub deadline_by : (ℕ → Option ℕ) → WatchdogEvent → ℕ → Option ℕ
 deadline_by deadline (watchdogs.Armed member until answer) = put_at deadline member.id.number (Some until.0)
@@ -170,47 +170,47 @@ abbrev pub hold_by : (ℕ → ℕ) → WatchdogEvent → ℕ → ℕ
 hold_by hold (watchdogs.HoldTaken member until from run sequence) = put_at hold member.id.number (max (hold member.id.number) until.0)
 hold_by hold _ = hold
 
-abbrev pub deadline_after : (ℕ → Option ℕ) → Kind → ℕ → Option ℕ
+abbrev pub deadline_after : (ℕ → Option ℕ) → EventKind → ℕ → Option ℕ
 deadline_after deadline (kinds.Watchdog happening) = deadline_by deadline happening
 deadline_after deadline _ = deadline
 
-abbrev pub by_failsafe_after : (ℕ → Bool) → Kind → ℕ → Bool
+abbrev pub by_failsafe_after : (ℕ → Bool) → EventKind → ℕ → Bool
 by_failsafe_after by_failsafe (kinds.Watchdog happening) = by_failsafe_by by_failsafe happening
 by_failsafe_after by_failsafe _ = by_failsafe
 
-abbrev pub hold_after : (ℕ → ℕ) → Kind → ℕ → ℕ
+abbrev pub hold_after : (ℕ → ℕ) → EventKind → ℕ → ℕ
 hold_after hold (kinds.Watchdog happening) = hold_by hold happening
 hold_after hold _ = hold
 
-abbrev pub taken_after : ℕ → List Taking → Kind → List Taking
+abbrev pub taken_after : ℕ → List Taking → EventKind → List Taking
 taken_after clock taken (kinds.Watchdog (watchdogs.HoldTaken member until from run sequence)) = record { by = member.id.number; from = from.id.number; run = run; sequence = sequence; moment = clock } ∷ taken
 taken_after clock taken _ = taken
 
-abbrev pub runs_after : (ℕ → ℕ) → Kind → ℕ → ℕ
+abbrev pub runs_after : (ℕ → ℕ) → EventKind → ℕ → ℕ
 runs_after runs (kinds.Agent (agents.Started agent run)) = put_at runs agent.id.number run
 runs_after runs _ = runs
 
 -- what one more event leaves
-abbrev pub past_by : Past → Kind → Past
-past_by past kind = record {
+abbrev pub past_after : Past → EventKind → Past
+past_after past kind = record {
   clock = now_after past.clock kind;
-  leader = leader_by past.clock past.revision past.leader kind;
-  failsafe = failsafe_by past.revision past.failsafe kind;
-  revision = revision_by past.revision kind;
+  leader = leader_after past.clock past.revision past.leader kind;
+  failsafe = failsafe_after past.revision past.failsafe kind;
+  revision = revision_after past.revision kind;
   asked = asked_after past kind;
-  sent = sent_after past.clock past.sent kind;
-  flight = flight_after past kind;
+  sent = moments_sent_after past.clock past.sent kind;
+  flight = past_flight_after past kind;
   deadline = deadline_after past.deadline kind;
   by_failsafe = by_failsafe_after past.by_failsafe kind;
   hold = hold_after past.hold kind;
   taken = taken_after past.clock past.taken kind;
   runs = runs_after past.runs kind;
-  writes = writes_by past.writes kind;
+  writes = writes_after past.writes kind;
 }
 
-abbrev pub past_after : Past → List Event → Past
-past_after past [] = past
-past_after past (event ∷ events) = past_after (past_by past event.kind) events
+abbrev pub past_over : Past → List Event → Past
+past_over past [] = past
+past_over past (event ∷ events) = past_over (past_after past event.kind) events
 
 abbrev pub first_past : Past
 first_past = record {
@@ -231,22 +231,22 @@ first_past = record {
 
 -- what a book determines of the lease
 abbrev pub past_of : List Event → Past
-past_of book = past_after first_past book
+past_of book = past_over first_past book
 
 -- what no event says of a member: whether its server is live, and its agent
-pub record Mind : Type 0 where
+pub record VolatileState : Type 0 where
   pub live : Bool
   pub agent : Option Agent
 
-abbrev pub first_mind : Mind
-first_mind = record { live = false; agent = Some (fresh_agent 1) }
+abbrev pub first_volatile_state : VolatileState
+first_volatile_state = record { live = false; agent = Some (fresh_agent 1) }
 
-abbrev pub machine_of : Past → Mind → ℕ → Machine
-machine_of past mind m = record { live = mind.live; deadline = past.deadline m; by_failsafe = past.by_failsafe m; hold = past.hold m; agent = mind.agent; runs = past.runs m }
+abbrev pub machine_of : Past → VolatileState → ℕ → Machine
+machine_of past volatile_state m = record { live = volatile_state.live; deadline = past.deadline m; by_failsafe = past.by_failsafe m; hold = past.hold m; agent = volatile_state.agent; runs = past.runs m }
 
--- the state that a book and the minds of its members are
-abbrev pub state_of : Declared → Past → (ℕ → Mind) → State
-state_of declared past minds = record {
+-- the state that a book and the volatile states of its members are
+abbrev pub state_of : Declared → Past → (ℕ → VolatileState) → State
+state_of declared past volatile_states = record {
   declared = declared;
   clock = past.clock;
   leader = past.leader;
@@ -254,6 +254,6 @@ state_of declared past minds = record {
   revision = past.revision;
   flight = past.flight;
   taken = past.taken;
-  members = λ m. machine_of past (minds m) m;
+  members = λ m. machine_of past (volatile_states m) m;
   writes = past.writes;
 }

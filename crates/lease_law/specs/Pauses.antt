@@ -3,7 +3,7 @@ use Rattle.std.specs.Prelude.{◌≡◌, false, List, [], ◌∷◌, Option, Som
 use Rattle.std.specs.FinMap.{find}
 use Rattle.lease_store.specs.declared.key.Key.{Key}
 use Rattle.lease_store.specs.declared.key.Key.TheVariants as keys
-use Rattle.lease_store.specs.declared.value.Held.{Held}
+use Rattle.lease_store.specs.declared.value.KeyEntry.{KeyEntry}
 use Rattle.lease_store.specs.declared.value.Value.{Value}
 use Rattle.lease_store.specs.declared.value.Value.TheVariants as values
 use Rattle.lease_store.specs.KeyOrder.{key_cmp}
@@ -15,12 +15,12 @@ abbrev pub IsUnpausedValue : Value → Type 0
 IsUnpausedValue (values.Config config) = config.config.pause ≡ false
 IsUnpausedValue _ = Unit {0}
 
-abbrev pub IsUnpausedHeld : Option Held → Type 0
+abbrev pub IsUnpausedHeld : Option KeyEntry → Type 0
 IsUnpausedHeld None = Unit {0}
-IsUnpausedHeld (Some held) = IsUnpausedValue held.value
+IsUnpausedHeld (Some found_key) = IsUnpausedValue found_key.value
 
 -- the configuration among these pairs doesn't pause
-abbrev pub IsUnpausedIn : List (Key × Held) → Type 0
+abbrev pub IsUnpausedIn : List (Key × KeyEntry) → Type 0
 IsUnpausedIn pairs = IsUnpausedHeld (find key_cmp keys.Config pairs)
 
 -- nor does the one of any snapshot in flight

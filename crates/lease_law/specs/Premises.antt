@@ -4,8 +4,8 @@ use Rattle.lease_store.specs.Settings.{Settings}
 use Rattle.lease_store.specs.declared.txn.Txn.{Txn}
 use Rattle.lease_store.specs.declared.txn.Txn.TheVariants as txns
 use Rattle.event_book.specs.declared.event.Event.{Event}
-use Rattle.event_book.specs.declared.event.Kind.{Kind}
-use Rattle.event_book.specs.declared.event.Kind.TheVariants as kinds
+use Rattle.event_book.specs.declared.event.EventKind.{EventKind}
+use Rattle.event_book.specs.declared.event.EventKind.TheVariants as kinds
 use Rattle.event_book.specs.declared.event.MessageEvent.TheVariants as messages
 use Rattle.event_book.specs.declared.event.StoreEvent.TheVariants as stores
 use Rattle.event_book.specs.declared.event.ServerEvent.TheVariants as servers
@@ -16,9 +16,9 @@ use Rattle.event_book.specs.declared.reason.Basis.{Basis}
 use Rattle.event_book.specs.declared.reason.Basis.TheVariants as bases
 use Rattle.event_book.specs.Clock.{now_after}
 use Rattle.lease_law.specs.Leases.{Taking, IsTaken}
-use Rattle.lease_law.specs.States.{Begging, Agent, State}
-use Rattle.lease_law.specs.Inputs.{Move, IsOnTime}
-use Rattle.lease_law.specs.Past.{members_in, sent_after, taken_after, runs_after}
+use Rattle.lease_law.specs.States.{FailsafeCheck, Agent, State}
+use Rattle.lease_law.specs.Inputs.{AgentInput, IsOnTime}
+use Rattle.lease_law.specs.Past.{set_members, moments_sent_after, taken_after, runs_after}
 
 -- the moments that feeds are measured from: the clock, when each message was sent, each hold that was taken, and the run of each
 -- agent
@@ -28,10 +28,10 @@ pub record Moments : Type 0 where
   pub taken : List Taking
   pub runs : ℕ → ℕ
 
-abbrev pub moments_by : Moments → Kind → Moments
-moments_by moments kind = record {
+abbrev pub moments_after : Moments → EventKind → Moments
+moments_after moments kind = record {
   clock = now_after moments.clock kind;
-  sent = sent_after moments.clock moments.sent kind;
+  sent = moments_sent_after moments.clock moments.sent kind;
   taken = taken_after moments.clock moments.taken kind;
   runs = runs_after moments.runs kind;
 }
@@ -48,20 +48,20 @@ IsSentInTime margin clock (Some sent) = IsOnTime margin clock sent
 abbrev pub IsFeedInTime : (ℕ → Option ℕ) → Moments → ℕ → Basis → Type 0
 IsFeedInTime margin moments m (bases.Grant answer) = IsSentInTime (margin m) moments.clock (moments.sent answer)
 IsFeedInTime margin moments m (bases.Acknowledgements members sequence) =
-    (p moment : ℕ) → members_in members p ≡ true → IsTaken moments.taken (record { by = p; from = m; run = moments.runs m; sequence = sequence; moment = moment }) → IsOnTime (margin m) moments.clock moment
+    (p moment : ℕ) → set_members members p ≡ true → IsTaken moments.taken (record { by = p; from = m; run = moments.runs m; sequence = sequence; moment = moment }) → IsOnTime (margin m) moments.clock moment
 
 abbrev pub IsWatchdogInTime : (ℕ → Option ℕ) → Moments → WatchdogEvent → Type 0
 IsWatchdogInTime margin moments (watchdogs.Armed member until answer) = IsFeedInTime margin moments member.id.number (bases.Grant answer)
 IsWatchdogInTime margin moments (watchdogs.Fed member until basis) = IsFeedInTime margin moments member.id.number basis
 IsWatchdogInTime margin moments _ = Unit {0}
 
-abbrev pub IsKindInTime : (ℕ → Option ℕ) → Moments → Kind → Type 0
+abbrev pub IsKindInTime : (ℕ → Option ℕ) → Moments → EventKind → Type 0
 IsKindInTime margin moments (kinds.Watchdog happening) = IsWatchdogInTime margin moments happening
 IsKindInTime margin moments _ = Unit {0}
 
 abbrev pub AreInTime : (ℕ → Option ℕ) → Moments → List Event → Type 0
 AreInTime margin moments [] = Unit {0}
-AreInTime margin moments (event ∷ events) = IsKindInTime margin moments event.kind × AreInTime margin (moments_by moments event.kind) events
+AreInTime margin moments (event ∷ events) = IsKindInTime margin moments event.kind × AreInTime margin (moments_after moments event.kind) events
 
 -- each watchdog of this book is armed and fed in time, with these margins of the members
 abbrev pub IsTimely : (ℕ → Option ℕ) → List Event → Type 0
@@ -72,7 +72,7 @@ abbrev pub IsUnpaused : Txn → Type 0
 IsUnpaused (txns.SetConfig revision config) = config.config.pause ≡ false
 IsUnpaused _ = Unit {0}
 
-abbrev pub IsHandsOffKind : Kind → Type 0
+abbrev pub IsHandsOffKind : EventKind → Type 0
 IsHandsOffKind (kinds.Store (stores.Granted number by txn standbys)) = IsUnpaused txn
 IsHandsOffKind (kinds.Server (servers.Promoted server)) = ⊥
 IsHandsOffKind _ = Unit {0}
@@ -89,34 +89,34 @@ pub record IsHandsOff (first : Settings) (works : ℕ → Bool) (book : List Eve
   pub events : AreHandsOff book
 
 -- an event at which the clock and the runs stay as they are
-abbrev pub IsStill : Kind → Type 0
-IsStill kinds.Tick = ⊥
-IsStill (kinds.Agent (agents.Started agent run)) = ⊥
-IsStill _ = Unit {0}
+abbrev pub KeepsClockAndRuns : EventKind → Type 0
+KeepsClockAndRuns kinds.Tick = ⊥
+KeepsClockAndRuns (kinds.Agent (agents.Started agent run)) = ⊥
+KeepsClockAndRuns _ = Unit {0}
 
 -- such an event that doesn't send the message of this number
-abbrev pub IsAside : ℕ → Kind → Type 0
-IsAside number (kinds.Message (messages.Sent other message)) = other ≡ number → ⊥
-IsAside number kind = IsStill kind
+abbrev pub KeepsMomentOf : ℕ → EventKind → Type 0
+KeepsMomentOf number (kinds.Message (messages.Sent other message)) = other ≡ number → ⊥
+KeepsMomentOf number kind = KeepsClockAndRuns kind
 
-abbrev pub AllAre : (Kind → Type 0) → List Event → Type 0
+abbrev pub AllAre : (EventKind → Type 0) → List Event → Type 0
 AllAre P [] = Unit {0}
 AllAre P (event ∷ events) = P event.kind × AllAre P events
 
 -- the watchdog of this member is armed or fed in this event by the grant that the answer of this number tells
-abbrev pub IsFedBy : ℕ → ℕ → Kind → Type 0
+abbrev pub IsFedBy : ℕ → ℕ → EventKind → Type 0
 IsFedBy m answer (kinds.Watchdog (watchdogs.Armed member until number)) = (member.id.number ≡ m) × (number ≡ answer)
 IsFedBy m answer (kinds.Watchdog (watchdogs.Fed member until (bases.Grant number))) = (member.id.number ≡ m) × (number ≡ answer)
 IsFedBy m answer _ = ⊥
 
 -- it is fed in this event by the acknowledgements of these members of the failsafe request of this number
-abbrev pub IsFedOn : ℕ → (ℕ → Bool) → ℕ → Kind → Type 0
+abbrev pub IsFedOn : ℕ → (ℕ → Bool) → ℕ → EventKind → Type 0
 IsFedOn m members sequence (kinds.Watchdog (watchdogs.Fed member until (bases.Acknowledgements acknowledging number))) =
-    (member.id.number ≡ m) × (number ≡ sequence) × ((p : ℕ) → members p ≡ true → members_in acknowledging p ≡ true)
+    (member.id.number ≡ m) × (number ≡ sequence) × ((p : ℕ) → members p ≡ true → set_members acknowledging p ≡ true)
 IsFedOn m members sequence _ = ⊥
 
 -- where an input arms or feeds the watchdog, this event behind those tells it
-pub record ShowsFeed (s : State) (m : ℕ) (move : Move) (front : List Event) (event : Event) : Type 0 where
-  pub by_grant : move.feeds ≡ true → move.machine.by_failsafe ≡ false → (number : ℕ) → move.heard ≡ Some number → AllAre (IsAside number) front × IsFedBy m number event.kind
-  pub by_failsafe : move.feeds ≡ true → move.machine.by_failsafe ≡ true → (was : Agent) (begging : Begging) → (s.members m).agent ≡ Some was → was.begging ≡ Some begging
-      → (was.run ≡ (s.members m).runs) × AllAre IsStill front × IsFedOn m begging.members begging.sequence event.kind
+pub record ShowsFeed (s : State) (m : ℕ) (input : AgentInput) (front : List Event) (event : Event) : Type 0 where
+  pub by_grant : input.feeds ≡ true → input.machine.by_failsafe ≡ false → (number : ℕ) → input.heard ≡ Some number → AllAre (KeepsMomentOf number) front × IsFedBy m number event.kind
+  pub by_failsafe : input.feeds ≡ true → input.machine.by_failsafe ≡ true → (was : Agent) (failsafe_check : FailsafeCheck) → (s.members m).agent ≡ Some was → was.failsafe_check ≡ Some failsafe_check
+      → (was.run ≡ (s.members m).runs) × AllAre KeepsClockAndRuns front × IsFedOn m failsafe_check.members failsafe_check.sequence event.kind

@@ -4,7 +4,7 @@ use Rattle.lease_law.specs.Leases.{LeaderKey, LeaderSeen, FailsafeKey, Flying, T
 
 -- an agent waits for acknowledgements: of its failsafe request of this number, with this span, sent at this moment to these
 -- members, of whom these have acknowledged it
-pub record Begging : Type 0 where
+pub record FailsafeCheck : Type 0 where
   pub sequence : ℕ
   pub ttl : ℕ
   pub sent : ℕ
@@ -32,7 +32,7 @@ pub record Agent : Type 0 where
   pub known : ℕ → Bool
   -- it accepted a snapshot with a failsafe key in this run
   pub informed : Bool
-  pub begging : Option Begging
+  pub failsafe_check : Option FailsafeCheck
 
 -- the machine of a member
 pub record Machine : Type 0 where
@@ -95,8 +95,8 @@ abbrev pub leader_kept : ℕ → Option LeaderKey → Option LeaderKey
 leader_kept now None = None
 leader_kept now (Some key) = kept_if (nat_le key.expiry now) key
 
-abbrev pub ticked : State → (ℕ → Bool) → State
-ticked s stops = record s {
+abbrev pub state_after_tick : State → (ℕ → Bool) → State
+state_after_tick s stops = record s {
   clock = s.clock + 1;
   leader = leader_kept (s.clock + 1) s.leader;
   members = λ m. tick_machine (is_due (s.clock + 1) (s.members m).deadline) (stops m) (s.members m);
@@ -107,7 +107,7 @@ deadline_if true deadline = deadline
 deadline_if false deadline = None
 
 abbrev pub fresh_agent : ℕ → Agent
-fresh_agent run = record { run = run; last = 0; waits = None; lease = None; ready = false; leads = false; leader = None; failsafe = None; known = λ p. false; informed = false; begging = None }
+fresh_agent run = record { run = run; last = 0; waits = None; lease = None; ready = false; leads = false; leader = None; failsafe = None; known = λ p. false; informed = false; failsafe_check = None }
 
 -- an agent that starts removes a deadline, but over a live server leaves it
 abbrev pub start_machine : Machine → Machine

@@ -3,53 +3,53 @@ use Rattle.std.specs.Prelude.{ℕ, ◌≡◌, ◌+◌, ◌<◌, Bool, true, fals
 use Rattle.std.specs.FinMap.{find}
 use Rattle.pat_base.specs.declared.ticks.Ticks.{Ticks}
 use Rattle.lease_store.specs.declared.key.Key.TheVariants as keys
-use Rattle.lease_store.specs.declared.value.Held.{Held}
+use Rattle.lease_store.specs.declared.value.KeyEntry.{KeyEntry}
 use Rattle.lease_store.specs.declared.value.Value.{Value}
 use Rattle.lease_store.specs.declared.value.Value.TheVariants as values
 use Rattle.lease_store.specs.declared.txn.Txn.{Txn}
 use Rattle.lease_store.specs.declared.txn.Txn.TheVariants as txns
 use Rattle.lease_store.specs.KeyOrder.{key_cmp}
-use Rattle.event_book.specs.declared.event.Kind.{Kind}
-use Rattle.event_book.specs.declared.event.Kind.TheVariants as kinds
+use Rattle.event_book.specs.declared.event.EventKind.{EventKind}
+use Rattle.event_book.specs.declared.event.EventKind.TheVariants as kinds
 use Rattle.event_book.specs.declared.event.StoreEvent.TheVariants as stores
 use Rattle.lease_store.specs.Kept.{IsKept}
 use Rattle.event_book.specs.Facts.{Facts}
 use Rattle.lease_store.specs.Decision.{Decision, Grant as Granting, Refusal as Refusing}
 use Rattle.lease_law.specs.Leases.{LeaderKey, FailsafeKey, Query, Create, Renew, Grant}
-use Rattle.lease_law.specs.Outcomes.{Outcome, refused}
-use Rattle.lease_law.specs.Past.{Past, members_in, leader_granted, failsafe_granted}
+use Rattle.lease_law.specs.Outcomes.{Outcome, refused_outcome}
+use Rattle.lease_law.specs.Past.{Past, set_members, leader_granted, failsafe_granted}
 
 abbrev pub leader_value : Value → ℕ → Option Ticks → Option LeaderKey
 leader_value (values.Leader member) revision (Some expiry) = Some (record { holder = member.number; revision = revision; expiry = expiry.0 })
 leader_value _ revision _ = None
 
-abbrev pub leader_held : Option Held → Option LeaderKey
-leader_held None = None
-leader_held (Some held) = leader_value held.value held.revision held.expiry
+abbrev pub leader_key_of : Option KeyEntry → Option LeaderKey
+leader_key_of None = None
+leader_key_of (Some found_key) = leader_value found_key.value found_key.revision found_key.expiry
 
 abbrev pub failsafe_value : Value → ℕ → Option FailsafeKey
-failsafe_value (values.Failsafe members) revision = Some (record { revision = revision; members = members_in members })
+failsafe_value (values.Failsafe members) revision = Some (record { revision = revision; members = set_members members })
 failsafe_value _ revision = None
 
-abbrev pub failsafe_held : Option Held → Option FailsafeKey
-failsafe_held None = None
-failsafe_held (Some held) = failsafe_value held.value held.revision
+abbrev pub failsafe_key_of : Option KeyEntry → Option FailsafeKey
+failsafe_key_of None = None
+failsafe_key_of (Some found_key) = failsafe_value found_key.value found_key.revision
 
 -- the leader key has an expiry, and the failsafe key none
-abbrev pub IsLeased : Option Held → Type 0
+abbrev pub IsLeased : Option KeyEntry → Type 0
 IsLeased None = Unit {0}
-IsLeased (Some held) = IsSome held.expiry
+IsLeased (Some found_key) = IsSome found_key.expiry
 
-abbrev pub IsEndless : Option Held → Type 0
+abbrev pub IsEndless : Option KeyEntry → Type 0
 IsEndless None = Unit {0}
-IsEndless (Some held) = held.expiry ≡ None
+IsEndless (Some found_key) = found_key.expiry ≡ None
 
 abbrev pub IsSpannedTxn : Txn → Type 0
 IsSpannedTxn (txns.Create info ttl failsafe sync) = 0 < ttl.0
 IsSpannedTxn _ = Unit {0}
 
 -- a leader key that this event creates isn't absent at once
-abbrev pub IsSpanned : Kind → Type 0
+abbrev pub IsSpanned : EventKind → Type 0
 IsSpanned (kinds.Store (stores.Granted number by txn standbys)) = IsSpannedTxn txn
 IsSpanned _ = Unit {0}
 
@@ -57,8 +57,8 @@ IsSpanned _ = Unit {0}
 pub record IsSameStore (past : Past) (facts : Facts) : Type 0 where
   pub clock : past.clock ≡ facts.clock
   pub revision : past.revision ≡ facts.keys.revision
-  pub leader : past.leader ≡ leader_held (find key_cmp keys.Leader facts.keys.pairs)
-  pub failsafe : past.failsafe ≡ failsafe_held (find key_cmp keys.Failsafe facts.keys.pairs)
+  pub leader : past.leader ≡ leader_key_of (find key_cmp keys.Leader facts.keys.pairs)
+  pub failsafe : past.failsafe ≡ failsafe_key_of (find key_cmp keys.Failsafe facts.keys.pairs)
   pub kept : IsKept facts.keys.pairs
   pub leased : IsLeased (find key_cmp keys.Leader facts.keys.pairs)
   pub endless : IsEndless (find key_cmp keys.Failsafe facts.keys.pairs)
@@ -87,4 +87,4 @@ is_granted (Refusing key found) = false
 -- what a question leaves by the key store's decision
 abbrev pub outcome_by : Decision → ℕ → Option LeaderKey → Option FailsafeKey → ℕ → ℕ → ℕ → Query → Outcome
 outcome_by Granting clock leader failsafe revision by sent query = granted_outcome clock leader failsafe revision by sent query
-outcome_by (Refusing key found) clock leader failsafe revision by sent query = refused leader failsafe revision
+outcome_by (Refusing key found) clock leader failsafe revision by sent query = refused_outcome leader failsafe revision

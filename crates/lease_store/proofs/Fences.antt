@@ -6,7 +6,7 @@ use Rattle.std.specs.FinMap.{find, put}
 use Rattle.pat_base.specs.declared.member_id.MemberId.{MemberId}
 use Rattle.lease_store.specs.declared.key.Key.{Key}
 use Rattle.lease_store.specs.declared.key.Key.TheVariants as keys
-use Rattle.lease_store.specs.declared.value.Held.{Held}
+use Rattle.lease_store.specs.declared.value.KeyEntry.{KeyEntry}
 use Rattle.lease_store.specs.declared.value.Value.TheVariants as values
 use Rattle.lease_store.specs.declared.txn.Expected.{Expected}
 use Rattle.lease_store.specs.declared.txn.Expected.TheVariants.{Absent, Revision}
@@ -16,75 +16,75 @@ use Rattle.lease_store.specs.KeyOrder.{key_cmp}
 use Rattle.lease_store.specs.Kept.{IsKept}
 use Rattle.lease_store.specs.Keys.{Keys, key_in, present, first_keys}
 use Rattle.lease_store.specs.Settings.{Settings}
-use Rattle.lease_store.specs.Decision.{Decision, Grant, Refusal, decided, decision_by, decision_on, compares_of, found_in, is_as_expected}
-use Rattle.lease_store.specs.Writes.{Write, Sets, Leases, Extends, Deletes, status_carried, row_carried, failsafe_carried, writes_of, later, extended, without, written, all_written, keys_after, is_lease}
-use Rattle.lease_store.specs.Fencing.{Request, Call, Asks, Drops, IsGranted, answered, state_after, called, states_after, ComparesWith}
+use Rattle.lease_store.specs.Decision.{Decision, Grant, Refusal, decision_if, decision_by, decision_on, compares_of, found_in, is_as_expected}
+use Rattle.lease_store.specs.Writes.{Write, Sets, Leases, Extends, Deletes, status_writes, row_writes, failsafe_writes, writes_of, extended_expiry, pairs_extended, without, pairs_after, pairs_over, keys_after_grant, is_lease}
+use Rattle.lease_store.specs.Fencing.{StoreRequest, Call, Asks, Drops, IsGranted, keys_by_decision, keys_after_request, keys_after_call, keys_over, ComparesWith}
 use Rattle.lease_store.proofs.Keeping.{find_put, find_without, find_present, kept_after, kept_present}
 use Rattle.lease_store.proofs.Answering.{present_found}
 
 -- the leader key, where it is held, is of a later revision
-pub record Later (revision : ℕ) (found : Option Held) : Type 0 where
-  pub above : (held : Held) → found ≡ Some held → revision < held.revision
+pub record Later (revision : ℕ) (found : Option KeyEntry) : Type 0 where
+  pub above : (stored : KeyEntry) → found ≡ Some stored → revision < stored.revision
 
-revision-of : (a b : Held) → Some a ≡ Some b → a.revision ≡ b.revision
-revision-of a b h = ap (λ (held : Held). held.revision) (same a b h)
+revision-of : (a b : KeyEntry) → Some a ≡ Some b → a.revision ≡ b.revision
+revision-of a b h = ap (λ (stored : KeyEntry). stored.revision) (same a b h)
   where
-    same : (a b : Held) → Some a ≡ Some b → a ≡ b
+    same : (a b : KeyEntry) → Some a ≡ Some b → a ≡ b
     same a b h = cc
 
 later-none : (revision : ℕ) → Later revision None
-later-none revision = record { above = λ held h. absurd (never held h) }
+later-none revision = record { above = λ stored h. absurd (never stored h) }
   where
-    never : (held : Held) → None ≡ Some held → ⊥
-    never held h = cc
+    never : (stored : KeyEntry) → None ≡ Some stored → ⊥
+    never stored h = cc
 
-later-some : (revision : ℕ) (held : Held) → revision < held.revision → Later revision (Some held)
-later-some revision held h = record { above = λ other is. subst (λ (n : ℕ). revision < n) (revision-of held other is) h }
+later-some : (revision : ℕ) (stored : KeyEntry) → revision < stored.revision → Later revision (Some stored)
+later-some revision stored h = record { above = λ other is. subst (λ (n : ℕ). revision < n) (revision-of stored other is) h }
 
-later-cond : (revision : ℕ) (b : Bool) (held : Held) (found : Option Held) → revision < held.revision → Later revision found → Later revision (cond b (Some held) found)
-later-cond revision true held found h old = later-some revision held h
-later-cond revision false held found h old = old
+later-cond : (revision : ℕ) (b : Bool) (stored : KeyEntry) (found : Option KeyEntry) → revision < stored.revision → Later revision found → Later revision (cond b (Some stored) found)
+later-cond revision true stored found h old = later-some revision stored h
+later-cond revision false stored found h old = old
 
-later-left : (revision : ℕ) (b : Bool) (found : Option Held) → Later revision found → Later revision (cond b found None)
+later-left : (revision : ℕ) (b : Bool) (found : Option KeyEntry) → Later revision found → Later revision (cond b found None)
 later-left revision true found old = old
 later-left revision false found old = later-none revision
 
-later-put : (revision : ℕ) (key : Key) (held : Held) (es : List (Key × Held)) → revision < held.revision → Later revision (find key_cmp keys.Leader es) → Later revision (find key_cmp keys.Leader (put key_cmp key held es))
-later-put revision key held es h old = subst (Later revision) (sym (find_put keys.Leader key held es)) (later-cond revision (eq_by_cmp key_cmp keys.Leader key) held (find key_cmp keys.Leader es) h old)
+later-put : (revision : ℕ) (key : Key) (stored : KeyEntry) (es : List (Key × KeyEntry)) → revision < stored.revision → Later revision (find key_cmp keys.Leader es) → Later revision (find key_cmp keys.Leader (put key_cmp key stored es))
+later-put revision key stored es h old = subst (Later revision) (sym (find_put keys.Leader key stored es)) (later-cond revision (eq_by_cmp key_cmp keys.Leader key) stored (find key_cmp keys.Leader es) h old)
 
-later-extended : (revision by until : ℕ) (key : Key) (es : List (Key × Held)) (found : Option Held) → revision < by → Later revision (find key_cmp keys.Leader es) → Later revision (find key_cmp keys.Leader (extended by until es key found))
-later-extended revision by until key es None h old = old
-later-extended revision by until key es (Some held) h old = later-put revision key (record held { revision = by; expiry = later until held.expiry }) es h old
+later-pairs_extended : (revision by until : ℕ) (key : Key) (es : List (Key × KeyEntry)) (found : Option KeyEntry) → revision < by → Later revision (find key_cmp keys.Leader es) → Later revision (find key_cmp keys.Leader (pairs_extended by until es key found))
+later-pairs_extended revision by until key es None h old = old
+later-pairs_extended revision by until key es (Some stored) h old = later-put revision key (record stored { revision = by; expiry = extended_expiry until stored.expiry }) es h old
 
-later-without : (revision : ℕ) (key : Key) (es : List (Key × Held)) → Later revision (find key_cmp keys.Leader es) → Later revision (find key_cmp keys.Leader (without key es))
+later-without : (revision : ℕ) (key : Key) (es : List (Key × KeyEntry)) → Later revision (find key_cmp keys.Leader es) → Later revision (find key_cmp keys.Leader (without key es))
 later-without revision key es old = subst (Later revision) (sym (find_without keys.Leader key es)) (later-left revision (not (eq_by_cmp key_cmp key keys.Leader)) (find key_cmp keys.Leader es) old)
 
-later-written : (revision by now : ℕ) (write : Write) (es : List (Key × Held)) → revision < by → Later revision (find key_cmp keys.Leader es) → Later revision (find key_cmp keys.Leader (written by now es write))
-later-written revision by now (Sets key value) es h old = later-put revision key (record { value = value; revision = by; expiry = None }) es h old
-later-written revision by now (Leases key value ttl) es h old = later-put revision key (record { value = value; revision = by; expiry = Some (record { 0 = now + ttl.0 }) }) es h old
-later-written revision by now (Extends key ttl) es h old = later-extended revision by (now + ttl.0) key es (find key_cmp key es) h old
-later-written revision by now (Deletes key) es h old = later-without revision key es old
+later-pairs_after : (revision by now : ℕ) (write : Write) (es : List (Key × KeyEntry)) → revision < by → Later revision (find key_cmp keys.Leader es) → Later revision (find key_cmp keys.Leader (pairs_after by now es write))
+later-pairs_after revision by now (Sets key value) es h old = later-put revision key (record { value = value; revision = by; expiry = None }) es h old
+later-pairs_after revision by now (Leases key value ttl) es h old = later-put revision key (record { value = value; revision = by; expiry = Some (record { 0 = now + ttl.0 }) }) es h old
+later-pairs_after revision by now (Extends key ttl) es h old = later-pairs_extended revision by (now + ttl.0) key es (find key_cmp key es) h old
+later-pairs_after revision by now (Deletes key) es h old = later-without revision key es old
 
-later-all : (revision by now : ℕ) (writes : List Write) (es : List (Key × Held)) → revision < by → Later revision (find key_cmp keys.Leader es) → Later revision (find key_cmp keys.Leader (all_written by now es writes))
+later-all : (revision by now : ℕ) (writes : List Write) (es : List (Key × KeyEntry)) → revision < by → Later revision (find key_cmp keys.Leader es) → Later revision (find key_cmp keys.Leader (pairs_over by now es writes))
 later-all revision by now [] es h old = old
-later-all revision by now (write ∷ writes) es h old = later-all revision by now writes (written by now es write) h (later-written revision by now write es h old)
+later-all revision by now (write ∷ writes) es h old = later-all revision by now writes (pairs_after by now es write) h (later-pairs_after revision by now write es h old)
 
 -- ---- a granted lease
-later-lease : (revision : ℕ) (held : Held) (es : List (Key × Held)) → revision < held.revision → Later revision (find key_cmp keys.Leader (put key_cmp keys.Leader held es))
-later-lease revision held es h = subst (Later revision) (sym (find_put keys.Leader keys.Leader held es)) (later-some revision held h)
+later-lease : (revision : ℕ) (stored : KeyEntry) (es : List (Key × KeyEntry)) → revision < stored.revision → Later revision (find key_cmp keys.Leader (put key_cmp keys.Leader stored es))
+later-lease revision stored es h = subst (Later revision) (sym (find_put keys.Leader keys.Leader stored es)) (later-some revision stored h)
 
-later-renewal : (revision by until : ℕ) (es : List (Key × Held)) (found : Option Held) → find key_cmp keys.Leader es ≡ found → revision < by → Later revision (find key_cmp keys.Leader (extended by until es keys.Leader found))
+later-renewal : (revision by until : ℕ) (es : List (Key × KeyEntry)) (found : Option KeyEntry) → find key_cmp keys.Leader es ≡ found → revision < by → Later revision (find key_cmp keys.Leader (pairs_extended by until es keys.Leader found))
 later-renewal revision by until es None is h = subst (Later revision) (sym is) (later-none revision)
-later-renewal revision by until es (Some held) is h = later-lease revision (record held { revision = by; expiry = later until held.expiry }) es h
+later-renewal revision by until es (Some stored) is h = later-lease revision (record stored { revision = by; expiry = extended_expiry until stored.expiry }) es h
 
-later-leased : (revision by now : ℕ) (member : MemberId) (txn : Txn) (es : List (Key × Held)) → is_lease txn ≡ true → revision < by → Later revision (find key_cmp keys.Leader (all_written by now es (writes_of member txn)))
+later-leased : (revision by now : ℕ) (member : MemberId) (txn : Txn) (es : List (Key × KeyEntry)) → is_lease txn ≡ true → revision < by → Later revision (find key_cmp keys.Leader (pairs_over by now es (writes_of member txn)))
 later-leased revision by now member (txns.Create info ttl failsafe sync) es is h =
-    let held : Held = record { value = values.Leader member; revision = by; expiry = Some (record { 0 = now + ttl.0 }) } in
-    later-all revision by now (Leases (keys.Member member) (values.Member info) ttl ∷ []) (put key_cmp keys.Leader held es) h (later-lease revision held es h)
+    let stored : KeyEntry = record { value = values.Leader member; revision = by; expiry = Some (record { 0 = now + ttl.0 }) } in
+    later-all revision by now (Leases (keys.Member member) (values.Member info) ttl ∷ []) (put key_cmp keys.Leader stored es) h (later-lease revision stored es h)
 later-leased revision by now member (txns.Renew compared info ttl status row failsafe) es is h =
     later-all revision by now
-    (Leases (keys.Member member) (values.Member info) ttl ∷ (status_carried status ++ (row_carried row ++ failsafe_carried failsafe)))
-    (extended by (now + ttl.0) es keys.Leader (find key_cmp keys.Leader es)) h
+    (Leases (keys.Member member) (values.Member info) ttl ∷ (status_writes status ++ (row_writes row ++ failsafe_writes failsafe)))
+    (pairs_extended by (now + ttl.0) es keys.Leader (find key_cmp keys.Leader es)) h
     (later-renewal revision by (now + ttl.0) es (find key_cmp keys.Leader es) refl h)
 later-leased revision by now member _ es is h = absurd (never is)
   where
@@ -98,36 +98,36 @@ pub record Fenced (revision : ℕ) (store : Keys) : Type 0 where
   pub counted : revision ≤ store.revision
   pub leader : Later revision (find key_cmp keys.Leader store.pairs)
 
-fenced-granted : (revision : ℕ) (store : Keys) (request : Request) → Fenced revision store → Fenced revision (keys_after store request.at request.by request.txn)
+fenced-granted : (revision : ℕ) (store : Keys) (request : StoreRequest) → Fenced revision store → Fenced revision (keys_after_grant store request.at request.by request.txn)
 fenced-granted revision store request f = record {
   kept = kept_after (store.revision + 1) request.at request.by request.txn store.pairs f.kept;
   counted = omega (arith, f.counted);
   leader = later-all revision (store.revision + 1) request.at (writes_of request.by request.txn) store.pairs (omega (arith, f.counted)) f.leader;
 }
 
-fenced-answered : (revision : ℕ) (store : Keys) (request : Request) (decision : Decision) → Fenced revision store → Fenced revision (answered decision store request)
-fenced-answered revision store request Grant f = fenced-granted revision store request f
-fenced-answered revision store request (Refusal key found) f = f
+fenced-keys_by_decision : (revision : ℕ) (store : Keys) (request : StoreRequest) (decision : Decision) → Fenced revision store → Fenced revision (keys_by_decision decision store request)
+fenced-keys_by_decision revision store request Grant f = fenced-granted revision store request f
+fenced-keys_by_decision revision store request (Refusal key found) f = f
 
-later-present : (revision now : ℕ) (found : Option Held) → Later revision found → Later revision (present now found)
-later-present revision now found old = record { above = λ held h. old.above held (present_found now found held h) }
+later-present : (revision now : ℕ) (found : Option KeyEntry) → Later revision found → Later revision (present now found)
+later-present revision now found old = record { above = λ stored h. old.above stored (present_found now found stored h) }
 
-fenced-called : (revision : ℕ) (store : Keys) (call : Call) → Fenced revision store → Fenced revision (called store call)
-fenced-called revision store (Asks request) f = fenced-answered revision store request (decision_on store request.at request.txn) f
-fenced-called revision store (Drops now) f = record {
+fenced-keys_after_call : (revision : ℕ) (store : Keys) (call : Call) → Fenced revision store → Fenced revision (keys_after_call store call)
+fenced-keys_after_call revision store (Asks request) f = fenced-keys_by_decision revision store request (decision_on store request.at request.txn) f
+fenced-keys_after_call revision store (Drops now) f = record {
   kept = kept_present now store.pairs f.kept;
   counted = f.counted;
   leader = subst (Later revision) (sym (find_present now keys.Leader store.pairs f.kept.order)) (later-present revision now (find key_cmp keys.Leader store.pairs) f.leader);
 }
 
-fenced-states : (revision : ℕ) (store : Keys) (calls : List Call) → Fenced revision store → Fenced revision (states_after store calls)
+fenced-states : (revision : ℕ) (store : Keys) (calls : List Call) → Fenced revision store → Fenced revision (keys_over store calls)
 fenced-states revision store [] f = f
-fenced-states revision store (call ∷ calls) f = fenced-states revision (called store call) calls (fenced-called revision store call f)
+fenced-states revision store (call ∷ calls) f = fenced-states revision (keys_after_call store call) calls (fenced-keys_after_call revision store call f)
 
 -- ---- a transaction that compares an earlier revision
-decided-both : (b : Bool) (key : Key) (found : Expected) (rest : Decision) → decided b key found rest ≡ Grant → (b ≡ true) × (rest ≡ Grant)
-decided-both true key found rest h = (refl, h)
-decided-both false key found rest h = absurd (never h)
+decision_if-both : (b : Bool) (key : Key) (found : Expected) (rest : Decision) → decision_if b key found rest ≡ Grant → (b ≡ true) × (rest ≡ Grant)
+decision_if-both true key found rest h = (refl, h)
+decision_if-both false key found rest h = absurd (never h)
   where
     never : Refusal key found ≡ Grant → ⊥
     never h = cc
@@ -142,26 +142,26 @@ as-expected Absent (Revision b) h = cc
 as-expected (Revision a) Absent h = cc
 
 -- what a granted transaction compares is what is found
-granted-finds : (es : List (Key × Held)) (now : ℕ) (key : Key) (revision : ℕ) (compares : List (Key × Expected)) → decision_by es now compares ≡ Grant → ComparesWith key revision compares → found_in (key_in es now key) ≡ Revision revision
+granted-finds : (es : List (Key × KeyEntry)) (now : ℕ) (key : Key) (revision : ℕ) (compares : List (Key × Expected)) → decision_by es now compares ≡ Grant → ComparesWith key revision compares → found_in (key_in es now key) ≡ Revision revision
 granted-finds es now key revision [] grant with_key = absurd with_key
 granted-finds es now key revision (compare ∷ compares) grant with_key =
-    let parts = decided-both (is_as_expected compare.1 (found_in (key_in es now compare.0))) compare.0 (found_in (key_in es now compare.0)) (decision_by es now compares) grant in
+    let parts = decision_if-both (is_as_expected compare.1 (found_in (key_in es now compare.0))) compare.0 (found_in (key_in es now compare.0)) (decision_by es now compares) grant in
     elim with_key [
       | inl is ↦ ap (λ (c : Key × Expected). found_in (key_in es now c.0)) (sym is) ∙ sym (as-expected compare.1 (found_in (key_in es now compare.0)) parts.0) ∙ ap (λ (c : Key × Expected). c.1) is
       | inr more ↦ granted-finds es now key revision compares parts.1 more
     ]
 
-found-later : (revision earlier : ℕ) (found : Option Held) → Later revision found → found_in found ≡ Revision earlier → revision < earlier
+found-later : (revision earlier : ℕ) (found : Option KeyEntry) → Later revision found → found_in found ≡ Revision earlier → revision < earlier
 found-later revision earlier None old is = absurd (never is)
   where
     never : Absent ≡ Revision earlier → ⊥
     never h = cc
-found-later revision earlier (Some held) old is = subst (λ (n : ℕ). revision < n) (same held.revision earlier is) (old.above held refl)
+found-later revision earlier (Some stored) old is = subst (λ (n : ℕ). revision < n) (same stored.revision earlier is) (old.above stored refl)
   where
     same : (a b : ℕ) → Revision a ≡ Revision b → a ≡ b
     same a b h = cc
 
-pub not_granted : (revision earlier : ℕ) (store : Keys) (late : Request) → Fenced revision store → earlier ≤ revision → ComparesWith keys.Leader earlier (compares_of late.txn) → ¬ IsGranted store late
+pub not_granted : (revision earlier : ℕ) (store : Keys) (late : StoreRequest) → Fenced revision store → earlier ≤ revision → ComparesWith keys.Leader earlier (compares_of late.txn) → ¬ IsGranted store late
 not_granted revision earlier store late f le compares granted =
     let lt = found-later revision earlier (key_in store.pairs late.at keys.Leader)
     (later-present revision late.at (find key_cmp keys.Leader store.pairs) f.leader)
@@ -171,7 +171,7 @@ not_granted revision earlier store late f le compares granted =
     apart : revision < earlier → earlier ≤ revision → ⊥
     apart lt le = omega arith
 
-fenced-lease : (store : Keys) (lease : Request) (decision : Decision) → IsKept store.pairs → is_lease lease.txn ≡ true → decision ≡ Grant → Fenced store.revision (answered decision store lease)
+fenced-lease : (store : Keys) (lease : StoreRequest) (decision : Decision) → IsKept store.pairs → is_lease lease.txn ≡ true → decision ≡ Grant → Fenced store.revision (keys_by_decision decision store lease)
 fenced-lease store lease Grant kept leases granted = record {
   kept = kept_after (store.revision + 1) lease.at lease.by lease.txn store.pairs kept;
   counted = omega arith;
@@ -182,37 +182,37 @@ fenced-lease store lease (Refusal key found) kept leases granted = absurd (never
     never : Refusal key found ≡ Grant → ⊥
     never h = cc
 
-pub fenced_off : (store : Keys) (lease late : Request) (calls : List Call) (revision : ℕ) → IsKept store.pairs → is_lease lease.txn ≡ true → IsGranted store lease → ComparesWith keys.Leader revision (compares_of late.txn) → revision ≤ store.revision → ¬ IsGranted (states_after (state_after store lease) calls) late
+pub fenced_off : (store : Keys) (lease late : StoreRequest) (calls : List Call) (revision : ℕ) → IsKept store.pairs → is_lease lease.txn ≡ true → IsGranted store lease → ComparesWith keys.Leader revision (compares_of late.txn) → revision ≤ store.revision → ¬ IsGranted (keys_over (keys_after_request store lease) calls) late
 fenced_off store lease late calls revision kept leases granted compares earlier =
-    not_granted store.revision revision (states_after (state_after store lease) calls) late
-    (fenced-states store.revision (state_after store lease) calls (fenced-lease store lease (decision_on store lease.at lease.txn) kept leases granted))
+    not_granted store.revision revision (keys_over (keys_after_request store lease) calls) late
+    (fenced-states store.revision (keys_after_request store lease) calls (fenced-lease store lease (decision_on store lease.at lease.txn) kept leases granted))
     earlier compares
 
 -- ---- runs
-kept-answered : (store : Keys) (request : Request) (decision : Decision) → IsKept store.pairs → IsKept (answered decision store request).pairs
-kept-answered store request Grant kept = kept_after (store.revision + 1) request.at request.by request.txn store.pairs kept
-kept-answered store request (Refusal key found) kept = kept
+kept-keys_by_decision : (store : Keys) (request : StoreRequest) (decision : Decision) → IsKept store.pairs → IsKept (keys_by_decision decision store request).pairs
+kept-keys_by_decision store request Grant kept = kept_after (store.revision + 1) request.at request.by request.txn store.pairs kept
+kept-keys_by_decision store request (Refusal key found) kept = kept
 
-kept-called : (store : Keys) (call : Call) → IsKept store.pairs → IsKept (called store call).pairs
-kept-called store (Asks request) kept = kept-answered store request (decision_on store request.at request.txn) kept
-kept-called store (Drops now) kept = kept_present now store.pairs kept
+kept-keys_after_call : (store : Keys) (call : Call) → IsKept store.pairs → IsKept (keys_after_call store call).pairs
+kept-keys_after_call store (Asks request) kept = kept-keys_by_decision store request (decision_on store request.at request.txn) kept
+kept-keys_after_call store (Drops now) kept = kept_present now store.pairs kept
 
 -- every run keeps what holds of the pairs of a store
-pub kept_states : (store : Keys) (calls : List Call) → IsKept store.pairs → IsKept (states_after store calls).pairs
+pub kept_states : (store : Keys) (calls : List Call) → IsKept store.pairs → IsKept (keys_over store calls).pairs
 kept_states store [] kept = kept
-kept_states store (call ∷ calls) kept = kept_states (called store call) calls (kept-called store call kept)
+kept_states store (call ∷ calls) kept = kept_states (keys_after_call store call) calls (kept-keys_after_call store call kept)
 
 pub kept_first : (config : Settings) → IsKept (first_keys config).pairs
 kept_first config = record { order = refl; kinds = (tt, tt); config = refl }
 
-grows-answered : (store : Keys) (request : Request) (decision : Decision) → store.revision ≤ (answered decision store request).revision
-grows-answered store request Grant = omega arith
-grows-answered store request (Refusal key found) = omega arith
+grows-keys_by_decision : (store : Keys) (request : StoreRequest) (decision : Decision) → store.revision ≤ (keys_by_decision decision store request).revision
+grows-keys_by_decision store request Grant = omega arith
+grows-keys_by_decision store request (Refusal key found) = omega arith
 
-grows-called : (store : Keys) (call : Call) → store.revision ≤ (called store call).revision
-grows-called store (Asks request) = grows-answered store request (decision_on store request.at request.txn)
-grows-called store (Drops now) = omega arith
+grows-keys_after_call : (store : Keys) (call : Call) → store.revision ≤ (keys_after_call store call).revision
+grows-keys_after_call store (Asks request) = grows-keys_by_decision store request (decision_on store request.at request.txn)
+grows-keys_after_call store (Drops now) = omega arith
 
-pub grows_states : (store : Keys) (calls : List Call) → store.revision ≤ (states_after store calls).revision
+pub grows_states : (store : Keys) (calls : List Call) → store.revision ≤ (keys_over store calls).revision
 grows_states store [] = omega arith
-grows_states store (call ∷ calls) = omega (arith, grows-called store call, grows_states (called store call) calls)
+grows_states store (call ∷ calls) = omega (arith, grows-keys_after_call store call, grows_states (keys_after_call store call) calls)

@@ -8,7 +8,7 @@ use Rattle.std.proofs.lemmas.Map.Lookups.{CmpEqualImpliesEq, exact_pairs, exact_
 use Rattle.pat_base.specs.declared.member_id.MemberId.{MemberId}
 use Rattle.lease_store.specs.declared.key.Key.{Key}
 use Rattle.lease_store.specs.declared.key.Key.TheVariants.{Leader, Config, Member, Failover, Sync, Status, History, Failsafe}
-use Rattle.lease_store.specs.KeyOrder.{kind_of, number_of, key_cmp}
+use Rattle.lease_store.specs.KeyOrder.{key_rank_of, key_number_of, key_cmp}
 
 alike : (k : ℕ) (p q : k < 16) → ◌≡◌ {A = MemberId} (record { number = k; below = p }) (record { number = k; below = q })
 alike k p q = ap (λ (x : k < 16). record { number = k; below = x }) (le_prop p q)
@@ -17,7 +17,7 @@ alike k p q = ap (λ (x : k < 16). record { number = k; below = x }) (le_prop p 
 pub same_member : (m n : MemberId) → m.number ≡ n.number → m ≡ n
 same_member m n e = subst (λ (k : ℕ). (q : k < 16) → ◌≡◌ {A = MemberId} m (record { number = k; below = q })) e (λ q. alike m.number m.below q) n.below
 
-same_parts : (a b : Key) → kind_of a ≡ kind_of b → number_of a ≡ number_of b → a ≡ b
+same_parts : (a b : Key) → key_rank_of a ≡ key_rank_of b → key_number_of a ≡ key_number_of b → a ≡ b
 same_parts Leader Leader p q = refl
 same_parts Config Config p q = refl
 same_parts (Member m) (Member n) p q = ap Member (same_member m n q)
@@ -29,10 +29,10 @@ same_parts Failsafe Failsafe p q = refl
 same_parts _ _ p q = absurd (omega (arith, p))
 
 pub keys_total : IsTotalOrder key_cmp
-keys_total = then_total (on_total kind_of nat_cmp_total) (on_total number_of nat_cmp_total)
+keys_total = then_total (on_total key_rank_of nat_cmp_total) (on_total key_number_of nat_cmp_total)
 
 -- keys that compare alike are one
 pub keys_exact : CmpEqualImpliesEq key_cmp
 keys_exact a b h =
-    let e = exact_pairs nat_cmp nat_cmp exact_unsigned exact_unsigned (kind_of a, number_of a) (kind_of b, number_of b) h in
+    let e = exact_pairs nat_cmp nat_cmp exact_unsigned exact_unsigned (key_rank_of a, key_number_of a) (key_rank_of b, key_number_of b) h in
     same_parts a b (ap (λ (p : ℕ × ℕ). p.0) e) (ap (λ (p : ℕ × ℕ). p.1) e)

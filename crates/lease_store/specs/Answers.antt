@@ -4,7 +4,7 @@ use Rattle.std.specs.FinMap.{find}
 use Rattle.pat_base.specs.declared.member_id.MemberId.{MemberId}
 use Rattle.lease_store.specs.declared.key.Key.{Key}
 use Rattle.lease_store.specs.declared.key.Key.TheVariants as keys
-use Rattle.lease_store.specs.declared.value.Held.{Held}
+use Rattle.lease_store.specs.declared.value.KeyEntry.{KeyEntry}
 use Rattle.lease_store.specs.declared.value.Value.{Value}
 use Rattle.lease_store.specs.declared.value.Value.TheVariants as values
 use Rattle.lease_store.specs.declared.refusal.StoreRefusal.{StoreRefusal}
@@ -14,16 +14,16 @@ use Rattle.lease_store.specs.Keys.{Keys, is_present}
 use Rattle.lease_store.specs.KeyOrder.{key_cmp}
 
 -- a decision as what a check answers
-abbrev pub answer_to : Decision → Result (Unit {0}) StoreRefusal
-answer_to Grant = Ok tt
-answer_to (Refusal key found) = Err (Mismatch key found)
+abbrev pub check_result_of : Decision → Result (Unit {0}) StoreRefusal
+check_result_of Grant = Ok tt
+check_result_of (Refusal key found) = Err (Mismatch key found)
 
 -- the pairs of the keys that are present
-abbrev pub present_pairs : ℕ → List (Key × Held) → List (Key × Held)
+abbrev pub present_pairs : ℕ → List (Key × KeyEntry) → List (Key × KeyEntry)
 present_pairs now pairs = filter (λ pair. is_present now pair.1.expiry) pairs
 
 -- the keys of these pairs that are absent
-abbrev pub absent_keys : ℕ → List (Key × Held) → List Key
+abbrev pub absent_keys : ℕ → List (Key × KeyEntry) → List Key
 absent_keys now pairs = map (λ pair. pair.0) (filter (λ pair. not (is_present now pair.1.expiry)) pairs)
 
 -- the keys that are held and absent, in order
@@ -40,9 +40,9 @@ holder_of (values.Leader member) = Some member
 holder_of _ = None
 
 -- the holder, where what is held at the leader key is absent
-abbrev pub holder_lost : ℕ → Option Held → Option MemberId
+abbrev pub holder_lost : ℕ → Option KeyEntry → Option MemberId
 holder_lost now None = None
-holder_lost now (Some held) = if is_present now held.expiry then None else holder_of held.value
+holder_lost now (Some stored) = if is_present now stored.expiry then None else holder_of stored.value
 
 -- the holder of the leader key, where that key is held and absent
 abbrev pub expired_holder : Keys → ℕ → Option MemberId

@@ -2,7 +2,7 @@
 use Rattle.std.specs.Prelude.{ℕ, ◌==◌, Bool, true, false, List, [], ◌∷◌, ◌++◌, Option, Some, None}
 use Rattle.lease_store.specs.declared.key.Key.{Key}
 use Rattle.lease_store.specs.declared.key.Key.TheVariants as keys
-use Rattle.lease_store.specs.declared.value.Held.{Held}
+use Rattle.lease_store.specs.declared.value.KeyEntry.{KeyEntry}
 use Rattle.lease_store.specs.declared.txn.Expected.{Expected}
 use Rattle.lease_store.specs.declared.txn.Expected.TheVariants.{Absent, Revision}
 use Rattle.lease_store.specs.declared.txn.Txn.{Txn}
@@ -28,9 +28,9 @@ compares_of (txns.DropFailover revision) = (keys.Leader, Revision revision) ∷ 
 compares_of (txns.SetConfig revision config) = (keys.Config, Revision revision) ∷ []
 
 -- what a compare finds
-abbrev pub found_in : Option Held → Expected
+abbrev pub found_in : Option KeyEntry → Expected
 found_in None = Absent
-found_in (Some held) = Revision held.revision
+found_in (Some stored) = Revision stored.revision
 
 -- what is found is what was expected
 abbrev pub is_as_expected : Expected → Expected → Bool
@@ -44,16 +44,16 @@ pub data Decision : Type 0 where
   Refusal : (key : Key) (found : Expected) → Decision
 
 -- what follows decides where the key is as expected
-abbrev pub decided : Bool → Key → Expected → Decision → Decision
-decided true key found rest = rest
-decided false key found rest = Refusal key found
+abbrev pub decision_if : Bool → Key → Expected → Decision → Decision
+decision_if true key found rest = rest
+decision_if false key found rest = Refusal key found
 
 -- the first of these compares that differs decides
-abbrev pub decision_by : List (Key × Held) → ℕ → List (Key × Expected) → Decision
+abbrev pub decision_by : List (Key × KeyEntry) → ℕ → List (Key × Expected) → Decision
 decision_by pairs now [] = Grant
 decision_by pairs now (compare ∷ compares) =
     let found = found_in (key_in pairs now compare.0) in
-    decided (is_as_expected compare.1 found) compare.0 found (decision_by pairs now compares)
+    decision_if (is_as_expected compare.1 found) compare.0 found (decision_by pairs now compares)
 
 -- the decision on a transaction at a moment
 abbrev pub decision_on : Keys → ℕ → Txn → Decision

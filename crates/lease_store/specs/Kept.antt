@@ -3,22 +3,22 @@ use Rattle.std.specs.Prelude.{◌≡◌, List, [], ◌∷◌, Option, Some, None
 use Rattle.std.specs.FinMap.{find, is_sorted}
 use Rattle.lease_store.specs.declared.key.Key.{Key}
 use Rattle.lease_store.specs.declared.key.Key.TheVariants as keys
-use Rattle.lease_store.specs.declared.value.Held.{Held}
+use Rattle.lease_store.specs.declared.value.KeyEntry.{KeyEntry}
 use Rattle.lease_store.specs.KeyOrder.{key_cmp}
 use Rattle.lease_store.specs.Kinds.{IsOfKind}
 
 -- each value is of its key's kind
-abbrev pub AreOfKind : List (Key × Held) → Type 0
+abbrev pub AreOfKind : List (Key × KeyEntry) → Type 0
 AreOfKind [] = Unit {0}
 AreOfKind (pair ∷ pairs) = IsOfKind pair.0 pair.1.value × AreOfKind pairs
 
 -- held, and for good
-abbrev pub IsLasting : Option Held → Type 0
+abbrev pub IsLasting : Option KeyEntry → Type 0
 IsLasting None = ⊥
-IsLasting (Some held) = held.expiry ≡ None
+IsLasting (Some stored) = stored.expiry ≡ None
 
 -- the keys strictly rise, each value is of its key's kind, and the configuration is there for good
-pub record IsKept (pairs : List (Key × Held)) : Type 0 where
+pub record IsKept (pairs : List (Key × KeyEntry)) : Type 0 where
   pub order : IsTrue (is_sorted key_cmp pairs)
   pub kinds : AreOfKind pairs
   pub config : IsLasting (find key_cmp keys.Config pairs)

@@ -4,7 +4,7 @@ use Rattle.std.specs.FinMap.{find}
 use Rattle.pat_base.specs.declared.ticks.Ticks.{Ticks}
 use Rattle.lease_store.specs.declared.key.Key.{Key}
 use Rattle.lease_store.specs.declared.key.Key.TheVariants as keys
-use Rattle.lease_store.specs.declared.value.Held.{Held}
+use Rattle.lease_store.specs.declared.value.KeyEntry.{KeyEntry}
 use Rattle.lease_store.specs.declared.value.Value.TheVariants as values
 use Rattle.lease_store.specs.Settings.{Settings}
 use Rattle.lease_store.specs.KeyOrder.{key_cmp}
@@ -13,7 +13,7 @@ use Rattle.lease_store.specs.KeyOrder.{key_cmp}
 -- as the list of its pairs in the order of the keys
 pub record Keys : Type 0 where
   pub revision : ℕ
-  pub pairs : List (Key × Held)
+  pub pairs : List (Key × KeyEntry)
 
 -- whether a key with this expiry is present: it is absent at its expiry tick, and from then on
 abbrev pub is_present : ℕ → Option Ticks → Bool
@@ -21,16 +21,16 @@ is_present now None = true
 is_present now (Some expiry) = nat_lt now expiry.0
 
 -- what is held, where it is present
-abbrev pub present : ℕ → Option Held → Option Held
+abbrev pub present : ℕ → Option KeyEntry → Option KeyEntry
 present now None = None
-present now (Some held) = if is_present now held.expiry then Some held else None
+present now (Some stored) = if is_present now stored.expiry then Some stored else None
 
 -- what these pairs have at a key that is present
-abbrev pub key_in : List (Key × Held) → ℕ → Key → Option Held
+abbrev pub key_in : List (Key × KeyEntry) → ℕ → Key → Option KeyEntry
 key_in pairs now key = present now (find key_cmp key pairs)
 
 -- the state of a key at a moment
-abbrev pub key_at : Keys → ℕ → Key → Option Held
+abbrev pub key_at : Keys → ℕ → Key → Option KeyEntry
 key_at store now key = key_in store.pairs now key
 
 -- a store that holds this configuration alone, which is its first granted write

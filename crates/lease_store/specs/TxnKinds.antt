@@ -5,14 +5,14 @@ use Rattle.lease_store.specs.declared.txn_kind.TxnKind.{TxnKind}
 use Rattle.lease_store.specs.declared.txn_kind.TxnKind.TheVariants.{Touch, Create, Renewal, Release, Claim, SyncWrite, FailoverWrite, FailoverRemoval, ConfigurationWrite}
 
 -- the kind of a transaction
-abbrev pub kind_of : Txn → TxnKind
-kind_of (txns.Touch info ttl) = Touch
-kind_of (txns.Create info ttl failsafe sync) = Create
-kind_of (txns.Renew revision info ttl status row failsafe) = Renewal
-kind_of (txns.Release revision) = Release
-kind_of (txns.Claim revision sync) = Claim
-kind_of (txns.SetSync revision sync standbys) = SyncWrite
-kind_of (txns.DropSync revision sync) = SyncWrite
-kind_of (txns.SetFailover failover ttl) = FailoverWrite
-kind_of (txns.DropFailover revision) = FailoverRemoval
-kind_of (txns.SetConfig revision config) = ConfigurationWrite
+abbrev pub txn_kind_of : Txn → TxnKind
+txn_kind_of (txns.Touch info ttl) = Touch
+txn_kind_of (txns.Create info ttl failsafe sync) = Create
+txn_kind_of (txns.Renew revision info ttl status row failsafe) = Renewal
+txn_kind_of (txns.Release revision) = Release
+txn_kind_of (txns.Claim revision sync) = Claim
+txn_kind_of (txns.SetSync revision sync standbys) = SyncWrite
+txn_kind_of (txns.DropSync revision sync) = SyncWrite
+txn_kind_of (txns.SetFailover failover ttl) = FailoverWrite
+txn_kind_of (txns.DropFailover revision) = FailoverRemoval
+txn_kind_of (txns.SetConfig revision config) = ConfigurationWrite

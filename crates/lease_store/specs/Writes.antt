@@ -9,7 +9,7 @@ use Rattle.pat_base.specs.declared.member_set.MemberSet.{MemberSet}
 use Rattle.lease_store.specs.declared.key.Key.{Key}
 use Rattle.lease_store.specs.declared.key.Key.TheVariants as keys
 use Rattle.lease_store.specs.declared.value.HistoryRow.{HistoryRow}
-use Rattle.lease_store.specs.declared.value.Held.{Held}
+use Rattle.lease_store.specs.declared.value.KeyEntry.{KeyEntry}
 use Rattle.lease_store.specs.declared.value.Value.{Value}
 use Rattle.lease_store.specs.declared.value.Value.TheVariants as values
 use Rattle.lease_store.specs.declared.txn.Txn.{Txn}
@@ -25,19 +25,19 @@ pub data Write : Type 0 where
   Deletes : (key : Key) → Write
 
 -- the writes of what a renewal carries: the end of the log, a row of the history, the members to ask
-abbrev pub status_carried : Option Lsn → List Write
-status_carried None = []
-status_carried (Some end) = Sets keys.Status (values.Status end) ∷ []
+abbrev pub status_writes : Option Lsn → List Write
+status_writes None = []
+status_writes (Some end) = Sets keys.Status (values.Status end) ∷ []
 
 -- where there is a row
-abbrev pub row_carried : Option HistoryRow → List Write
-row_carried None = []
-row_carried (Some row) = Sets (keys.History row.timeline) (values.History row) ∷ []
+abbrev pub row_writes : Option HistoryRow → List Write
+row_writes None = []
+row_writes (Some row) = Sets (keys.History row.timeline) (values.History row) ∷ []
 
 -- where there are members
-abbrev pub failsafe_carried : Option MemberSet → List Write
-failsafe_carried None = []
-failsafe_carried (Some members) = Sets keys.Failsafe (values.Failsafe members) ∷ []
+abbrev pub failsafe_writes : Option MemberSet → List Write
+failsafe_writes None = []
+failsafe_writes (Some members) = Sets keys.Failsafe (values.Failsafe members) ∷ []
 
 -- the sync key of a leader with these standbys
 abbrev pub sync_value : MemberId → MemberSet → Value
@@ -51,7 +51,7 @@ nobody = record { bits = 0 }
 abbrev pub writes_of : MemberId → Txn → List Write
 writes_of by (txns.Touch info ttl) = Leases (keys.Member by) (values.Member info) ttl ∷ []
 writes_of by (txns.Create info ttl failsafe sync) = Leases keys.Leader (values.Leader by) ttl ∷ Leases (keys.Member by) (values.Member info) ttl ∷ []
-writes_of by (txns.Renew revision info ttl status row failsafe) = Extends keys.Leader ttl ∷ Leases (keys.Member by) (values.Member info) ttl ∷ (status_carried status ++ (row_carried row ++ failsafe_carried failsafe))
+writes_of by (txns.Renew revision info ttl status row failsafe) = Extends keys.Leader ttl ∷ Leases (keys.Member by) (values.Member info) ttl ∷ (status_writes status ++ (row_writes row ++ failsafe_writes failsafe))
 writes_of by (txns.Release revision) = Deletes keys.Leader ∷ []
 writes_of by (txns.Claim revision sync) = Sets keys.Sync (sync_value by nobody) ∷ []
 writes_of by (txns.SetSync revision sync standbys) = Sets keys.Sync (sync_value by standbys) ∷ []
@@ -75,34 +75,34 @@ ttl_of (txns.SetFailover failover ttl) = ttl.0
 ttl_of _ = 0
 
 -- the expiry of a lease that is extended until a moment, which is never earlier than it was
-abbrev pub later : ℕ → Option Ticks → Option Ticks
-later until None = None
-later until (Some expiry) = Some (record { 0 = max expiry.0 until })
+abbrev pub extended_expiry : ℕ → Option Ticks → Option Ticks
+extended_expiry until None = None
+extended_expiry until (Some expiry) = Some (record { 0 = max expiry.0 until })
 
 -- the pairs with the lease of a key extended until a moment, where the key is held
-abbrev pub extended : ℕ → ℕ → List (Key × Held) → Key → Option Held → List (Key × Held)
-extended revision until pairs key None = pairs
-extended revision until pairs key (Some held) = put key_cmp key (record held { revision = revision; expiry = later until held.expiry }) pairs
+abbrev pub pairs_extended : ℕ → ℕ → List (Key × KeyEntry) → Key → Option KeyEntry → List (Key × KeyEntry)
+pairs_extended revision until pairs key None = pairs
+pairs_extended revision until pairs key (Some stored) = put key_cmp key (record stored { revision = revision; expiry = extended_expiry until stored.expiry }) pairs
 
 -- the pairs without a key
-abbrev pub without : Key → List (Key × Held) → List (Key × Held)
+abbrev pub without : Key → List (Key × KeyEntry) → List (Key × KeyEntry)
 without key pairs = filter (λ pair. not (eq_by_cmp key_cmp key pair.0)) pairs
 
 -- the pairs after a write of this revision at a moment
-abbrev pub written : ℕ → ℕ → List (Key × Held) → Write → List (Key × Held)
-written revision now pairs (Sets key value) = put key_cmp key (record { value = value; revision = revision; expiry = None }) pairs
-written revision now pairs (Leases key value ttl) = put key_cmp key (record { value = value; revision = revision; expiry = Some (record { 0 = now + ttl.0 }) }) pairs
-written revision now pairs (Extends key ttl) = extended revision (now + ttl.0) pairs key (find key_cmp key pairs)
-written revision now pairs (Deletes key) = without key pairs
+abbrev pub pairs_after : ℕ → ℕ → List (Key × KeyEntry) → Write → List (Key × KeyEntry)
+pairs_after revision now pairs (Sets key value) = put key_cmp key (record { value = value; revision = revision; expiry = None }) pairs
+pairs_after revision now pairs (Leases key value ttl) = put key_cmp key (record { value = value; revision = revision; expiry = Some (record { 0 = now + ttl.0 }) }) pairs
+pairs_after revision now pairs (Extends key ttl) = pairs_extended revision (now + ttl.0) pairs key (find key_cmp key pairs)
+pairs_after revision now pairs (Deletes key) = without key pairs
 
 -- the pairs after these writes, in this order
-abbrev pub all_written : ℕ → ℕ → List (Key × Held) → List Write → List (Key × Held)
-all_written revision now pairs [] = pairs
-all_written revision now pairs (write ∷ writes) = all_written revision now (written revision now pairs write) writes
+abbrev pub pairs_over : ℕ → ℕ → List (Key × KeyEntry) → List Write → List (Key × KeyEntry)
+pairs_over revision now pairs [] = pairs
+pairs_over revision now pairs (write ∷ writes) = pairs_over revision now (pairs_after revision now pairs write) writes
 
 -- the keys after a granted transaction of a member at a moment
-abbrev pub keys_after : Keys → ℕ → MemberId → Txn → Keys
-keys_after store now by txn = record {
+abbrev pub keys_after_grant : Keys → ℕ → MemberId → Txn → Keys
+keys_after_grant store now by txn = record {
   revision = store.revision + 1;
-  pairs = all_written (store.revision + 1) now store.pairs (writes_of by txn);
+  pairs = pairs_over (store.revision + 1) now store.pairs (writes_of by txn);
 }

@@ -31,7 +31,7 @@ pub enum Bar {
 
 /// Which of the two requests that end in a failover key was made.
 #[derive(Clone, Copy, Debug, PartialEq, Eq)]
-pub enum Move {
+pub enum FailoverKind {
     /// The leader is to hand over to another member.
     Switchover,
     /// Another member is to lead, whether or not there is a leader.
@@ -40,9 +40,12 @@ pub enum Move {
 
 /// What an operator asks of an agent.
 #[derive(Debug, Drop)]
-pub enum Asked {
+pub enum OperatorRequest {
     /// A failover key is to be written.
-    Failover { kind: Move, failover: FailoverKey },
+    Failover {
+        kind: FailoverKind,
+        failover: FailoverKey,
+    },
     /// A configuration is to be written.
     Configuration(ConfigValue),
     /// The server is to restart.
@@ -53,9 +56,9 @@ pub enum Asked {
 
 /// A request of an operator that passed its checks, and its number in the run.
 #[derive(Debug, Drop)]
-pub struct Action {
+pub struct OperatorAction {
     /// Its number in the run.
     pub request: u64,
     /// What it asks.
-    pub asked: Asked,
+    pub asked: OperatorRequest,
 }

@@ -4,10 +4,10 @@ ghost use Rattle.std.specs.FinMap.{find};
 ghost use Rattle.lease_store.specs.KeyOrder.{key_cmp};
 ghost use Rattle.lease_store.specs.Keys.{is_present, key_in};
 ghost use Rattle.lease_store.specs.Decision.{found_in, compare_if, decision_by, compares_of};
-ghost use Rattle.lease_store.specs.Answers.{answer_to};
+ghost use Rattle.lease_store.specs.Answers.{check_result_of};
 
 use crate::order::compare;
-use crate::{Expected, Held, Key, StoreRefusal, Txn};
+use crate::{Expected, Key, KeyEntry, StoreRefusal, Txn};
 use pat_base::Ticks;
 use std::cmp::Ordering;
 
@@ -23,47 +23,47 @@ pub fn is_present(now: Ticks, expiry: Option<Ticks>) -> bool
 
 /// What is held at a key, present or not, among pairs in which each key stands once: those of the store, or of a snapshot
 /// of it. `None` exactly where it isn't among them.
-pub fn held_at(pairs: &[(Key, Held)], key: Key) -> Option<&Held>
+pub fn key_entry_at(pairs: &[(Key, KeyEntry)], key: Key) -> Option<&KeyEntry>
     ensures { option_copied result ≡ find key_cmp key pairs.now }
 {
-    for (other, held) in pairs {
+    for (other, stored) in pairs {
         if let Ordering::Equal = compare(key, *other) {
-            return Some(held);
+            return Some(stored);
         }
     }
     None
 }
 
 /// What is held at a key that is present.
-pub fn present_at(pairs: &[(Key, Held)], now: Ticks, key: Key) -> Option<&Held>
+pub fn present_at(pairs: &[(Key, KeyEntry)], now: Ticks, key: Key) -> Option<&KeyEntry>
     ensures { option_copied result ≡ key_in pairs.now now.0 key }
 {
-    let held = held_at(pairs, key)?;
-    if is_present(now, held.expiry) {
-        Some(held)
+    let stored = key_entry_at(pairs, key)?;
+    if is_present(now, stored.expiry) {
+        Some(stored)
     } else {
         None
     }
 }
 
 /// What a compare of a key finds.
-fn found(pairs: &[(Key, Held)], now: Ticks, key: Key) -> Expected
+fn found(pairs: &[(Key, KeyEntry)], now: Ticks, key: Key) -> Expected
     ensures { result ≡ found_in (key_in pairs.now now.0 key) }
 {
     match present_at(pairs, now, key) {
         None => Expected::Absent,
-        Some(held) => Expected::Revision(held.revision),
+        Some(stored) => Expected::Revision(stored.revision),
     }
 }
 
 /// Refuses a key that isn't as it is expected.
 fn compare_key(
-    pairs: &[(Key, Held)],
+    pairs: &[(Key, KeyEntry)],
     now: Ticks,
     key: Key,
     expected: Expected,
 ) -> Result<(), StoreRefusal>
-    ensures { result ≡ answer_to (decision_by pairs.now now.0 ((key, expected) ∷ [])) }
+    ensures { result ≡ check_result_of (decision_by pairs.now now.0 ((key, expected) ∷ [])) }
 {
     let found = found(pairs, now, key);
     if found == expected {
@@ -75,12 +75,12 @@ fn compare_key(
 
 /// Refuses a leader key that isn't of this revision, and then a sync key that isn't as it is expected.
 fn compare_sync(
-    pairs: &[(Key, Held)],
+    pairs: &[(Key, KeyEntry)],
     now: Ticks,
     revision: u64,
     sync: Expected,
 ) -> Result<(), StoreRefusal>
-    ensures { result ≡ answer_to (decision_by pairs.now now.0 ((Key.Leader, Expected.Revision revision) ∷ (Key.Sync, sync) ∷ [])) }
+    ensures { result ≡ check_result_of (decision_by pairs.now now.0 ((Key.Leader, Expected.Revision revision) ∷ (Key.Sync, sync) ∷ [])) }
 {
     compare_key(pairs, now, Key::Leader, Expected::Revision(revision))?;
     compare_key(pairs, now, Key::Sync, sync)
@@ -88,12 +88,12 @@ fn compare_sync(
 
 /// Refuses a key that isn't as it was read, where it was.
 fn compare_read(
-    pairs: &[(Key, Held)],
+    pairs: &[(Key, KeyEntry)],
     now: Ticks,
     key: Key,
     read: Option<Expected>,
 ) -> Result<(), StoreRefusal>
-    ensures { result ≡ answer_to (decision_by pairs.now now.0 (compare_if key read)) }
+    ensures { result ≡ check_result_of (decision_by pairs.now now.0 (compare_if key read)) }
 {
     match read {
         None => Ok(()),
@@ -103,12 +103,12 @@ fn compare_read(
 
 /// Refuses a leader key that is present, then a failsafe key and then a sync key that isn't as it was read.
 fn compare_absent(
-    pairs: &[(Key, Held)],
+    pairs: &[(Key, KeyEntry)],
     now: Ticks,
     failsafe: Option<Expected>,
     sync: Option<Expected>,
 ) -> Result<(), StoreRefusal>
-    ensures { result ≡ answer_to (decision_by pairs.now now.0 ((Key.Leader, Expected.Absent) ∷ (compare_if Key.Failsafe failsafe ++ compare_if Key.Sync sync))) }
+    ensures { result ≡ check_result_of (decision_by pairs.now now.0 ((Key.Leader, Expected.Absent) ∷ (compare_if Key.Failsafe failsafe ++ compare_if Key.Sync sync))) }
 {
     compare_key(pairs, now, Key::Leader, Expected::Absent)?;
     compare_read(pairs, now, Key::Failsafe, failsafe)?;
@@ -116,8 +116,8 @@ fn compare_absent(
 }
 
 /// Refuses a transaction by the first key that isn't as it expects.
-pub fn check(pairs: &[(Key, Held)], now: Ticks, txn: &Txn) -> Result<(), StoreRefusal>
-    ensures { result ≡ answer_to (decision_by pairs.now now.0 (compares_of txn.now)) }
+pub fn check(pairs: &[(Key, KeyEntry)], now: Ticks, txn: &Txn) -> Result<(), StoreRefusal>
+    ensures { result ≡ check_result_of (decision_by pairs.now now.0 (compares_of txn.now)) }
 {
     match txn {
         Txn::Touch { .. } => Ok(()),

@@ -54,7 +54,7 @@ impl ConfigValue {
     }
 
     /// Another configuration of the same text. It fails only for want of memory.
-    pub fn copy(&self) -> Result<ConfigValue, AllocError>
+    pub fn try_clone(&self) -> Result<ConfigValue, AllocError>
         ensures { IfOk result (λ value. value ≡ self.now) }
     {
         let text = self.text.clone()?;

@@ -17,8 +17,8 @@ mod txn_kind;
 mod value;
 mod writes;
 
-pub use action::{Action, Asked, Bar, Move};
-pub use compares::held_at;
+pub use action::{Bar, FailoverKind, OperatorAction, OperatorRequest};
+pub use compares::key_entry_at;
 pub use config::Config;
 pub use config_value::ConfigValue;
 pub use granted::Granted;
@@ -28,4 +28,4 @@ pub use refusal::StoreRefusal;
 pub use store::Store;
 pub use txn::{Expected, Txn};
 pub use txn_kind::TxnKind;
-pub use value::{FailoverKey, Held, HistoryRow, MemberInfo, SyncKey, Value};
+pub use value::{FailoverKey, HistoryRow, KeyEntry, MemberInfo, SyncKey, Value};

@@ -1,6 +1,6 @@
 //! The order of keys.
 ghost use Rattle.std.specs.Prelude.{◌≡◌};
-ghost use Rattle.lease_store.specs.KeyOrder.{kind_of, number_of, key_cmp};
+ghost use Rattle.lease_store.specs.KeyOrder.{key_rank_of, key_number_of, key_cmp};
 
 use crate::Key;
 use std::cmp::Ordering;
@@ -13,7 +13,7 @@ pub fn compare(a: Key, b: Key) -> Ordering
 }
 
 fn kind(key: Key) -> u8
-    ensures { result ≡ kind_of key }
+    ensures { result ≡ key_rank_of key }
 {
     match key {
         Key::Leader => 0,
@@ -28,7 +28,7 @@ fn kind(key: Key) -> u8
 }
 
 fn number(key: Key) -> u64
-    ensures { result ≡ number_of key }
+    ensures { result ≡ key_number_of key }
 {
     match key {
         Key::Member(member) => u64::from(member.number),

@@ -8,12 +8,12 @@ ghost use Rattle.lease_store.specs.KeyOrder.{key_cmp};
 ghost use Rattle.lease_store.specs.Keys.{Keys, key_at, first_keys};
 ghost use Rattle.lease_store.specs.Kept.{AreOfKind};
 ghost use Rattle.lease_store.specs.Kinds.{IsOfKind};
-ghost use Rattle.lease_store.specs.Writes.{keys_after, is_lease, ttl_of};
+ghost use Rattle.lease_store.specs.Writes.{keys_after_grant, is_lease, ttl_of};
 
-use crate::compares::{check, held_at, is_present, present_at};
+use crate::compares::{check, is_present, key_entry_at, present_at};
 use crate::pairs::{absent_keys, copies_of_present, drop_absent};
 use crate::writes::{MOST, Stamp, grant, is_lease};
-use crate::{ConfigValue, Granted, Held, Key, StoreRefusal, Txn, Value};
+use crate::{ConfigValue, Granted, Key, KeyEntry, StoreRefusal, Txn, Value};
 use pat_base::{MemberId, Ticks};
 use std::alloc::{AllocError, Global};
 use std::marker::Model;
@@ -24,7 +24,7 @@ use std::marker::Model;
 /// A key with a lease is absent from its expiry on, by the clock of whoever calls.
 #[derive(Debug, Drop)]
 pub struct Store {
-    pairs: Vec<(Key, Held)>,
+    pairs: Vec<(Key, KeyEntry)>,
     revision: u64,
 }
 
@@ -45,12 +45,12 @@ impl Store {
         ensures { IfOk result (λ store. store ≡ first_keys config) }
     {
         let mut pairs = Vec::with_capacity(alloc, MOST)?;
-        let held = Held {
+        let stored = KeyEntry {
             value: Value::Config(config),
             revision: 1,
             expiry: None,
         };
-        pairs.push((Key::Config, held))?;
+        pairs.push((Key::Config, stored))?;
         Ok(Store { pairs, revision: 1 })
     }
 
@@ -62,9 +62,9 @@ impl Store {
     }
 
     /// What is held at a key that is present at this moment, a value of its kind. `None` exactly where the key is absent.
-    pub fn get(&self, now: Ticks, key: Key) -> Option<&Held>
+    pub fn get(&self, now: Ticks, key: Key) -> Option<&KeyEntry>
         ensures value { option_copied result ≡ key_at self.now now.0 key }
-        ensures kind { IfSome result (λ held. IsOfKind key held.now.value) }
+        ensures kind { IfSome result (λ stored. IsOfKind key stored.now.value) }
     {
         present_at(&self.pairs, now, key)
     }
@@ -80,7 +80,7 @@ impl Store {
         requires moment { now.0 ≤ 2 ^ 62 }
         requires span { ttl_of txn ≤ 2 ^ 40 }
         ensures granted { OnOk result (decision_on self.old now.0 txn ≡ Grant) }
-        ensures written { OnOk result (self.new ≡ keys_after self.old now.0 by txn) }
+        ensures written { OnOk result (self.new ≡ keys_after_grant self.old now.0 by txn) }
         ensures told { IfOk result (λ granted. granted ≡ record { revision = self.old.revision + 1; by = by; leased = is_lease txn }) }
         ensures refused { (key : Key) (found : Expected) → (result ≡ Err (StoreRefusal.Mismatch key found)) ↔ (decision_on self.old now.0 txn ≡ Refusal key found) }
         ensures err { OnErr result (self.new ≡ self.old) }
@@ -126,7 +126,7 @@ impl Store {
 
     /// All present keys in the order of `Key`, each once and with a value of its kind, the configuration always among
     /// them. It fails only for want of memory.
-    pub fn entries(&self, now: Ticks) -> Result<Vec<(Key, Held)>, AllocError>
+    pub fn entries(&self, now: Ticks) -> Result<Vec<(Key, KeyEntry)>, AllocError>
         ensures pairs { IfOk result (λ entries. entries.items ≡ present_pairs now.0 self.now.pairs) }
         ensures found { IfOk result (λ entries. (key : Key) → find key_cmp key entries.items ≡ key_at self.now now.0 key) }
         ensures order { IfOk result (λ entries. IsTrue (is_sorted key_cmp entries.items)) }
@@ -138,12 +138,12 @@ impl Store {
 }
 
 /// The holder of the leader key, where that key is held and absent.
-fn expired_holder(pairs: &[(Key, Held)], now: Ticks) -> Option<MemberId>
+fn expired_holder(pairs: &[(Key, KeyEntry)], now: Ticks) -> Option<MemberId>
     ensures { result ≡ holder_lost now.0 (find key_cmp Key.Leader pairs.now) }
 {
-    let held = held_at(pairs, Key::Leader)?;
-    if is_present(now, held.expiry) {
+    let stored = key_entry_at(pairs, Key::Leader)?;
+    if is_present(now, stored.expiry) {
         return None;
     }
-    held.value.holder()
+    stored.value.holder()
 }

@@ -98,7 +98,7 @@ pub enum Txn {
 
 impl Txn {
     /// The same transaction once more. It fails only for want of memory.
-    pub fn copy(&self) -> Result<Txn, AllocError>
+    pub fn try_clone(&self) -> Result<Txn, AllocError>
         ensures { IfOk result (λ txn. txn ≡ self.now) }
     {
         let copy = match self {
@@ -161,7 +161,7 @@ impl Txn {
             },
             Txn::SetConfig { revision, config } => Txn::SetConfig {
                 revision: *revision,
-                config: config.copy()?,
+                config: config.try_clone()?,
             },
         };
         Ok(copy)

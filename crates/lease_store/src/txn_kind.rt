@@ -49,11 +49,11 @@ impl fmt::Display for TxnKind {
 
 impl Txn {
     ghost use Rattle.std.specs.Prelude.{◌≡◌};
-    ghost use Rattle.lease_store.specs.TxnKinds.{kind_of};
+    ghost use Rattle.lease_store.specs.TxnKinds.{txn_kind_of};
 
     /// Its kind.
     pub fn kind(&self) -> TxnKind
-        ensures { result ≡ kind_of self.now }
+        ensures { result ≡ txn_kind_of self.now }
     {
         match self {
             Txn::Touch { .. } => TxnKind::Touch,

@@ -79,7 +79,7 @@ pub enum Value {
 
 /// What the store holds at a key.
 #[derive(Debug, Drop)]
-pub struct Held {
+pub struct KeyEntry {
     /// Its value, of the key's kind.
     pub value: Value,
     /// The revision of the write that it comes from: what a transaction compares.
@@ -101,12 +101,12 @@ impl Value {
     }
 
     /// The same value once more. It fails only for want of memory.
-    pub fn copy(&self) -> Result<Value, AllocError>
+    pub fn try_clone(&self) -> Result<Value, AllocError>
         ensures { IfOk result (λ value. value ≡ self.now) }
     {
         match self {
             Value::Leader(member) => Ok(Value::Leader(*member)),
-            Value::Config(config) => Ok(Value::Config(config.copy()?)),
+            Value::Config(config) => Ok(Value::Config(config.try_clone()?)),
             Value::Member(info) => Ok(Value::Member(*info)),
             Value::Failover(failover) => Ok(Value::Failover(*failover)),
             Value::Sync(sync) => Ok(Value::Sync(*sync)),
@@ -117,13 +117,13 @@ impl Value {
     }
 }
 
-impl Held {
+impl KeyEntry {
     /// The same once more, with its revision and its expiry. It fails only for want of memory.
-    pub fn copy(&self) -> Result<Held, AllocError>
-        ensures { IfOk result (λ held. held ≡ self.now) }
+    pub fn try_clone(&self) -> Result<KeyEntry, AllocError>
+        ensures { IfOk result (λ stored. stored ≡ self.now) }
     {
-        Ok(Held {
-            value: self.value.copy()?,
+        Ok(KeyEntry {
+            value: self.value.try_clone()?,
             revision: self.revision,
             expiry: self.expiry,
         })

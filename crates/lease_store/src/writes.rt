@@ -3,10 +3,10 @@ ghost use Rattle.std.specs.Prelude.{◌≡◌, ◌≤◌, ◌<◌, ◌+◌, ◌+
 ghost use Rattle.std.specs.FinMap.{put, is_sorted};
 ghost use Rattle.lease_store.specs.Kept.{IsKept};
 ghost use Rattle.lease_store.specs.KeyOrder.{key_cmp};
-ghost use Rattle.lease_store.specs.Writes.{Leases, Extends, Sets, writes_of, written, all_written, ttl_of, is_lease, status_carried, row_carried, failsafe_carried, sync_value};
+ghost use Rattle.lease_store.specs.Writes.{Leases, Extends, Sets, writes_of, pairs_after, pairs_over, ttl_of, is_lease, status_writes, row_writes, failsafe_writes, sync_value};
 
 use crate::pairs::{delete, extend, put};
-use crate::{Held, HistoryRow, Key, SyncKey, Txn, Value};
+use crate::{HistoryRow, Key, KeyEntry, SyncKey, Txn, Value};
 use pat_base::{Lsn, MemberId, MemberSet, Ticks};
 
 /// The most keys that one transaction writes.
@@ -27,24 +27,24 @@ pub fn is_lease(txn: &Txn) -> bool
 }
 
 /// Writes what a transaction of a member writes, and keeps what holds of the pairs of every store. There is room for it.
-pub fn grant(pairs: &mut Vec<(Key, Held)>, stamp: Stamp, by: MemberId, txn: Txn)
+pub fn grant(pairs: &mut Vec<(Key, KeyEntry)>, stamp: Stamp, by: MemberId, txn: Txn)
     requires room { vec_len pairs.old + 5 ≤ vec_capacity pairs.old }
     requires kept { IsKept pairs.old.items }
     requires moment { stamp.at.0 ≤ 2 ^ 62 }
     requires span { ttl_of txn ≤ 2 ^ 40 }
-    ensures pairs { pairs.new.items ≡ all_written stamp.revision stamp.at.0 pairs.old.items (writes_of by txn) }
+    ensures pairs { pairs.new.items ≡ pairs_over stamp.revision stamp.at.0 pairs.old.items (writes_of by txn) }
     ensures kept { IsKept pairs.new.items }
 {
     write(pairs, stamp, by, txn);
 }
 
 /// Writes what a transaction of a member writes. There is room for it.
-fn write(pairs: &mut Vec<(Key, Held)>, stamp: Stamp, by: MemberId, txn: Txn)
+fn write(pairs: &mut Vec<(Key, KeyEntry)>, stamp: Stamp, by: MemberId, txn: Txn)
     requires room { vec_len pairs.old + 5 ≤ vec_capacity pairs.old }
     requires order { IsTrue (is_sorted key_cmp pairs.old.items) }
     requires moment { stamp.at.0 ≤ 2 ^ 62 }
     requires span { ttl_of txn ≤ 2 ^ 40 }
-    ensures { pairs.new.items ≡ all_written stamp.revision stamp.at.0 pairs.old.items (writes_of by txn) }
+    ensures { pairs.new.items ≡ pairs_over stamp.revision stamp.at.0 pairs.old.items (writes_of by txn) }
 {
     match txn {
         Txn::Touch { info, ttl } => lease(pairs, stamp, Key::Member(by), Value::Member(info), ttl),
@@ -79,10 +79,10 @@ fn write(pairs: &mut Vec<(Key, Held)>, stamp: Stamp, by: MemberId, txn: Txn)
 }
 
 /// Writes a key with a lease of this span.
-fn lease(pairs: &mut Vec<(Key, Held)>, stamp: Stamp, key: Key, value: Value, ttl: Ticks)
+fn lease(pairs: &mut Vec<(Key, KeyEntry)>, stamp: Stamp, key: Key, value: Value, ttl: Ticks)
     requires room { vec_len pairs.old + 1 ≤ vec_capacity pairs.old }
     requires moment { stamp.at.0 + ttl.0 < 2 ^ 64 }
-    ensures pairs { pairs.new.items ≡ written stamp.revision stamp.at.0 pairs.old.items (Leases key value ttl) }
+    ensures pairs { pairs.new.items ≡ pairs_after stamp.revision stamp.at.0 pairs.old.items (Leases key value ttl) }
     ensures len { vec_len pairs.new ≤ vec_len pairs.old + 1 }
     ensures room { vec_capacity pairs.old ≤ vec_capacity pairs.new }
 {
@@ -90,7 +90,7 @@ fn lease(pairs: &mut Vec<(Key, Held)>, stamp: Stamp, key: Key, value: Value, ttl
     put(
         pairs,
         key,
-        Held {
+        KeyEntry {
             value,
             revision: stamp.revision,
             expiry,
@@ -99,10 +99,10 @@ fn lease(pairs: &mut Vec<(Key, Held)>, stamp: Stamp, key: Key, value: Value, ttl
 }
 
 /// Extends the lease of the leader key by this span.
-fn renew(pairs: &mut Vec<(Key, Held)>, stamp: Stamp, ttl: Ticks)
+fn renew(pairs: &mut Vec<(Key, KeyEntry)>, stamp: Stamp, ttl: Ticks)
     requires order { IsTrue (is_sorted key_cmp pairs.old.items) }
     requires moment { stamp.at.0 + ttl.0 < 2 ^ 64 }
-    ensures pairs { pairs.new.items ≡ written stamp.revision stamp.at.0 pairs.old.items (Extends Key.Leader ttl) }
+    ensures pairs { pairs.new.items ≡ pairs_after stamp.revision stamp.at.0 pairs.old.items (Extends Key.Leader ttl) }
     ensures len { vec_len pairs.new ≡ vec_len pairs.old }
     ensures room { vec_capacity pairs.old ≤ vec_capacity pairs.new }
 {
@@ -110,16 +110,16 @@ fn renew(pairs: &mut Vec<(Key, Held)>, stamp: Stamp, ttl: Ticks)
 }
 
 /// Writes a key without a lease.
-fn set(pairs: &mut Vec<(Key, Held)>, stamp: Stamp, key: Key, value: Value)
+fn set(pairs: &mut Vec<(Key, KeyEntry)>, stamp: Stamp, key: Key, value: Value)
     requires { vec_len pairs.old + 1 ≤ vec_capacity pairs.old }
-    ensures pairs { pairs.new.items ≡ written stamp.revision stamp.at.0 pairs.old.items (Sets key value) }
+    ensures pairs { pairs.new.items ≡ pairs_after stamp.revision stamp.at.0 pairs.old.items (Sets key value) }
     ensures len { vec_len pairs.new ≤ vec_len pairs.old + 1 }
     ensures room { vec_capacity pairs.old ≤ vec_capacity pairs.new }
 {
     put(
         pairs,
         key,
-        Held {
+        KeyEntry {
             value,
             revision: stamp.revision,
             expiry: None,
@@ -127,9 +127,9 @@ fn set(pairs: &mut Vec<(Key, Held)>, stamp: Stamp, key: Key, value: Value)
     );
 }
 
-fn set_sync(pairs: &mut Vec<(Key, Held)>, stamp: Stamp, leader: MemberId, standbys: MemberSet)
+fn set_sync(pairs: &mut Vec<(Key, KeyEntry)>, stamp: Stamp, leader: MemberId, standbys: MemberSet)
     requires { vec_len pairs.old + 1 ≤ vec_capacity pairs.old }
-    ensures { pairs.new.items ≡ written stamp.revision stamp.at.0 pairs.old.items (Sets Key.Sync (sync_value leader standbys)) }
+    ensures { pairs.new.items ≡ pairs_after stamp.revision stamp.at.0 pairs.old.items (Sets Key.Sync (sync_value leader standbys)) }
 {
     set(
         pairs,
@@ -140,9 +140,9 @@ fn set_sync(pairs: &mut Vec<(Key, Held)>, stamp: Stamp, leader: MemberId, standb
 }
 
 /// Writes the leader's position, where there is one.
-fn set_status(pairs: &mut Vec<(Key, Held)>, stamp: Stamp, status: Option<Lsn>)
+fn set_status(pairs: &mut Vec<(Key, KeyEntry)>, stamp: Stamp, status: Option<Lsn>)
     requires { vec_len pairs.old + 1 ≤ vec_capacity pairs.old }
-    ensures pairs { pairs.new.items ≡ all_written stamp.revision stamp.at.0 pairs.old.items (status_carried status) }
+    ensures pairs { pairs.new.items ≡ pairs_over stamp.revision stamp.at.0 pairs.old.items (status_writes status) }
     ensures len { vec_len pairs.new ≤ vec_len pairs.old + 1 }
     ensures room { vec_capacity pairs.old ≤ vec_capacity pairs.new }
 {
@@ -152,9 +152,9 @@ fn set_status(pairs: &mut Vec<(Key, Held)>, stamp: Stamp, status: Option<Lsn>)
 }
 
 /// Writes a row of the history, where there is one.
-fn set_row(pairs: &mut Vec<(Key, Held)>, stamp: Stamp, row: Option<HistoryRow>)
+fn set_row(pairs: &mut Vec<(Key, KeyEntry)>, stamp: Stamp, row: Option<HistoryRow>)
     requires { vec_len pairs.old + 1 ≤ vec_capacity pairs.old }
-    ensures pairs { pairs.new.items ≡ all_written stamp.revision stamp.at.0 pairs.old.items (row_carried row) }
+    ensures pairs { pairs.new.items ≡ pairs_over stamp.revision stamp.at.0 pairs.old.items (row_writes row) }
     ensures len { vec_len pairs.new ≤ vec_len pairs.old + 1 }
     ensures room { vec_capacity pairs.old ≤ vec_capacity pairs.new }
 {
@@ -169,9 +169,9 @@ fn set_row(pairs: &mut Vec<(Key, Held)>, stamp: Stamp, row: Option<HistoryRow>)
 }
 
 /// Writes the members that the leader may ask, where there are any to write.
-fn set_failsafe(pairs: &mut Vec<(Key, Held)>, stamp: Stamp, failsafe: Option<MemberSet>)
+fn set_failsafe(pairs: &mut Vec<(Key, KeyEntry)>, stamp: Stamp, failsafe: Option<MemberSet>)
     requires { vec_len pairs.old + 1 ≤ vec_capacity pairs.old }
-    ensures { pairs.new.items ≡ all_written stamp.revision stamp.at.0 pairs.old.items (failsafe_carried failsafe) }
+    ensures { pairs.new.items ≡ pairs_over stamp.revision stamp.at.0 pairs.old.items (failsafe_writes failsafe) }
 {
     if let Some(members) = failsafe {
         set(pairs, stamp, Key::Failsafe, Value::Failsafe(members));

@@ -1,7 +1,7 @@
 -- Contents that grow and shrink piece by piece. All loops that print or read rest on these.
 use Rattle.std.proofs.Common.{◌≡◌, ℕ, ◌+◌, ◌-◌, ◌≤◌, List, [], ◌++◌, length, take, drop, Option, Some, arith, append_assoc, append-nil, refl, ◌∙◌, ap, sym, inl, inr, take-add, length-drop, take_all, drop-drop, take-append-drop, Result, Ok, Err, OnErr}
 use Rattle.std.proofs.lemmas.List.{drop_all}
-use Rattle.pat_base.specs.Outside.{Told, Rose, Grew, GrewByPrefix, Consumed}
+use Rattle.pat_base.specs.Outside.{Known, Rose, Grew, GrewByPrefix, Consumed}
 
 -- what holds holds on an error too
 pub OnErr-holds : {X E P : Type 0} (r : Result X E) → P → OnErr r P
@@ -45,7 +45,7 @@ pub slice_rest : (i : ℕ) (xs : List ℕ) → take (length xs - i) (drop i xs) 
 slice_rest i xs = take_all (length xs - i) (drop i xs) (omega (arith, length-drop i xs))
 
 -- a front of the bytes was written, and a piece of what follows it
-pub Grew-more : (before mid after : Option (List ℕ)) (bytes : List ℕ) (at n : ℕ) → Grew before mid (take at bytes) → Told mid (λ had. after ≡ Some (had ++ take n (take (length bytes - at) (drop at bytes)))) → Grew before after (take (at + n) bytes)
+pub Grew-more : (before mid after : Option (List ℕ)) (bytes : List ℕ) (at n : ℕ) → Grew before mid (take at bytes) → Known mid (λ had. after ≡ Some (had ++ take n (take (length bytes - at) (drop at bytes)))) → Grew before after (take (at + n) bytes)
 Grew-more before mid after bytes at n grew told = record {
   all = λ had is. told (had ++ take at bytes) (grew.all had is)
       ∙ ap Some (ap (λ t. (had ++ take at bytes) ++ take n t) (slice_rest at bytes)
@@ -63,15 +63,15 @@ Grew-front before mid after bytes at grew same = record { part = λ had is. (tak
 -- so many bytes have been read, and now is what is left
 pub record HasRead (before now : Option (List ℕ)) (faults after : ℕ) (bytes : List ℕ) (most : ℕ) : Type 0 where
   pub within : length bytes ≤ most
-  pub front : Told before (λ all. (length bytes ≤ length all) × (bytes ≡ take (length bytes) all))
-  pub rest : Told before (λ all. now ≡ Some (drop (length bytes) all))
+  pub front : Known before (λ all. (length bytes ≤ length all) × (bytes ≡ take (length bytes) all))
+  pub rest : Known before (λ all. now ≡ Some (drop (length bytes) all))
   pub grows : faults ≤ after
 
 -- n more bytes have been read
 pub record ReadsMore (now then : Option (List ℕ)) (bytes longer : List ℕ) (n : ℕ) : Type 0 where
   pub added : length longer ≡ length bytes + n
-  pub bytes_are : Told now (λ all. (n ≤ length all) × (longer ≡ bytes ++ take n all))
-  pub after : Told now (λ all. then ≡ Some (drop n all))
+  pub bytes_are : Known now (λ all. (n ≤ length all) × (longer ≡ bytes ++ take n all))
+  pub after : Known now (λ all. then ≡ Some (drop n all))
 
 pub HasRead-more : (before now then : Option (List ℕ)) (faults mid after : ℕ) (bytes longer : List ℕ) (most n : ℕ) → HasRead before now faults mid bytes most → ReadsMore now then bytes longer n → n ≤ most - length bytes → mid ≤ after → HasRead before then faults after longer most
 HasRead-more before now then faults mid after bytes longer most n had more fits rose =
@@ -92,7 +92,7 @@ HasRead-more before now then faults mid after bytes longer most n had more fits 
     }
 
 -- a read of no bytes: the source was at its end
-pub HasRead-end : (before now then : Option (List ℕ)) (faults mid : ℕ) (bytes longer : List ℕ) (most n : ℕ) → HasRead before now faults mid bytes most → ReadsMore now then bytes longer n → Told now (λ all. length all ≡ 0) → Told before (λ all. (longer ≡ take most all) × (then ≡ Some (drop most all)))
+pub HasRead-end : (before now then : Option (List ℕ)) (faults mid : ℕ) (bytes longer : List ℕ) (most n : ℕ) → HasRead before now faults mid bytes most → ReadsMore now then bytes longer n → Known now (λ all. length all ≡ 0) → Known before (λ all. (longer ≡ take most all) × (then ≡ Some (drop most all)))
 HasRead-end before now then faults mid bytes longer most n had more none all is =
     let f = had.front all is in
     let rest : List ℕ = drop (length bytes) all in
@@ -110,7 +110,7 @@ HasRead-end before now then faults mid bytes longer most n had more none all is 
     )
 
 -- what was read is all that may be
-pub HasRead-full : (before now : Option (List ℕ)) (faults after : ℕ) (bytes : List ℕ) (most : ℕ) → HasRead before now faults after bytes most → most ≤ length bytes → Told before (λ all. (bytes ≡ take most all) × (now ≡ Some (drop most all)))
+pub HasRead-full : (before now : Option (List ℕ)) (faults after : ℕ) (bytes : List ℕ) (most : ℕ) → HasRead before now faults after bytes most → most ≤ length bytes → Known before (λ all. (bytes ≡ take most all) × (now ≡ Some (drop most all)))
 HasRead-full before now faults after bytes most had full all is =
     let e : length bytes ≡ most = omega (arith, had.within) in
     ((had.front all is).1 ∙ ap (λ k. take k all) e, had.rest all is ∙ ap (λ k. Some (drop k all)) e)
@@ -125,5 +125,5 @@ HasRead-Consumed before now then faults after bytes most left had fits more = re
 pub Consumed-none : (a b : Option (List ℕ)) (most : ℕ) → b ≡ a → Consumed a b most
 Consumed-none a b most e = record { some = λ all is. (0, omega arith, e ∙ is) }
 
-pub Consumed-some : (a b : Option (List ℕ)) (n most : ℕ) → n ≤ most → Told a (λ all. b ≡ Some (drop n all)) → Consumed a b most
+pub Consumed-some : (a b : Option (List ℕ)) (n most : ℕ) → n ≤ most → Known a (λ all. b ≡ Some (drop n all)) → Consumed a b most
 Consumed-some a b n most h told = record { some = λ all is. (n, h, told all is) }

@@ -8,7 +8,7 @@ use Rattle.std.proofs.Math.Nat.{pow-le-pow_right}
 use Rattle.std.proofs.lemmas.List.{drop_more}
 use Rattle.std.proofs.lemmas.List.Sums.{prefix_len-le-length, take_while-cons}
 use Rattle.pat_base.specs.LsnText.{at_most}
-use Rattle.pat_base.specs.SizeText.{is_no_digit, digits_of, number_of}
+use Rattle.pat_base.specs.SizeText.{is_no_digit, digits_of, size_number_of}
 
 -- a front of the digits has been read
 pub record HasReadHex (digits : List ℕ) (at value : ℕ) : Type 0 where
@@ -36,7 +36,7 @@ over most number true great = grind (arith, nat_tests)
 over most number false great = refl
 
 -- the number read so far is too great, so the whole is
-pub too_great : (digits : List ℕ) (at value most : ℕ) → HasReadDecimal digits at value → at < length digits → most < value * 10 + digit_value (get_or digits at 0) → option_and_then (at_most most) (number_of digits) ≡ None
+pub too_great : (digits : List ℕ) (at value most : ℕ) → HasReadDecimal digits at value → at < length digits → most < value * 10 + digit_value (get_or digits at 0) → option_and_then (at_most most) (size_number_of digits) ≡ None
 too_great digits at value most had within great =
     let is : digits_value_after 10 (value * 10 + digit_value (get_or digits at 0)) (drop (at + 1) digits) ≡ digits_value 10 digits = rw (drop_more digits at 0 within) at had.value_is in
     over most (digits_value 10 digits) (nat_lt 0 (length digits)) (omega (arith, great, is, digits_value_after-le (value * 10 + digit_value (get_or digits at 0)) (drop (at + 1) digits)))

@@ -2,8 +2,8 @@
 use Rattle.std.specs.Prelude.{ℕ, ◌≡◌, ◌⊎◌, ◌<◌, ◌≤◌, ◌^◌, ◌-◌, ◌++◌, List, drop, Option, Some}
 
 -- what holds of a content, where it is told
-abbrev pub Told : Option (List ℕ) → (List ℕ → Type 0) → Type 0
-Told content P = (bytes : List ℕ) → content ≡ Some bytes → P bytes
+abbrev pub Known : Option (List ℕ) → (List ℕ → Type 0) → Type 0
+Known content P = (bytes : List ℕ) → content ≡ Some bytes → P bytes
 
 -- the count rose, or stands at its last value
 abbrev pub Rose : ℕ → ℕ → Type 0

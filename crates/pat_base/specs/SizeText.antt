@@ -27,8 +27,8 @@ unit_of unit =
     else (if bytes_eq unit (codes "GB") then Some (2 ^ 30) else None)))
 
 -- the number that some digits write
-abbrev pub number_of : List ℕ → Option ℕ
-number_of digits = if nat_lt 0 (length digits) then Some (digits_value 10 digits) else None
+abbrev pub size_number_of : List ℕ → Option ℕ
+size_number_of digits = if nat_lt 0 (length digits) then Some (digits_value 10 digits) else None
 
 -- so many units, if they are at most 2^63 bytes
 abbrev pub sized : Option ℕ → Option ℕ → Option ℕ
@@ -38,4 +38,4 @@ sized None _ = None
 
 -- the number of bytes that the text writes, if it writes one: decimal digits, and then a unit
 abbrev pub size_of : List ℕ → Option ℕ
-size_of text = sized (number_of (digits_of text)) (unit_of (unit_text text))
+size_of text = sized (size_number_of (digits_of text)) (unit_of (unit_text text))

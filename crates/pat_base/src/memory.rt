@@ -1,6 +1,6 @@
 //! A source and a sink in memory, with the calls that are to fail: for tests and for callers that embed the program.
 ghost use Rattle.std.specs.Prelude.{ℕ, ◌≡◌, ◌<◌, ◌≤◌, ◌+◌, ◌-◌, ◌++◌, ◌↔◌, ◌⊎◌, [], length, take, drop, Some, Contains, min, IfOk, IsOk, IsOkAnd, IsErr, OnErr, vec_len, vec_capacity};
-ghost use Rattle.pat_base.specs.Outside.{Told, Rose};
+ghost use Rattle.pat_base.specs.Outside.{Known, Rose};
 ghost use Rattle.pat_base.specs.Memory.{counted};
 
 use crate::{Failed, Sink, Source};
@@ -52,9 +52,9 @@ impl Source for MemorySource {
 
     fn read(&mut self, buf: &mut [u8]) -> Result<usize, Failed>
         ensures within { IfOk result (λ count. count ≤ length buf.old) }
-        ensures bytes { IfOk result (λ count. Told (Some self.old.rest) (λ all. (count ≤ length all) × (take count buf.new ≡ take count all))) }
-        ensures after { IfOk result (λ count. Told (Some self.old.rest) (λ all. Some self.new.rest ≡ Some (drop count all))) }
-        ensures end { IfOk result (λ count. Told (Some self.old.rest) (λ all. count ≡ 0 → 0 < length buf.old → length all ≡ 0)) }
+        ensures bytes { IfOk result (λ count. Known (Some self.old.rest) (λ all. (count ≤ length all) × (take count buf.new ≡ take count all))) }
+        ensures after { IfOk result (λ count. Known (Some self.old.rest) (λ all. Some self.new.rest ≡ Some (drop count all))) }
+        ensures end { IfOk result (λ count. Known (Some self.old.rest) (λ all. count ≡ 0 → 0 < length buf.old → length all ≡ 0)) }
         ensures same { OnErr result (Some self.new.rest ≡ Some self.old.rest) }
         ensures failed { OnErr result (Rose self.old.faults self.new.faults) }
         ensures grows { self.old.faults ≤ self.new.faults }
@@ -134,7 +134,7 @@ impl Sink for MemorySink {
     fn write(&mut self, piece: &[u8]) -> Result<usize, Failed>
         ensures within { IfOk result (λ count. count ≤ length piece.now) }
         ensures some { IfOk result (λ count. 0 < length piece.now → 0 < count) }
-        ensures grown { IfOk result (λ count. Told (Some self.old.content) (λ had. Some self.new.content ≡ Some (had ++ take count piece.now))) }
+        ensures grown { IfOk result (λ count. Known (Some self.old.content) (λ had. Some self.new.content ≡ Some (had ++ take count piece.now))) }
         ensures same { OnErr result (Some self.new.content ≡ Some self.old.content) }
         ensures failed { OnErr result (Rose self.old.faults self.new.faults) }
         ensures grows { self.old.faults ≤ self.new.faults }

@@ -1,6 +1,6 @@
 //! What reaches outside, by two meanings: a count of faults that never falls and, where it is told, the content.
 ghost use Rattle.std.specs.Prelude.{ℕ, ◌≡◌, ◌<◌, ◌≤◌, ◌-◌, ◌++◌, List, length, take, drop, Option, Some, IfOk, IsOk, IsOkAnd, OnErr};
-ghost use Rattle.pat_base.specs.Outside.{Told, Rose};
+ghost use Rattle.pat_base.specs.Outside.{Known, Rose};
 
 /// A call that reaches outside failed: the count of faults of its object rose.
 #[derive(Clone, Copy, Debug, PartialEq, Eq)]
@@ -21,9 +21,9 @@ pub trait Source {
     /// buffer that isn't empty answers 0 exactly at the end of the content, where that is told.
     fn read(&mut self, buf: &mut [u8]) -> Result<usize, Failed>
         ensures within { IfOk result (λ count. count ≤ length buf.old) }
-        ensures bytes { IfOk result (λ count. Told (rest self.old) (λ all. (count ≤ length all) × (take count buf.new ≡ take count all))) }
-        ensures after { IfOk result (λ count. Told (rest self.old) (λ all. rest self.new ≡ Some (drop count all))) }
-        ensures end { IfOk result (λ count. Told (rest self.old) (λ all. count ≡ 0 → 0 < length buf.old → length all ≡ 0)) }
+        ensures bytes { IfOk result (λ count. Known (rest self.old) (λ all. (count ≤ length all) × (take count buf.new ≡ take count all))) }
+        ensures after { IfOk result (λ count. Known (rest self.old) (λ all. rest self.new ≡ Some (drop count all))) }
+        ensures end { IfOk result (λ count. Known (rest self.old) (λ all. count ≡ 0 → 0 < length buf.old → length all ≡ 0)) }
         ensures same { OnErr result (rest self.new ≡ rest self.old) }
         ensures failed { OnErr result (Rose (faults self.old) (faults self.new)) }
         ensures grows { faults self.old ≤ faults self.new }
@@ -45,7 +45,7 @@ pub trait Sink {
     fn write(&mut self, piece: &[u8]) -> Result<usize, Failed>
         ensures within { IfOk result (λ count. count ≤ length piece.now) }
         ensures some { IfOk result (λ count. 0 < length piece.now → 0 < count) }
-        ensures grown { IfOk result (λ count. Told (content self.old) (λ had. content self.new ≡ Some (had ++ take count piece.now))) }
+        ensures grown { IfOk result (λ count. Known (content self.old) (λ had. content self.new ≡ Some (had ++ take count piece.now))) }
         ensures same { OnErr result (content self.new ≡ content self.old) }
         ensures failed { OnErr result (Rose (faults self.old) (faults self.new)) }
         ensures grows { faults self.old ≤ faults self.new }

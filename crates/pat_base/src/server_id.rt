@@ -7,7 +7,7 @@ use crate::MemberId;
 const REMOTE: u8 = 16;
 
 /// A server, by its number: below 16 that of the member whose server it is, and 16 for the remote primary that a
-/// standby cluster follows (Patroni, "Standby cluster").
+/// replica cluster follows (Patroni, "Standby cluster").
 #[derive(Clone, Copy, Debug, PartialEq, Eq, PartialOrd, Ord)]
 pub struct ServerId {
     /// From 0, and at most 16.

@@ -8,9 +8,9 @@ pub enum State {
     Creating,
     /// It was shut down in an orderly way.
     Stopped,
-    /// It starts, and is ready at the moment `at`: as a primary, or as a standby.
+    /// It starts, and is ready at the moment `at`: as a primary, or as a replica.
     Starting { as_primary: bool, at: Ticks },
-    /// It runs in recovery, as a standby of another server (PostgreSQL, "Log-Shipping Standby Servers").
+    /// It runs in recovery, as a replica of another server (PostgreSQL, "Log-Shipping Standby Servers").
     Replica,
     /// It runs and accepts writes.
     Primary,
@@ -52,8 +52,8 @@ impl State {
 pub enum Required {
     /// It waits for nobody.
     Nobody,
-    /// It waits for any one standby.
+    /// It waits for any one replica.
     AnyOne,
-    /// It waits for each of these standbys.
+    /// It waits for each of these replicas.
     All(MemberSet),
 }

@@ -3,7 +3,7 @@ ghost use Rattle.std.specs.Prelude.{◌≡◌, ◌≤◌, ◌<◌, ◌^◌, ◌�
 ghost use Rattle.std.specs.List.{position_or_len, position, list_all};
 ghost use Rattle.std.specs.Char.{is_ascii_digit, digit_value};
 ghost use Rattle.std.specs.Str.Parse.{digits_value};
-ghost use Rattle.pat_base.specs.SizeText.{size_of, unit_of, number_of, is_no_digit, sized};
+ghost use Rattle.pat_base.specs.SizeText.{size_of, unit_of, size_number_of, is_no_digit, sized};
 ghost use Rattle.pat_base.specs.LsnText.{at_most};
 
 use thiserror::Error;
@@ -73,7 +73,7 @@ fn unit_of(unit: &[u8]) -> Option<u64>
 /// number is greater.
 fn number_up_to(digits: &[u8], most: u64) -> Option<u64>
     requires { IsTrue (list_all is_ascii_digit digits.now) }
-    ensures { result ≡ option_and_then (at_most most) (number_of digits.now) }
+    ensures { result ≡ option_and_then (at_most most) (size_number_of digits.now) }
 {
     if digits.is_empty() {
         return None;

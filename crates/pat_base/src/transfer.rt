@@ -1,6 +1,6 @@
 //! All bytes of a piece, and all bytes of a source up to a limit.
 ghost use Rattle.std.specs.Prelude.{ℕ, ◌≡◌, ◌≢◌, ◌<◌, ◌≤◌, ◌+◌, ◌-◌, ◌++◌, length, take, drop, Some, IfOk, IsOk, OnErr, OnOk, IsErrOf};
-ghost use Rattle.pat_base.specs.Outside.{Told, Rose, Consumed};
+ghost use Rattle.pat_base.specs.Outside.{Known, Rose, Consumed};
 ghost use Rattle.pat_base.specs.Prints.{Prints, failed};
 ghost use Rattle.pat_base.specs.declared.transfer.ReadError.TheVariants.{Memory, Fault};
 
@@ -53,8 +53,8 @@ pub fn read_at_most<S: Source>(
     input: &mut S,
     most: usize,
 ) -> Result<Vec<u8>, ReadError>
-    ensures bytes { IfOk result (λ read. Told (S.rest input.old) (λ all. read.items ≡ take most all)) }
-    ensures after { IfOk result (λ read. Told (S.rest input.old) (λ all. S.rest input.new ≡ Some (drop most all))) }
+    ensures bytes { IfOk result (λ read. Known (S.rest input.old) (λ all. read.items ≡ take most all)) }
+    ensures after { IfOk result (λ read. Known (S.rest input.old) (λ all. S.rest input.new ≡ Some (drop most all))) }
     ensures consumed { Consumed (S.rest input.old) (S.rest input.new) most }
     ensures fault { IsErrOf result ReadError.Fault → Rose (S.faults input.old) (S.faults input.new) }
     ensures grows { S.faults input.old ≤ S.faults input.new }
@@ -75,9 +75,9 @@ fn read_more<S: Source>(input: &mut S, bytes: &mut Vec<u8>, most: usize) -> Resu
     requires { 0 < most }
     ensures within { IfOk result (λ count. count ≤ most) }
     ensures added { IfOk result (λ count. length bytes.new.items ≡ length bytes.old.items + count) }
-    ensures bytes { IfOk result (λ count. Told (S.rest input.old) (λ all. (count ≤ length all) × (bytes.new.items ≡ bytes.old.items ++ take count all))) }
-    ensures after { IfOk result (λ count. Told (S.rest input.old) (λ all. S.rest input.new ≡ Some (drop count all))) }
-    ensures end { IfOk result (λ count. Told (S.rest input.old) (λ all. count ≡ 0 → length all ≡ 0)) }
+    ensures bytes { IfOk result (λ count. Known (S.rest input.old) (λ all. (count ≤ length all) × (bytes.new.items ≡ bytes.old.items ++ take count all))) }
+    ensures after { IfOk result (λ count. Known (S.rest input.old) (λ all. S.rest input.new ≡ Some (drop count all))) }
+    ensures end { IfOk result (λ count. Known (S.rest input.old) (λ all. count ≡ 0 → length all ≡ 0)) }
     ensures consumed { Consumed (S.rest input.old) (S.rest input.new) most }
     ensures fault { IsErrOf result ReadError.Fault → Rose (S.faults input.old) (S.faults input.new) }
     ensures grows { S.faults input.old ≤ S.faults input.new }

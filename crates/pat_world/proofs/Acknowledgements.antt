@@ -14,23 +14,23 @@ use Rattle.pg_model.specs.Facts.{ServerFacts}
 use Rattle.pg_model.specs.Replication.{acknowledged, first_is_met, first_serial, is_met, may_acknowledge, next_acknowledged}
 use Rattle.pg_model.proofs.Clusters.{got-set_other, got-set_same}
 use Rattle.event_book.specs.declared.event.Event.{Event}
-use Rattle.event_book.specs.declared.event.Kind.{Kind}
-use Rattle.event_book.specs.declared.event.Kind.TheVariants as kinds
+use Rattle.event_book.specs.declared.event.EventKind.{EventKind}
+use Rattle.event_book.specs.declared.event.EventKind.TheVariants as kinds
 use Rattle.event_book.specs.declared.event.ReplicationEvent.TheVariants as replications
 use Rattle.event_book.specs.declared.member.Member.{Member}
 use Rattle.event_book.specs.declared.member.ServerOf.{ServerOf}
 use Rattle.event_book.specs.Members.{server_of}
 use Rattle.pat_world.specs.Acknowledging.{acknowledge_kinds, acknowledgement, confirmed_front, ready_commits, AreAcknowledged, IsDone}
-use Rattle.pat_world.specs.Cluster.{Cluster, moved, moved_all}
-use Rattle.pat_world.specs.Next.{acknowledges, all_happen, each, followed, happens}
+use Rattle.pat_world.specs.Cluster.{Cluster, cluster_after, cluster_over}
+use Rattle.pat_world.specs.Next.{acknowledge_events, events_of, each, events_then, event_of}
 use Rattle.pat_world.specs.Room.{HasRoom}
-use Rattle.pat_world.specs.Took.{Took}
+use Rattle.pat_world.specs.Emits.{Emits}
 use Rattle.pat_world.proofs.Deciding.{stamped-is}
 use Rattle.pat_world.proofs.Rest.{Left, Left-end, Left-more}
 use Rattle.pat_world.proofs.Rooms.{HasRoom-fewer}
 use Rattle.pat_world.proofs.ServerRooms.{with-all, HasTimeline}
-use Rattle.pat_world.proofs.Serving.{serving, serving-moved}
-use Rattle.pat_world.proofs.Taking.{moved_all-append}
+use Rattle.pat_world.proofs.Serving.{serving, serving-cluster_after}
+use Rattle.pat_world.proofs.Taking.{cluster_over-append}
 
 -- the server after its oldest waiting commit was acknowledged
 abbrev pub one_told : ServerFacts → ServerFacts
@@ -115,13 +115,13 @@ abbrev pub telling : Cluster → List ServerFacts → List ℕ → Cluster
 telling cluster servers told = serving cluster servers cluster.book.frozen cluster.book.commits told
 
 -- an acknowledgement counts no counter up
-pub HasRoom-acknowledged : (cluster : Cluster) (member : Member) (commit events : ℕ) → HasRoom cluster events → HasRoom (moved cluster (acknowledgement member commit)) events
+pub HasRoom-acknowledged : (cluster : Cluster) (member : Member) (commit events : ℕ) → HasRoom cluster events → HasRoom (cluster_after cluster (acknowledgement member commit)) events
 HasRoom-acknowledged cluster member commit events room = record {
   clock = room.clock;
   revision = room.revision;
   sent = room.sent;
   runs = room.runs;
-  phases = room.phases;
+  agent_states = room.agent_states;
   timelines = with-all (HasTimeline events) (HasTimeline events) cluster.book.servers member.id.number one_told room.timelines (λ s has. has) (λ s has. has);
   commits = room.commits;
 }
@@ -131,14 +131,14 @@ pub acknowledged-one : (cluster : Cluster) (member : Member) (commit : ℕ) (s :
     → slice_get cluster.book.servers member.id.number ≡ Some s → next_acknowledged s ≡ Some commit → known ≡ changed_by cluster.book.servers member.id.number acknowledged
     → told ≡ cluster.book.acknowledged ++ commit ∷ [] → server ≡ server_of member → tick.0 ≡ cluster.book.clock
     → longer ≡ has ++ record { tick = tick; kind = kinds.Replication (replications.Acknowledged server commit) } ∷ []
-    → Took cluster (telling cluster known told) has longer (happens cluster (acknowledgement member commit)) 0
+    → Emits cluster (telling cluster known told) has longer (event_of cluster (acknowledgement member commit)) 0
 acknowledged-one cluster member commit s server known told tick has longer there next known_is told_is server_is at longer_is =
     let place = member.id.number in
-    let kind : Kind = acknowledgement member commit in
+    let kind : EventKind = acknowledgement member commit in
     let servers : known ≡ changed_by cluster.book.servers place one_told = known_is ∙ ap (changed_at cluster.book.servers place acknowledged) there
     ∙ ap (slice_set cluster.book.servers place) (ready-next s commit next).1 ∙ sym (ap (changed_at cluster.book.servers place one_told) there) in
-    let state : telling cluster known told ≡ moved cluster kind = ap (λ (xs : List ServerFacts). telling cluster xs told) servers
-    ∙ ap (telling cluster (changed_by cluster.book.servers place one_told)) told_is ∙ sym (serving-moved cluster kind tt) in
+    let state : telling cluster known told ≡ cluster_after cluster kind = ap (λ (xs : List ServerFacts). telling cluster xs told) servers
+    ∙ ap (telling cluster (changed_by cluster.book.servers place one_told)) told_is ∙ sym (serving-cluster_after cluster kind tt) in
     record {
       state = state;
       event = longer_is ∙ ap (λ (x : ServerOf). has ++ record { tick = tick; kind = kinds.Replication (replications.Acknowledged x commit) } ∷ []) server_is ∙ ap (λ es. has ++ es) (stamped-is cluster tick kind at);
@@ -147,22 +147,22 @@ acknowledged-one cluster member commit s server known told tick has longer there
 
 -- the first of what is left is acknowledged
 pub acknowledged-rest : (cluster : Cluster) (member : Member) (commit : ℕ) (s : ServerFacts) → slice_get cluster.book.servers member.id.number ≡ Some s → next_acknowledged s ≡ Some commit
-    → acknowledges cluster member ≡ followed cluster (happens cluster (acknowledgement member commit)) (λ later. acknowledges later member)
+    → acknowledge_events cluster member ≡ events_then cluster (event_of cluster (acknowledgement member commit)) (λ later. acknowledge_events later member)
 acknowledged-rest cluster member commit s there next =
     let place = member.id.number in
-    let kind : Kind = acknowledgement member commit in
-    ap (λ (o : Option ServerFacts). all_happen cluster (acknowledge_kinds member o)) there
-    ∙ ap (λ (commits : List ℕ). all_happen cluster (map (acknowledgement member) commits)) (ready-next s commit next).0
-    ∙ ap (λ (o : Option ServerFacts). happens cluster kind ++ all_happen (moved cluster kind) (acknowledge_kinds member o)) (sym (got-with cluster.book.servers place s one_told there))
+    let kind : EventKind = acknowledgement member commit in
+    ap (λ (o : Option ServerFacts). events_of cluster (acknowledge_kinds member o)) there
+    ∙ ap (λ (commits : List ℕ). events_of cluster (map (acknowledgement member) commits)) (ready-next s commit next).0
+    ∙ ap (λ (o : Option ServerFacts). event_of cluster kind ++ events_of (cluster_after cluster kind) (acknowledge_kinds member o)) (sym (got-with cluster.book.servers place s one_told there))
 
 pub acknowledge-more : (start cluster : Cluster) (member : Member) (commit : ℕ) (server : ServerOf) (known : List ServerFacts) (told : List ℕ) (tick : Ticks) (had has longer whole : List Event)
-    → Left start cluster had has whole (acknowledges cluster member) 0 0 → option_and_then next_acknowledged (slice_get cluster.book.servers member.id.number) ≡ Some commit
+    → Left start cluster had has whole (acknowledge_events cluster member) 0 0 → option_and_then next_acknowledged (slice_get cluster.book.servers member.id.number) ≡ Some commit
     → known ≡ changed_by cluster.book.servers member.id.number acknowledged → told ≡ cluster.book.acknowledged ++ commit ∷ [] → server ≡ server_of member → tick.0 ≡ cluster.book.clock
     → longer ≡ has ++ record { tick = tick; kind = kinds.Replication (replications.Acknowledged server commit) } ∷ []
-    → Left start (telling cluster known told) had longer whole (acknowledges (telling cluster known told) member) 0 0
+    → Left start (telling cluster known told) had longer whole (acknowledge_events (telling cluster known told) member) 0 0
 acknowledge-more start cluster member commit server known told tick had has longer whole left is known_is told_is server_is at longer_is =
     let found = found-next (slice_get cluster.book.servers member.id.number) commit is in
-    Left-more start cluster (telling cluster known told) had has longer whole (happens cluster (acknowledgement member commit)) (λ later. acknowledges later member) _ 0 0 0 0 left
+    Left-more start cluster (telling cluster known told) had has longer whole (event_of cluster (acknowledgement member commit)) (λ later. acknowledge_events later member) _ 0 0 0 0 left
     (acknowledged-rest cluster member commit found.0 found.1 found.2)
     (acknowledged-one cluster member commit found.0 server known told tick has longer found.1 found.2 known_is told_is server_is at longer_is) (omega arith)
 
@@ -187,13 +187,13 @@ no-kinds member (Some s) is = ap (map (acknowledgement member)) (ready-none s is
 
 -- none is left
 pub acknowledge-end : (start cluster : Cluster) (member : Member) (known : List ServerFacts) (had has whole : List Event)
-    → Left start cluster had has whole (acknowledges cluster member) 0 0 → option_and_then next_acknowledged (slice_get cluster.book.servers member.id.number) ≡ None
-    → known ≡ changed_by cluster.book.servers member.id.number acknowledged → Took start (telling cluster known cluster.book.acknowledged) had has whole 0
+    → Left start cluster had has whole (acknowledge_events cluster member) 0 0 → option_and_then next_acknowledged (slice_get cluster.book.servers member.id.number) ≡ None
+    → known ≡ changed_by cluster.book.servers member.id.number acknowledged → Emits start (telling cluster known cluster.book.acknowledged) had has whole 0
 acknowledge-end start cluster member known had has whole left none known_is =
     let place = member.id.number in
     let same : known ≡ cluster.book.servers = known_is ∙ none-left cluster.book.servers place (slice_get cluster.book.servers place) refl none in
-    subst (λ (xs : List ServerFacts). Took start (telling cluster xs cluster.book.acknowledged) had has whole 0) (sym same)
-    (Left-end start cluster had has whole _ 0 0 left (ap (all_happen cluster) (no-kinds member (slice_get cluster.book.servers place) none)))
+    subst (λ (xs : List ServerFacts). Emits start (telling cluster xs cluster.book.acknowledged) had has whole 0) (sym same)
+    (Left-end start cluster had has whole _ 0 0 left (ap (events_of cluster) (no-kinds member (slice_get cluster.book.servers place) none)))
 
 cons-met : (met : Bool) (serial commit : ℕ) (rest more : List ℕ) → (if met then serial ∷ rest else []) ≡ commit ∷ more → (met ≡ true) × (rest ≡ more)
 cons-met true serial commit rest more is = (refl, inner rest more serial commit is)
@@ -230,10 +230,10 @@ Keeps-then : (first second third : Cluster) → Keeps first second → Keeps sec
 Keeps-then first second third one two = record { members = two.members ∙ one.members; done = λ place done. two.done place (one.done place done) }
 
 -- an acknowledgement concerns one server, which isn't done
-keeps-one : (cluster : Cluster) (member : Member) (commit : ℕ) (s : ServerFacts) → slice_get cluster.book.servers member.id.number ≡ Some s → may_acknowledge s ≡ true → Keeps cluster (moved cluster (acknowledgement member commit))
+keeps-one : (cluster : Cluster) (member : Member) (commit : ℕ) (s : ServerFacts) → slice_get cluster.book.servers member.id.number ≡ Some s → may_acknowledge s ≡ true → Keeps cluster (cluster_after cluster (acknowledgement member commit))
 keeps-one cluster member commit s there may = record { members = refl; done = λ place done. at place done (cases_eq place member.id.number) }
   where
-    at : (place : ℕ) → DoneAt cluster place → (place ≡ member.id.number) ⊎ (place ≡ member.id.number → ⊥) → DoneAt (moved cluster (acknowledgement member commit)) place
+    at : (place : ℕ) → DoneAt cluster place → (place ≡ member.id.number) ⊎ (place ≡ member.id.number → ⊥) → DoneAt (cluster_after cluster (acknowledgement member commit)) place
     at place done (inl e) =
         let here : may_acknowledge s ≡ false = subst IsDone there (subst (λ (n : ℕ). DoneAt cluster n) e done) in
         absurd (clash (sym here ∙ may))
@@ -242,34 +242,34 @@ keeps-one cluster member commit s there may = record { members = refl; done = λ
 
 -- once all that may be acknowledged at a server are, it is done
 done-there : (cluster : Cluster) (member : Member) (s : ServerFacts) (commits : List ℕ) → slice_get cluster.book.servers member.id.number ≡ Some s → ready_commits s ≡ commits
-    → let after = moved_all cluster (all_happen cluster (map (acknowledgement member) commits)) in Keeps cluster after × DoneAt after member.id.number
+    → let after = cluster_over cluster (events_of cluster (map (acknowledgement member) commits)) in Keeps cluster after × DoneAt after member.id.number
 done-there cluster member s [] there none =
     (record { members = refl; done = λ place done. done }, subst IsDone (sym there) (nothing-of (writes s.state) s.required s.confirmed s.waiting none))
 done-there cluster member s (commit ∷ more) there ready =
     let next = cons-of (writes s.state) s.required s.confirmed s.waiting commit more ready in
-    let rest = done-there (moved cluster (acknowledgement member commit)) member (one_told s) more (got-with cluster.book.servers member.id.number s one_told there) next.1 in
-    (Keeps-then cluster (moved cluster (acknowledgement member commit)) _ (keeps-one cluster member commit s there next.0) rest.0, rest.1)
+    let rest = done-there (cluster_after cluster (acknowledgement member commit)) member (one_told s) more (got-with cluster.book.servers member.id.number s one_told there) next.1 in
+    (Keeps-then cluster (cluster_after cluster (acknowledgement member commit)) _ (keeps-one cluster member commit s there next.0) rest.0, rest.1)
 
 done-for : (cluster : Cluster) (member : Member) (found : Option ServerFacts) → slice_get cluster.book.servers member.id.number ≡ found
-    → let after = moved_all cluster (all_happen cluster (acknowledge_kinds member found)) in Keeps cluster after × DoneAt after member.id.number
+    → let after = cluster_over cluster (events_of cluster (acknowledge_kinds member found)) in Keeps cluster after × DoneAt after member.id.number
 done-for cluster member None there = (record { members = refl; done = λ place done. done }, subst IsDone (sym there) tt)
 done-for cluster member (Some s) there = done-there cluster member s (ready_commits s) there refl
 
 -- once those of these members are acknowledged, they are done
-done-each : (cluster : Cluster) (members : List Member) → let after = moved_all cluster (each acknowledges cluster members) in Keeps cluster after × All (λ member. DoneAt after member.id.number) members
+done-each : (cluster : Cluster) (members : List Member) → let after = cluster_over cluster (each acknowledge_events cluster members) in Keeps cluster after × All (λ member. DoneAt after member.id.number) members
 done-each cluster [] = (record { members = refl; done = λ place done. done }, All-nil (λ (member : Member). DoneAt cluster member.id.number))
 done-each cluster (member ∷ more) =
-    let next = moved_all cluster (acknowledges cluster member) in
-    let end : Cluster = moved_all next (each acknowledges next more) in
+    let next = cluster_over cluster (acknowledge_events cluster member) in
+    let end : Cluster = cluster_over next (each acknowledge_events next more) in
     let one = done-for cluster member (slice_get cluster.book.servers member.id.number) refl in
     let rest = done-each next more in
     let P : Cluster → Type 0 = λ after. Keeps cluster after × All (λ m. DoneAt after m.id.number) (member ∷ more) in
-    subst P (sym (moved_all-append cluster (acknowledges cluster member) (each acknowledges next more)))
+    subst P (sym (cluster_over-append cluster (acknowledge_events cluster member) (each acknowledge_events next more)))
     (Keeps-then cluster next end one.0 rest.0, All-cons (λ (m : Member). DoneAt end m.id.number) member more (rest.0.done member.id.number one.1) rest.1)
 
 -- after that no commit is left that may be acknowledged
-pub acknowledged-all : (before after : Cluster) (had has : List Event) (cost : ℕ) → Took before after had has (each acknowledges before before.book.members) cost → AreAcknowledged after.book.members after.book.servers
+pub acknowledged-all : (before after : Cluster) (had has : List Event) (cost : ℕ) → Emits before after had has (each acknowledge_events before before.book.members) cost → AreAcknowledged after.book.members after.book.servers
 acknowledged-all before after had has cost took =
     let all = done-each before before.book.members in
-    let end : Cluster = moved_all before (each acknowledges before before.book.members) in
+    let end : Cluster = cluster_over before (each acknowledge_events before before.book.members) in
     subst (λ (c : Cluster). AreAcknowledged c.book.members c.book.servers) (sym took.state) (subst (λ (ms : List Member). AreAcknowledged ms end.book.servers) (sym all.0.members) all.1)

@@ -6,11 +6,11 @@ use Rattle.lease_store.specs.declared.key.Key.{Key}
 use Rattle.lease_store.specs.declared.txn.Expected.{Expected}
 use Rattle.lease_store.specs.declared.txn.Txn.{Txn}
 use Rattle.lease_store.specs.Decision.{Decision, Grant, Refusal, decision_on}
-use Rattle.lease_store.specs.TxnKinds.{kind_of}
+use Rattle.lease_store.specs.TxnKinds.{txn_kind_of}
 use Rattle.lease_store.specs.Writes.{is_lease}
 use Rattle.event_book.specs.declared.event.Event.{Event}
-use Rattle.event_book.specs.declared.event.Kind.{Kind}
-use Rattle.event_book.specs.declared.event.Kind.TheVariants as kinds
+use Rattle.event_book.specs.declared.event.EventKind.{EventKind}
+use Rattle.event_book.specs.declared.event.EventKind.TheVariants as kinds
 use Rattle.event_book.specs.declared.event.MessageEvent.TheVariants.{Delivered}
 use Rattle.event_book.specs.declared.event.StoreEvent.TheVariants as stores
 use Rattle.event_book.specs.declared.link.LinkEnd.{LinkEnd}
@@ -18,85 +18,85 @@ use Rattle.event_book.specs.declared.link.LinkEnd.TheVariants as link_ends
 use Rattle.event_book.specs.declared.member.Member.{Member}
 use Rattle.event_book.specs.declared.message.Body.TheVariants as bodies
 use Rattle.event_book.specs.declared.message.Message.{Message}
-use Rattle.event_book.specs.Flight.{InFlightFacts, in_flight, landed}
-use Rattle.pat_world.specs.Cluster.{Cluster, moved, phases_told}
-use Rattle.pat_world.specs.Next.{happens, for_some, sends, answer_to, answers, decides, listened, reacts, comes, comes_to}
+use Rattle.event_book.specs.Flight.{InFlightFacts, in_flight, without_message}
+use Rattle.pat_world.specs.Cluster.{Cluster, cluster_after, agent_states_reached_at}
+use Rattle.pat_world.specs.Next.{event_of, for_some, send_events, answer_message, answer_events, decision_events, reaction_to_message, reaction_events, arrival_events, arrival_events_at}
 use Rattle.pat_world.specs.Room.{decision_cost, message_cost, reaction_cost, sending_cost}
-use Rattle.pat_world.specs.Took.{Took}
+use Rattle.pat_world.specs.Emits.{Emits}
 use Rattle.pat_world.specs.Comes.{Counts}
-use Rattle.pat_world.proofs.Taking.{Took-nothing, Took-one, Took-then}
+use Rattle.pat_world.proofs.Taking.{Emits-nothing, Emits-one, Emits-then}
 
-pub stamped-is : (cluster : Cluster) (tick : Ticks) (kind : Kind) → tick.0 ≡ (moved cluster kind).book.clock → ◌≡◌ {A = List Event} ((record { tick = tick; kind = kind }) ∷ []) (happens cluster kind)
+pub stamped-is : (cluster : Cluster) (tick : Ticks) (kind : EventKind) → tick.0 ≡ (cluster_after cluster kind).book.clock → ◌≡◌ {A = List Event} ((record { tick = tick; kind = kind }) ∷ []) (event_of cluster kind)
 stamped-is cluster tick kind at = ap (λ (n : ℕ). let event : Event = record { tick = record { 0 = n }; kind = kind } in event ∷ []) at
 
 -- one thing happens and is written down, and then what comes after it
-pub Took-after : (first second third : Cluster) (had mid has : List Event) (tick : Ticks) (kind : Kind) (more : Cluster → List Event) (cost whole : ℕ) → Counts first kind
-    → tick.0 ≡ (moved first kind).book.clock → second ≡ moved first kind → mid ≡ had ++ record { tick = tick; kind = kind } ∷ [] → Took second third mid has (more second) cost → 1 + cost ≤ whole
-    → Took first third had has (happens first kind ++ more (moved first kind)) whole
-Took-after first second third had mid has tick kind more cost whole counts at state mid_is rest enough =
-    let one = Took-one first second had mid kind counts state (mid_is ∙ ap (λ es. had ++ es) (stamped-is first tick kind at)) in
-    Took-then first second third had mid has (happens first kind) more 1 cost whole one rest enough
+pub Emits-after : (first second third : Cluster) (had mid has : List Event) (tick : Ticks) (kind : EventKind) (more : Cluster → List Event) (cost whole : ℕ) → Counts first kind
+    → tick.0 ≡ (cluster_after first kind).book.clock → second ≡ cluster_after first kind → mid ≡ had ++ record { tick = tick; kind = kind } ∷ [] → Emits second third mid has (more second) cost → 1 + cost ≤ whole
+    → Emits first third had has (event_of first kind ++ more (cluster_after first kind)) whole
+Emits-after first second third had mid has tick kind more cost whole counts at state mid_is rest enough =
+    let one = Emits-one first second had mid kind counts state (mid_is ∙ ap (λ es. had ++ es) (stamped-is first tick kind at)) in
+    Emits-then first second third had mid has (event_of first kind) more 1 cost whole one rest enough
 
-decides-is : (cluster after : Cluster) (number : ℕ) (by : Member) (message : Message) (txn : Txn) (decision : Decision) (had has : List Event)
+decision_events-is : (cluster after : Cluster) (number : ℕ) (by : Member) (message : Message) (txn : Txn) (decision : Decision) (had has : List Event)
     → message.from ≡ link_ends.Member by → decision_on cluster.book.keys cluster.book.clock txn ≡ decision
-    → Took cluster after had has (decides cluster number message txn decision (link_ends.Member by)) decision_cost
-    → Took cluster after had has (decides cluster number message txn (decision_on cluster.book.keys cluster.book.clock txn) message.from) decision_cost
-decides-is cluster after number by message txn decision had has from is took =
-    subst (λ (d : Decision). Took cluster after had has (decides cluster number message txn d message.from) decision_cost) (sym is)
-    (subst (λ (e : LinkEnd). Took cluster after had has (decides cluster number message txn decision e) decision_cost) (sym from) took)
+    → Emits cluster after had has (decision_events cluster number message txn decision (link_ends.Member by)) decision_cost
+    → Emits cluster after had has (decision_events cluster number message txn (decision_on cluster.book.keys cluster.book.clock txn) message.from) decision_cost
+decision_events-is cluster after number by message txn decision had has from is took =
+    subst (λ (d : Decision). Emits cluster after had has (decision_events cluster number message txn d message.from) decision_cost) (sym is)
+    (subst (λ (e : LinkEnd). Emits cluster after had has (decision_events cluster number message txn decision e) decision_cost) (sym from) took)
 
-comes-is : (cluster after : Cluster) (number : ℕ) (message : InFlightFacts) (to : LinkEnd) (had has : List Event) → in_flight cluster.book.flight number ≡ Some message → message.message.to ≡ to
-    → Took cluster after had has (comes_to cluster number message to) message_cost → Took cluster after had has (for_some (in_flight cluster.book.flight number) (comes cluster number)) message_cost
-comes-is cluster after number message to had has is receiver took =
-    subst (λ (o : Option InFlightFacts). Took cluster after had has (for_some o (comes cluster number)) message_cost) (sym is)
-    (subst (λ (e : LinkEnd). Took cluster after had has (comes_to cluster number message e) message_cost) (sym receiver) took)
+arrival_events-is : (cluster after : Cluster) (number : ℕ) (message : InFlightFacts) (to : LinkEnd) (had has : List Event) → in_flight cluster.book.flight number ≡ Some message → message.message.to ≡ to
+    → Emits cluster after had has (arrival_events_at cluster number message to) message_cost → Emits cluster after had has (for_some (in_flight cluster.book.flight number) (arrival_events cluster number)) message_cost
+arrival_events-is cluster after number message to had has is receiver took =
+    subst (λ (o : Option InFlightFacts). Emits cluster after had has (for_some o (arrival_events cluster number)) message_cost) (sym is)
+    (subst (λ (e : LinkEnd). Emits cluster after had has (arrival_events_at cluster number message e) message_cost) (sym receiver) took)
 
 pub granted-took : (cluster granting after : Cluster) (number : ℕ) (by : Member) (message : Message) (txn : Txn) (tick : Ticks) (had mid has : List Event)
     → message.from ≡ link_ends.Member by → tick.0 ≡ cluster.book.clock → decision_on cluster.book.keys cluster.book.clock txn ≡ Grant
-    → granting ≡ moved cluster (kinds.Store (stores.Granted number by txn [])) → mid ≡ had ++ record { tick = tick; kind = kinds.Store (stores.Granted number by txn []) } ∷ []
-    → Took granting after mid has (sends granting (answer_to message (bodies.Granted number (is_lease txn)))) sending_cost
-    → Took cluster after had has (decides cluster number message txn (decision_on cluster.book.keys cluster.book.clock txn) message.from) decision_cost
+    → granting ≡ cluster_after cluster (kinds.Store (stores.Granted number by txn [])) → mid ≡ had ++ record { tick = tick; kind = kinds.Store (stores.Granted number by txn []) } ∷ []
+    → Emits granting after mid has (send_events granting (answer_message message (bodies.Granted number (is_lease txn)))) sending_cost
+    → Emits cluster after had has (decision_events cluster number message txn (decision_on cluster.book.keys cluster.book.clock txn) message.from) decision_cost
 granted-took cluster granting after number by message txn tick had mid has from at decision state mid_is rest =
-    decides-is cluster after number by message txn Grant had has from decision
-    (Took-after cluster granting after had mid has tick (kinds.Store (stores.Granted number by txn [])) (λ later. sends later (answer_to message (bodies.Granted number (is_lease txn)))) sending_cost decision_cost tt at state mid_is rest (omega arith))
+    decision_events-is cluster after number by message txn Grant had has from decision
+    (Emits-after cluster granting after had mid has tick (kinds.Store (stores.Granted number by txn [])) (λ later. send_events later (answer_message message (bodies.Granted number (is_lease txn)))) sending_cost decision_cost tt at state mid_is rest (omega arith))
 
 pub refused-took : (cluster after : Cluster) (number : ℕ) (by : Member) (message : Message) (txn : Txn) (key : Key) (found : Expected) (tick : Ticks) (had mid has : List Event)
     → message.from ≡ link_ends.Member by → tick.0 ≡ cluster.book.clock → decision_on cluster.book.keys cluster.book.clock txn ≡ Refusal key found
-    → mid ≡ had ++ record { tick = tick; kind = kinds.Store (stores.Refused number by (kind_of txn) key found) } ∷ []
-    → Took cluster after mid has (sends cluster (answer_to message (bodies.Refused number key found))) sending_cost
-    → Took cluster after had has (decides cluster number message txn (decision_on cluster.book.keys cluster.book.clock txn) message.from) decision_cost
+    → mid ≡ had ++ record { tick = tick; kind = kinds.Store (stores.Refused number by (txn_kind_of txn) key found) } ∷ []
+    → Emits cluster after mid has (send_events cluster (answer_message message (bodies.Refused number key found))) sending_cost
+    → Emits cluster after had has (decision_events cluster number message txn (decision_on cluster.book.keys cluster.book.clock txn) message.from) decision_cost
 refused-took cluster after number by message txn key found tick had mid has from at decision mid_is rest =
-    decides-is cluster after number by message txn (Refusal key found) had has from decision
-    (Took-after cluster cluster after had mid has tick (kinds.Store (stores.Refused number by (kind_of txn) key found)) (λ later. sends later (answer_to message (bodies.Refused number key found))) sending_cost decision_cost tt at refl mid_is rest (omega arith))
+    decision_events-is cluster after number by message txn (Refusal key found) had has from decision
+    (Emits-after cluster cluster after had mid has tick (kinds.Store (stores.Refused number by (txn_kind_of txn) key found)) (λ later. send_events later (answer_message message (bodies.Refused number key found))) sending_cost decision_cost tt at refl mid_is rest (omega arith))
 
 -- a message that came isn't in flight any more, and its agent has heard it
 pub arrived : (cluster : Cluster) (number : ℕ) (message : InFlightFacts) → in_flight cluster.book.flight number ≡ Some message
-    → ◌≡◌ {A = Cluster} (record { book = record cluster.book { flight = landed cluster.book.flight number }; phases = phases_told cluster.book.clock cluster.phases message message.message.to })
-    (moved cluster (kinds.Message (Delivered number)))
+    → ◌≡◌ {A = Cluster} (record { book = record cluster.book { flight = without_message cluster.book.flight number }; agent_states = agent_states_reached_at cluster.book.clock cluster.agent_states message message.message.to })
+    (cluster_after cluster (kinds.Message (Delivered number)))
 arrived cluster number message is = rw is refl
 
 pub stored-took : (cluster stored after : Cluster) (number : ℕ) (message : InFlightFacts) (tick : Ticks) (had mid has : List Event)
-    → in_flight cluster.book.flight number ≡ Some message → message.message.to ≡ link_ends.Store → tick.0 ≡ cluster.book.clock → stored ≡ moved cluster (kinds.Message (Delivered number))
-    → mid ≡ had ++ record { tick = tick; kind = kinds.Message (Delivered number) } ∷ [] → Took stored after mid has (answers stored number message.message) decision_cost
-    → Took cluster after had has (for_some (in_flight cluster.book.flight number) (comes cluster number)) message_cost
+    → in_flight cluster.book.flight number ≡ Some message → message.message.to ≡ link_ends.Store → tick.0 ≡ cluster.book.clock → stored ≡ cluster_after cluster (kinds.Message (Delivered number))
+    → mid ≡ had ++ record { tick = tick; kind = kinds.Message (Delivered number) } ∷ [] → Emits stored after mid has (answer_events stored number message.message) decision_cost
+    → Emits cluster after had has (for_some (in_flight cluster.book.flight number) (arrival_events cluster number)) message_cost
 stored-took cluster stored after number message tick had mid has is to at state mid_is rest =
-    comes-is cluster after number message link_ends.Store had has is to
-    (Took-after cluster stored after had mid has tick (kinds.Message (Delivered number)) (λ later. answers later number message.message) decision_cost message_cost tt at state mid_is rest (omega arith))
+    arrival_events-is cluster after number message link_ends.Store had has is to
+    (Emits-after cluster stored after had mid has tick (kinds.Message (Delivered number)) (λ later. answer_events later number message.message) decision_cost message_cost tt at state mid_is rest (omega arith))
 
 pub heard-took : (cluster hearing after : Cluster) (number : ℕ) (message : InFlightFacts) (member : Member) (tick : Ticks) (had mid has : List Event)
-    → in_flight cluster.book.flight number ≡ Some message → message.message.to ≡ link_ends.Member member → tick.0 ≡ cluster.book.clock → hearing ≡ moved cluster (kinds.Message (Delivered number))
-    → mid ≡ had ++ record { tick = tick; kind = kinds.Message (Delivered number) } ∷ [] → Took hearing after mid has (reacts hearing member (listened cluster.book.clock cluster.phases message member)) reaction_cost
-    → Took cluster after had has (for_some (in_flight cluster.book.flight number) (comes cluster number)) message_cost
+    → in_flight cluster.book.flight number ≡ Some message → message.message.to ≡ link_ends.Member member → tick.0 ≡ cluster.book.clock → hearing ≡ cluster_after cluster (kinds.Message (Delivered number))
+    → mid ≡ had ++ record { tick = tick; kind = kinds.Message (Delivered number) } ∷ [] → Emits hearing after mid has (reaction_events hearing member (reaction_to_message cluster.book.clock cluster.agent_states message member)) reaction_cost
+    → Emits cluster after had has (for_some (in_flight cluster.book.flight number) (arrival_events cluster number)) message_cost
 heard-took cluster hearing after number message member tick had mid has is to at state mid_is rest =
-    comes-is cluster after number message (link_ends.Member member) had has is to
-    (Took-after cluster hearing after had mid has tick (kinds.Message (Delivered number)) (λ later. reacts later member (listened cluster.book.clock cluster.phases message member)) reaction_cost message_cost tt at state mid_is rest (omega arith))
+    arrival_events-is cluster after number message (link_ends.Member member) had has is to
+    (Emits-after cluster hearing after had mid has tick (kinds.Message (Delivered number)) (λ later. reaction_events later member (reaction_to_message cluster.book.clock cluster.agent_states message member)) reaction_cost message_cost tt at state mid_is rest (omega arith))
 
 -- the event of a grant, with what was copied into it
 pub granted-event : (tick : Ticks) (number : ℕ) (by : Member) (copy txn : Txn) (names : List Name) → copy ≡ txn → names ≡ []
     → ◌≡◌ {A = List Event} ((record { tick = tick; kind = kinds.Store (stores.Granted number by copy names) }) ∷ []) ((record { tick = tick; kind = kinds.Store (stores.Granted number by txn []) }) ∷ [])
 granted-event tick number by copy txn names same none = rw (same, none) refl
 
-pub nothing-took : (cluster after : Cluster) (number : ℕ) (had : List Event) → in_flight cluster.book.flight number ≡ None → after ≡ cluster → Took cluster after had had (for_some (in_flight cluster.book.flight number) (comes cluster number)) message_cost
+pub nothing-took : (cluster after : Cluster) (number : ℕ) (had : List Event) → in_flight cluster.book.flight number ≡ None → after ≡ cluster → Emits cluster after had had (for_some (in_flight cluster.book.flight number) (arrival_events cluster number)) message_cost
 nothing-took cluster after number had is same =
-    subst (λ (o : Option InFlightFacts). Took cluster after had had (for_some o (comes cluster number)) message_cost) (sym is)
-    (subst (λ (a : Cluster). Took cluster a had had [] message_cost) (sym same) (Took-nothing cluster had message_cost))
+    subst (λ (o : Option InFlightFacts). Emits cluster after had had (for_some o (arrival_events cluster number)) message_cost) (sym is)
+    (subst (λ (a : Cluster). Emits cluster a had had [] message_cost) (sym same) (Emits-nothing cluster had message_cost))

@@ -6,53 +6,53 @@ use Rattle.lease_store.specs.declared.key.Key.{Key}
 use Rattle.lease_store.specs.declared.key.Key.TheVariants as keys
 use Rattle.lease_store.specs.Answers.{expired_keys, expired_holder}
 use Rattle.event_book.specs.declared.event.Event.{Event}
-use Rattle.event_book.specs.declared.event.Kind.{Kind}
-use Rattle.event_book.specs.declared.event.Kind.TheVariants as kinds
+use Rattle.event_book.specs.declared.event.EventKind.{EventKind}
+use Rattle.event_book.specs.declared.event.EventKind.TheVariants as kinds
 use Rattle.event_book.specs.declared.event.StoreEvent.TheVariants as stores
 use Rattle.event_book.specs.declared.member.Member.{Member}
-use Rattle.pat_world.specs.Cluster.{Cluster, moved_all}
-use Rattle.pat_world.specs.Next.{all_happen, happens, stamped, expiry_of, expiries_of, declared_member, ticks}
-use Rattle.pat_world.specs.Took.{Took}
+use Rattle.pat_world.specs.Cluster.{Cluster, cluster_over}
+use Rattle.pat_world.specs.Next.{events_of, event_of, events_at, expiry_of, expiries_of, declared_member, tick_events}
+use Rattle.pat_world.specs.Emits.{Emits}
 use Rattle.pat_world.proofs.Rooms.{HasRoom-fewer}
-use Rattle.pat_world.proofs.Taking.{Took-then}
+use Rattle.pat_world.proofs.Taking.{Emits-then}
 
-pub stamped-append : (tick : Ticks) (xs ys : List Kind) → stamped tick (xs ++ ys) ≡ stamped tick xs ++ stamped tick ys
-stamped-append tick [] ys = refl
-stamped-append tick (x ∷ xs) ys = ap (λ (t : List Event). let event : Event = record { tick = tick; kind = x } in event ∷ t) (stamped-append tick xs ys)
+pub events_at-append : (tick : Ticks) (xs ys : List EventKind) → events_at tick (xs ++ ys) ≡ events_at tick xs ++ events_at tick ys
+events_at-append tick [] ys = refl
+events_at-append tick (x ∷ xs) ys = ap (λ (t : List Event). let event : Event = record { tick = tick; kind = x } in event ∷ t) (events_at-append tick xs ys)
 
 -- one key more is written down
 pub expiries-more : (tick : Ticks) (holder : Option Member) (all : List Key) (at : ℕ) (key : Key) (had done longer : List Event) → at < length all → key ≡ get_or all at key
-    → done ++ stamped tick (expiries_of holder (drop at all)) ≡ had ++ stamped tick (expiries_of holder all) → longer ≡ done ++ stamped tick (expiry_of holder key)
-    → longer ++ stamped tick (expiries_of holder (drop (at + 1) all)) ≡ had ++ stamped tick (expiries_of holder all)
+    → done ++ events_at tick (expiries_of holder (drop at all)) ≡ had ++ events_at tick (expiries_of holder all) → longer ≡ done ++ events_at tick (expiry_of holder key)
+    → longer ++ events_at tick (expiries_of holder (drop (at + 1) all)) ≡ had ++ events_at tick (expiries_of holder all)
 expiries-more tick holder all at key had done longer h is so more =
     let next : drop at all ≡ key ∷ drop (at + 1) all = drop_more all at key h ∙ ap (λ k. k ∷ drop (at + 1) all) (sym is) in
-    ap (λ es. es ++ stamped tick (expiries_of holder (drop (at + 1) all))) more
-    ∙ append_assoc done (stamped tick (expiry_of holder key)) (stamped tick (expiries_of holder (drop (at + 1) all)))
-    ∙ ap (λ es. done ++ es) (sym (stamped-append tick (expiry_of holder key) (expiries_of holder (drop (at + 1) all))))
-    ∙ ap (λ ks. done ++ stamped tick (expiries_of holder ks)) (sym next)
+    ap (λ es. es ++ events_at tick (expiries_of holder (drop (at + 1) all))) more
+    ∙ append_assoc done (events_at tick (expiry_of holder key)) (events_at tick (expiries_of holder (drop (at + 1) all)))
+    ∙ ap (λ es. done ++ es) (sym (events_at-append tick (expiry_of holder key) (expiries_of holder (drop (at + 1) all))))
+    ∙ ap (λ ks. done ++ events_at tick (expiries_of holder ks)) (sym next)
     ∙ so
 
 -- an expiry changes nothing: what has expired was dropped with the tick
-pub record IsStill (cluster : Cluster) (tick : Ticks) (happenings : List Kind) : Type 0 where
-  pub events : all_happen cluster happenings ≡ stamped tick happenings
-  pub state : moved_all cluster (stamped tick happenings) ≡ cluster
+pub record IsStill (cluster : Cluster) (tick : Ticks) (happenings : List EventKind) : Type 0 where
+  pub events : events_of cluster happenings ≡ events_at tick happenings
+  pub state : cluster_over cluster (events_at tick happenings) ≡ cluster
 
 still-nothing : (cluster : Cluster) (tick : Ticks) → IsStill cluster tick []
 still-nothing cluster tick = record { events = refl; state = refl }
 
-still-leader : (cluster : Cluster) (holder : Member) (more : List Kind) → IsStill cluster (record { 0 = cluster.book.clock }) more → IsStill cluster (record { 0 = cluster.book.clock }) (kinds.Store (stores.LeaderExpired holder) ∷ more)
+still-leader : (cluster : Cluster) (holder : Member) (more : List EventKind) → IsStill cluster (record { 0 = cluster.book.clock }) more → IsStill cluster (record { 0 = cluster.book.clock }) (kinds.Store (stores.LeaderExpired holder) ∷ more)
 still-leader cluster holder more rest = record {
   events = ap (λ (t : List Event). let event : Event = record { tick = record { 0 = cluster.book.clock }; kind = kinds.Store (stores.LeaderExpired holder) } in event ∷ t) rest.events;
   state = rest.state;
 }
 
-still-key : (cluster : Cluster) (key : Key) (more : List Kind) → IsStill cluster (record { 0 = cluster.book.clock }) more → IsStill cluster (record { 0 = cluster.book.clock }) (kinds.Store (stores.Expired key) ∷ more)
+still-key : (cluster : Cluster) (key : Key) (more : List EventKind) → IsStill cluster (record { 0 = cluster.book.clock }) more → IsStill cluster (record { 0 = cluster.book.clock }) (kinds.Store (stores.Expired key) ∷ more)
 still-key cluster key more rest = record {
   events = ap (λ (t : List Event). let event : Event = record { tick = record { 0 = cluster.book.clock }; kind = kinds.Store (stores.Expired key) } in event ∷ t) rest.events;
   state = rest.state;
 }
 
-still-one : (cluster : Cluster) (holder : Option Member) (key : Key) (more : List Kind) → IsStill cluster (record { 0 = cluster.book.clock }) more → IsStill cluster (record { 0 = cluster.book.clock }) (expiry_of holder key ++ more)
+still-one : (cluster : Cluster) (holder : Option Member) (key : Key) (more : List EventKind) → IsStill cluster (record { 0 = cluster.book.clock }) more → IsStill cluster (record { 0 = cluster.book.clock }) (expiry_of holder key ++ more)
 still-one cluster None keys.Leader more rest = rest
 still-one cluster (Some member) keys.Leader more rest = still-leader cluster member more rest
 still-one cluster holder keys.Config more rest = still-key cluster keys.Config more rest
@@ -68,23 +68,23 @@ still-all cluster holder [] = still-nothing cluster (record { 0 = cluster.book.c
 still-all cluster holder (key ∷ more) = still-one cluster holder key (expiries_of holder more) (still-all cluster holder more)
 
 expiries-took : (cluster : Cluster) (holder : Option Member) (all : List Key) (had : List Event)
-    → Took cluster cluster had (had ++ stamped (record { 0 = cluster.book.clock }) (expiries_of holder all)) (all_happen cluster (expiries_of holder all)) 0
+    → Emits cluster cluster had (had ++ events_at (record { 0 = cluster.book.clock }) (expiries_of holder all)) (events_of cluster (expiries_of holder all)) 0
 expiries-took cluster holder all had =
     let still = still-all cluster holder all in
     record {
-      state = sym (ap (moved_all cluster) still.events ∙ still.state);
+      state = sym (ap (cluster_over cluster) still.events ∙ still.state);
       event = ap (λ es. had ++ es) (sym still.events);
       room = λ more room. HasRoom-fewer cluster (0 + more) more (omega arith) room;
     }
 
 -- a tick, and then the expiries of its moment
-pub ticks-took : (cluster after : Cluster) (had mid has : List Event) (tick : Ticks) → tick.0 ≡ cluster.book.clock + 1 → Took cluster after had mid (happens cluster kinds.Tick) 1
-    → has ≡ mid ++ stamped tick (expiries_of (declared_member cluster.book.members (expired_holder cluster.book.keys (cluster.book.clock + 1))) (expired_keys cluster.book.keys (cluster.book.clock + 1)))
-    → Took cluster after had has (ticks cluster) 1
-ticks-took cluster after had mid has tick at first told =
+pub tick_events-took : (cluster after : Cluster) (had mid has : List Event) (tick : Ticks) → tick.0 ≡ cluster.book.clock + 1 → Emits cluster after had mid (event_of cluster kinds.Tick) 1
+    → has ≡ mid ++ events_at tick (expiries_of (declared_member cluster.book.members (expired_holder cluster.book.keys (cluster.book.clock + 1))) (expired_keys cluster.book.keys (cluster.book.clock + 1)))
+    → Emits cluster after had has (tick_events cluster) 1
+tick_events-took cluster after had mid has tick at first told =
     let happenings = expiries_of (declared_member cluster.book.members (expired_holder cluster.book.keys (cluster.book.clock + 1))) (expired_keys cluster.book.keys (cluster.book.clock + 1)) in
     let moment : ◌≡◌ {A = Ticks} tick (record { 0 = after.book.clock }) = ap (λ (n : ℕ). let t : Ticks = record { 0 = n } in t) (at ∙ ap (λ (c : Cluster). c.book.clock) (sym first.state)) in
-    let events : has ≡ mid ++ stamped (record { 0 = after.book.clock }) happenings = told ∙ ap (λ (t : Ticks). mid ++ stamped t happenings) moment in
-    Took-then cluster after after had mid has (happens cluster kinds.Tick) (λ later. all_happen later happenings) 1 0 1 first
-    (subst (λ (es : List Event). Took after after mid es (all_happen after happenings) 0) (sym events)
+    let events : has ≡ mid ++ events_at (record { 0 = after.book.clock }) happenings = told ∙ ap (λ (t : Ticks). mid ++ events_at t happenings) moment in
+    Emits-then cluster after after had mid has (event_of cluster kinds.Tick) (λ later. events_of later happenings) 1 0 1 first
+    (subst (λ (es : List Event). Emits after after mid es (events_of after happenings) 0) (sym events)
     (expiries-took after (declared_member cluster.book.members (expired_holder cluster.book.keys (cluster.book.clock + 1))) (expired_keys cluster.book.keys (cluster.book.clock + 1)) mid)) (omega arith)

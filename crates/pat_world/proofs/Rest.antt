@@ -6,31 +6,31 @@ use Rattle.std.proofs.lemmas.List.{drop_all}
 use Rattle.event_book.specs.declared.event.Event.{Event}
 use Rattle.event_book.specs.declared.member.Member.{Member}
 use Rattle.cluster_script.specs.declared.line.Step.{Step}
-use Rattle.pat_world.specs.Cluster.{Cluster, moved_all}
-use Rattle.pat_world.specs.Next.{each, followed, is_empty, moves, round, rounds, taken, wakes}
+use Rattle.pat_world.specs.Cluster.{Cluster, cluster_over}
+use Rattle.pat_world.specs.Next.{each, events_then, is_empty, message_events, round_events, rounds_events, step_events, wake_events}
 use Rattle.pat_world.specs.Room.{HasRoom, message_cost, most_in_flight, most_rounds, round_cost, step_cost, wakes_cost}
-use Rattle.pat_world.specs.Took.{Took}
+use Rattle.pat_world.specs.Emits.{Emits}
 use Rattle.pat_world.proofs.Rooms.{HasRoom-fewer}
 use Rattle.pat_world.proofs.Starting.{drop-get}
-use Rattle.pat_world.proofs.Taking.{members-stay, moved_all-append, Took-then, Took-weaker}
+use Rattle.pat_world.proofs.Taking.{members-stay, cluster_over-append, Emits-then, Emits-weaker}
 
 -- what happened so far, and the rest, are the whole; the rest has room
 pub record Left (start cluster : Cluster) (had has whole rest : List Event) (cost left : ℕ) : Type 0 where
-  pub state : moved_all cluster rest ≡ moved_all start whole
+  pub state : cluster_over cluster rest ≡ cluster_over start whole
   pub event : has ++ rest ≡ had ++ whole
   pub room : (more : ℕ) → HasRoom start (cost + more) → HasRoom cluster (left + more)
 
 pub Left-more : (start cluster next : Cluster) (had has longer whole events : List Event) (more : Cluster → List Event) (rest : List Event) (cost left one fewer : ℕ)
-    → Left start cluster had has whole rest cost left → rest ≡ followed cluster events more → Took cluster next has longer events one → one + fewer ≤ left → Left start next had longer whole (more next) cost fewer
+    → Left start cluster had has whole rest cost left → rest ≡ events_then cluster events more → Emits cluster next has longer events one → one + fewer ≤ left → Left start next had longer whole (more next) cost fewer
 Left-more start cluster next had has longer whole events more rest cost left one fewer l is took enough = record {
-  state = ap (λ c. moved_all c (more c)) took.state ∙ sym (moved_all-append cluster events (more (moved_all cluster events))) ∙ ap (moved_all cluster) (sym is) ∙ l.state;
+  state = ap (λ c. cluster_over c (more c)) took.state ∙ sym (cluster_over-append cluster events (more (cluster_over cluster events))) ∙ ap (cluster_over cluster) (sym is) ∙ l.state;
   event = ap (λ es. es ++ more next) took.event ∙ append_assoc has events (more next) ∙ ap (λ c. has ++ (events ++ more c)) took.state ∙ ap (λ es. has ++ es) (sym is) ∙ l.event;
   room = λ spare room. took.room (fewer + spare) (HasRoom-fewer cluster (left + spare) (one + (fewer + spare)) (omega (arith, enough)) (l.room spare room));
 }
 
-pub Left-end : (start cluster : Cluster) (had has whole rest : List Event) (cost left : ℕ) → Left start cluster had has whole rest cost left → rest ≡ [] → Took start cluster had has whole cost
+pub Left-end : (start cluster : Cluster) (had has whole rest : List Event) (cost left : ℕ) → Left start cluster had has whole rest cost left → rest ≡ [] → Emits start cluster had has whole cost
 Left-end start cluster had has whole rest cost left l none = record {
-  state = ap (moved_all cluster) (sym none) ∙ l.state;
+  state = ap (cluster_over cluster) (sym none) ∙ l.state;
   event = sym (append-nil has) ∙ ap (λ es. has ++ es) (sym none) ∙ l.event;
   room = λ more room. HasRoom-fewer cluster (left + more) more (omega arith) (l.room more room);
 }
@@ -48,7 +48,7 @@ fewer-left X xs at x is = omega (arith, ap length (drop-get X xs at x is))
 
 -- the next of them comes
 pub EachLeft-more : (X : Type 0) (events : Cluster → X → List Event) (one : ℕ) (start cluster next : Cluster) (had has longer : List Event) (xs : List X) (at : ℕ) (x : X)
-    → EachLeft events one start cluster had has xs at → slice_get xs at ≡ Some x → Took cluster next has longer (events cluster x) one → EachLeft events one start next had longer xs (at + 1)
+    → EachLeft events one start cluster had has xs at → slice_get xs at ≡ Some x → Emits cluster next has longer (events cluster x) one → EachLeft events one start next had longer xs (at + 1)
 EachLeft-more X events one start cluster next had has longer xs at x l is took = record {
   left = Left-more start cluster next had has longer (each events start xs) (events cluster x) (λ later. each events later (drop (at + 1) xs)) (each events cluster (drop at xs)) (one * length xs)
       (one * length (drop at xs)) one (one * length (drop (at + 1) xs)) l.left (ap (each events cluster) (drop-get X xs at x is)) took (rw (fewer-left X xs at x is) (omega arith));
@@ -62,7 +62,7 @@ EachLeft-room X events one start cluster had has xs at x l is room =
 
 -- none of them is left
 pub EachLeft-end : (X : Type 0) (events : Cluster → X → List Event) (one : ℕ) (start cluster : Cluster) (had has : List Event) (xs : List X) (at : ℕ)
-    → EachLeft events one start cluster had has xs at → length xs ≤ at → Took start cluster had has (each events start xs) (one * length xs)
+    → EachLeft events one start cluster had has xs at → length xs ≤ at → Emits start cluster had has (each events start xs) (one * length xs)
 EachLeft-end X events one start cluster had has xs at l h =
     Left-end start cluster had has (each events start xs) (each events cluster (drop at xs)) (one * length xs) (one * length (drop at xs)) l.left (ap (each events cluster) (drop_all at xs h))
 
@@ -77,13 +77,13 @@ pub EachLeft-place : (events : Cluster → Member → List Event) (one : ℕ) (s
     → EachLeft events one start cluster had has start.book.members at → slice_get cluster.book.members at ≡ Some member → slice_get start.book.members at ≡ Some member
 EachLeft-place events one start cluster had has at member l is = subst (λ (ms : List Member). slice_get ms at ≡ Some member) (EachLeft-members Member events one start cluster had has start.book.members at l) is
 
-rounds-one : (cluster : Cluster) (n k : ℕ) → n ≡ suc k → is_empty (round cluster) ≡ false → rounds cluster n ≡ followed cluster (round cluster) (λ later. rounds later k)
-unfolding rounds
-rounds-one cluster n k e some = rw e (rw some refl)
+rounds_events-one : (cluster : Cluster) (n k : ℕ) → n ≡ suc k → is_empty (round_events cluster) ≡ false → rounds_events cluster n ≡ events_then cluster (round_events cluster) (λ later. rounds_events later k)
+unfolding rounds_events
+rounds_events-one cluster n k e some = rw e (rw some refl)
 
-rounds-last : (cluster : Cluster) (n k : ℕ) → n ≡ suc k → is_empty (round cluster) ≡ true → rounds cluster n ≡ []
-unfolding rounds
-rounds-last cluster n k e none = rw e (rw none refl)
+rounds_events-last : (cluster : Cluster) (n k : ℕ) → n ≡ suc k → is_empty (round_events cluster) ≡ true → rounds_events cluster n ≡ []
+unfolding rounds_events
+rounds_events-last cluster n k e none = rw e (rw none refl)
 
 empty-of : (events : List Event) → length events ≡ 0 → (is_empty events ≡ true) × (events ≡ [])
 empty-of [] e = (refl, refl)
@@ -94,47 +94,47 @@ not-empty [] e = absurd (e refl)
 not-empty (event ∷ events) e = refl
 
 -- a round in which something happened, and then the rounds that may follow
-pub rounds-next : (cluster : Cluster) (at : ℕ) (had has : List Event) → at < most_rounds → has ≡ had ++ round cluster → (length has ≡ length had → ⊥)
-    → rounds cluster (most_rounds - at) ≡ followed cluster (round cluster) (λ later. rounds later (most_rounds - (at + 1)))
-rounds-next cluster at had has h is grew =
-    rounds-one cluster (most_rounds - at) (most_rounds - (at + 1)) (omega (arith, h)) (not-empty (round cluster) (λ e. grew (omega (arith, ap length is, length-append had (round cluster), e))))
+pub rounds_events-next : (cluster : Cluster) (at : ℕ) (had has : List Event) → at < most_rounds → has ≡ had ++ round_events cluster → (length has ≡ length had → ⊥)
+    → rounds_events cluster (most_rounds - at) ≡ events_then cluster (round_events cluster) (λ later. rounds_events later (most_rounds - (at + 1)))
+rounds_events-next cluster at had has h is grew =
+    rounds_events-one cluster (most_rounds - at) (most_rounds - (at + 1)) (omega (arith, h)) (not-empty (round_events cluster) (λ e. grew (omega (arith, ap length is, length-append had (round_events cluster), e))))
 
 -- nothing happened in a round, nor would in the next
 pub record IsStill (cluster next : Cluster) (has longer : List Event) : Type 0 where
   pub same : next ≡ cluster
   pub written : longer ≡ has
-  pub empty : is_empty (round cluster) ≡ true
-  pub next_empty : round next ≡ []
+  pub empty : is_empty (round_events cluster) ≡ true
+  pub next_empty : round_events next ≡ []
 
-pub round-still : (cluster next : Cluster) (has longer : List Event) → Took cluster next has longer (round cluster) round_cost → length longer ≡ length has → IsStill cluster next has longer
-round-still cluster next has longer took same =
-    let none = empty-of (round cluster) (omega (arith, ap length took.event, length-append has (round cluster), same)) in
-    let state : next ≡ cluster = took.state ∙ ap (moved_all cluster) none.1 in
-    record { same = state; written = took.event ∙ ap (λ es. has ++ es) none.1 ∙ append-nil has; empty = none.0; next_empty = ap round state ∙ none.1 }
+pub round_events-still : (cluster next : Cluster) (has longer : List Event) → Emits cluster next has longer (round_events cluster) round_cost → length longer ≡ length has → IsStill cluster next has longer
+round_events-still cluster next has longer took same =
+    let none = empty-of (round_events cluster) (omega (arith, ap length took.event, length-append has (round_events cluster), same)) in
+    let state : next ≡ cluster = took.state ∙ ap (cluster_over cluster) none.1 in
+    record { same = state; written = took.event ∙ ap (λ es. has ++ es) none.1 ∙ append-nil has; empty = none.0; next_empty = ap round_events state ∙ none.1 }
 
 -- such a round is the last
-pub rounds-done : (start cluster next : Cluster) (had has longer whole : List Event) (at cost left : ℕ) → Left start cluster had has whole (rounds cluster (most_rounds - at)) cost left → at < most_rounds
-    → IsStill cluster next has longer → Took start next had longer whole cost
-rounds-done start cluster next had has longer whole at cost left l h still =
-    let last : rounds cluster (most_rounds - at) ≡ [] = rounds-last cluster (most_rounds - at) (most_rounds - (at + 1)) (omega (arith, h)) still.empty in
-    rw (still.same, still.written) (Left-end start cluster had has whole (rounds cluster (most_rounds - at)) cost left l last)
+pub rounds_events-done : (start cluster next : Cluster) (had has longer whole : List Event) (at cost left : ℕ) → Left start cluster had has whole (rounds_events cluster (most_rounds - at)) cost left → at < most_rounds
+    → IsStill cluster next has longer → Emits start next had longer whole cost
+rounds_events-done start cluster next had has longer whole at cost left l h still =
+    let last : rounds_events cluster (most_rounds - at) ≡ [] = rounds_events-last cluster (most_rounds - at) (most_rounds - (at + 1)) (omega (arith, h)) still.empty in
+    rw (still.same, still.written) (Left-end start cluster had has whole (rounds_events cluster (most_rounds - at)) cost left l last)
 
-rounds-none : (cluster : Cluster) (n : ℕ) → n ≡ 0 → rounds cluster n ≡ []
-unfolding rounds
-rounds-none cluster n e = rw e refl
+rounds_events-none : (cluster : Cluster) (n : ℕ) → n ≡ 0 → rounds_events cluster n ≡ []
+unfolding rounds_events
+rounds_events-none cluster n e = rw e refl
 
-pub rounds-end : (cluster : Cluster) (at : ℕ) → most_rounds ≤ at → rounds cluster (most_rounds - at) ≡ []
-rounds-end cluster at h = rounds-none cluster (most_rounds - at) (omega (arith, h))
+pub rounds_events-end : (cluster : Cluster) (at : ℕ) → most_rounds ≤ at → rounds_events cluster (most_rounds - at) ≡ []
+rounds_events-end cluster at h = rounds_events-none cluster (most_rounds - at) (omega (arith, h))
 
 -- the agents are woken, and then the messages move; only some of those in flight need be looked at
-pub round-took : (cluster woken after : Cluster) (had mid has : List Event) (numbers : List ℕ) → Took cluster woken had mid (each wakes cluster cluster.book.members) wakes_cost
-    → each moves woken (keys_of woken.book.flight) ≡ each moves woken numbers → length numbers ≤ most_in_flight → Took woken after mid has (each moves woken numbers) (message_cost * length numbers)
-    → Took cluster after had has (round cluster) round_cost
-round-took cluster woken after had mid has numbers one same short two =
-    Took-then cluster woken after had mid has (each wakes cluster cluster.book.members) (λ later. each moves later (keys_of later.book.flight)) wakes_cost
-    (message_cost * length numbers) round_cost one (subst (λ (es : List Event). Took woken after mid has es (message_cost * length numbers)) (sym same) two) (omega (arith, short))
+pub round_events-took : (cluster woken after : Cluster) (had mid has : List Event) (numbers : List ℕ) → Emits cluster woken had mid (each wake_events cluster cluster.book.members) wakes_cost
+    → each message_events woken (keys_of woken.book.flight) ≡ each message_events woken numbers → length numbers ≤ most_in_flight → Emits woken after mid has (each message_events woken numbers) (message_cost * length numbers)
+    → Emits cluster after had has (round_events cluster) round_cost
+round_events-took cluster woken after had mid has numbers one same short two =
+    Emits-then cluster woken after had mid has (each wake_events cluster cluster.book.members) (λ later. each message_events later (keys_of later.book.flight)) wakes_cost
+    (message_cost * length numbers) round_cost one (subst (λ (es : List Event). Emits woken after mid has es (message_cost * length numbers)) (sym same) two) (omega (arith, short))
 
 -- what happens in a step, of the step as it was read
-pub stepped : (cluster after : Cluster) (had has : List Event) (read step : Step) (cost : ℕ) → read ≡ step → Took cluster after had has (taken cluster step) cost → cost ≤ step_cost → Took cluster after had has (taken cluster read) step_cost
+pub stepped : (cluster after : Cluster) (had has : List Event) (read step : Step) (cost : ℕ) → read ≡ step → Emits cluster after had has (step_events cluster step) cost → cost ≤ step_cost → Emits cluster after had has (step_events cluster read) step_cost
 stepped cluster after had has read step cost is took enough =
-    subst (λ (s : Step). Took cluster after had has (taken cluster s) step_cost) (sym is) (Took-weaker cluster after had has (taken cluster step) cost step_cost took enough)
+    subst (λ (s : Step). Emits cluster after had has (step_events cluster s) step_cost) (sym is) (Emits-weaker cluster after had has (step_events cluster step) cost step_cost took enough)

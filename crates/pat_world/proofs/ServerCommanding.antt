@@ -12,7 +12,7 @@ use Rattle.pg_model.specs.Replication.{entry_of}
 use Rattle.pg_model.specs.Running.{replica_started}
 use Rattle.pg_model.specs.Servers.{entry_at, entry_for}
 use Rattle.event_book.specs.declared.event.Event.{Event}
-use Rattle.event_book.specs.declared.event.Kind.TheVariants as kinds
+use Rattle.event_book.specs.declared.event.EventKind.TheVariants as kinds
 use Rattle.event_book.specs.declared.event.ServerEvent.TheVariants as servers
 use Rattle.event_book.specs.declared.member.Member.{Member}
 use Rattle.event_book.specs.declared.member.ServerOf.{ServerOf}
@@ -20,15 +20,15 @@ use Rattle.event_book.specs.Members.{server_of}
 use Rattle.event_book.specs.Servers.{starts_as_replica}
 use Rattle.pat_world.specs.declared.follow_row.FollowRow.{FollowRow}
 use Rattle.pat_world.specs.declared.follow_row.FollowRow.TheVariants as rows
-use Rattle.pat_world.specs.Cluster.{Cluster, moved}
+use Rattle.pat_world.specs.Cluster.{Cluster, cluster_after}
 use Rattle.pat_world.specs.Comes.{MayCome}
 use Rattle.pat_world.specs.FollowRows.{follow_kinds, follow_row_of}
-use Rattle.pat_world.specs.Next.{all_happen, follows, for_some, happens}
+use Rattle.pat_world.specs.Next.{events_of, follow_events, for_some, event_of}
 use Rattle.pat_world.specs.Room.{HasRoom}
 use Rattle.pat_world.specs.ServerCommands.{commit_of, promoted_timeline}
-use Rattle.pat_world.specs.Took.{Took}
+use Rattle.pat_world.specs.Emits.{Emits}
 use Rattle.pat_world.proofs.ServerRooms.{All-at}
-use Rattle.pat_world.proofs.Taking.{Took-weaker}
+use Rattle.pat_world.proofs.Taking.{Emits-weaker}
 
 -- an entry is that of a commit with this number and of so many bytes
 pub record IsEntry (serial bytes : ℕ) (entry : Entry) : Type 0 where
@@ -72,14 +72,14 @@ promotable-at : (found : Option ServerFacts) (timeline : ℕ) → option_and_the
 promotable-at None timeline is below = tt
 promotable-at (Some s) timeline is below = ((standby-if (is_replica s.state) (s.timeline + 1) timeline is).0, below)
 
--- a server that has a timeline to be promoted to is a standby
+-- a server that has a timeline to be promoted to is a replica
 pub promotable : (cluster : Cluster) (place timeline : ℕ) → option_and_then promoted_timeline (slice_get cluster.book.servers place) ≡ Some timeline → HasRoom cluster 2
     → IfSome (slice_get cluster.book.servers place) (λ s. IsTrue (is_replica s.state) × (s.timeline < 2 ^ 60))
 promotable cluster place timeline is room = promotable-at (slice_get cluster.book.servers place) timeline is (timeline-below cluster place room)
 
--- a standby that its operator promoted may begin
+-- a replica that its operator promoted may begin
 pub promoted-comes : (cluster : Cluster) (member : Member) (timeline : ℕ) (server : ServerOf) → server ≡ server_of member → option_and_then promoted_timeline (slice_get cluster.book.servers member.id.number) ≡ Some timeline → HasRoom cluster 2
-    → MayCome (moved cluster (kinds.Server (servers.Promoted server))) (kinds.Server (servers.Began server timeline))
+    → MayCome (cluster_after cluster (kinds.Server (servers.Promoted server))) (kinds.Server (servers.Began server timeline))
 promoted-comes cluster member timeline server server_is is room = rw server_is (record { bare = tt; counts = tt; serves = promotable cluster member.id.number timeline is room })
 
 set-got : (known : List ServerFacts) (place : ℕ) (s : ServerFacts) → slice_get known place ≡ Some s → slice_set known place s ≡ known
@@ -91,12 +91,12 @@ not-down known place now s there up =
     sym (ap (λ (o : Option ServerFacts). changed_at known place (starts_as_replica now) o) there
     ∙ ap (λ (down : Bool). slice_set known place (if down then replica_started (record { 0 = now }) None s else s)) up ∙ set-got known place s there)
 
--- the server of a member, a standby, follows that of a leader
+-- the server of a member, a replica, follows that of a leader
 pub follow-took : (cluster after : Cluster) (read : Option Member) (member leader : Member) (server upstream : ServerOf) (had has : List Event) → read ≡ Some leader → server ≡ server_of member → upstream ≡ server_of leader
-    → option_and_then (follow_row_of leader) (slice_get cluster.book.servers member.id.number) ≡ Some rows.Follow → Took cluster after had has (happens cluster (kinds.Server (servers.Follows server upstream))) 1 → Took cluster after had has (for_some read (follows cluster member)) 2
+    → option_and_then (follow_row_of leader) (slice_get cluster.book.servers member.id.number) ≡ Some rows.Follow → Emits cluster after had has (event_of cluster (kinds.Server (servers.Follows server upstream))) 1 → Emits cluster after had has (for_some read (follow_events cluster member)) 2
 follow-took cluster after read member leader server upstream had has read_is server_is upstream_is row took =
-    subst (λ (o : Option Member). Took cluster after had has (for_some o (follows cluster member)) 2) (sym read_is)
-    (subst (λ (o : Option FollowRow). Took cluster after had has (all_happen cluster (follow_kinds member leader o)) 2) (sym row)
-    (subst (λ (s : ServerOf). Took cluster after had has (happens cluster (kinds.Server (servers.Follows s (server_of leader)))) 2) server_is
-    (subst (λ (u : ServerOf). Took cluster after had has (happens cluster (kinds.Server (servers.Follows server u))) 2) upstream_is
-    (Took-weaker cluster after had has (happens cluster (kinds.Server (servers.Follows server upstream))) 1 2 took (omega arith)))))
+    subst (λ (o : Option Member). Emits cluster after had has (for_some o (follow_events cluster member)) 2) (sym read_is)
+    (subst (λ (o : Option FollowRow). Emits cluster after had has (events_of cluster (follow_kinds member leader o)) 2) (sym row)
+    (subst (λ (s : ServerOf). Emits cluster after had has (event_of cluster (kinds.Server (servers.Follows s (server_of leader)))) 2) server_is
+    (subst (λ (u : ServerOf). Emits cluster after had has (event_of cluster (kinds.Server (servers.Follows server u))) 2) upstream_is
+    (Emits-weaker cluster after had has (event_of cluster (kinds.Server (servers.Follows server upstream))) 1 2 took (omega arith)))))

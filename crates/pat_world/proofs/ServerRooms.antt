@@ -11,9 +11,9 @@ use Rattle.pat_base.specs.ServerState.{live}
 use Rattle.pg_model.specs.Facts.{ServerFacts, is_down}
 use Rattle.pg_model.specs.Replication.{received_from}
 use Rattle.pg_model.specs.Running.{completed, replica_started, started, ticked}
-use Rattle.pg_model.specs.Servers.{quietly_ticked}
-use Rattle.event_book.specs.declared.event.Kind.{Kind}
-use Rattle.event_book.specs.declared.event.Kind.TheVariants as kinds
+use Rattle.pg_model.specs.Servers.{ticked_unless_live}
+use Rattle.event_book.specs.declared.event.EventKind.{EventKind}
+use Rattle.event_book.specs.declared.event.EventKind.TheVariants as kinds
 use Rattle.event_book.specs.declared.event.LogEvent.{LogEvent}
 use Rattle.event_book.specs.declared.event.LogEvent.TheVariants as logs
 use Rattle.event_book.specs.declared.event.ReplicationEvent.{ReplicationEvent}
@@ -23,7 +23,7 @@ use Rattle.event_book.specs.declared.event.ServerEvent.TheVariants as servers
 use Rattle.event_book.specs.declared.event.WatchdogEvent.{WatchdogEvent}
 use Rattle.event_book.specs.declared.event.WatchdogEvent.TheVariants as watchdogs
 use Rattle.event_book.specs.Acknowledged.{commits_after}
-use Rattle.event_book.specs.Servers.{begun_in, copied_by, received_by, servers_after, servers_by, servers_logged, servers_replicated, servers_watched, starts_as_replica}
+use Rattle.event_book.specs.Servers.{begun_in, copied_by, received_by, servers_after, servers_by, servers_by_log, servers_by_replication, servers_by_watchdog, starts_as_replica}
 use Rattle.pat_world.specs.Comes.{CountsLog}
 
 -- what holds of each element holds of one
@@ -120,26 +120,26 @@ room-copied : (events : ℕ) (known : List ServerFacts) (number : ℕ) (found : 
 room-copied events known number None all = fewer events known all
 room-copied events known number (Some source) all = with-same events known number _ (λ s. refl) all
 
-room-logged : (events : ℕ) (known : List ServerFacts) (happening : LogEvent) → Roomy (1 + events) known → Roomy events (servers_logged known happening)
+room-logged : (events : ℕ) (known : List ServerFacts) (happening : LogEvent) → Roomy (1 + events) known → Roomy events (servers_by_log known happening)
 room-logged events known (logs.Appended server entry) all = with-same events known server.id.number _ (λ s. refl) all
 room-logged events known (logs.Received server from count) all = room-received events known server.id.number from.id.number count (slice_get known from.id.number) refl all
 room-logged events known (logs.Rewound server from kept at) all = with-same events known server.id.number _ (λ s. refl) all
 room-logged events known (logs.Copied server from) all = room-copied events known server.id.number (slice_get known from.id.number) all
 room-logged events known (logs.Wiped server) all = with-same events known server.id.number _ (λ s. refl) all
 
-room-replicated : (events : ℕ) (known : List ServerFacts) (happening : ReplicationEvent) → Roomy (1 + events) known → Roomy events (servers_replicated known happening)
+room-replicated : (events : ℕ) (known : List ServerFacts) (happening : ReplicationEvent) → Roomy (1 + events) known → Roomy events (servers_by_replication known happening)
 room-replicated events known (replications.RequiredSet server required names) all = with-same events known server.id.number _ (λ s. refl) all
 room-replicated events known (replications.Confirmed server by end) all = with-same events known server.id.number _ (λ s. refl) all
 room-replicated events known (replications.Acknowledged server commit) all = with-same events known server.id.number _ (λ s. refl) all
 
-room-watched : (events : ℕ) (known : List ServerFacts) (happening : WatchdogEvent) → Roomy (1 + events) known → Roomy events (servers_watched known happening)
+room-watched : (events : ℕ) (known : List ServerFacts) (happening : WatchdogEvent) → Roomy (1 + events) known → Roomy events (servers_by_watchdog known happening)
 room-watched events known (watchdogs.Reset member) all = with-same events known member.id.number _ (λ s. refl) all
 room-watched events known _ all = fewer events known all
 
 -- one more event takes the room of one timeline
-pub servers-room : (now events : ℕ) (known : List ServerFacts) (kind : Kind) → All (HasTimeline (1 + events)) known → All (HasTimeline events) (servers_after now known kind)
+pub servers-room : (now events : ℕ) (known : List ServerFacts) (kind : EventKind) → All (HasTimeline (1 + events)) known → All (HasTimeline events) (servers_after now known kind)
 servers-room now events known kinds.Tick all =
-    map-all (HasTimeline (1 + events)) (HasTimeline events) (quietly_ticked (record { 0 = now })) known all (λ s room. timeline-as events s (quietly_ticked (record { 0 = now }) s) (quiet-if (record { 0 = now }) s (live s.state)) room)
+    map-all (HasTimeline (1 + events)) (HasTimeline events) (ticked_unless_live (record { 0 = now })) known all (λ s room. timeline-as events s (ticked_unless_live (record { 0 = now }) s) (quiet-if (record { 0 = now }) s (live s.state)) room)
 servers-room now events known (kinds.Watchdog happening) all = room-watched events known happening all
 servers-room now events known (kinds.Server happening) all = room-by now events known happening all
 servers-room now events known (kinds.Log happening) all = room-logged events known happening all
@@ -150,10 +150,10 @@ log-more : (last : ℕ) (happening : LogEvent) → CountsLog last happening → 
 log-more last (logs.Appended server entry) counts = counts
 log-more last _ counts = omega arith
 
-abbrev pub CountsCommit : ℕ → Kind → Type 0
+abbrev pub CountsCommit : ℕ → EventKind → Type 0
 CountsCommit last (kinds.Log happening) = CountsLog last happening
 CountsCommit last _ = Unit {0}
 
-pub commits-more : (last : ℕ) (kind : Kind) → CountsCommit last kind → commits_after last kind ≤ last + 1
+pub commits-more : (last : ℕ) (kind : EventKind) → CountsCommit last kind → commits_after last kind ≤ last + 1
 commits-more last (kinds.Log happening) counts = log-more last happening counts
 commits-more last _ counts = omega arith

@@ -3,44 +3,44 @@ use Rattle.std.proofs.Common.{◌≡◌, ℕ, Bool, List, [], ◌∷◌, ◌++�
 use Rattle.pat_base.specs.declared.ticks.Ticks.{Ticks}
 use Rattle.pg_model.specs.Facts.{ServerFacts}
 use Rattle.event_book.specs.declared.event.Event.{Event}
-use Rattle.event_book.specs.declared.event.Kind.{Kind}
-use Rattle.event_book.specs.declared.event.Kind.TheVariants as kinds
+use Rattle.event_book.specs.declared.event.EventKind.{EventKind}
+use Rattle.event_book.specs.declared.event.EventKind.TheVariants as kinds
 use Rattle.event_book.specs.Acknowledged.{acknowledged_after, commits_after}
 use Rattle.event_book.specs.Frozen.{frozen_after}
 use Rattle.event_book.specs.Servers.{servers_after}
-use Rattle.pat_world.specs.Cluster.{Cluster, moved}
-use Rattle.pat_world.specs.Next.{happens}
-use Rattle.pat_world.specs.Took.{Took}
+use Rattle.pat_world.specs.Cluster.{Cluster, cluster_after}
+use Rattle.pat_world.specs.Next.{event_of}
+use Rattle.pat_world.specs.Emits.{Emits}
 use Rattle.pat_world.proofs.Deciding.{stamped-is}
 use Rattle.pat_world.specs.Comes.{Counts}
-use Rattle.pat_world.proofs.Taking.{Took-one}
+use Rattle.pat_world.proofs.Taking.{Emits-one}
 
 -- a cluster with other servers, other frozen ones, another last commit and other acknowledged ones
 abbrev pub serving : Cluster → List ServerFacts → List Bool → ℕ → List ℕ → Cluster
-serving cluster servers frozen commits acknowledged = record { book = record cluster.book { servers = servers; frozen = frozen; commits = commits; acknowledged = acknowledged }; phases = cluster.phases }
+serving cluster servers frozen commits acknowledged = record { book = record cluster.book { servers = servers; frozen = frozen; commits = commits; acknowledged = acknowledged }; agent_states = cluster.agent_states }
 
 -- what concerns servers, their logs and their replication, and notes
-abbrev pub IsServing : Kind → Type 0
+abbrev pub IsServing : EventKind → Type 0
 IsServing (kinds.Server happening) = Unit {0}
 IsServing (kinds.Log happening) = Unit {0}
 IsServing (kinds.Replication happening) = Unit {0}
 IsServing (kinds.Note note) = Unit {0}
 IsServing _ = ⊥
 
-abbrev pub served : Cluster → Kind → Cluster
+abbrev pub served : Cluster → EventKind → Cluster
 served cluster kind = serving cluster (servers_after cluster.book.clock cluster.book.servers kind) (frozen_after cluster.book.frozen kind) (commits_after cluster.book.commits kind) (acknowledged_after cluster.book.acknowledged kind)
 
 -- it changes nothing else
-pub serving-moved : (cluster : Cluster) (kind : Kind) → IsServing kind → moved cluster kind ≡ served cluster kind
-serving-moved cluster (kinds.Server happening) is = refl
-serving-moved cluster (kinds.Log happening) is = refl
-serving-moved cluster (kinds.Replication happening) is = refl
-serving-moved cluster (kinds.Note note) is = refl
-serving-moved cluster _ is = absurd is
+pub serving-cluster_after : (cluster : Cluster) (kind : EventKind) → IsServing kind → cluster_after cluster kind ≡ served cluster kind
+serving-cluster_after cluster (kinds.Server happening) is = refl
+serving-cluster_after cluster (kinds.Log happening) is = refl
+serving-cluster_after cluster (kinds.Replication happening) is = refl
+serving-cluster_after cluster (kinds.Note note) is = refl
+serving-cluster_after cluster _ is = absurd is
 
 -- one thing happened at servers
-pub serving-took : (cluster after : Cluster) (kind : Kind) (tick : Ticks) (had has : List Event) → IsServing kind → Counts cluster kind → after ≡ served cluster kind → tick.0 ≡ cluster.book.clock
-    → has ≡ had ++ record { tick = tick; kind = kind } ∷ [] → Took cluster after had has (happens cluster kind) 1
+pub serving-took : (cluster after : Cluster) (kind : EventKind) (tick : Ticks) (had has : List Event) → IsServing kind → Counts cluster kind → after ≡ served cluster kind → tick.0 ≡ cluster.book.clock
+    → has ≡ had ++ record { tick = tick; kind = kind } ∷ [] → Emits cluster after had has (event_of cluster kind) 1
 serving-took cluster after kind tick had has is counts state at has_is =
-    Took-one cluster after had has kind counts (state ∙ sym (serving-moved cluster kind is))
-    (has_is ∙ ap (λ es. had ++ es) (stamped-is cluster tick kind (at ∙ ap (λ (c : Cluster). c.book.clock) (sym (serving-moved cluster kind is)))))
+    Emits-one cluster after had has kind counts (state ∙ sym (serving-cluster_after cluster kind is))
+    (has_is ∙ ap (λ es. had ++ es) (stamped-is cluster tick kind (at ∙ ap (λ (c : Cluster). c.book.clock) (sym (serving-cluster_after cluster kind is)))))

@@ -2,28 +2,28 @@
 use Rattle.std.proofs.Common.{◌≡◌, ℕ, List, [], ◌∷◌, ◌++◌, ◌∙◌, ap, sym, refl}
 use Rattle.pg_model.specs.Facts.{ServerFacts}
 use Rattle.event_book.specs.declared.event.Event.{Event}
-use Rattle.event_book.specs.Facts.{Facts, after_all}
+use Rattle.event_book.specs.Facts.{Facts, facts_over}
 use Rattle.event_book.specs.Logs.{logs_in}
 use Rattle.event_book.specs.Required.{required_in, confirmed_in}
 use Rattle.event_book.specs.Writers.{writes_in}
 use Rattle.event_book.proofs.Told.{logs-told, writes-told, required-told, confirmed-told, acknowledged-told}
 use Rattle.cluster_script.specs.declared.line.Step.{Step}
 use Rattle.pat_world.specs.Book.{StandsFor, left_by, next_of}
-use Rattle.pat_world.specs.Cluster.{Cluster, moved, moved_all}
+use Rattle.pat_world.specs.Cluster.{Cluster, cluster_after, cluster_over}
 use Rattle.pat_world.specs.Next.{next_events}
-use Rattle.pat_world.specs.Took.{Took}
-use Rattle.pat_world.proofs.Taking.{moved_all-append}
+use Rattle.pat_world.specs.Emits.{Emits}
+use Rattle.pat_world.proofs.Taking.{cluster_over-append}
 
 -- what a book leaves is what it leaves of the facts, and where the agents stand
-book-left : (cluster : Cluster) (events : List Event) → (moved_all cluster events).book ≡ after_all cluster.book events
+book-left : (cluster : Cluster) (events : List Event) → (cluster_over cluster events).book ≡ facts_over cluster.book events
 book-left cluster [] = refl
-book-left cluster (event ∷ events) = book-left (moved cluster event.kind) events
+book-left cluster (event ∷ events) = book-left (cluster_after cluster event.kind) events
 
 -- what a book leaves stands for it
 pub is-stands : (start : Cluster) (book : List Event) (world : Cluster) → world ≡ left_by start book → StandsFor start book world
 is-stands start book world is =
-    let facts : world.book ≡ after_all start.book book = ap (λ (w : Cluster). w.book) is ∙ book-left start book in
-    let servers : world.book.servers ≡ (after_all start.book book).servers = ap (λ (f : Facts). f.servers) facts in
+    let facts : world.book ≡ facts_over start.book book = ap (λ (w : Cluster). w.book) is ∙ book-left start book in
+    let servers : world.book.servers ≡ (facts_over start.book book).servers = ap (λ (f : Facts). f.servers) facts in
     record {
       world_is = is;
       logs = ap logs_in servers ∙ logs-told start.book book;
@@ -34,10 +34,10 @@ is-stands start book world is =
     }
 
 -- a step adds the events that come next to the book
-pub step-stands : (start : Cluster) (book : List Event) (world new : Cluster) (had has : List Event) (step : Step) (cost : ℕ) → StandsFor start book world → Took world new had has (next_events world step) cost
+pub step-stands : (start : Cluster) (book : List Event) (world new : Cluster) (had has : List Event) (step : Step) (cost : ℕ) → StandsFor start book world → Emits world new had has (next_events world step) cost
     → (has ≡ had ++ next_of start book step) × StandsFor start (book ++ next_of start book step) new
 step-stands start book world new had has step cost stands took =
     let is = stands.world_is in (
       took.event ∙ ap (λ w. had ++ next_events w step) is,
-      is-stands start (book ++ next_of start book step) new (took.state ∙ ap (λ w. moved_all w (next_events w step)) is ∙ sym (moved_all-append start book (next_of start book step))),
+      is-stands start (book ++ next_of start book step) new (took.state ∙ ap (λ w. cluster_over w (next_events w step)) is ∙ sym (cluster_over-append start book (next_of start book step))),
     )

@@ -10,13 +10,13 @@ use Rattle.pat_base.specs.MemberId.{member_of}
 use Rattle.pg_model.specs.Facts.{fresh}
 use Rattle.cluster_script.specs.Script.{HeadText}
 use Rattle.event_book.specs.declared.member.Member.{Member}
-use Rattle.event_book.specs.declared.agent_state.AgentState.{AgentState}
+use Rattle.event_book.specs.declared.agent_process.AgentProcess.{AgentProcess}
 use Rattle.event_book.specs.Agents.{first_agents, running_in}
 use Rattle.event_book.specs.Members.{members_from, put_first}
-use Rattle.pat_world.specs.declared.phase.Phase.{Phase}
-use Rattle.pat_world.specs.Cluster.{cluster_of, first_phases}
-use Rattle.pat_world.specs.Room.{HasRoom, PhaseHasRoom}
-use Rattle.pat_world.specs.Turns.{fresh_phase}
+use Rattle.pat_world.specs.declared.agent_state.AgentState.{AgentState}
+use Rattle.pat_world.specs.Cluster.{cluster_of, first_agent_states}
+use Rattle.pat_world.specs.Room.{HasRoom, AgentHasRoom}
+use Rattle.pat_world.specs.Turns.{fresh_agent_state}
 use Rattle.pat_world.proofs.ServerRooms.{HasTimeline}
 
 -- the list from a place on, where something is at that place
@@ -39,31 +39,31 @@ members-more names done longer place member so id name is =
 agents-one : (n k : ℕ) → n ≡ suc k → first_agents n ≡ running_in 1 ∷ first_agents k
 agents-one n k e = rw e refl
 
-pub agents-more : (done longer : List AgentState) (place count : ℕ) → place < count → done ++ first_agents (count - place) ≡ first_agents count → longer ≡ done ++ running_in 1 ∷ [] → longer ++ first_agents (count - (place + 1)) ≡ first_agents count
+pub agents-more : (done longer : List AgentProcess) (place count : ℕ) → place < count → done ++ first_agents (count - place) ≡ first_agents count → longer ≡ done ++ running_in 1 ∷ [] → longer ++ first_agents (count - (place + 1)) ≡ first_agents count
 agents-more done longer place count h so is =
     ap (λ l. l ++ first_agents (count - (place + 1))) is
     ∙ append_assoc done (running_in 1 ∷ []) (first_agents (count - (place + 1)))
     ∙ ap (λ t. done ++ t) (sym (agents-one (count - place) (count - (place + 1)) (omega arith)))
     ∙ so
 
-phases-one : (place n k : ℕ) → n ≡ suc k → first_phases place n ≡ fresh_phase (place + 1) ∷ first_phases (place + 1) k
-phases-one place n k e = rw e refl
+agent_states-one : (place n k : ℕ) → n ≡ suc k → first_agent_states place n ≡ fresh_agent_state (place + 1) ∷ first_agent_states (place + 1) k
+agent_states-one place n k e = rw e refl
 
-pub phases-more : (done longer : List Phase) (place count : ℕ) → place < count → done ++ first_phases place (count - place) ≡ first_phases 0 count → longer ≡ done ++ fresh_phase (place + 1) ∷ []
-    → longer ++ first_phases (place + 1) (count - (place + 1)) ≡ first_phases 0 count
-phases-more done longer place count h so is =
-    ap (λ l. l ++ first_phases (place + 1) (count - (place + 1))) is
-    ∙ append_assoc done (fresh_phase (place + 1) ∷ []) (first_phases (place + 1) (count - (place + 1)))
-    ∙ ap (λ t. done ++ t) (sym (phases-one place (count - place) (count - (place + 1)) (omega arith)))
+pub agent_states-more : (done longer : List AgentState) (place count : ℕ) → place < count → done ++ first_agent_states place (count - place) ≡ first_agent_states 0 count → longer ≡ done ++ fresh_agent_state (place + 1) ∷ []
+    → longer ++ first_agent_states (place + 1) (count - (place + 1)) ≡ first_agent_states 0 count
+agent_states-more done longer place count h so is =
+    ap (λ l. l ++ first_agent_states (place + 1) (count - (place + 1))) is
+    ∙ append_assoc done (fresh_agent_state (place + 1) ∷ []) (first_agent_states (place + 1) (count - (place + 1)))
+    ∙ ap (λ t. done ++ t) (sym (agent_states-one place (count - place) (count - (place + 1)) (omega arith)))
     ∙ so
 
-first-run : (count : ℕ) → All (λ (state : AgentState). state.run + 2 ^ 59 < 2 ^ 60) (first_agents count)
-first-run zero = All-nil (λ (state : AgentState). state.run + 2 ^ 59 < 2 ^ 60)
-first-run (suc count) = All-cons (λ (state : AgentState). state.run + 2 ^ 59 < 2 ^ 60) (running_in 1) (first_agents count) (omega arith) (first-run count)
+first-run : (count : ℕ) → All (λ (state : AgentProcess). state.run + 2 ^ 59 < 2 ^ 60) (first_agents count)
+first-run zero = All-nil (λ (state : AgentProcess). state.run + 2 ^ 59 < 2 ^ 60)
+first-run (suc count) = All-cons (λ (state : AgentProcess). state.run + 2 ^ 59 < 2 ^ 60) (running_in 1) (first_agents count) (omega arith) (first-run count)
 
-first-stand : (place count : ℕ) → All (PhaseHasRoom 0 (2 ^ 59)) (first_phases place count)
-first-stand place zero = All-nil (PhaseHasRoom 0 (2 ^ 59))
-first-stand place (suc count) = All-cons (PhaseHasRoom 0 (2 ^ 59)) (fresh_phase (place + 1)) (first_phases (place + 1) count) (record { sequence = omega arith; turn = omega arith }) (first-stand (place + 1) count)
+first-stand : (place count : ℕ) → All (AgentHasRoom 0 (2 ^ 59)) (first_agent_states place count)
+first-stand place zero = All-nil (AgentHasRoom 0 (2 ^ 59))
+first-stand place (suc count) = All-cons (AgentHasRoom 0 (2 ^ 59)) (fresh_agent_state (place + 1)) (first_agent_states (place + 1) count) (record { sequence = omega arith; turn = omega arith }) (first-stand (place + 1) count)
 
 first-timeline : (base count : ℕ) → All (HasTimeline (2 ^ 59)) (replicate count (fresh base))
 first-timeline base zero = All-nil (HasTimeline (2 ^ 59))
@@ -76,7 +76,7 @@ start-room head = record {
   revision = omega arith;
   sent = omega arith;
   runs = first-run (length head.members);
-  phases = first-stand 0 (length head.members);
+  agent_states = first-stand 0 (length head.members);
   timelines = first-timeline head.base (length head.members);
   commits = omega arith;
 }

@@ -6,86 +6,86 @@ use Rattle.pat_base.specs.declared.member_id.MemberId.{MemberId}
 use Rattle.lease_store.specs.declared.granted.Granted.{Granted}
 use Rattle.lease_store.specs.declared.key.Key.{Key}
 use Rattle.lease_store.specs.declared.key.Key.TheVariants as keys
-use Rattle.lease_store.specs.declared.value.Held.{Held}
+use Rattle.lease_store.specs.declared.value.KeyEntry.{KeyEntry}
 use Rattle.lease_store.specs.Answers.{holder_of}
 use Rattle.lease_store.specs.KeyOrder.{key_cmp}
 use Rattle.event_book.specs.declared.message.Body.{Body}
 use Rattle.event_book.specs.declared.message.Body.TheVariants as bodies
 use Rattle.event_book.specs.Flight.{InFlightFacts}
-use Rattle.pat_world.specs.declared.phase.Phase.{Phase}
-use Rattle.pat_world.specs.declared.phase.Reaction.{Reaction}
-use Rattle.pat_world.specs.declared.phase.Pending.TheVariants.{Reading}
-use Rattle.pat_world.specs.declared.phase.Role.TheVariants.{Follower, Holder}
-use Rattle.pat_world.specs.Room.{PhaseHasRoom}
-use Rattle.pat_world.specs.Turns.{fresh_phase, is_overdue, has_turn, idle, begun, rested, woken, awaits, informed, renewing, following, led_by, led, granted, refused, heard_body, heard}
+use Rattle.pat_world.specs.declared.agent_state.AgentState.{AgentState}
+use Rattle.pat_world.specs.declared.agent_state.Reaction.{Reaction}
+use Rattle.pat_world.specs.declared.agent_state.Pending.TheVariants.{Reading}
+use Rattle.pat_world.specs.declared.agent_state.Role.TheVariants.{Follower, Holder}
+use Rattle.pat_world.specs.Room.{AgentHasRoom}
+use Rattle.pat_world.specs.Turns.{fresh_agent_state, is_overdue, has_turn, no_reaction, turn_start, after_deadline, wake_reaction, awaits, state_by_snapshot, renew_reaction, follow_reaction, holder_reaction, leader_reaction, state_by_grant, state_by_refusal, body_reaction, message_reaction}
 
-pub PhaseHasRoom-fewer : (clock later events : ℕ) → clock ≤ later → (phase : Phase) → PhaseHasRoom clock (1 + events) phase → PhaseHasRoom later events phase
-PhaseHasRoom-fewer clock later events h phase room = record { sequence = omega (arith, room.sequence); turn = omega (arith, room.turn, h) }
+pub AgentHasRoom-fewer : (clock later events : ℕ) → clock ≤ later → (agent_state : AgentState) → AgentHasRoom clock (1 + events) agent_state → AgentHasRoom later events agent_state
+AgentHasRoom-fewer clock later events h agent_state room = record { sequence = omega (arith, room.sequence); turn = omega (arith, room.turn, h) }
 
 -- what an agent does keeps room for all but one question
-abbrev Keeps : ℕ → ℕ → Phase → Reaction → Type 0
-Keeps now events phase reaction = PhaseHasRoom now (1 + events) phase → PhaseHasRoom now events reaction.phase
+abbrev Keeps : ℕ → ℕ → AgentState → Reaction → Type 0
+Keeps now events agent_state reaction = AgentHasRoom now (1 + events) agent_state → AgentHasRoom now events reaction.agent_state
 
-keeps-idle : (now events : ℕ) (phase : Phase) → Keeps now events phase (idle phase)
-keeps-idle now events phase room = PhaseHasRoom-fewer now now events (omega arith) phase room
+keeps-no_reaction : (now events : ℕ) (agent_state : AgentState) → Keeps now events agent_state (no_reaction agent_state)
+keeps-no_reaction now events agent_state room = AgentHasRoom-fewer now now events (omega arith) agent_state room
 
-turned-if : (now events : ℕ) (phase : Phase) (turns : Bool) → PhaseHasRoom now (1 + events) phase → PhaseHasRoom now events (if turns then begun now phase else idle phase).phase
-turned-if now events phase true room = record { sequence = omega (arith, room.sequence); turn = omega arith }
-turned-if now events phase false room = keeps-idle now events phase room
+turned-if : (now events : ℕ) (agent_state : AgentState) (turns : Bool) → AgentHasRoom now (1 + events) agent_state → AgentHasRoom now events (if turns then turn_start now agent_state else no_reaction agent_state).agent_state
+turned-if now events agent_state true room = record { sequence = omega (arith, room.sequence); turn = omega arith }
+turned-if now events agent_state false room = keeps-no_reaction now events agent_state room
 
-rested-if : (now events : ℕ) (phase : Phase) (overdue : Bool) → PhaseHasRoom now events phase → PhaseHasRoom now events (if overdue then record phase { waited = None } else phase)
-rested-if now events phase true room = record { sequence = room.sequence; turn = room.turn }
-rested-if now events phase false room = room
+after_deadline-if : (now events : ℕ) (agent_state : AgentState) (overdue : Bool) → AgentHasRoom now events agent_state → AgentHasRoom now events (if overdue then record agent_state { waited = None } else agent_state)
+after_deadline-if now events agent_state true room = record { sequence = room.sequence; turn = room.turn }
+after_deadline-if now events agent_state false room = room
 
-pub woken-room : (now events : ℕ) (phase : Phase) → PhaseHasRoom now (1 + events) phase → PhaseHasRoom now events (woken now phase).phase
-woken-room now events phase room = turned-if now events (rested now phase) (has_turn now (rested now phase)) (rested-if now (1 + events) phase (is_overdue now phase.waited) room)
+pub wake_reaction-room : (now events : ℕ) (agent_state : AgentState) → AgentHasRoom now (1 + events) agent_state → AgentHasRoom now events (wake_reaction now agent_state).agent_state
+wake_reaction-room now events agent_state room = turned-if now events (after_deadline now agent_state) (has_turn now (after_deadline now agent_state)) (after_deadline-if now (1 + events) agent_state (is_overdue now agent_state.waited) room)
 
-pub fresh-room : (now events : ℕ) (phase : Phase) → PhaseHasRoom now (1 + events) phase → PhaseHasRoom now events (fresh_phase (now + 1))
-fresh-room now events phase room = record { sequence = omega (arith, room.sequence); turn = omega arith }
+pub fresh-room : (now events : ℕ) (agent_state : AgentState) → AgentHasRoom now (1 + events) agent_state → AgentHasRoom now events (fresh_agent_state (now + 1))
+fresh-room now events agent_state room = record { sequence = omega (arith, room.sequence); turn = omega arith }
 
-led_by-if : (now events : ℕ) (revision : ℕ) (holder : MemberId) (phase : Phase) (mine : Bool) → Keeps now events phase (if mine then renewing revision phase else following holder phase)
-led_by-if now events revision holder phase true room = record { sequence = omega (arith, room.sequence); turn = room.turn }
-led_by-if now events revision holder phase false room = record { sequence = omega (arith, room.sequence); turn = room.turn }
+holder_reaction-if : (now events : ℕ) (revision : ℕ) (holder : MemberId) (agent_state : AgentState) (mine : Bool) → Keeps now events agent_state (if mine then renew_reaction revision agent_state else follow_reaction holder agent_state)
+holder_reaction-if now events revision holder agent_state true room = record { sequence = omega (arith, room.sequence); turn = room.turn }
+holder_reaction-if now events revision holder agent_state false room = record { sequence = omega (arith, room.sequence); turn = room.turn }
 
-keeps-led_by : (now events : ℕ) (me : MemberId) (revision : ℕ) (holder : Option MemberId) (phase : Phase) → Keeps now events phase (led_by me revision holder phase)
-keeps-led_by now events me revision None phase room = keeps-idle now events phase room
-keeps-led_by now events me revision (Some holder) phase room = led_by-if now events revision holder phase _ room
+keeps-holder_reaction : (now events : ℕ) (me : MemberId) (revision : ℕ) (holder : Option MemberId) (agent_state : AgentState) → Keeps now events agent_state (holder_reaction me revision holder agent_state)
+keeps-holder_reaction now events me revision None agent_state room = keeps-no_reaction now events agent_state room
+keeps-holder_reaction now events me revision (Some holder) agent_state room = holder_reaction-if now events revision holder agent_state _ room
 
-keeps-led : (now events : ℕ) (me : MemberId) (leader : Option Held) (phase : Phase) → Keeps now events phase (led now me leader phase)
-keeps-led now events me None phase room = record { sequence = omega (arith, room.sequence); turn = room.turn }
-keeps-led now events me (Some held) phase room = keeps-led_by now events me held.revision (holder_of held.value) phase room
+keeps-leader_reaction : (now events : ℕ) (me : MemberId) (leader : Option KeyEntry) (agent_state : AgentState) → Keeps now events agent_state (leader_reaction now me leader agent_state)
+keeps-leader_reaction now events me None agent_state room = record { sequence = omega (arith, room.sequence); turn = room.turn }
+keeps-leader_reaction now events me (Some held) agent_state room = keeps-holder_reaction now events me held.revision (holder_of held.value) agent_state room
 
-told-if : (now events : ℕ) (me : MemberId) (leader : Option Held) (next phase : Phase) (waited : Bool) → (PhaseHasRoom now (1 + events) phase → PhaseHasRoom now (1 + events) next) → Keeps now events phase (if waited then led now me leader next else idle phase)
-told-if now events me leader next phase true same room = keeps-led now events me leader next (same room)
-told-if now events me leader next phase false same room = keeps-idle now events phase room
+told-if : (now events : ℕ) (me : MemberId) (leader : Option KeyEntry) (next agent_state : AgentState) (waited : Bool) → (AgentHasRoom now (1 + events) agent_state → AgentHasRoom now (1 + events) next) → Keeps now events agent_state (if waited then leader_reaction now me leader next else no_reaction agent_state)
+told-if now events me leader next agent_state true same room = keeps-leader_reaction now events me leader next (same room)
+told-if now events me leader next agent_state false same room = keeps-no_reaction now events agent_state room
 
-same-informed : (now events : ℕ) (snapshot : List (Key × Held)) (phase : Phase) → PhaseHasRoom now events phase → PhaseHasRoom now events (informed snapshot phase)
-same-informed now events snapshot phase room = record { sequence = room.sequence; turn = room.turn }
+same-state_by_snapshot : (now events : ℕ) (snapshot : List (Key × KeyEntry)) (agent_state : AgentState) → AgentHasRoom now events agent_state → AgentHasRoom now events (state_by_snapshot snapshot agent_state)
+same-state_by_snapshot now events snapshot agent_state room = record { sequence = room.sequence; turn = room.turn }
 
-granted-if : (now events : ℕ) (next phase : Phase) (fits : Bool) → PhaseHasRoom now events phase → PhaseHasRoom now events next → PhaseHasRoom now events (if fits then next else phase)
-granted-if now events next phase true room other = other
-granted-if now events next phase false room other = room
+state_by_grant-if : (now events : ℕ) (next agent_state : AgentState) (fits : Bool) → AgentHasRoom now events agent_state → AgentHasRoom now events next → AgentHasRoom now events (if fits then next else agent_state)
+state_by_grant-if now events next agent_state true room other = other
+state_by_grant-if now events next agent_state false room other = room
 
-keeps-granted : (now events : ℕ) (me : MemberId) (sequence : ℕ) (snapshot : List (Key × Held)) (grant : Option Granted) (phase : Phase) → Keeps now events phase (idle (granted me sequence snapshot grant phase))
-keeps-granted now events me sequence snapshot None phase room = keeps-idle now events phase room
-keeps-granted now events me sequence snapshot (Some grant) phase room =
-    granted-if now events (record (informed snapshot phase) { role = Holder grant.revision }) phase _ (keeps-idle now events phase room) (record { sequence = omega (arith, room.sequence); turn = room.turn })
+keeps-state_by_grant : (now events : ℕ) (me : MemberId) (sequence : ℕ) (snapshot : List (Key × KeyEntry)) (grant : Option Granted) (agent_state : AgentState) → Keeps now events agent_state (no_reaction (state_by_grant me sequence snapshot grant agent_state))
+keeps-state_by_grant now events me sequence snapshot None agent_state room = keeps-no_reaction now events agent_state room
+keeps-state_by_grant now events me sequence snapshot (Some grant) agent_state room =
+    state_by_grant-if now events (record (state_by_snapshot snapshot agent_state) { role = Holder grant.revision }) agent_state _ (keeps-no_reaction now events agent_state room) (record { sequence = omega (arith, room.sequence); turn = room.turn })
 
-keeps-refused : (now events : ℕ) (sequence : ℕ) (phase : Phase) → Keeps now events phase (idle (refused sequence phase))
-keeps-refused now events sequence phase room =
-    granted-if now events (record phase { role = Follower; waited = None }) phase _ (keeps-idle now events phase room) (record { sequence = omega (arith, room.sequence); turn = room.turn })
+keeps-state_by_refusal : (now events : ℕ) (sequence : ℕ) (agent_state : AgentState) → Keeps now events agent_state (no_reaction (state_by_refusal sequence agent_state))
+keeps-state_by_refusal now events sequence agent_state room =
+    state_by_grant-if now events (record agent_state { role = Follower; waited = None }) agent_state _ (keeps-no_reaction now events agent_state room) (record { sequence = omega (arith, room.sequence); turn = room.turn })
 
-keeps-heard : (now events : ℕ) (me : MemberId) (message : InFlightFacts) (body : Body) (phase : Phase) → Keeps now events phase (heard_body now me message body phase)
-keeps-heard now events me message bodies.Snapshot phase room =
-    told-if now events me (find key_cmp keys.Leader message.snapshot) (informed message.snapshot phase) phase (awaits phase.waited Reading message.message.sequence) (same-informed now (1 + events) message.snapshot phase) room
-keeps-heard now events me message (bodies.Granted request leased) phase room = keeps-granted now events me message.message.sequence message.snapshot message.grant phase room
-keeps-heard now events me message (bodies.Refused request key found) phase room = keeps-refused now events message.message.sequence phase room
-keeps-heard now events me message bodies.Read phase room = keeps-idle now events phase room
-keeps-heard now events me message (bodies.Request txn) phase room = keeps-idle now events phase room
-keeps-heard now events me message bodies.Ask phase room = keeps-idle now events phase room
-keeps-heard now events me message (bodies.Answer answer) phase room = keeps-idle now events phase room
-keeps-heard now events me message (bodies.Beg ttl) phase room = keeps-idle now events phase room
-keeps-heard now events me message (bodies.Held accepted) phase room = keeps-idle now events phase room
+keeps-message_reaction : (now events : ℕ) (me : MemberId) (message : InFlightFacts) (body : Body) (agent_state : AgentState) → Keeps now events agent_state (body_reaction now me message body agent_state)
+keeps-message_reaction now events me message bodies.Snapshot agent_state room =
+    told-if now events me (find key_cmp keys.Leader message.snapshot) (state_by_snapshot message.snapshot agent_state) agent_state (awaits agent_state.waited Reading message.message.sequence) (same-state_by_snapshot now (1 + events) message.snapshot agent_state) room
+keeps-message_reaction now events me message (bodies.Granted request leased) agent_state room = keeps-state_by_grant now events me message.message.sequence message.snapshot message.grant agent_state room
+keeps-message_reaction now events me message (bodies.Refused request key found) agent_state room = keeps-state_by_refusal now events message.message.sequence agent_state room
+keeps-message_reaction now events me message bodies.Read agent_state room = keeps-no_reaction now events agent_state room
+keeps-message_reaction now events me message (bodies.Request txn) agent_state room = keeps-no_reaction now events agent_state room
+keeps-message_reaction now events me message bodies.Ask agent_state room = keeps-no_reaction now events agent_state room
+keeps-message_reaction now events me message (bodies.Answer answer) agent_state room = keeps-no_reaction now events agent_state room
+keeps-message_reaction now events me message (bodies.FailsafeRequest ttl) agent_state room = keeps-no_reaction now events agent_state room
+keeps-message_reaction now events me message (bodies.FailsafeAnswer accepted) agent_state room = keeps-no_reaction now events agent_state room
 
-pub heard-room : (now events : ℕ) (me : MemberId) (message : InFlightFacts) (phase : Phase) → PhaseHasRoom now (1 + events) phase → PhaseHasRoom now events (heard now me message phase).phase
-heard-room now events me message phase room = keeps-heard now events me message message.message.body phase room
+pub message_reaction-room : (now events : ℕ) (me : MemberId) (message : InFlightFacts) (agent_state : AgentState) → AgentHasRoom now (1 + events) agent_state → AgentHasRoom now events (message_reaction now me message agent_state).agent_state
+message_reaction-room now events me message agent_state room = keeps-message_reaction now events me message message.message.body agent_state room

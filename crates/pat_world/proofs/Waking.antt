@@ -2,23 +2,23 @@
 use Rattle.std.proofs.Common.{◌≡◌, Bool, true, List, [], Option, Some, arith, sym, subst}
 use Rattle.std.specs.Prelude.{if◌then◌else◌}
 use Rattle.event_book.specs.declared.event.Event.{Event}
-use Rattle.event_book.specs.declared.event.Kind.TheVariants as kinds
+use Rattle.event_book.specs.declared.event.EventKind.TheVariants as kinds
 use Rattle.event_book.specs.declared.event.AgentEvent.TheVariants.{Woken}
 use Rattle.event_book.specs.declared.member.Member.{Member}
-use Rattle.pat_world.specs.declared.phase.Reaction.{Reaction}
-use Rattle.pat_world.specs.declared.phase.Seat.{Seat}
+use Rattle.pat_world.specs.declared.agent_state.Reaction.{Reaction}
+use Rattle.pat_world.specs.declared.agent_state.MemberAgent.{MemberAgent}
 use Rattle.pat_world.specs.Cluster.{Cluster}
-use Rattle.pat_world.specs.Next.{followed, happens, is_ready, seat_for, roused, reacts, wakes, woken_at}
+use Rattle.pat_world.specs.Next.{events_then, event_of, is_to_wake, member_agent_for, reaction_to_wake, reaction_events, wake_events, wake_events_of}
 use Rattle.pat_world.specs.Room.{input_cost, reaction_cost}
-use Rattle.pat_world.specs.Took.{Took}
-use Rattle.pat_world.proofs.Taking.{Took-then, found-took}
+use Rattle.pat_world.specs.Emits.{Emits}
+use Rattle.pat_world.proofs.Taking.{Emits-then, found-took}
 
 -- an agent that is ready is woken, and does what its reaction says
-pub wake-took : (cluster rousing after : Cluster) (member : Member) (seat : Seat) (reaction : Option Reaction) (had mid has : List Event) → seat_for cluster member ≡ Some seat → is_ready cluster.book.clock seat ≡ true
-    → Took cluster rousing had mid (happens cluster (kinds.Agent (Woken member))) 1 → reaction ≡ roused cluster.book.clock cluster.phases member
-    → Took rousing after mid has (reacts rousing member reaction) reaction_cost → Took cluster after had has (wakes cluster member) input_cost
-wake-took cluster rousing after member seat reaction had mid has there ready one is rest =
-    found-took Seat cluster after had has (λ (s : Seat). if is_ready cluster.book.clock s then woken_at cluster member else []) (seat_for cluster member) seat input_cost there
-    (subst (λ (b : Bool). Took cluster after had has (if b then woken_at cluster member else []) input_cost) (sym ready)
-    (subst (λ (r : Option Reaction). Took cluster after had has (followed cluster (happens cluster (kinds.Agent (Woken member))) (λ later. reacts later member r)) input_cost) is
-    (Took-then cluster rousing after had mid has (happens cluster (kinds.Agent (Woken member))) (λ later. reacts later member reaction) 1 reaction_cost input_cost one rest (omega arith))))
+pub wake-took : (cluster rousing after : Cluster) (member : Member) (member_agent : MemberAgent) (reaction : Option Reaction) (had mid has : List Event) → member_agent_for cluster member ≡ Some member_agent → is_to_wake cluster.book.clock member_agent ≡ true
+    → Emits cluster rousing had mid (event_of cluster (kinds.Agent (Woken member))) 1 → reaction ≡ reaction_to_wake cluster.book.clock cluster.agent_states member
+    → Emits rousing after mid has (reaction_events rousing member reaction) reaction_cost → Emits cluster after had has (wake_events cluster member) input_cost
+wake-took cluster rousing after member member_agent reaction had mid has there ready one is rest =
+    found-took MemberAgent cluster after had has (λ (s : MemberAgent). if is_to_wake cluster.book.clock s then wake_events_of cluster member else []) (member_agent_for cluster member) member_agent input_cost there
+    (subst (λ (b : Bool). Emits cluster after had has (if b then wake_events_of cluster member else []) input_cost) (sym ready)
+    (subst (λ (r : Option Reaction). Emits cluster after had has (events_then cluster (event_of cluster (kinds.Agent (Woken member))) (λ later. reaction_events later member r)) input_cost) is
+    (Emits-then cluster rousing after had mid has (event_of cluster (kinds.Agent (Woken member))) (λ later. reaction_events later member reaction) 1 reaction_cost input_cost one rest (omega arith))))

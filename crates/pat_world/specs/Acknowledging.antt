@@ -6,8 +6,8 @@ use Rattle.pat_base.specs.ServerState.{writes}
 use Rattle.pg_model.specs.declared.waiting.Waiting.{Waiting}
 use Rattle.pg_model.specs.Facts.{ServerFacts}
 use Rattle.pg_model.specs.Replication.{is_met, may_acknowledge}
-use Rattle.event_book.specs.declared.event.Kind.{Kind}
-use Rattle.event_book.specs.declared.event.Kind.TheVariants as kinds
+use Rattle.event_book.specs.declared.event.EventKind.{EventKind}
+use Rattle.event_book.specs.declared.event.EventKind.TheVariants as kinds
 use Rattle.event_book.specs.declared.event.ReplicationEvent.TheVariants as replications
 use Rattle.event_book.specs.declared.member.Member.{Member}
 use Rattle.event_book.specs.Members.{server_of}
@@ -22,11 +22,11 @@ abbrev pub ready_commits : ServerFacts → List ℕ
 ready_commits s = if writes s.state then confirmed_front s.required s.confirmed s.waiting else []
 
 -- a commit of the server of a member is acknowledged
-abbrev pub acknowledgement : Member → ℕ → Kind
+abbrev pub acknowledgement : Member → ℕ → EventKind
 acknowledgement member commit = kinds.Replication (replications.Acknowledged (server_of member) commit)
 
 -- all of them are acknowledged
-abbrev pub acknowledge_kinds : Member → Option ServerFacts → List Kind
+abbrev pub acknowledge_kinds : Member → Option ServerFacts → List EventKind
 acknowledge_kinds member None = []
 acknowledge_kinds member (Some s) = map (acknowledgement member) (ready_commits s)
 

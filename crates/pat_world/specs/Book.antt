@@ -2,24 +2,24 @@
 use Rattle.std.specs.Prelude.{ℕ, ◌≡◌, ◌<◌, ◌++◌, List, length}
 use Rattle.event_book.specs.declared.event.Event.{Event}
 use Rattle.event_book.specs.Acknowledged.{acknowledged_in}
-use Rattle.event_book.specs.Logs.{logs_in, logs_after}
-use Rattle.event_book.specs.Required.{required_in, required_after, confirmed_in, confirmed_after}
-use Rattle.event_book.specs.Writers.{writes_in, writes_after}
+use Rattle.event_book.specs.Logs.{logs_in, logs_over}
+use Rattle.event_book.specs.Required.{required_in, required_over, confirmed_in, confirmed_over}
+use Rattle.event_book.specs.Writers.{writes_in, writes_over}
 use Rattle.cluster_script.specs.declared.line.Step.{Step}
-use Rattle.pat_world.specs.Cluster.{Cluster, moved_all}
+use Rattle.pat_world.specs.Cluster.{Cluster, cluster_over}
 use Rattle.pat_world.specs.Next.{next_events}
 
 -- what a book that began so determines
 abbrev pub left_by : Cluster → List Event → Cluster
-left_by start book = moved_all start book
+left_by start book = cluster_over start book
 
 -- a world is what the book determines, and what the book alone says of servers and commits is so of those that it keeps
 pub record StandsFor (start : Cluster) (book : List Event) (world : Cluster) : Type 0 where
   pub world_is : world ≡ left_by start book
-  pub logs : logs_in world.book.servers ≡ logs_after (logs_in start.book.servers) book
-  pub writers : (n : ℕ) → n < length start.book.servers → writes_in world.book.servers n ≡ writes_after (writes_in start.book.servers) book n
-  pub required : required_in world.book.servers ≡ required_after (required_in start.book.servers) book
-  pub confirmed : confirmed_in world.book.servers ≡ confirmed_after (confirmed_in start.book.servers) book
+  pub logs : logs_in world.book.servers ≡ logs_over (logs_in start.book.servers) book
+  pub writers : (n : ℕ) → n < length start.book.servers → writes_in world.book.servers n ≡ writes_over (writes_in start.book.servers) book n
+  pub required : required_in world.book.servers ≡ required_over (required_in start.book.servers) book
+  pub confirmed : confirmed_in world.book.servers ≡ confirmed_over (confirmed_in start.book.servers) book
   pub acknowledged : world.book.acknowledged ≡ start.book.acknowledged ++ acknowledged_in book
 
 -- the events that a step adds to a book

@@ -3,11 +3,11 @@ use Rattle.std.specs.Prelude.{ℕ, ◌≡◌, ◌+◌, ◌^◌, ◌<◌, ◌≤�
 use Rattle.std.specs.Option.{ForSome}
 use Rattle.pg_model.specs.Facts.{ServerFacts, is_replica}
 use Rattle.pg_model.specs.Servers.{entry_for}
-use Rattle.event_book.specs.declared.agent_state.AgentState.{AgentState}
+use Rattle.event_book.specs.declared.agent_process.AgentProcess.{AgentProcess}
 use Rattle.event_book.specs.declared.event.AgentEvent.{AgentEvent}
 use Rattle.event_book.specs.declared.event.AgentEvent.TheVariants as agents
-use Rattle.event_book.specs.declared.event.Kind.{Kind}
-use Rattle.event_book.specs.declared.event.Kind.TheVariants as kinds
+use Rattle.event_book.specs.declared.event.EventKind.{EventKind}
+use Rattle.event_book.specs.declared.event.EventKind.TheVariants as kinds
 use Rattle.event_book.specs.declared.event.LogEvent.{LogEvent}
 use Rattle.event_book.specs.declared.event.LogEvent.TheVariants as logs
 use Rattle.event_book.specs.declared.event.MessageEvent.{MessageEvent}
@@ -24,29 +24,29 @@ abbrev pub CountsMessage : ℕ → MessageEvent → Type 0
 CountsMessage sent (messages.Sent number message) = number ≤ sent + 1
 CountsMessage sent _ = Unit {0}
 
-abbrev pub CountsAgent : List AgentState → AgentEvent → Type 0
-CountsAgent states (agents.Started agent run) = (state : AgentState) → slice_get states agent.id.number ≡ Some state → run ≤ state.run + 1
+abbrev pub CountsAgent : List AgentProcess → AgentEvent → Type 0
+CountsAgent states (agents.Started agent run) = (state : AgentProcess) → slice_get states agent.id.number ≡ Some state → run ≤ state.run + 1
 CountsAgent states _ = Unit {0}
 
 abbrev pub CountsLog : ℕ → LogEvent → Type 0
 CountsLog last (logs.Appended server entry) = entry.serial ≤ last + 1
 CountsLog last _ = Unit {0}
 
-abbrev pub Counts : Cluster → Kind → Type 0
+abbrev pub Counts : Cluster → EventKind → Type 0
 Counts cluster (kinds.Message happening) = CountsMessage cluster.book.sent happening
 Counts cluster (kinds.Agent happening) = CountsAgent cluster.book.agents happening
 Counts cluster (kinds.Log happening) = CountsLog cluster.book.commits happening
 Counts cluster _ = Unit {0}
 
 -- it brings nothing but itself: a message that is sent has a grant and a snapshot, a grant has an answer, and an agent reacts
-abbrev pub IsBare : Kind → Type 0
+abbrev pub IsBare : EventKind → Type 0
 IsBare (kinds.Message (messages.Sent number message)) = ⊥
 IsBare (kinds.Message (messages.Delivered number)) = ⊥
 IsBare (kinds.Store (stores.Granted number by txn standbys)) = ⊥
 IsBare (kinds.Agent (agents.Woken agent)) = ⊥
 IsBare _ = Unit {0}
 
--- a standby begins, and no delay is longer than servers take. That a server ends, or that its log diverged, doesn't come in this way
+-- a replica begins, and no delay is longer than servers take. That a server ends, or that its log diverged, doesn't come in this way
 abbrev pub ServerComes : List ServerFacts → ServerEvent → Type 0
 ServerComes known (servers.Began server timeline) = IfSome (slice_get known server.id.number) (λ s. IsTrue (is_replica s.state) × (s.timeline < 2 ^ 60))
 ServerComes known (servers.Slowed server stop start) = ForSome stop (λ delay. delay.0 ≤ 2 ^ 40) × ForSome start (λ delay. delay.0 ≤ 2 ^ 40)
@@ -64,14 +64,14 @@ ReplicationComes (replications.Acknowledged server commit) = ⊥
 ReplicationComes _ = Unit {0}
 
 -- what happens at servers is what they can do
-abbrev pub ServesAt : List ServerFacts → Kind → Type 0
+abbrev pub ServesAt : List ServerFacts → EventKind → Type 0
 ServesAt known (kinds.Server happening) = ServerComes known happening
 ServesAt known (kinds.Log happening) = LogComes known happening
 ServesAt known (kinds.Replication happening) = ReplicationComes happening
 ServesAt known _ = Unit {0}
 
 -- this may happen next
-pub record MayCome (cluster : Cluster) (kind : Kind) : Type 0 where
+pub record MayCome (cluster : Cluster) (kind : EventKind) : Type 0 where
   pub bare : IsBare kind
   pub counts : Counts cluster kind
   pub serves : ServesAt cluster.book.servers kind

@@ -1,6 +1,6 @@
 -- What happenings concern.
-use Rattle.event_book.specs.declared.event.Kind.{Kind}
-use Rattle.event_book.specs.declared.event.Kind.TheVariants as kinds
+use Rattle.event_book.specs.declared.event.EventKind.{EventKind}
+use Rattle.event_book.specs.declared.event.EventKind.TheVariants as kinds
 
 pub data Concern : Type 0 where
   Time : Concern
@@ -14,7 +14,7 @@ pub data Concern : Type 0 where
   Links : Concern
   Notes : Concern
 
-abbrev pub concern_of : Kind → Concern
+abbrev pub concern_of : EventKind → Concern
 concern_of kinds.Tick = Time
 concern_of (kinds.Message happening) = Messages
 concern_of (kinds.Store happening) = Store

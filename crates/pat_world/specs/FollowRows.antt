@@ -4,8 +4,8 @@ use Rattle.pat_base.specs.declared.server_id.ServerId.{ServerId}
 use Rattle.pat_base.specs.declared.server_state.State.{State}
 use Rattle.pat_base.specs.declared.server_state.State.TheVariants as states
 use Rattle.pg_model.specs.Facts.{ServerFacts}
-use Rattle.event_book.specs.declared.event.Kind.{Kind}
-use Rattle.event_book.specs.declared.event.Kind.TheVariants as kinds
+use Rattle.event_book.specs.declared.event.EventKind.{EventKind}
+use Rattle.event_book.specs.declared.event.EventKind.TheVariants as kinds
 use Rattle.event_book.specs.declared.event.ServerEvent.TheVariants as servers
 use Rattle.event_book.specs.declared.member.Member.{Member}
 use Rattle.event_book.specs.Members.{server_of}
@@ -24,7 +24,7 @@ abbrev pub follow_unless : Bool → Option FollowRow
 follow_unless true = None
 follow_unless false = Some rows.Follow
 
--- one that is down starts as a standby, unless its log diverged; a standby of another server, or of none, follows the leader's
+-- one that is down starts as a replica, unless its log diverged; a replica of another server, or of none, follows the leader's
 abbrev pub follow_row : Member → State → Bool → Option ServerId → Option FollowRow
 follow_row leader states.Stopped diverged upstream = start_unless diverged
 follow_row leader states.Crashed diverged upstream = start_unless diverged
@@ -35,7 +35,7 @@ abbrev pub follow_row_of : Member → ServerFacts → Option FollowRow
 follow_row_of leader s = follow_row leader s.state s.diverged s.upstream
 
 -- what that comes to
-abbrev pub follow_kinds : Member → Member → Option FollowRow → List Kind
+abbrev pub follow_kinds : Member → Member → Option FollowRow → List EventKind
 follow_kinds member leader None = []
 follow_kinds member leader (Some rows.Start) = kinds.Server (servers.StartsAsReplica (server_of member)) ∷ kinds.Server (servers.Follows (server_of member) (server_of leader)) ∷ []
 follow_kinds member leader (Some rows.Follow) = kinds.Server (servers.Follows (server_of member) (server_of leader)) ∷ []

@@ -2,11 +2,11 @@
 use Rattle.std.specs.Prelude.{ℕ, nat_le, length, if◌then◌else◌}
 use Rattle.std.specs.BTreeMap.{insert_entry}
 use Rattle.std.specs.Ordering.{nat_cmp}
-use Rattle.event_book.specs.Flight.{Flight, InFlightFacts, landed}
+use Rattle.event_book.specs.Flight.{Flight, InFlightFacts, without_message}
 use Rattle.pat_world.specs.Room.{most_in_flight}
 
 -- the messages in flight after one is sent: beyond the most in flight it is lost at once
 abbrev pub launched_into : Flight → ℕ → InFlightFacts → Flight
 launched_into flight number message =
     let with_it = insert_entry nat_cmp flight number message in
-    if nat_le most_in_flight (length flight) then landed with_it number else with_it
+    if nat_le most_in_flight (length flight) then without_message with_it number else with_it

@@ -14,6 +14,6 @@ pub mod Settled
 pub mod Short
 pub mod Steps
 pub mod Streaming
-pub mod Took
+pub mod Emits
 pub mod Turns
-pub mod Ways
+pub mod Deliveries

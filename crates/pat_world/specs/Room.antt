@@ -1,12 +1,12 @@
 -- How far a cluster may go, and how many events its parts bring at most.
 use Rattle.std.specs.Prelude.{ℕ, ◌+◌, ◌*◌, ◌^◌, ◌<◌, ◌≤◌, All}
 use Rattle.pat_world.specs.Cluster.{Cluster}
-use Rattle.pat_world.specs.declared.phase.Phase.{Phase}
+use Rattle.pat_world.specs.declared.agent_state.AgentState.{AgentState}
 
 -- the questions of an agent have so many more numbers, and its last turn isn't ahead of the clock
-pub record PhaseHasRoom (clock events : ℕ) (phase : Phase) : Type 0 where
-  pub sequence : phase.sequence + events < 2 ^ 60
-  pub turn : phase.turn.0 ≤ clock
+pub record AgentHasRoom (clock events : ℕ) (agent_state : AgentState) : Type 0 where
+  pub sequence : agent_state.sequence + events < 2 ^ 60
+  pub turn : agent_state.turn.0 ≤ clock
 
 -- so many more events can't bring a counter to its end: each counts one up by one at most
 pub record HasRoom (cluster : Cluster) (events : ℕ) : Type 0 where
@@ -14,7 +14,7 @@ pub record HasRoom (cluster : Cluster) (events : ℕ) : Type 0 where
   pub revision : cluster.book.keys.revision + events < 2 ^ 60
   pub sent : cluster.book.sent + events < 2 ^ 60
   pub runs : All (λ state. state.run + events < 2 ^ 60) cluster.book.agents
-  pub phases : All (PhaseHasRoom cluster.book.clock events) cluster.phases
+  pub agent_states : All (AgentHasRoom cluster.book.clock events) cluster.agent_states
   pub timelines : All (λ s. s.timeline + events < 2 ^ 60) cluster.book.servers
   pub commits : cluster.book.commits + events < 2 ^ 60
 
@@ -54,11 +54,11 @@ decision_cost = 1 + sending_cost
 abbrev pub message_cost : ℕ
 message_cost = 1 + reaction_cost
 
--- a standby receives, and confirms
+-- a replica receives, and confirms
 abbrev pub streaming_cost : ℕ
 streaming_cost = 1 + 1
 
--- an operator promotes a standby, and it begins
+-- an operator promotes a replica, and it begins
 abbrev pub promotion_cost : ℕ
 promotion_cost = 1 + 1
 
@@ -77,7 +77,7 @@ round_cost = wakes_cost + most_in_flight * message_cost
 abbrev pub rounds_cost : ℕ
 rounds_cost = most_rounds * round_cost
 
--- each standby receives
+-- each replica receives
 abbrev pub receiving_cost : ℕ
 receiving_cost = most_members * streaming_cost
 

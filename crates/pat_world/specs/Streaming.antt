@@ -7,8 +7,8 @@ use Rattle.pat_base.specs.ServerState.{writes}
 use Rattle.wal_model.specs.declared.entry.Entry.{Entry}
 use Rattle.wal_model.specs.Log.{end_of}
 use Rattle.pg_model.specs.Facts.{ServerFacts, is_replica}
-use Rattle.event_book.specs.declared.event.Kind.{Kind}
-use Rattle.event_book.specs.declared.event.Kind.TheVariants as kinds
+use Rattle.event_book.specs.declared.event.EventKind.{EventKind}
+use Rattle.event_book.specs.declared.event.EventKind.TheVariants as kinds
 use Rattle.event_book.specs.declared.event.ReplicationEvent.TheVariants as replications
 use Rattle.event_book.specs.declared.link.Link.{Link}
 use Rattle.event_book.specs.declared.link.LinkEnd.TheVariants as link_ends
@@ -33,7 +33,7 @@ abbrev pub source_for : List Member → List ServerFacts → CutLinks → Member
 source_for members servers cuts member None = None
 source_for members servers cuts member (Some s) = if is_replica s.state && not s.diverged then source_named members servers cuts member s.upstream else None
 
--- the member from whose server that of this member receives: it is a standby whose log didn't diverge, its upstream accepts
+-- the member from whose server that of this member receives: it is a replica whose log didn't diverge, its upstream accepts
 -- writes, and the link between the two is joined
 abbrev pub source_of : List Member → List ServerFacts → CutLinks → Member → Option Member
 source_of members servers cuts member = source_for members servers cuts member (slice_get servers member.id.number)
@@ -55,7 +55,7 @@ unconfirmed_end member None upstream = None
 unconfirmed_end member (Some s) None = None
 unconfirmed_end member (Some s) (Some upstream) = end_unless_confirmed s.log (slice_index_or upstream.confirmed member.id.number None)
 
--- a standby confirms that its log ends there
-abbrev pub confirm_of : Member → Member → Option Lsn → Option Kind
+-- a replica confirms that its log ends there
+abbrev pub confirm_of : Member → Member → Option Lsn → Option EventKind
 confirm_of member from None = None
 confirm_of member from (Some end) = Some (kinds.Replication (replications.Confirmed (server_of from) member end))

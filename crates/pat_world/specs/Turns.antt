@@ -8,7 +8,7 @@ use Rattle.lease_store.specs.declared.granted.Granted.{Granted}
 use Rattle.lease_store.specs.declared.key.Key.{Key}
 use Rattle.lease_store.specs.declared.key.Key.TheVariants as keys
 use Rattle.lease_store.specs.declared.txn.Txn.TheVariants as txns
-use Rattle.lease_store.specs.declared.value.Held.{Held}
+use Rattle.lease_store.specs.declared.value.KeyEntry.{KeyEntry}
 use Rattle.lease_store.specs.declared.value.Value.{Value}
 use Rattle.lease_store.specs.declared.value.Value.TheVariants as values
 use Rattle.lease_store.specs.Answers.{holder_of}
@@ -17,12 +17,12 @@ use Rattle.lease_store.specs.KeyOrder.{key_cmp}
 use Rattle.event_book.specs.declared.message.Body.{Body}
 use Rattle.event_book.specs.declared.message.Body.TheVariants as bodies
 use Rattle.event_book.specs.Flight.{InFlightFacts}
-use Rattle.pat_world.specs.declared.phase.Role.TheVariants.{Follower, Holder}
-use Rattle.pat_world.specs.declared.phase.Pending.{Pending}
-use Rattle.pat_world.specs.declared.phase.Pending.TheVariants.{Reading, Creating, Renewing}
-use Rattle.pat_world.specs.declared.phase.Waited.{Waited}
-use Rattle.pat_world.specs.declared.phase.Phase.{Phase}
-use Rattle.pat_world.specs.declared.phase.Reaction.{Reaction}
+use Rattle.pat_world.specs.declared.agent_state.Role.TheVariants.{Follower, Holder}
+use Rattle.pat_world.specs.declared.agent_state.Pending.{Pending}
+use Rattle.pat_world.specs.declared.agent_state.Pending.TheVariants.{Reading, Creating, Renewing}
+use Rattle.pat_world.specs.declared.agent_state.Waited.{Waited}
+use Rattle.pat_world.specs.declared.agent_state.AgentState.{AgentState}
+use Rattle.pat_world.specs.declared.agent_state.Reaction.{Reaction}
 use Rattle.pat_world.specs.Info.{bare_info}
 
 -- so many ticks after a moment, of which a second has ten
@@ -30,8 +30,8 @@ abbrev pub seconds_after : ℕ → ℕ → Ticks
 seconds_after moment seconds = record { 0 = moment + 10 * seconds }
 
 -- an agent that has just started, with its first turn due at this moment
-abbrev pub fresh_phase : ℕ → Phase
-fresh_phase first = record {
+abbrev pub fresh_agent_state : ℕ → AgentState
+fresh_agent_state first = record {
   role = Follower;
   waited = None;
   sequence = 0;
@@ -46,39 +46,39 @@ is_overdue now None = false
 is_overdue now (Some waited) = nat_le waited.until.0 now
 
 -- nothing is waited for, and the next turn's moment has come
-abbrev pub has_turn : ℕ → Phase → Bool
-has_turn now phase = is_none phase.waited && nat_le phase.next_turn.0 now
+abbrev pub has_turn : ℕ → AgentState → Bool
+has_turn now agent_state = is_none agent_state.waited && nat_le agent_state.next_turn.0 now
 
 -- whether there is something to do for an agent that is woken
-abbrev pub is_due : ℕ → Phase → Bool
-is_due now phase = is_overdue now phase.waited || has_turn now phase
+abbrev pub has_work : ℕ → AgentState → Bool
+has_work now agent_state = is_overdue now agent_state.waited || has_turn now agent_state
 
-abbrev pub idle : Phase → Reaction
-idle phase = record { phase = phase; asks = None; follows = None }
+abbrev pub no_reaction : AgentState → Reaction
+no_reaction agent_state = record { agent_state = agent_state; asks = None; follows = None }
 
 -- the agent asks, and waits for the answer until a moment
-abbrev pub asking : Pending → Ticks → Body → Phase → Reaction
-asking question until body phase = record {
-  phase = record phase { sequence = phase.sequence + 1; waited = Some (record { question = question; sequence = phase.sequence + 1; until = until }) };
+abbrev pub ask_reaction : Pending → Ticks → Body → AgentState → Reaction
+ask_reaction question until body agent_state = record {
+  agent_state = record agent_state { sequence = agent_state.sequence + 1; waited = Some (record { question = question; sequence = agent_state.sequence + 1; until = until }) };
   asks = Some body;
   follows = None;
 }
 
 -- a turn begins: the agent reads the store
-abbrev pub begun : ℕ → Phase → Reaction
-begun now phase = asking Reading (seconds_after now phase.settings.retry_timeout) bodies.Read
-    (record phase { turn = record { 0 = now }; next_turn = seconds_after now phase.settings.loop_wait })
+abbrev pub turn_start : ℕ → AgentState → Reaction
+turn_start now agent_state = ask_reaction Reading (seconds_after now agent_state.settings.retry_timeout) bodies.Read
+    (record agent_state { turn = record { 0 = now }; next_turn = seconds_after now agent_state.settings.loop_wait })
 
 -- what isn't answered in time isn't waited for any more
-abbrev pub rested : ℕ → Phase → Phase
-rested now phase = if is_overdue now phase.waited then record phase { waited = None } else phase
+abbrev pub after_deadline : ℕ → AgentState → AgentState
+after_deadline now agent_state = if is_overdue now agent_state.waited then record agent_state { waited = None } else agent_state
 
-abbrev pub turned : ℕ → Phase → Reaction
-turned now phase = if has_turn now phase then begun now phase else idle phase
+abbrev pub turn_reaction : ℕ → AgentState → Reaction
+turn_reaction now agent_state = if has_turn now agent_state then turn_start now agent_state else no_reaction agent_state
 
 -- what a woken agent does: a passed deadline comes first, and then a turn that is due
-abbrev pub woken : ℕ → Phase → Reaction
-woken now phase = turned now (rested now phase)
+abbrev pub wake_reaction : ℕ → AgentState → Reaction
+wake_reaction now agent_state = turn_reaction now (after_deadline now agent_state)
 
 abbrev pub is_same_question : Pending → Pending → Bool
 is_same_question Reading Reading = true
@@ -99,68 +99,68 @@ abbrev pub settings_by : Config → Value → Config
 settings_by settings (values.Config config) = config.config
 settings_by settings _ = settings
 
-abbrev pub settings_or : Config → Option Held → Config
+abbrev pub settings_or : Config → Option KeyEntry → Config
 settings_or settings None = settings
-settings_or settings (Some held) = settings_by settings held.value
+settings_or settings (Some stored) = settings_by settings stored.value
 
 -- a snapshot is the newest: its settings hold from now on, and nothing is waited for
-abbrev pub informed : List (Key × Held) → Phase → Phase
-informed snapshot phase = record phase { waited = None; settings = settings_or phase.settings (find key_cmp keys.Config snapshot) }
+abbrev pub state_by_snapshot : List (Key × KeyEntry) → AgentState → AgentState
+state_by_snapshot snapshot agent_state = record agent_state { waited = None; settings = settings_or agent_state.settings (find key_cmp keys.Config snapshot) }
 
 -- the span of the leases that an agent asks for
-abbrev pub lease : Phase → Ticks
-lease phase = record { 0 = 10 * phase.settings.ttl }
+abbrev pub lease : AgentState → Ticks
+lease agent_state = record { 0 = 10 * agent_state.settings.ttl }
 
 -- the leader key is absent: the agent has no lease, and asks for the key
-abbrev pub creating : ℕ → Phase → Reaction
-creating now phase = asking Creating (seconds_after now phase.settings.retry_timeout) (bodies.Request (txns.Create bare_info (lease phase) None None)) (record phase { role = Follower })
+abbrev pub create_reaction : ℕ → AgentState → Reaction
+create_reaction now agent_state = ask_reaction Creating (seconds_after now agent_state.settings.retry_timeout) (bodies.Request (txns.Create bare_info (lease agent_state) None None)) (record agent_state { role = Follower })
 
 -- the leader key is its own: it asks for the renewal of what it read
-abbrev pub renewing : ℕ → Phase → Reaction
-renewing revision phase = asking Renewing (seconds_after phase.turn.0 phase.settings.retry_timeout) (bodies.Request (txns.Renew revision bare_info (lease phase) None None None)) phase
+abbrev pub renew_reaction : ℕ → AgentState → Reaction
+renew_reaction revision agent_state = ask_reaction Renewing (seconds_after agent_state.turn.0 agent_state.settings.retry_timeout) (bodies.Request (txns.Renew revision bare_info (lease agent_state) None None None)) agent_state
 
 -- the leader key is another's: the agent has no lease, its server follows the leader, and it tells of itself without waiting
 -- for the answer
-abbrev pub following : MemberId → Phase → Reaction
-following leader phase = record {
-  phase = record phase { role = Follower; sequence = phase.sequence + 1 };
-  asks = Some (bodies.Request (txns.Touch bare_info (lease phase)));
+abbrev pub follow_reaction : MemberId → AgentState → Reaction
+follow_reaction leader agent_state = record {
+  agent_state = record agent_state { role = Follower; sequence = agent_state.sequence + 1 };
+  asks = Some (bodies.Request (txns.Touch bare_info (lease agent_state)));
   follows = Some leader;
 }
 
-abbrev pub led_by : MemberId → ℕ → Option MemberId → Phase → Reaction
-led_by me revision None phase = idle phase
-led_by me revision (Some holder) phase = if holder.number == me.number then renewing revision phase else following holder phase
+abbrev pub holder_reaction : MemberId → ℕ → Option MemberId → AgentState → Reaction
+holder_reaction me revision None agent_state = no_reaction agent_state
+holder_reaction me revision (Some holder) agent_state = if holder.number == me.number then renew_reaction revision agent_state else follow_reaction holder agent_state
 
-abbrev pub led : ℕ → MemberId → Option Held → Phase → Reaction
-led now me None phase = creating now phase
-led now me (Some held) phase = led_by me held.revision (holder_of held.value) phase
+abbrev pub leader_reaction : ℕ → MemberId → Option KeyEntry → AgentState → Reaction
+leader_reaction now me None agent_state = create_reaction now agent_state
+leader_reaction now me (Some stored) agent_state = holder_reaction me stored.revision (holder_of stored.value) agent_state
 
 -- the agent hears what the store holds
-abbrev pub told : ℕ → MemberId → ℕ → List (Key × Held) → Phase → Reaction
-told now me sequence snapshot phase =
-    if awaits phase.waited Reading sequence then led now me (find key_cmp keys.Leader snapshot) (informed snapshot phase) else idle phase
+abbrev pub snapshot_reaction : ℕ → MemberId → ℕ → List (Key × KeyEntry) → AgentState → Reaction
+snapshot_reaction now me sequence snapshot agent_state =
+    if awaits agent_state.waited Reading sequence then leader_reaction now me (find key_cmp keys.Leader snapshot) (state_by_snapshot snapshot agent_state) else no_reaction agent_state
 
 -- the grant is one of the leader key, to this member
 abbrev pub is_lease_of : MemberId → Granted → Bool
 is_lease_of me grant = grant.leased && grant.by.number == me.number
 
 -- the agent hears of a grant: with the lease that it waits for it becomes a holder
-abbrev pub granted : MemberId → ℕ → List (Key × Held) → Option Granted → Phase → Phase
-granted me sequence snapshot None phase = phase
-granted me sequence snapshot (Some grant) phase =
-    if awaits_lease phase.waited sequence && is_lease_of me grant then record (informed snapshot phase) { role = Holder grant.revision } else phase
+abbrev pub state_by_grant : MemberId → ℕ → List (Key × KeyEntry) → Option Granted → AgentState → AgentState
+state_by_grant me sequence snapshot None agent_state = agent_state
+state_by_grant me sequence snapshot (Some grant) agent_state =
+    if awaits_lease agent_state.waited sequence && is_lease_of me grant then record (state_by_snapshot snapshot agent_state) { role = Holder grant.revision } else agent_state
 
 -- the agent hears of a refusal: a create or a renewal that it waits for is lost, and with it any lease
-abbrev pub refused : ℕ → Phase → Phase
-refused sequence phase = if awaits_lease phase.waited sequence then record phase { role = Follower; waited = None } else phase
+abbrev pub state_by_refusal : ℕ → AgentState → AgentState
+state_by_refusal sequence agent_state = if awaits_lease agent_state.waited sequence then record agent_state { role = Follower; waited = None } else agent_state
 
-abbrev pub heard_body : ℕ → MemberId → InFlightFacts → Body → Phase → Reaction
-heard_body now me message bodies.Snapshot phase = told now me message.message.sequence message.snapshot phase
-heard_body now me message (bodies.Granted request leased) phase = idle (granted me message.message.sequence message.snapshot message.grant phase)
-heard_body now me message (bodies.Refused request key found) phase = idle (refused message.message.sequence phase)
-heard_body now me message _ phase = idle phase
+abbrev pub body_reaction : ℕ → MemberId → InFlightFacts → Body → AgentState → Reaction
+body_reaction now me message bodies.Snapshot agent_state = snapshot_reaction now me message.message.sequence message.snapshot agent_state
+body_reaction now me message (bodies.Granted request leased) agent_state = no_reaction (state_by_grant me message.message.sequence message.snapshot message.grant agent_state)
+body_reaction now me message (bodies.Refused request key found) agent_state = no_reaction (state_by_refusal message.message.sequence agent_state)
+body_reaction now me message _ agent_state = no_reaction agent_state
 
 -- what an agent does on a message
-abbrev pub heard : ℕ → MemberId → InFlightFacts → Phase → Reaction
-heard now me message phase = heard_body now me message message.message.body phase
+abbrev pub message_reaction : ℕ → MemberId → InFlightFacts → AgentState → Reaction
+message_reaction now me message agent_state = body_reaction now me message message.message.body agent_state

@@ -1,20 +1,20 @@
 //! The agent: what it does on what it hears.
 ghost use Rattle.std.specs.Prelude.{◌≡◌, ◌≤◌, ◌<◌, ◌+◌, ◌*◌, ◌^◌, Some, option_copied};
-ghost use Rattle.pat_world.specs.Turns.{seconds_after, fresh_phase, is_overdue, has_turn, is_due, idle, asking, begun, rested, turned, woken, is_same_question, awaits, awaits_lease, settings_by, settings_or, informed, lease, creating, renewing, following, led_by, led, told, is_lease_of, granted, refused, heard_body, heard};
+ghost use Rattle.pat_world.specs.Turns.{seconds_after, fresh_agent_state, is_overdue, has_turn, has_work, no_reaction, ask_reaction, turn_start, after_deadline, turn_reaction, wake_reaction, is_same_question, awaits, awaits_lease, settings_by, settings_or, state_by_snapshot, lease, create_reaction, renew_reaction, follow_reaction, holder_reaction, leader_reaction, snapshot_reaction, is_lease_of, state_by_grant, state_by_refusal, body_reaction, message_reaction};
 ghost use Rattle.pat_world.specs.Short.{AsksShortly};
 
+use crate::agent_state::{AgentState, Pending, Reaction, Role, Waited};
 use crate::flight::InFlight;
 use crate::info::bare_info;
-use crate::phase::{Pending, Phase, Reaction, Role, Waited};
 use event_book::Body;
-use lease_store::{Config, Granted, Held, Key, Txn, Value, held_at};
+use lease_store::{Config, Granted, Key, KeyEntry, Txn, Value, key_entry_at};
 use pat_base::{MemberId, Ticks};
 
 /// An agent that has just started, with its first turn due at this moment.
-pub fn fresh_phase(first: Ticks) -> Phase
-    ensures { result ≡ fresh_phase first.0 }
+pub fn fresh_agent_state(first: Ticks) -> AgentState
+    ensures { result ≡ fresh_agent_state first.0 }
 {
-    Phase {
+    AgentState {
         role: Role::Follower,
         waited: None,
         sequence: 0,
@@ -25,10 +25,10 @@ pub fn fresh_phase(first: Ticks) -> Phase
 }
 
 /// Whether there is something to do for the agent if it is woken at this moment.
-pub fn is_due(now: Ticks, phase: &Phase) -> bool
-    ensures { result ≡ is_due now.0 phase.now }
+pub fn has_work(now: Ticks, agent_state: &AgentState) -> bool
+    ensures { result ≡ has_work now.0 agent_state.now }
 {
-    is_overdue(now, phase.waited) || has_turn(now, phase)
+    is_overdue(now, agent_state.waited) || has_turn(now, agent_state)
 }
 
 fn is_overdue(now: Ticks, waited: Option<Waited>) -> bool
@@ -40,86 +40,86 @@ fn is_overdue(now: Ticks, waited: Option<Waited>) -> bool
     }
 }
 
-fn has_turn(now: Ticks, phase: &Phase) -> bool
-    ensures { result ≡ has_turn now.0 phase.now }
+fn has_turn(now: Ticks, agent_state: &AgentState) -> bool
+    ensures { result ≡ has_turn now.0 agent_state.now }
 {
-    phase.waited.is_none() && phase.next_turn <= now
+    agent_state.waited.is_none() && agent_state.next_turn <= now
 }
 
 /// What the agent does when it is woken: a deadline that has passed comes first, and then a turn that is due.
-pub fn woken(now: Ticks, phase: Phase) -> Reaction
+pub fn wake_reaction(now: Ticks, agent_state: AgentState) -> Reaction
     requires clock { now.0 < 2 ^ 61 }
-    requires sequence { phase.sequence < 2 ^ 60 }
-    ensures reaction { result ≡ woken now.0 phase }
+    requires sequence { agent_state.sequence < 2 ^ 60 }
+    ensures reaction { result ≡ wake_reaction now.0 agent_state }
     ensures short { AsksShortly result.asks }
 {
-    let rested = rested(now, phase);
+    let rested = after_deadline(now, agent_state);
     if has_turn(now, &rested) {
-        begun(now, rested)
+        turn_start(now, rested)
     } else {
-        idle(rested)
+        no_reaction(rested)
     }
 }
 
-fn rested(now: Ticks, phase: Phase) -> Phase
-    ensures state { result ≡ rested now.0 phase }
-    ensures sequence { result.sequence ≡ phase.sequence }
+fn after_deadline(now: Ticks, agent_state: AgentState) -> AgentState
+    ensures state { result ≡ after_deadline now.0 agent_state }
+    ensures sequence { result.sequence ≡ agent_state.sequence }
 {
-    if is_overdue(now, phase.waited) {
-        Phase {
+    if is_overdue(now, agent_state.waited) {
+        AgentState {
             waited: None,
-            ..phase
+            ..agent_state
         }
     } else {
-        phase
+        agent_state
     }
 }
 
 /// A turn begins: the agent reads the store.
-fn begun(now: Ticks, phase: Phase) -> Reaction
+fn turn_start(now: Ticks, agent_state: AgentState) -> Reaction
     requires clock { now.0 < 2 ^ 61 }
-    requires sequence { phase.sequence < 2 ^ 60 }
-    ensures reaction { result ≡ begun now.0 phase }
+    requires sequence { agent_state.sequence < 2 ^ 60 }
+    ensures reaction { result ≡ turn_start now.0 agent_state }
     ensures short { AsksShortly result.asks }
 {
-    let until = now + phase.settings.retry_timeout_ticks();
-    let turning = Phase {
+    let until = now + agent_state.settings.retry_timeout_ticks();
+    let turning = AgentState {
         turn: now,
-        next_turn: now + phase.settings.loop_wait_ticks(),
-        ..phase
+        next_turn: now + agent_state.settings.loop_wait_ticks(),
+        ..agent_state
     };
-    asking(Pending::Reading, until, Body::Read, turning)
+    ask_reaction(Pending::Reading, until, Body::Read, turning)
 }
 
-fn idle(phase: Phase) -> Reaction
-    ensures reaction { result ≡ idle phase }
+fn no_reaction(agent_state: AgentState) -> Reaction
+    ensures reaction { result ≡ no_reaction agent_state }
     ensures short { AsksShortly result.asks }
 {
     Reaction {
-        phase,
+        agent_state,
         asks: None,
         follows: None,
     }
 }
 
 /// The agent asks, and waits for the answer until a moment.
-fn asking(question: Pending, until: Ticks, body: Body, phase: Phase) -> Reaction
-    requires sequence { phase.sequence < 2 ^ 60 }
+fn ask_reaction(question: Pending, until: Ticks, body: Body, agent_state: AgentState) -> Reaction
+    requires sequence { agent_state.sequence < 2 ^ 60 }
     requires short { AsksShortly (Some body) }
-    ensures reaction { result ≡ asking question until body phase }
+    ensures reaction { result ≡ ask_reaction question until body agent_state }
     ensures short { AsksShortly result.asks }
 {
-    let sequence = phase.sequence + 1;
+    let sequence = agent_state.sequence + 1;
     let waited = Some(Waited {
         question,
         sequence,
         until,
     });
     Reaction {
-        phase: Phase {
+        agent_state: AgentState {
             sequence,
             waited,
-            ..phase
+            ..agent_state
         },
         asks: Some(body),
         follows: None,
@@ -127,137 +127,158 @@ fn asking(question: Pending, until: Ticks, body: Body, phase: Phase) -> Reaction
 }
 
 /// What the agent of a member does on a message.
-pub fn heard(now: Ticks, me: MemberId, message: &InFlight, phase: Phase) -> Reaction
+pub fn message_reaction(
+    now: Ticks,
+    me: MemberId,
+    message: &InFlight,
+    agent_state: AgentState,
+) -> Reaction
     requires clock { now.0 < 2 ^ 61 }
-    requires turn { phase.turn.0 < 2 ^ 61 }
-    requires sequence { phase.sequence < 2 ^ 60 }
-    ensures reaction { result ≡ heard now.0 me message.now phase }
+    requires turn { agent_state.turn.0 < 2 ^ 61 }
+    requires sequence { agent_state.sequence < 2 ^ 60 }
+    ensures reaction { result ≡ message_reaction now.0 me message.now agent_state }
     ensures short { AsksShortly result.asks }
 {
     let sequence = message.message.sequence;
     match &message.message.body {
-        Body::Snapshot => told(now, me, sequence, &message.snapshot, phase),
+        Body::Snapshot => snapshot_reaction(now, me, sequence, &message.snapshot, agent_state),
         Body::Granted { .. } => {
-            idle(granted(
+            no_reaction(state_by_grant(
                 me,
                 sequence,
                 &message.snapshot,
                 message.grant.as_ref(),
-                phase,
+                agent_state,
             ))
         }
-        Body::Refused { .. } => idle(refused(sequence, phase)),
-        _ => idle(phase),
+        Body::Refused { .. } => no_reaction(state_by_refusal(sequence, agent_state)),
+        _ => no_reaction(agent_state),
     }
 }
 
 /// The agent hears what the store holds.
-fn told(now: Ticks, me: MemberId, sequence: u64, snapshot: &[(Key, Held)], phase: Phase) -> Reaction
+fn snapshot_reaction(
+    now: Ticks,
+    me: MemberId,
+    sequence: u64,
+    snapshot: &[(Key, KeyEntry)],
+    agent_state: AgentState,
+) -> Reaction
     requires clock { now.0 < 2 ^ 61 }
-    requires turn { phase.turn.0 < 2 ^ 61 }
-    requires sequence { phase.sequence < 2 ^ 60 }
-    ensures reaction { result ≡ told now.0 me sequence snapshot.now phase }
+    requires turn { agent_state.turn.0 < 2 ^ 61 }
+    requires sequence { agent_state.sequence < 2 ^ 60 }
+    ensures reaction { result ≡ snapshot_reaction now.0 me sequence snapshot.now agent_state }
     ensures short { AsksShortly result.asks }
 {
-    if !awaits(phase.waited, Pending::Reading, sequence) {
-        return idle(phase);
+    if !awaits(agent_state.waited, Pending::Reading, sequence) {
+        return no_reaction(agent_state);
     }
-    led(
+    leader_reaction(
         now,
         me,
-        held_at(snapshot, Key::Leader),
-        informed(snapshot, phase),
+        key_entry_at(snapshot, Key::Leader),
+        state_by_snapshot(snapshot, agent_state),
     )
 }
 
 /// What the agent does on the leader key that it read.
-fn led(now: Ticks, me: MemberId, leader: Option<&Held>, phase: Phase) -> Reaction
+fn leader_reaction(
+    now: Ticks,
+    me: MemberId,
+    leader: Option<&KeyEntry>,
+    agent_state: AgentState,
+) -> Reaction
     requires clock { now.0 < 2 ^ 61 }
-    requires turn { phase.turn.0 < 2 ^ 61 }
-    requires sequence { phase.sequence < 2 ^ 60 }
-    ensures reaction { result ≡ led now.0 me (option_copied leader.entry) phase }
+    requires turn { agent_state.turn.0 < 2 ^ 61 }
+    requires sequence { agent_state.sequence < 2 ^ 60 }
+    ensures reaction { result ≡ leader_reaction now.0 me (option_copied leader.entry) agent_state }
     ensures short { AsksShortly result.asks }
 {
     match leader {
-        None => creating(now, phase),
-        Some(held) => led_by(me, held.revision, held.value.holder(), phase),
+        None => create_reaction(now, agent_state),
+        Some(stored) => holder_reaction(me, stored.revision, stored.value.holder(), agent_state),
     }
 }
 
-fn led_by(me: MemberId, revision: u64, holder: Option<MemberId>, phase: Phase) -> Reaction
-    requires turn { phase.turn.0 < 2 ^ 61 }
-    requires sequence { phase.sequence < 2 ^ 60 }
-    ensures reaction { result ≡ led_by me revision holder phase }
+fn holder_reaction(
+    me: MemberId,
+    revision: u64,
+    holder: Option<MemberId>,
+    agent_state: AgentState,
+) -> Reaction
+    requires turn { agent_state.turn.0 < 2 ^ 61 }
+    requires sequence { agent_state.sequence < 2 ^ 60 }
+    ensures reaction { result ≡ holder_reaction me revision holder agent_state }
     ensures short { AsksShortly result.asks }
 {
     match holder {
-        None => idle(phase),
+        None => no_reaction(agent_state),
         Some(holder) => {
             if holder.number == me.number {
-                renewing(revision, phase)
+                renew_reaction(revision, agent_state)
             } else {
-                following(holder, phase)
+                follow_reaction(holder, agent_state)
             }
         }
     }
 }
 
 /// The leader key is absent: the agent has no lease, and asks for the key.
-fn creating(now: Ticks, phase: Phase) -> Reaction
+fn create_reaction(now: Ticks, agent_state: AgentState) -> Reaction
     requires clock { now.0 < 2 ^ 61 }
-    requires sequence { phase.sequence < 2 ^ 60 }
-    ensures reaction { result ≡ creating now.0 phase }
+    requires sequence { agent_state.sequence < 2 ^ 60 }
+    ensures reaction { result ≡ create_reaction now.0 agent_state }
     ensures short { AsksShortly result.asks }
 {
     let create = Txn::Create {
         info: bare_info(),
-        ttl: phase.settings.ttl_ticks(),
+        ttl: agent_state.settings.ttl_ticks(),
         failsafe: None,
         sync: None,
     };
-    let until = now + phase.settings.retry_timeout_ticks();
-    let follower = Phase {
+    let until = now + agent_state.settings.retry_timeout_ticks();
+    let follower = AgentState {
         role: Role::Follower,
-        ..phase
+        ..agent_state
     };
-    asking(Pending::Creating, until, Body::Request(create), follower)
+    ask_reaction(Pending::Creating, until, Body::Request(create), follower)
 }
 
 /// The leader key is the agent's own: it asks for the renewal of what it read.
-fn renewing(revision: u64, phase: Phase) -> Reaction
-    requires turn { phase.turn.0 < 2 ^ 61 }
-    requires sequence { phase.sequence < 2 ^ 60 }
-    ensures reaction { result ≡ renewing revision phase }
+fn renew_reaction(revision: u64, agent_state: AgentState) -> Reaction
+    requires turn { agent_state.turn.0 < 2 ^ 61 }
+    requires sequence { agent_state.sequence < 2 ^ 60 }
+    ensures reaction { result ≡ renew_reaction revision agent_state }
     ensures short { AsksShortly result.asks }
 {
     let renew = Txn::Renew {
         revision,
         info: bare_info(),
-        ttl: phase.settings.ttl_ticks(),
+        ttl: agent_state.settings.ttl_ticks(),
         status: None,
         row: None,
         failsafe: None,
     };
-    let until = phase.turn + phase.settings.retry_timeout_ticks();
-    asking(Pending::Renewing, until, Body::Request(renew), phase)
+    let until = agent_state.turn + agent_state.settings.retry_timeout_ticks();
+    ask_reaction(Pending::Renewing, until, Body::Request(renew), agent_state)
 }
 
 /// The leader key is another's: the agent has no lease, its server follows the leader, and it tells of itself without
 /// waiting for the answer.
-fn following(leader: MemberId, phase: Phase) -> Reaction
-    requires sequence { phase.sequence < 2 ^ 60 }
-    ensures reaction { result ≡ following leader phase }
+fn follow_reaction(leader: MemberId, agent_state: AgentState) -> Reaction
+    requires sequence { agent_state.sequence < 2 ^ 60 }
+    ensures reaction { result ≡ follow_reaction leader agent_state }
     ensures short { AsksShortly result.asks }
 {
     let touch = Txn::Touch {
         info: bare_info(),
-        ttl: phase.settings.ttl_ticks(),
+        ttl: agent_state.settings.ttl_ticks(),
     };
     Reaction {
-        phase: Phase {
+        agent_state: AgentState {
             role: Role::Follower,
-            sequence: phase.sequence + 1,
-            ..phase
+            sequence: agent_state.sequence + 1,
+            ..agent_state
         },
         asks: Some(Body::Request(touch)),
         follows: Some(leader),
@@ -265,24 +286,24 @@ fn following(leader: MemberId, phase: Phase) -> Reaction
 }
 
 /// A snapshot is the newest: its settings hold from now on, and nothing is waited for.
-fn informed(snapshot: &[(Key, Held)], phase: Phase) -> Phase
-    ensures state { result ≡ informed snapshot.now phase }
-    ensures sequence { result.sequence ≡ phase.sequence }
-    ensures turn { result.turn ≡ phase.turn }
+fn state_by_snapshot(snapshot: &[(Key, KeyEntry)], agent_state: AgentState) -> AgentState
+    ensures state { result ≡ state_by_snapshot snapshot.now agent_state }
+    ensures sequence { result.sequence ≡ agent_state.sequence }
+    ensures turn { result.turn ≡ agent_state.turn }
 {
-    Phase {
+    AgentState {
         waited: None,
-        settings: settings_or(phase.settings, held_at(snapshot, Key::Config)),
-        ..phase
+        settings: settings_or(agent_state.settings, key_entry_at(snapshot, Key::Config)),
+        ..agent_state
     }
 }
 
-fn settings_or(settings: Config, held: Option<&Held>) -> Config
-    ensures { result ≡ settings_or settings (option_copied held.entry) }
+fn settings_or(settings: Config, stored: Option<&KeyEntry>) -> Config
+    ensures { result ≡ settings_or settings (option_copied stored.entry) }
 {
-    match held {
+    match stored {
         None => settings,
-        Some(held) => settings_by(settings, &held.value),
+        Some(stored) => settings_by(settings, &stored.value),
     }
 }
 
@@ -296,26 +317,26 @@ fn settings_by(settings: Config, value: &Value) -> Config
 }
 
 /// The agent hears of a grant: with the lease that it waits for it becomes a holder.
-fn granted(
+fn state_by_grant(
     me: MemberId,
     sequence: u64,
-    snapshot: &[(Key, Held)],
+    snapshot: &[(Key, KeyEntry)],
     grant: Option<&Granted>,
-    phase: Phase,
-) -> Phase
-    ensures { result ≡ granted me sequence snapshot.now (option_copied grant.entry) phase }
+    agent_state: AgentState,
+) -> AgentState
+    ensures { result ≡ state_by_grant me sequence snapshot.now (option_copied grant.entry) agent_state }
 {
     let Some(grant) = grant else {
-        return phase;
+        return agent_state;
     };
-    if !awaits_lease(phase.waited, sequence) || !is_lease_of(me, grant) {
-        return phase;
+    if !awaits_lease(agent_state.waited, sequence) || !is_lease_of(me, grant) {
+        return agent_state;
     }
-    Phase {
+    AgentState {
         role: Role::Holder {
             revision: grant.revision(),
         },
-        ..informed(snapshot, phase)
+        ..state_by_snapshot(snapshot, agent_state)
     }
 }
 
@@ -327,16 +348,16 @@ fn is_lease_of(me: MemberId, grant: &Granted) -> bool
 }
 
 /// The agent hears of a refusal: a create or a renewal that it waits for is lost, and with it any lease.
-fn refused(sequence: u64, phase: Phase) -> Phase
-    ensures { result ≡ refused sequence phase }
+fn state_by_refusal(sequence: u64, agent_state: AgentState) -> AgentState
+    ensures { result ≡ state_by_refusal sequence agent_state }
 {
-    if !awaits_lease(phase.waited, sequence) {
-        return phase;
+    if !awaits_lease(agent_state.waited, sequence) {
+        return agent_state;
     }
-    Phase {
+    AgentState {
         role: Role::Follower,
         waited: None,
-        ..phase
+        ..agent_state
     }
 }
 

@@ -4,14 +4,14 @@ ghost use Rattle.std.specs.BTreeMap.{insert_entry};
 ghost use Rattle.std.specs.Map.{keys_of};
 ghost use Rattle.std.specs.List.Sorted.{IsStrictlySortedBy};
 ghost use Rattle.std.specs.Ordering.{nat_cmp};
-ghost use Rattle.event_book.specs.Flight.{InFlightFacts, in_flight, landed};
+ghost use Rattle.event_book.specs.Flight.{InFlightFacts, in_flight, without_message};
 ghost use Rattle.pat_world.specs.Launches.{launched_into};
 ghost use Rattle.pat_world.specs.Room.{most_in_flight};
 ghost use Rattle.pat_world.specs.Settled.{numbers_from};
 ghost use Rattle.pat_world.specs.Short.{IsShort};
 
 use event_book::Message;
-use lease_store::{Granted, Held, Key};
+use lease_store::{Granted, Key, KeyEntry};
 use std::alloc::{AllocError, Global};
 use std::collections::BTreeMap;
 use std::marker::Model;
@@ -24,7 +24,7 @@ const MOST: usize = 65_536;
 #[derive(Drop)]
 pub struct InFlight {
     pub message: Message,
-    pub snapshot: Vec<(Key, Held)>,
+    pub snapshot: Vec<(Key, KeyEntry)>,
     pub grant: Option<Granted>,
 }
 
@@ -97,7 +97,7 @@ impl Flight {
 
     /// Takes the message of this number out. `None` exactly where it isn't in flight.
     pub fn land(&mut self, number: u64) -> Option<InFlight>
-        ensures flight { self.new ≡ landed self.old number }
+        ensures flight { self.new ≡ without_message self.old number }
         ensures message { result ≡ in_flight self.old number }
         ensures short { IfSome result (λ m. IsShort m.message.body) }
         ensures absent { IfNone result (self.new ≡ self.old) }
@@ -138,7 +138,7 @@ fn put(
 
 /// Lets go of a message.
 fn discard(messages: &mut BTreeMap<u64, InFlight>, number: u64)
-    ensures entries { messages.new.entries ≡ landed messages.old.entries number }
+    ensures entries { messages.new.entries ≡ without_message messages.old.entries number }
     ensures others { (n : ℕ) (m : InFlightFacts) → in_flight messages.new.entries n ≡ Some m → in_flight messages.old.entries n ≡ Some m }
     ensures len { length messages.new.entries + (if is_some (in_flight messages.old.entries number) then 1 else 0) ≡ length messages.old.entries }
 {

@@ -15,7 +15,7 @@ pub fn follow_row_of(servers: &Servers, member: Member, leader: Member) -> Optio
     follow_row(leader, server.state(), server.diverged(), server.upstream())
 }
 
-/// One that is down starts as a standby, unless its log diverged. A standby of another server, or of none, follows the
+/// One that is down starts as a replica, unless its log diverged. A replica of another server, or of none, follows the
 /// leader's.
 fn follow_row(
     leader: Member,

@@ -2,8 +2,11 @@
 #![tactic(auto)]
 
 mod agent;
+mod agent_state;
 mod agents;
 mod changes;
+mod deliveries;
+mod delivery;
 mod flight;
 mod follow_row;
 mod following;
@@ -11,12 +14,9 @@ mod info;
 mod laws;
 mod links;
 mod members;
-mod phase;
 mod server_changes;
 mod server_commands;
 mod streaming;
-mod way;
-mod ways;
 mod world;
 
 pub use laws::other_concerns_change_nothing;

@@ -4,12 +4,12 @@ ghost use Rattle.cluster_script.specs.Script.{IsEnd};
 ghost use Rattle.event_book.specs.Links.{cuts_after, is_cut, link_place, none_cut};
 ghost use Rattle.pat_world.specs.Cluster.{Cluster};
 ghost use Rattle.pat_world.specs.Comes.{MayCome};
-ghost use Rattle.pat_world.specs.Commands.{cut_of, join_of, end_of, link_of};
+ghost use Rattle.pat_world.specs.Commands.{cut_of, join_of, link_end_of, link_of};
 ghost use Rattle.pat_world.specs.Steps.{names_in};
 
 use crate::members::declared;
 use cluster_script::End;
-use event_book::{Kind, Link, LinkEnd, LinkEvent, Member};
+use event_book::{EventKind, Link, LinkEnd, LinkEvent, Member};
 use std::alloc::{AllocError, Global};
 use std::marker::Model;
 
@@ -48,7 +48,7 @@ impl CutLinks {
 
     /// What happens to one link.
     pub fn change(&mut self, change: &LinkEvent)
-        ensures { self.new ≡ cuts_after self.old (Kind.Link change.now) }
+        ensures { self.new ≡ cuts_after self.old (EventKind.Link change.now) }
     {
         match change {
             LinkEvent::Cut(link) => self.set(*link, true),
@@ -69,14 +69,14 @@ pub fn link_of(members: &[Member], first: End, second: End) -> Link
     requires second { IsEnd (names_in members.now) second }
     ensures { link_of members.now first second ≡ Some result }
 {
-    let first = end_of(members, first);
-    let second = end_of(members, second);
+    let first = link_end_of(members, first);
+    let second = link_end_of(members, second);
     Link { first, second }
 }
 
-fn end_of(members: &[Member], end: End) -> LinkEnd
+fn link_end_of(members: &[Member], end: End) -> LinkEnd
     requires { IsEnd (names_in members.now) end }
-    ensures { end_of members.now end ≡ Some result }
+    ensures { link_end_of members.now end ≡ Some result }
 {
     match end {
         End::Store => LinkEnd::Store,
@@ -85,24 +85,24 @@ fn end_of(members: &[Member], end: End) -> LinkEnd
 }
 
 /// A cut: what happens where the link isn't cut.
-pub fn cut_of(cuts: &CutLinks, link: Link) -> Option<Kind>
+pub fn cut_of(cuts: &CutLinks, link: Link) -> Option<EventKind>
     ensures kind { result ≡ cut_of cuts.now link }
     ensures comes { (cluster : Cluster) → IfSome result (MayCome cluster) }
 {
     if cuts.is_cut(link) {
         None
     } else {
-        Some(Kind::Link(LinkEvent::Cut(link)))
+        Some(EventKind::Link(LinkEvent::Cut(link)))
     }
 }
 
 /// A join: what happens where the link is cut.
-pub fn join_of(cuts: &CutLinks, link: Link) -> Option<Kind>
+pub fn join_of(cuts: &CutLinks, link: Link) -> Option<EventKind>
     ensures kind { result ≡ join_of cuts.now link }
     ensures comes { (cluster : Cluster) → IfSome result (MayCome cluster) }
 {
     if cuts.is_cut(link) {
-        Some(Kind::Link(LinkEvent::Joined(link)))
+        Some(EventKind::Link(LinkEvent::Joined(link)))
     } else {
         None
     }

@@ -1,33 +1,33 @@
 //! What a happening changes at servers.
 ghost use Rattle.std.specs.Prelude.{◌≡◌, ◌<◌, ◌^◌, OnOk};
 ghost use Rattle.pat_base.specs.Changes.{changed_by};
-ghost use Rattle.event_book.specs.Servers.{servers_after, servers_by, servers_logged, servers_replicated, servers_watched, starts_as_replica};
+ghost use Rattle.event_book.specs.Servers.{servers_after, servers_by, servers_by_log, servers_by_replication, servers_by_watchdog, starts_as_replica};
 ghost use Rattle.pg_model.specs.Facts.{is_down};
 ghost use Rattle.pat_world.specs.Comes.{LogComes, ReplicationComes, ServerComes, ServesAt};
 
-use event_book::{Kind, LogEvent, ReplicationEvent, ServerEvent, WatchdogEvent};
+use event_book::{EventKind, LogEvent, ReplicationEvent, ServerEvent, WatchdogEvent};
 use pat_base::{State, Ticks};
 use pg_model::Servers;
 use std::alloc::AllocError;
 
 /// The servers after a happening of this moment. It fails only for want of memory.
-pub fn change_servers(servers: &mut Servers, now: Ticks, kind: &Kind) -> Result<(), AllocError>
+pub fn change_servers(servers: &mut Servers, now: Ticks, kind: &EventKind) -> Result<(), AllocError>
     requires moment { now.0 < 2 ^ 61 }
     requires serves { ServesAt servers.old kind.now }
     ensures { OnOk result (servers.new ≡ servers_after now.0 servers.old kind.now) }
 {
     match kind {
-        Kind::Tick => {
+        EventKind::Tick => {
             servers.tick(now);
             Ok(())
         }
-        Kind::Server(happening) => change_server(servers, now, happening),
-        Kind::Log(happening) => change_log(servers, happening),
-        Kind::Replication(happening) => {
+        EventKind::Server(happening) => change_server(servers, now, happening),
+        EventKind::Log(happening) => change_log(servers, happening),
+        EventKind::Replication(happening) => {
             change_replication(servers, happening);
             Ok(())
         }
-        Kind::Watchdog(happening) => {
+        EventKind::Watchdog(happening) => {
             reset(servers, happening);
             Ok(())
         }
@@ -70,7 +70,7 @@ fn change_server(
     }
 }
 
-/// The server at a place starts as a standby of none, where it is down.
+/// The server at a place starts as a replica of none, where it is down.
 fn start_replica(servers: &mut Servers, now: Ticks, place: usize)
     requires { now.0 < 2 ^ 61 }
     ensures { servers.new ≡ changed_by servers.old place (starts_as_replica now.0) }
@@ -91,7 +91,7 @@ fn is_down(state: State) -> bool
 
 fn change_log(servers: &mut Servers, happening: &LogEvent) -> Result<(), AllocError>
     requires { LogComes servers.old happening.now }
-    ensures { OnOk result (servers.new ≡ servers_logged servers.old happening.now) }
+    ensures { OnOk result (servers.new ≡ servers_by_log servers.old happening.now) }
 {
     if let LogEvent::Appended { server, entry } = happening {
         servers.commit(server.id.number as usize, entry.serial, entry.bytes)?;
@@ -101,7 +101,7 @@ fn change_log(servers: &mut Servers, happening: &LogEvent) -> Result<(), AllocEr
 
 fn change_replication(servers: &mut Servers, happening: &ReplicationEvent)
     requires { ReplicationComes happening.now }
-    ensures { servers.new ≡ servers_replicated servers.old happening.now }
+    ensures { servers.new ≡ servers_by_replication servers.old happening.now }
 {
     match happening {
         ReplicationEvent::RequiredSet {
@@ -118,7 +118,7 @@ fn change_replication(servers: &mut Servers, happening: &ReplicationEvent)
 
 /// A reset of its machine crashes a server.
 fn reset(servers: &mut Servers, happening: &WatchdogEvent)
-    ensures { servers.new ≡ servers_watched servers.old happening.now }
+    ensures { servers.new ≡ servers_by_watchdog servers.old happening.now }
 {
     if let WatchdogEvent::Reset { member } = happening {
         servers.crash(member.id.number as usize);

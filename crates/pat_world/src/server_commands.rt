@@ -5,13 +5,13 @@ ghost use Rattle.pat_world.specs.Cluster.{Cluster};
 ghost use Rattle.pat_world.specs.Comes.{MayCome};
 ghost use Rattle.pat_world.specs.ServerCommands.{promoted_timeline, is_gone, commit_of, crash_of, freezing_of, slow_by, slow_of};
 
-use cluster_script::{Delay, Transition};
-use event_book::{Kind, LogEvent, Member, Note, ServerEvent, ServerOf};
+use cluster_script::{Delay, SlowedCall};
+use event_book::{EventKind, LogEvent, Member, Note, ServerEvent, ServerOf};
 use pat_base::{State, Ticks};
 use pg_model::Servers;
 use wal_model::Entry;
 
-/// The timeline to which the server of a member is promoted, if it is a standby.
+/// The timeline to which the server of a member is promoted, if it is a replica.
 pub fn promoted_timeline(servers: &Servers, member: Member) -> Option<u64>
     requires { IfSome (slice_get servers.now member.id.number) (λ s. s.timeline < 2 ^ 60) }
     ensures { result ≡ option_and_then promoted_timeline (slice_get servers.now member.id.number) }
@@ -24,7 +24,7 @@ pub fn promoted_timeline(servers: &Servers, member: Member) -> Option<u64>
 }
 
 /// A crash: what happens where the server isn't gone already.
-pub fn crash_of(servers: &Servers, member: Member) -> Option<Kind>
+pub fn crash_of(servers: &Servers, member: Member) -> Option<EventKind>
     ensures kind { result ≡ option_and_then (crash_of member) (slice_get servers.now member.id.number) }
     ensures comes { (cluster : Cluster) → IfSome result (MayCome cluster) }
 {
@@ -32,7 +32,7 @@ pub fn crash_of(servers: &Servers, member: Member) -> Option<Kind>
     if is_gone(server.state()) {
         None
     } else {
-        Some(Kind::Server(ServerEvent::Crashed {
+        Some(EventKind::Server(ServerEvent::Crashed {
             server: ServerOf::of(member),
         }))
     }
@@ -46,15 +46,15 @@ fn is_gone(state: State) -> bool
 }
 
 /// A freeze, or the end of one: what happens where the server is the other.
-pub fn freezing_of(frozen: &[bool], member: Member, to: bool) -> Option<Kind>
+pub fn freezing_of(frozen: &[bool], member: Member, to: bool) -> Option<EventKind>
     ensures kind { result ≡ option_and_then (freezing_of to member) (slice_get frozen.now member.id.number) }
     ensures comes { (cluster : Cluster) → IfSome result (MayCome cluster) }
 {
     let is_frozen = *frozen.get(member.id.number as usize)?;
     let server = ServerOf::of(member);
     match (to, is_frozen) {
-        (true, false) => Some(Kind::Server(ServerEvent::Frozen { server })),
-        (false, true) => Some(Kind::Server(ServerEvent::Thawed { server })),
+        (true, false) => Some(EventKind::Server(ServerEvent::Frozen { server })),
+        (false, true) => Some(EventKind::Server(ServerEvent::Thawed { server })),
         _ => None,
     }
 }
@@ -63,16 +63,16 @@ pub fn freezing_of(frozen: &[bool], member: Member, to: bool) -> Option<Kind>
 pub fn slow_of(
     servers: &Servers,
     member: Member,
-    transition: Transition,
+    slowed: SlowedCall,
     delay: Delay,
-) -> Option<Kind>
-    ensures kind { result ≡ option_and_then (slow_of member transition delay) (slice_get servers.now member.id.number) }
+) -> Option<EventKind>
+    ensures kind { result ≡ option_and_then (slow_of member slowed delay) (slice_get servers.now member.id.number) }
     ensures comes { (cluster : Cluster) → IfSome result (MayCome cluster) }
 {
     let server = servers.get(member.id.number as usize)?;
     slow_by(
         member,
-        transition,
+        slowed,
         delay,
         server.stop_delay(),
         server.start_delay(),
@@ -81,39 +81,41 @@ pub fn slow_of(
 
 fn slow_by(
     member: Member,
-    transition: Transition,
+    slowed: SlowedCall,
     delay: Delay,
     stop: Ticks,
     start: Ticks,
-) -> Option<Kind>
-    ensures kind { result ≡ slow_by member transition delay stop start }
+) -> Option<EventKind>
+    ensures kind { result ≡ slow_by member slowed delay stop start }
     ensures comes { (cluster : Cluster) → IfSome result (MayCome cluster) }
 {
     let server = ServerOf::of(member);
     let ticks = Ticks(delay.ticks);
-    match transition {
-        Transition::Stop if stop.0 != delay.ticks => Some(Kind::Server(ServerEvent::Slowed {
+    match slowed {
+        SlowedCall::Stop if stop.0 != delay.ticks => Some(EventKind::Server(ServerEvent::Slowed {
             server,
             stop: Some(ticks),
             start: None,
         })),
-        Transition::Start if start.0 != delay.ticks => Some(Kind::Server(ServerEvent::Slowed {
-            server,
-            stop: None,
-            start: Some(ticks),
-        })),
+        SlowedCall::Start if start.0 != delay.ticks => Some(EventKind::Server(
+            ServerEvent::Slowed {
+                server,
+                stop: None,
+                start: Some(ticks),
+            },
+        )),
         _ => None,
     }
 }
 
 /// A commit of so many bytes at the server of a member, which refuses it unless it accepts writes.
-pub fn commit_of(servers: &Servers, member: Member, serial: u64, bytes: u64) -> Kind
+pub fn commit_of(servers: &Servers, member: Member, serial: u64, bytes: u64) -> EventKind
     ensures { result ≡ commit_of member (entry_for servers.now member.id.number serial bytes) }
 {
     let server = ServerOf::of(member);
     match entry_for(servers, member.id.number as usize, serial, bytes) {
-        None => Kind::Note(Note::RefusesCommit { server }),
-        Some(entry) => Kind::Log(LogEvent::Appended { server, entry }),
+        None => EventKind::Note(Note::RefusesCommit { server }),
+        Some(entry) => EventKind::Log(LogEvent::Appended { server, entry }),
     }
 }
 

@@ -9,7 +9,7 @@ use event_book::{Link, LinkEnd, Member};
 use pat_base::{Lsn, ServerId, State};
 use pg_model::{Server, Servers};
 
-/// The member from whose server that of this member receives: it is a standby whose log didn't diverge, its upstream
+/// The member from whose server that of this member receives: it is a replica whose log didn't diverge, its upstream
 /// accepts writes, and the link between the two is joined.
 pub fn source_of(
     members: &[Member],

@@ -7,13 +7,13 @@ ghost use Rattle.event_book.specs.Agents.{first_agents};
 ghost use Rattle.event_book.specs.Members.{members_from};
 ghost use Rattle.pat_world.specs.Acknowledging.{AreAcknowledged};
 ghost use Rattle.pat_world.specs.Book.{StandsFor, next_of};
-ghost use Rattle.pat_world.specs.Cluster.{Cluster, cluster_of, first_phases};
+ghost use Rattle.pat_world.specs.Cluster.{Cluster, cluster_of, first_agent_states};
 ghost use Rattle.pat_world.specs.Comes.{MayCome};
 ghost use Rattle.pat_world.specs.Commands.{link_of};
 ghost use Rattle.pat_world.specs.Steps.{IsStep, names_in};
-ghost use Rattle.pat_world.specs.Next.{stamped, round, rounds, declared, declared_member, expiry_of, expiries_of, ticks, command_events, ordered, scheduled, taken, next_events};
+ghost use Rattle.pat_world.specs.Next.{events_at, round_events, rounds_events, declared, declared_member, expiry_of, expiries_of, tick_events, command_events, command_kind, scheduled_events, step_events, next_events};
 ghost use Rattle.pat_world.specs.Room.{HasRoom, HasRoomFor, command_cost, most_rounds, round_cost, rounds_cost, schedule_cost, step_cost, tick_cost};
-ghost use Rattle.pat_world.specs.Took.{Took};
+ghost use Rattle.pat_world.specs.Emits.{Emits};
 
 mod acknowledging;
 mod agents;
@@ -22,15 +22,15 @@ mod messages;
 mod servers;
 mod streaming;
 
-use crate::agent::fresh_phase;
+use crate::agent::fresh_agent_state;
+use crate::agent_state::AgentState;
 use crate::agents::{hold_of, kill_of, restarted, resume_of};
 use crate::flight::Flight;
 use crate::links::{CutLinks, cut_of, join_of, link_of};
 use crate::members;
-use crate::phase::Phase;
 use crate::server_commands::{commit_of, crash_of, freezing_of, slow_of};
 use cluster_script::{Command, End, Head, Step};
-use event_book::{AgentState, Event, Kind, Link, Member, StoreEvent};
+use event_book::{AgentProcess, Event, EventKind, Link, Member, StoreEvent};
 use lease_store::{ConfigValue, Key, Store};
 use pat_base::{MemberId, Ticks};
 use pg_model::Servers;
@@ -48,8 +48,8 @@ pub struct World {
     clock: Ticks,
     store: Store,
     members: Vec<Member>,
-    agents: Vec<AgentState>,
-    phases: Vec<Phase>,
+    agents: Vec<AgentProcess>,
+    agent_states: Vec<AgentState>,
     cuts: CutLinks,
     flight: Flight,
     sent: u64,
@@ -59,7 +59,7 @@ pub struct World {
     commits: u64,
     /// The commits whose clients were told that they are stored, in order.
     acknowledged: Vec<u64>,
-    /// Each message in flight with a number below this one is kept for an agent that is held, so no round need look at it.
+    /// Each message in flight with a number below this one is kept for an agent that is suspended, so no round need look at it.
     settled: u64,
 }
 
@@ -85,7 +85,7 @@ impl Model for World {
         commits = w.commits;
         acknowledged = w.acknowledged.items;
       };
-      phases = w.phases.items;
+      agent_states = w.agent_states.items;
     } };
 
     ghost invariant = { λ w. (length w.members.items ≤ most_members) × (w.settled ≤ w.sent + 1) × AreKeptBelow w.settled w.flight w.agents.items w.cuts };
@@ -101,7 +101,7 @@ impl World {
         let count = head.member_count();
         let members = members_of(alloc, head)?;
         let agents = agents_of(alloc, count)?;
-        let phases = phases_of(alloc, count)?;
+        let agent_states = agent_states_of(alloc, count)?;
         let servers = Servers::new(alloc, count, head.base())?;
         let frozen = Vec::from_elem(alloc, false, count)?;
         let store = Store::new(alloc, ConfigValue::defaults(alloc)?)?;
@@ -111,7 +111,7 @@ impl World {
             store,
             members,
             agents,
-            phases,
+            agent_states,
             cuts: CutLinks::none(alloc)?,
             flight: Flight::new(alloc),
             sent: 0,
@@ -138,7 +138,7 @@ impl World {
         requires room { HasRoomFor self.old 1 }
         requires declared { IsStep self.old.book.members step.now }
         requires empty { events.old.items ≡ [] }
-        ensures took { OnOk result (Took self.old self.new events.old.items events.new.items (next_events self.old step.now) step_cost) }
+        ensures emits { OnOk result (Emits self.old self.new events.old.items events.new.items (next_events self.old step.now) step_cost) }
         ensures book { OnOk result ((start : Cluster) (book : List Event) → StandsFor start book self.old
             → (events.new.items ≡ events.old.items ++ next_of start book step.now) × StandsFor start (book ++ next_of start book step.now) self.new) }
         ensures acknowledged { OnOk result (AreAcknowledged self.new.book.members self.new.book.servers) }
@@ -155,18 +155,18 @@ impl World {
     fn play(&mut self, step: &Step, events: &mut Vec<Event>) -> Result<(), AllocError>
         requires room { HasRoomFor self.old 1 }
         requires declared { IsStep self.old.book.members step.now }
-        ensures took { OnOk result (Took self.old self.new events.old.items events.new.items (next_events self.old step.now) step_cost) }
+        ensures took { OnOk result (Emits self.old self.new events.old.items events.new.items (next_events self.old step.now) step_cost) }
         ensures acknowledged { OnOk result (AreAcknowledged self.new.book.members self.new.book.servers) }
     {
-        self.take(step, events)?;
+        self.perform(step, events)?;
         self.acknowledge_all(events)
     }
 
     /// What happens in a step.
-    fn take(&mut self, step: &Step, events: &mut Vec<Event>) -> Result<(), AllocError>
+    fn perform(&mut self, step: &Step, events: &mut Vec<Event>) -> Result<(), AllocError>
         requires room { HasRoomFor self.old 1 }
         requires declared { IsStep self.old.book.members step.now }
-        ensures { OnOk result (Took self.old self.new events.old.items events.new.items (taken self.old step.now) step_cost) }
+        ensures { OnOk result (Emits self.old self.new events.old.items events.new.items (step_events self.old step.now) step_cost) }
     {
         match step {
             Step::Scheduled => {
@@ -178,10 +178,10 @@ impl World {
         }
     }
 
-    /// A tick of the default schedule: standbys receive, and then agents are woken and messages come.
+    /// A tick of the default schedule: replicas receive, and then agents are woken and messages come.
     fn scheduled(&mut self, events: &mut Vec<Event>) -> Result<(), AllocError>
         requires { HasRoom self.old schedule_cost }
-        ensures { OnOk result (Took self.old self.new events.old.items events.new.items (scheduled self.old) schedule_cost) }
+        ensures { OnOk result (Emits self.old self.new events.old.items events.new.items (scheduled_events self.old) schedule_cost) }
     {
         self.all_receive(events)?;
         self.rounds(events)
@@ -191,7 +191,7 @@ impl World {
     fn command(&mut self, command: &Command, events: &mut Vec<Event>) -> Result<(), AllocError>
         requires room { HasRoom self.old command_cost }
         requires declared { IsCommand (names_in self.old.book.members) command.now }
-        ensures { OnOk result (Took self.old self.new events.old.items events.new.items (command_events self.old command.now) command_cost) }
+        ensures { OnOk result (Emits self.old self.new events.old.items events.new.items (command_events self.old command.now) command_cost) }
     {
         match *command {
             Command::Turn(id) => self.wake(self.declared(id), events),
@@ -199,22 +199,22 @@ impl World {
             Command::Lose(number) => self.lose(number, events),
             Command::Promote(id) => self.promote(self.declared(id), events),
             Command::Stream(id, most) => self.receive(self.declared(id), most, events),
-            _ => self.happen_if(self.ordered(command), events),
+            _ => self.happen_if(self.command_kind(command), events),
         }
     }
 
     /// What a command comes to that brings one event at most.
-    fn ordered(&self, command: &Command) -> Option<Kind>
+    fn command_kind(&self, command: &Command) -> Option<EventKind>
         requires room { HasRoom self.now 1 }
         requires declared { IsCommand (names_in self.now.book.members) command.now }
-        ensures kind { result ≡ ordered self.now command.now }
+        ensures kind { result ≡ command_kind self.now command.now }
         ensures comes { IfSome result (MayCome self.now) }
     {
         match *command {
-            Command::Hold(id) => hold_of(self.seat_at(id)?),
-            Command::Resume(id) => resume_of(self.seat_at(id)?),
-            Command::Kill(id) => kill_of(self.seat_at(id)?),
-            Command::Restart(id) => Some(restarted(self.seat_at(id)?)),
+            Command::Hold(id) => hold_of(self.member_agent_at(id)?),
+            Command::Resume(id) => resume_of(self.member_agent_at(id)?),
+            Command::Kill(id) => kill_of(self.member_agent_at(id)?),
+            Command::Restart(id) => Some(restarted(self.member_agent_at(id)?)),
             Command::Crash(id) => crash_of(&self.servers, self.declared(id)),
             Command::Commit(id, size) => {
                 let member = self.declared(id);
@@ -222,8 +222,8 @@ impl World {
             }
             Command::Freeze(id) => freezing_of(&self.frozen, self.declared(id), true),
             Command::Thaw(id) => freezing_of(&self.frozen, self.declared(id), false),
-            Command::Slow(id, transition, delay) => {
-                slow_of(&self.servers, self.declared(id), transition, delay)
+            Command::Slow(id, slowed, delay) => {
+                slow_of(&self.servers, self.declared(id), slowed, delay)
             }
             Command::Cut(first, second) => cut_of(&self.cuts, self.link(first, second)),
             Command::Join(first, second) => join_of(&self.cuts, self.link(first, second)),
@@ -235,20 +235,20 @@ impl World {
     /// expired are dropped.
     fn tick(&mut self, events: &mut Vec<Event>) -> Result<(), AllocError>
         requires { HasRoom self.old tick_cost }
-        ensures { OnOk result (Took self.old self.new events.old.items events.new.items (ticks self.old) tick_cost) }
+        ensures { OnOk result (Emits self.old self.new events.old.items events.new.items (tick_events self.old) tick_cost) }
     {
         let now = Ticks(self.clock.0 + 1);
         let expired = self.store.expired(now)?;
         let holder = self.store.expired_holder(now);
         let holder = declared_member(&self.members, holder);
-        self.happen(Kind::Tick, events)?;
+        self.happen(EventKind::Tick, events)?;
         note_expiries(events, now, holder, &expired)
     }
 
     /// The rounds of a tick. A round in which nothing happens is the last.
     fn rounds(&mut self, events: &mut Vec<Event>) -> Result<(), AllocError>
         requires { HasRoom self.old rounds_cost }
-        ensures { OnOk result (Took self.old self.new events.old.items events.new.items (rounds self.old most_rounds) rounds_cost) }
+        ensures { OnOk result (Emits self.old self.new events.old.items events.new.items (rounds_events self.old most_rounds) rounds_cost) }
     {
         for done in 0..MOST_ROUNDS {
             let before = events.len();
@@ -264,16 +264,16 @@ impl World {
     /// A round: each due agent is woken, and then each message that is in flight at that point moves.
     fn round(&mut self, events: &mut Vec<Event>) -> Result<(), AllocError>
         requires { HasRoom self.old round_cost }
-        ensures { OnOk result (Took self.old self.new events.old.items events.new.items (round self.old) round_cost) }
+        ensures { OnOk result (Emits self.old self.new events.old.items events.new.items (round_events self.old) round_cost) }
     {
         self.wakes(events)?;
         let numbers = self.flight.numbers_from(self.alloc, self.settled)?;
-        self.all_move(&numbers, events)
+        self.pass_messages(&numbers, events)
     }
 
-    /// Nothing moves: all that is in flight is kept for agents that are held.
+    /// Nothing moves: all that is in flight is kept for agents that are suspended.
     fn settle(&mut self)
-        requires still { round self.old ≡ [] }
+        requires still { round_events self.old ≡ [] }
         requires room { HasRoom self.old 1 }
         ensures { self.new ≡ self.old }
     {
@@ -306,7 +306,7 @@ impl World {
 }
 
 /// Writes an event down.
-fn note(events: &mut Vec<Event>, tick: Ticks, kind: Kind) -> Result<(), AllocError>
+fn note(events: &mut Vec<Event>, tick: Ticks, kind: EventKind) -> Result<(), AllocError>
     ensures { OnOk result (events.new.items ≡ events.old.items ++ record { tick = tick; kind = kind } ∷ []) }
 {
     events.push(Event { tick, kind })?;
@@ -320,7 +320,7 @@ fn note_expiries(
     holder: Option<Member>,
     keys: &[Key],
 ) -> Result<(), AllocError>
-    ensures { OnOk result (events.new.items ≡ events.old.items ++ stamped tick (expiries_of holder keys.now)) }
+    ensures { OnOk result (events.new.items ≡ events.old.items ++ events_at tick (expiries_of holder keys.now)) }
 {
     for key in keys {
         note_expiry(events, tick, holder, *key)?;
@@ -334,16 +334,16 @@ fn note_expiry(
     holder: Option<Member>,
     key: Key,
 ) -> Result<(), AllocError>
-    ensures { OnOk result (events.new.items ≡ events.old.items ++ stamped tick (expiry_of holder key)) }
+    ensures { OnOk result (events.new.items ≡ events.old.items ++ events_at tick (expiry_of holder key)) }
 {
     match (key, holder) {
         (Key::Leader, None) => Ok(()),
         (Key::Leader, Some(holder)) => note(
             events,
             tick,
-            Kind::Store(StoreEvent::LeaderExpired { holder }),
+            EventKind::Store(StoreEvent::LeaderExpired { holder }),
         ),
-        (key, _) => note(events, tick, Kind::Store(StoreEvent::Expired { key })),
+        (key, _) => note(events, tick, EventKind::Store(StoreEvent::Expired { key })),
     }
 }
 
@@ -372,14 +372,14 @@ fn declared_at(head: &Head, place: usize) -> Member
 }
 
 /// So many agents, each in its first run.
-fn agents_of(alloc: Global, count: usize) -> Result<Vec<AgentState>, AllocError>
+fn agents_of(alloc: Global, count: usize) -> Result<Vec<AgentProcess>, AllocError>
     ensures { IfOk result (λ agents. agents.items ≡ first_agents count) }
 {
     let mut agents = Vec::new(alloc);
     for made in 0..count {
-        agents.push(AgentState {
+        agents.push(AgentProcess {
             running: true,
-            held: false,
+            suspended: false,
             run: 1,
         })?;
     }
@@ -387,14 +387,14 @@ fn agents_of(alloc: Global, count: usize) -> Result<Vec<AgentState>, AllocError>
 }
 
 /// So many agents, each before its first turn.
-fn phases_of(alloc: Global, count: usize) -> Result<Vec<Phase>, AllocError>
-    ensures { IfOk result (λ phases. phases.items ≡ first_phases 0 count) }
+fn agent_states_of(alloc: Global, count: usize) -> Result<Vec<AgentState>, AllocError>
+    ensures { IfOk result (λ agent_states. agent_states.items ≡ first_agent_states 0 count) }
 {
-    let mut phases = Vec::new(alloc);
+    let mut agent_states = Vec::new(alloc);
     for place in 0..count {
-        phases.push(fresh_phase(Ticks(place as u64 + 1)))?;
+        agent_states.push(fresh_agent_state(Ticks(place as u64 + 1)))?;
     }
-    Ok(phases)
+    Ok(agent_states)
 }
 
 /// The declared member of this number, if there is a number.

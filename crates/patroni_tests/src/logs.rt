@@ -12,7 +12,7 @@ fn copies_of_logs_and_histories(rt: HostRuntime) -> Result<(), Fail> {
         bytes: 7,
     };
     log.append(entry)?;
-    let copy = log.copy()?;
+    let copy = log.try_clone()?;
     assert_eq!(rt; copy.len(), 1);
     assert_eq!(rt; copy.get(0), Some(entry));
     let at = Lsn { position: 10 };
@@ -20,7 +20,7 @@ fn copies_of_logs_and_histories(rt: HostRuntime) -> Result<(), Fail> {
     history.add(HistoryPoint { timeline: 1, at })?;
     for (timeline, left) in [(1, Some(at)), (2, None)] {
         assert_eq!(rt; history.point(timeline), left);
-        assert_eq!(rt; history.copy()?.point(timeline), left);
+        assert_eq!(rt; history.try_clone()?.point(timeline), left);
     }
     Ok(())
 }

@@ -370,7 +370,7 @@ fn the_default_configuration(rt: HostRuntime) -> Result<(), Fail> {
     let value = ConfigValue::defaults(rt.alloc())?;
     assert_eq!(rt; value.as_str(), "{}");
     assert_eq!(rt; value.config(), Config::defaults());
-    assert_eq!(rt; value.copy()?.as_str(), "{}");
+    assert_eq!(rt; value.try_clone()?.as_str(), "{}");
     assert_eq!(rt; value.config().ttl_ticks(), Ticks(300));
     assert_eq!(rt; value.config().loop_wait_ticks(), Ticks(100));
     assert_eq!(rt; value.config().retry_timeout_ticks(), Ticks(100));

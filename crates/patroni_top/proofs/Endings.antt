@@ -2,7 +2,7 @@
 use Rattle.std.proofs.Common.{◌≡◌, ◌≢◌, ◌≤◌, ℕ, List, [], length, Option, Some, None, IsSome, Result, Ok, Err, IsOk, IsErr, refl, inl, inr, sym, subst}
 use Rattle.pat_base.specs.declared.outside.Sink.{Ghosts as SinkGhosts}
 use Rattle.pat_base.specs.declared.outside.Source.{Ghosts as SourceGhosts}
-use Rattle.pat_base.specs.Outside.{Told, Rose, Grew, GrewByPrefix, Consumed}
+use Rattle.pat_base.specs.Outside.{Known, Rose, Grew, GrewByPrefix, Consumed}
 use Rattle.pat_base.specs.Prints.{Prints}
 use Rattle.pat_base.proofs.Contents.{GrewByPrefix-same}
 use Rattle.cluster_script.specs.declared.fault.Fault.{Fault}
@@ -42,7 +42,7 @@ output-is bytes script none is = rw (none, is) refl
 
 module _ {S K : Type 0} (source : SourceGhosts S) (sink : SinkGhosts K) where
   -- an input that gives no script
-  pub Ends-refused : {input left : S} (out : K) (output : List ℕ → List ℕ) (ending : Ending) → IsRefusal ending → Told (source.rest input) (Says ending)
+  pub Ends-refused : {input left : S} (out : K) (output : List ℕ → List ℕ) (ending : Ending) → IsRefusal ending → Known (source.rest input) (Says ending)
       → (ending ≡ endings.ReadFault → Rose (source.faults input) (source.faults left)) → (source.is_reliable input → ending ≢ endings.ReadFault) → Consumed (source.rest input) (source.rest left) 1048577
       → Ends source sink input left out out output (status_of ending)
   Ends-refused out output endings.Done refusal says rose unfailing taken = absurd refusal
@@ -78,8 +78,8 @@ module _ {S K : Type 0} (source : SourceGhosts S) (sink : SinkGhosts K) where
   }
 
   -- a script that was printed, or a front of it
-  module _ {input left : S} {out then : K} (output : List ℕ → List ℕ) (text : List ℕ) (are : Told (source.rest input) AreScript) (is : Told (source.rest input) (λ bytes. output bytes ≡ text)) (taken : Consumed (source.rest input) (source.rest left) 1048577) where
-    pub Ends-done : Told (source.rest input) (λ bytes. source.rest left ≡ Some []) → Prints {X = Unit {0}} sink out then prints.Write (Ok tt) text → Ends source sink input left out then output statuses.Done
+  module _ {input left : S} {out then : K} (output : List ℕ → List ℕ) (text : List ℕ) (are : Known (source.rest input) AreScript) (is : Known (source.rest input) (λ bytes. output bytes ≡ text)) (taken : Consumed (source.rest input) (source.rest left) 1048577) where
+    pub Ends-done : Known (source.rest input) (λ bytes. source.rest left ≡ Some []) → Prints {X = Unit {0}} sink out then prints.Write (Ok tt) text → Ends source sink input left out then output statuses.Done
     Ends-done end printed = record {
       means = λ bytes told. (are bytes told, subst (λ (t : List ℕ). Grew (sink.content out) (sink.content then) t) (sym (is bytes told)) printed.ok, end bytes told);
       past_limit = λ asked reliable bytes told limit. absurd (limit-and-none (limit_of bytes) limit (are bytes told).limit);

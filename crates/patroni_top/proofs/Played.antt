@@ -12,45 +12,45 @@ use Rattle.cluster_script.specs.declared.line.Line.{Line}
 use Rattle.cluster_script.specs.declared.line.Step.{Step}
 use Rattle.cluster_script.specs.Script.{AllAreLines, IsLine}
 use Rattle.cluster_script.specs.Steps.{steps_of, steps_of_line}
-use Rattle.pat_world.specs.Cluster.{Cluster, moved_all}
-use Rattle.pat_world.specs.Next.{next_events, run_from}
+use Rattle.pat_world.specs.Cluster.{Cluster, cluster_over}
+use Rattle.pat_world.specs.Next.{next_events, run_events}
 use Rattle.pat_world.specs.Room.{HasRoomFor, step_cost}
-use Rattle.pat_world.specs.Took.{Took}
+use Rattle.pat_world.specs.Emits.{Emits}
 use Rattle.pat_world.proofs.Rooms.{HasRoom-fewer}
 use Rattle.pat_world.proofs.Starting.{drop-get}
-use Rattle.pat_world.proofs.Taking.{members-stay, moved_all-append}
+use Rattle.pat_world.proofs.Taking.{members-stay, cluster_over-append}
 use Rattle.patroni_top.specs.declared.playing.Player.{Player}
 use Rattle.patroni_top.specs.declared.print_error.PrintError.{PrintError}
 use Rattle.patroni_top.specs.declared.print_error.PrintError.TheVariants.{Write}
 use Rattle.patroni_top.specs.Playing.{Plays}
-use Rattle.patroni_top.specs.Run.{printed_from, traced_after, traced_all}
+use Rattle.patroni_top.specs.Run.{printed_from, traced_after, traced_over}
 
 -- fewer steps have room too
 pub HasRoomFor-fewer : (cluster : Cluster) (n m : ℕ) → HasRoomFor cluster n → m ≤ n → HasRoomFor cluster m
 HasRoomFor-fewer cluster n m room fewer = record { room = HasRoom-fewer cluster (step_cost * n) (step_cost * m) (omega (arith, fewer)) room.room }
 
 -- a step takes the room of one
-HasRoomFor-step : (cluster next : Cluster) (had has events : List Event) (more : ℕ) → Took cluster next had has events step_cost → HasRoomFor cluster (1 + more) → HasRoomFor next more
+HasRoomFor-step : (cluster next : Cluster) (had has events : List Event) (more : ℕ) → Emits cluster next had has events step_cost → HasRoomFor cluster (1 + more) → HasRoomFor next more
 HasRoomFor-step cluster next had has events more took room = record {
   room = took.room (step_cost * more) (HasRoom-fewer cluster (step_cost * (1 + more)) (step_cost + step_cost * more) (omega arith) room.room);
 }
 
 -- what a step hands out into an empty buffer is all that it prints
-step-text : (before : Player) (next : Cluster) (step : Step) (had has : List Event) → Took before.world next had has (next_events before.world step) step_cost → had ≡ [] → lines_of before.trace has ≡ printed_from before.world before.trace (step ∷ [])
+step-text : (before : Player) (next : Cluster) (step : Step) (had has : List Event) → Emits before.world next had has (next_events before.world step) step_cost → had ≡ [] → lines_of before.trace has ≡ printed_from before.world before.trace (step ∷ [])
 step-text before next step had has took empty =
     ap (lines_of before.trace) (took.event ∙ ap (λ l. l ++ next_events before.world step) empty) ∙ sym (append-nil (lines_of before.trace (next_events before.world step)))
 
-pub Plays-step : {K X : Type 0} {sink : Ghosts K} {before after : Player} {out then : K} {step : Step} {had has text : List Event} {x : X} → Took before.world after.world had has (next_events before.world step) step_cost → had ≡ [] → text ≡ has
+pub Plays-step : {K X : Type 0} {sink : Ghosts K} {before after : Player} {out then : K} {step : Step} {had has text : List Event} {x : X} → Emits before.world after.world had has (next_events before.world step) step_cost → had ≡ [] → text ≡ has
     → after.trace ≡ traced_after before.trace step → Prints sink out then Write (Ok x) (lines_of before.trace text) → Plays {X = Unit {0}} sink before after out then (Ok tt) (step ∷ [])
 Plays-step {sink = sink} {before = before} {after = after} {out = out} {then = then} {step = step} {had = had} {has = has} took empty same traced printed = record {
-  world = took.state ∙ ap (moved_all before.world) (sym (append-nil (next_events before.world step)));
+  world = took.state ∙ ap (cluster_over before.world) (sym (append-nil (next_events before.world step)));
   trace = traced;
   room = λ more room. HasRoomFor-step before.world after.world had has (next_events before.world step) more took room;
   printed = subst (λ (t : List ℕ). Prints {X = Unit {0}} sink out then Write (Ok tt) t) (ap (lines_of before.trace) same ∙ step-text before after.world step had has took empty) (Prints-ok Write tt printed);
 }
 
 -- so is a front of it
-pub Plays-step-stop : {K X Y : Type 0} {sink : Ghosts K} {before after : Player} {out then : K} {step : Step} {had has text : List Event} {error : PrintError} (final : Result Y PrintError) → Took before.world after.world had has (next_events before.world step) step_cost → had ≡ [] → text ≡ has
+pub Plays-step-stop : {K X Y : Type 0} {sink : Ghosts K} {before after : Player} {out then : K} {step : Step} {had has text : List Event} {error : PrintError} (final : Result Y PrintError) → Emits before.world after.world had has (next_events before.world step) step_cost → had ≡ [] → text ≡ has
     → Prints {X = X} sink out then Write (Err error) (lines_of before.trace text) → final ≡ Err error → Plays sink before after out then final (step ∷ [])
 Plays-step-stop {Y = Y} {sink = sink} {before = before} {after = after} {out = out} {then = then} {step = step} {had = had} {has = has} {error = error} final took empty same printed stops = rw stops (record {
   world = tt;
@@ -61,35 +61,35 @@ Plays-step-stop {Y = Y} {sink = sink} {before = before} {after = after} {out = o
 })
 
 -- some steps, and then others: what they leave, and what they print
-run_from-append : (world : Cluster) (steps rest : List Step) → moved_all (moved_all world (run_from world steps)) (run_from (moved_all world (run_from world steps)) rest) ≡ moved_all world (run_from world (steps ++ rest))
-run_from-append world [] rest = refl
-run_from-append world (step ∷ steps) rest =
+run_events-append : (world : Cluster) (steps rest : List Step) → cluster_over (cluster_over world (run_events world steps)) (run_events (cluster_over world (run_events world steps)) rest) ≡ cluster_over world (run_events world (steps ++ rest))
+run_events-append world [] rest = refl
+run_events-append world (step ∷ steps) rest =
     let events = next_events world step in
-    let next = moved_all world events in
-    ap (λ c. moved_all c (run_from c rest)) (moved_all-append world events (run_from next steps))
-    ∙ run_from-append next steps rest
-    ∙ sym (moved_all-append world events (run_from next (steps ++ rest)))
+    let next = cluster_over world events in
+    ap (λ c. cluster_over c (run_events c rest)) (cluster_over-append world events (run_events next steps))
+    ∙ run_events-append next steps rest
+    ∙ sym (cluster_over-append world events (run_events next (steps ++ rest)))
 
-traced_all-append : (trace : Bool) (steps rest : List Step) → traced_all trace (steps ++ rest) ≡ traced_all (traced_all trace steps) rest
-traced_all-append trace [] rest = refl
-traced_all-append trace (step ∷ steps) rest = traced_all-append (traced_after trace step) steps rest
+traced_over-append : (trace : Bool) (steps rest : List Step) → traced_over trace (steps ++ rest) ≡ traced_over (traced_over trace steps) rest
+traced_over-append trace [] rest = refl
+traced_over-append trace (step ∷ steps) rest = traced_over-append (traced_after trace step) steps rest
 
 printed_from-append : (world : Cluster) (trace : Bool) (steps rest : List Step)
-    → printed_from world trace (steps ++ rest) ≡ printed_from world trace steps ++ printed_from (moved_all world (run_from world steps)) (traced_all trace steps) rest
+    → printed_from world trace (steps ++ rest) ≡ printed_from world trace steps ++ printed_from (cluster_over world (run_events world steps)) (traced_over trace steps) rest
 printed_from-append world trace [] rest = refl
 printed_from-append world trace (step ∷ steps) rest =
     let events = next_events world step in
-    let next = moved_all world events in
+    let next = cluster_over world events in
     let lines = lines_of trace events in
     ap (λ t. lines ++ t) (printed_from-append next (traced_after trace step) steps rest)
-    ∙ sym (append_assoc lines (printed_from next (traced_after trace step) steps) (printed_from (moved_all next (run_from next steps)) (traced_all (traced_after trace step) steps) rest))
-    ∙ ap (λ c. (lines ++ printed_from next (traced_after trace step) steps) ++ printed_from c (traced_all (traced_after trace step) steps) rest) (sym (moved_all-append world events (run_from next steps)))
+    ∙ sym (append_assoc lines (printed_from next (traced_after trace step) steps) (printed_from (cluster_over next (run_events next steps)) (traced_over (traced_after trace step) steps) rest))
+    ∙ ap (λ c. (lines ++ printed_from next (traced_after trace step) steps) ++ printed_from c (traced_over (traced_after trace step) steps) rest) (sym (cluster_over-append world events (run_events next steps)))
 
 -- of the steps of a whole, these are left
 pub record Playing {K : Type 0} (sink : Ghosts K) (start now : Player) (out then : K) (whole left : List Step) : Type 0 where
   pub text : IsPrinting sink out then Write (printed_from start.world start.trace whole) (printed_from now.world now.trace left)
-  pub state : moved_all now.world (run_from now.world left) ≡ moved_all start.world (run_from start.world whole)
-  pub traced : traced_all now.trace left ≡ traced_all start.trace whole
+  pub state : cluster_over now.world (run_events now.world left) ≡ cluster_over start.world (run_events start.world whole)
+  pub traced : traced_over now.trace left ≡ traced_over start.trace whole
   pub room : (more : ℕ) → HasRoomFor start.world (length whole + more) → HasRoomFor now.world (length left + more)
 
 pub Playing-start : {K : Type 0} (sink : Ghosts K) (start : Player) (out : K) (whole : List Step) → Playing sink start start out out whole whole
@@ -109,7 +109,7 @@ Playing-room {start = start} {now = now} {whole = whole} {left = left} piece res
 -- meanwhile the members stay
 pub Playing-members : {K : Type 0} {sink : Ghosts K} {start now : Player} {out then : K} {whole left : List Step} → Playing sink start now out then whole left → now.world.book.members ≡ start.world.book.members
 Playing-members {start = start} {now = now} {whole = whole} {left = left} p =
-    sym (members-stay now.world (run_from now.world left)) ∙ ap (λ (c : Cluster). c.book.members) p.state ∙ members-stay start.world (run_from start.world whole)
+    sym (members-stay now.world (run_events now.world left)) ∙ ap (λ (c : Cluster). c.book.members) p.state ∙ members-stay start.world (run_events start.world whole)
 
 -- each line of a script names declared members only
 pub line-declared : (members : List Name) (body : List Line) (i : ℕ) (line : Line) → AllAreLines members body → slice_get body i ≡ Some line → IsLine members line
@@ -117,26 +117,26 @@ line-declared members [] i line all is = absurd (none-some line is)
 line-declared members (first ∷ body) zero line all is = subst (IsLine members) (same_Some first line is) all.0
 line-declared members (first ∷ body) (suc i) line all is = line-declared members body i line all.1 is
 
-next-text : (before after : Player) (piece rest : List Step) → after.world ≡ moved_all before.world (run_from before.world piece) → after.trace ≡ traced_all before.trace piece
+next-text : (before after : Player) (piece rest : List Step) → after.world ≡ cluster_over before.world (run_events before.world piece) → after.trace ≡ traced_over before.trace piece
     → printed_from before.world before.trace (piece ++ rest) ≡ printed_from before.world before.trace piece ++ printed_from after.world after.trace rest
 next-text before after piece rest world trace = printed_from-append before.world before.trace piece rest
-    ∙ ap (λ c. printed_from before.world before.trace piece ++ printed_from c (traced_all before.trace piece) rest) (sym world)
+    ∙ ap (λ c. printed_from before.world before.trace piece ++ printed_from c (traced_over before.trace piece) rest) (sym world)
     ∙ ap (λ t. printed_from before.world before.trace piece ++ printed_from after.world t rest) (sym trace)
 
 pub Playing-more : {K X : Type 0} {sink : Ghosts K} {start before after : Player} {out mid then : K} {x : X} {whole left piece : List Step} (rest : List Step)
     → Playing sink start before out mid whole left → left ≡ piece ++ rest → Plays sink before after mid then (Ok x) piece → Playing sink start after out then whole rest
 Playing-more {start = start} {before = before} {after = after} {whole = whole} {left = left} {piece = piece} rest p is q = record {
   text = IsPrinting-more (printed_from after.world after.trace rest) p.text (ap (λ s. printed_from before.world before.trace s) is ∙ next-text before after piece rest q.world q.trace) q.printed;
-  state = ap (λ c. moved_all c (run_from c rest)) q.world ∙ run_from-append before.world piece rest ∙ ap (λ s. moved_all before.world (run_from before.world s)) (sym is) ∙ p.state;
-  traced = ap (λ t. traced_all t rest) q.trace ∙ sym (traced_all-append before.trace piece rest) ∙ ap (traced_all before.trace) (sym is) ∙ p.traced;
+  state = ap (λ c. cluster_over c (run_events c rest)) q.world ∙ run_events-append before.world piece rest ∙ ap (λ s. cluster_over before.world (run_events before.world s)) (sym is) ∙ p.state;
+  traced = ap (λ t. traced_over t rest) q.trace ∙ sym (traced_over-append before.trace piece rest) ∙ ap (traced_over before.trace) (sym is) ∙ p.traced;
   room = λ more room. q.room (length rest + more)
       (HasRoomFor-fewer before.world (length left + more) (length piece + (length rest + more)) (p.room more room) (omega (arith, ap length is, length-append piece rest)));
 }
 
 pub Playing-end : {K : Type 0} {sink : Ghosts K} {start now : Player} {out then : K} {whole left : List Step} → Playing sink start now out then whole left → left ≡ [] → Plays {X = Unit {0}} sink start now out then (Ok tt) whole
 Playing-end {start = start} {now = now} {whole = whole} p none = record {
-  world = ap (λ s. moved_all now.world (run_from now.world s)) (sym none) ∙ p.state;
-  trace = ap (traced_all now.trace) (sym none) ∙ p.traced;
+  world = ap (λ s. cluster_over now.world (run_events now.world s)) (sym none) ∙ p.state;
+  trace = ap (traced_over now.trace) (sym none) ∙ p.traced;
   room = λ more room. HasRoomFor-fewer now.world _ more (p.room more room) (omega arith);
   printed = IsPrinting-end p.text (ap (printed_from now.world now.trace) none);
 }

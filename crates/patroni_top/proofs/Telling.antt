@@ -4,9 +4,9 @@ use Rattle.pat_base.specs.declared.outside.Failed.{Failed}
 use Rattle.pat_base.specs.declared.outside.Sink.{Ghosts}
 use Rattle.pat_base.specs.Prints.{Prints, failed}
 use Rattle.pat_base.proofs.Contents.{GrewByPrefix-all}
-use Rattle.patroni_top.specs.Status.{IsTold}
+use Rattle.patroni_top.specs.Status.{IsReported}
 
-told : {E X : Type 0} {sink : Ghosts E} {before after : E} {line : List ℕ} (result : Result X Failed) → Prints sink before after failed result line → IsTold sink before after line
+told : {E X : Type 0} {sink : Ghosts E} {before after : E} {line : List ℕ} (result : Result X Failed) → Prints sink before after failed result line → IsReported sink before after line
 told {sink = sink} {before = before} {after = after} {line = line} (Ok done) p = record {
   part = GrewByPrefix-all (sink.content before) (sink.content after) line p.ok;
   whole = inl p.ok;
@@ -19,5 +19,5 @@ told (Err error) p = record {
 }
 
 -- what a call of `write_all` leaves whose result is let go
-pub told-text : {E X : Type 0} {sink : Ghosts E} {before after : E} {text line : List ℕ} (result : Result X Failed) → text ≡ line → Prints sink before after failed result text → IsTold sink before after line
-told-text {sink = sink} {before = before} {after = after} result same p = subst (λ (t : List ℕ). IsTold sink before after t) same (told result p)
+pub told-text : {E X : Type 0} {sink : Ghosts E} {before after : E} {text line : List ℕ} (result : Result X Failed) → text ≡ line → Prints sink before after failed result text → IsReported sink before after line
+told-text {sink = sink} {before = before} {after = after} result same p = subst (λ (t : List ℕ). IsReported sink before after t) same (told result p)

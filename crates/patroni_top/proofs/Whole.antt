@@ -8,8 +8,8 @@ use Rattle.cluster_script.specs.declared.line.Step.{Step}
 use Rattle.cluster_script.specs.declared.line.Step.TheVariants as steps
 use Rattle.cluster_script.specs.Script.{ScriptText}
 use Rattle.cluster_script.specs.Steps.{steps_of, steps_of_line, ticks_of_line, total_ticks}
-use Rattle.pat_world.specs.Cluster.{Cluster, cluster_of, moved_all}
-use Rattle.pat_world.specs.Next.{run_from}
+use Rattle.pat_world.specs.Cluster.{Cluster, cluster_of, cluster_over}
+use Rattle.pat_world.specs.Next.{run_events}
 use Rattle.pat_world.specs.Room.{HasRoomFor, step_cost}
 use Rattle.pat_world.proofs.Rooms.{HasRoom-fewer}
 use Rattle.pat_world.proofs.Starting.{start-room}
@@ -32,9 +32,9 @@ has-room s world few start = rw start (record {
 })
 
 -- the world, the trace and the clock are those of the book
-pub text-is : (s : ScriptText) (world : Cluster) (trace : Bool) (clock : ℕ) → world ≡ cluster_of s.head → trace ≡ false → clock ≡ (moved_all world (run_from world (steps_of s.body))).book.clock
+pub text-is : (s : ScriptText) (world : Cluster) (trace : Bool) (clock : ℕ) → world ≡ cluster_of s.head → trace ≡ false → clock ≡ (cluster_over world (run_events world (steps_of s.body))).book.clock
     → printed_from world trace (steps_of s.body) ++ summary_at clock ≡ output_of s
 text-is s world trace clock start untraced moment =
     ap (λ n. printed_from world trace (steps_of s.body) ++ summary_at n) moment
-    ∙ ap (λ t. printed_from world t (steps_of s.body) ++ summary_at (moved_all world (run_from world (steps_of s.body))).book.clock) untraced
-    ∙ ap (λ w. printed_from w false (steps_of s.body) ++ summary_at (moved_all w (run_from w (steps_of s.body))).book.clock) start
+    ∙ ap (λ t. printed_from world t (steps_of s.body) ++ summary_at (cluster_over world (run_events world (steps_of s.body))).book.clock) untraced
+    ∙ ap (λ w. printed_from w false (steps_of s.body) ++ summary_at (cluster_over w (run_events w (steps_of s.body))).book.clock) start

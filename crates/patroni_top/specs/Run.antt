@@ -12,8 +12,8 @@ use Rattle.cluster_script.specs.declared.line.Command.{Command}
 use Rattle.cluster_script.specs.declared.line.Command.TheVariants as commands
 use Rattle.cluster_script.specs.declared.line.Step.{Step}
 use Rattle.cluster_script.specs.declared.line.Step.TheVariants as steps
-use Rattle.pat_world.specs.Cluster.{Cluster, cluster_of, moved_all}
-use Rattle.pat_world.specs.Next.{next_events, run_from}
+use Rattle.pat_world.specs.Cluster.{Cluster, cluster_of, cluster_over}
+use Rattle.pat_world.specs.Next.{next_events, run_events}
 
 -- a body of a script within the limits
 pub record KeepsLimits (script : ScriptText) : Type 0 where
@@ -22,7 +22,7 @@ pub record KeepsLimits (script : ScriptText) : Type 0 where
 
 -- the book of a script: what happens from its head on, step by step
 abbrev pub run_of : ScriptText → List Event
-run_of script = run_from (cluster_of script.head) (steps_of script.body)
+run_of script = run_events (cluster_of script.head) (steps_of script.body)
 
 abbrev pub traced_by : Bool → Command → Bool
 traced_by trace (commands.Trace on) = on
@@ -33,22 +33,22 @@ abbrev pub traced_after : Bool → Step → Bool
 traced_after trace (steps.Command command) = traced_by trace command
 traced_after trace _ = trace
 
-abbrev pub traced_all : Bool → List Step → Bool
-traced_all trace [] = trace
-traced_all trace (step ∷ more) = traced_all (traced_after trace step) more
+abbrev pub traced_over : Bool → List Step → Bool
+traced_over trace [] = trace
+traced_over trace (step ∷ more) = traced_over (traced_after trace step) more
 
 -- the lines of these steps, from a cluster on
 abbrev pub printed_from : Cluster → Bool → List Step → List ℕ
 printed_from cluster trace [] = []
 printed_from cluster trace (step ∷ more) =
     let events = next_events cluster step in
-    lines_of trace events ++ printed_from (moved_all cluster events) (traced_after trace step) more
+    lines_of trace events ++ printed_from (cluster_over cluster events) (traced_after trace step) more
 
 -- the printed run of a script: its lines, those of messages only while they are traced, and then the summary
 abbrev pub output_of : ScriptText → List ℕ
 output_of script =
     let start = cluster_of script.head in
-    printed_from start false (steps_of script.body) ++ summary_at (moved_all start (run_of script)).book.clock
+    printed_from start false (steps_of script.body) ++ summary_at (cluster_over start (run_of script)).book.clock
 
 abbrev pub output_or_none : Option Limit → Result ScriptText (ℕ × Fault) → List ℕ
 output_or_none (Some limit) read = []

@@ -79,7 +79,7 @@ message_of endings.Memory = codes "out of memory\n"
 message_of (endings.Limit limit) = limit_line limit
 
 -- the error output grew by a front of the line: by all of it, unless a fault came
-pub record IsTold {E : Type 0} (sink : Ghosts E) (before after : E) (line : List ℕ) : Type 0 where
+pub record IsReported {E : Type 0} (sink : Ghosts E) (before after : E) (line : List ℕ) : Type 0 where
   pub part : GrewByPrefix (sink.content before) (sink.content after) line
   pub whole : Grew (sink.content before) (sink.content after) line ⊎ Rose (sink.faults before) (sink.faults after)
   pub room : (n : ℕ) → sink.can_take before n → length line ≤ n → Grew (sink.content before) (sink.content after) line

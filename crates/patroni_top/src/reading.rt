@@ -1,6 +1,6 @@
 //! The script of a source.
 ghost use Rattle.std.specs.Prelude.{◌≡◌, ◌≢◌, Some, None, Ok, Err, [], IfOk, IfErr, IsErrOf};
-ghost use Rattle.pat_base.specs.Outside.{Told, Rose, Consumed};
+ghost use Rattle.pat_base.specs.Outside.{Known, Rose, Consumed};
 ghost use Rattle.cluster_script.specs.Limits.{limit_of};
 ghost use Rattle.cluster_script.specs.Reading.{script_of};
 ghost use Rattle.patroni_top.specs.Run.{KeepsLimits};
@@ -17,11 +17,11 @@ const MOST_READ: usize = 1_048_577;
 /// Reads the script of a source to its end, and at most one byte more than a script may have. Limits are judged before
 /// the faults of lines.
 pub fn script_from<S: Source>(alloc: Global, input: &mut S) -> Result<Script, Ending>
-    ensures script { IfOk result (λ script. Told (S.rest input.old) (λ bytes. (limit_of bytes ≡ None) × (script_of bytes ≡ Ok script))) }
-    ensures end { IfOk result (λ _. Told (S.rest input.old) (λ _. S.rest input.new ≡ Some [])) }
+    ensures script { IfOk result (λ script. Known (S.rest input.old) (λ bytes. (limit_of bytes ≡ None) × (script_of bytes ≡ Ok script))) }
+    ensures end { IfOk result (λ _. Known (S.rest input.old) (λ _. S.rest input.new ≡ Some [])) }
     ensures few { IfOk result KeepsLimits }
     ensures refused { IfErr result IsRefusal }
-    ensures says { IfErr result (λ ending. Told (S.rest input.old) (Says ending)) }
+    ensures says { IfErr result (λ ending. Known (S.rest input.old) (Says ending)) }
     ensures fault { IsErrOf result Ending.ReadFault → Rose (S.faults input.old) (S.faults input.new) }
     ensures reliable { S.is_reliable input.old → result ≢ Err Ending.ReadFault }
     ensures consumed { Consumed (S.rest input.old) (S.rest input.new) 1048577 }

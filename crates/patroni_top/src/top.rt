@@ -1,9 +1,9 @@
 //! The top call.
 ghost use Rattle.std.specs.Prelude.{◌≡◌, ◌≢◌, ◌↔◌, [], ◌∷◌, map, codes, string_bytes, IsTrue};
-ghost use Rattle.pat_base.specs.Outside.{Told};
+ghost use Rattle.pat_base.specs.Outside.{Known};
 ghost use Rattle.patroni_top.specs.Ends.{Ends};
 ghost use Rattle.patroni_top.specs.Run.{output_in};
-ghost use Rattle.patroni_top.specs.Status.{status_of, message_of, Says, IsTold};
+ghost use Rattle.patroni_top.specs.Status.{status_of, message_of, Says, IsReported};
 
 use crate::Status;
 use crate::ending::{Ending, message};
@@ -29,15 +29,15 @@ pub fn run<S: Source, K: Sink, E: Sink>(
     ensures ends { Ends S.Source K.Sink input.old input.new out.old out.new output_in result }
 
     // The line told is that of the status; the fault with its line, or the limit, that it names is the input's.
-    ensures told { (ending : Ending) × (status_of ending ≡ result) × Told (S.rest input.old) (λ bytes. Says ending bytes)
-        × IsTold E.Sink err.old err.new (message_of ending) }
+    ensures reported { (ending : Ending) × (status_of ending ≡ result) × Known (S.rest input.old) (λ bytes. Says ending bytes)
+        × IsReported E.Sink err.old err.new (message_of ending) }
 {
     if !is_run(words) {
-        tell(err, Ending::Usage);
+        report(err, Ending::Usage);
         return Status::Usage;
     }
     let ending = run_script(alloc, input, out);
-    tell(err, ending);
+    report(err, ending);
     ending.status()
 }
 
@@ -45,7 +45,7 @@ pub fn run<S: Source, K: Sink, E: Sink>(
 fn run_script<S: Source, K: Sink>(alloc: Global, input: &mut S, out: &mut K) -> Ending
     ensures usage { status_of result ≢ Status.Usage }
     ensures ends { Ends S.Source K.Sink input.old input.new out.old out.new output_in (status_of result) }
-    ensures says { Told (S.rest input.old) (Says result) }
+    ensures says { Known (S.rest input.old) (Says result) }
 {
     match script_from(alloc, input) {
         Ok(script) => match play(alloc, &script, out) {
@@ -57,8 +57,8 @@ fn run_script<S: Source, K: Sink>(alloc: Global, input: &mut S, out: &mut K) -> 
 }
 
 /// Says in one line what isn't done.
-fn tell<E: Sink>(err: &mut E, ending: Ending)
-    ensures { IsTold E.Sink err.old err.new (message_of ending) }
+fn report<E: Sink>(err: &mut E, ending: Ending)
+    ensures { IsReported E.Sink err.old err.new (message_of ending) }
 {
     let line = message(ending);
     let _ = write_all(err, line.as_str().as_bytes());

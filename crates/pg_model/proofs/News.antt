@@ -1,4 +1,4 @@
--- What a standby gets from its upstream, and what it is then.
+-- What a replica gets from its upstream, and what it is then.
 use Rattle.std.proofs.Common.{◌≡◌, ℕ, ◌-◌, ◌==◌, ◌&&◌, Bool, true, false, cond, min, List, [], ◌++◌, length, take, drop, Option, Some, None, refl, sym, ap, subst, ◌∙◌, arith, append-nil, append_assoc, length-drop, take-append-drop}
 use Rattle.std.specs.Prelude.{slice_get, IsSome, IsTrue}
 use Rattle.std.proofs.lemmas.Bool.{and_parts, and_from}
@@ -15,11 +15,11 @@ use Rattle.pat_base.specs.Lsn.{lsn_at}
 use Rattle.pg_model.specs.declared.answers.Streamed.{Streamed}
 use Rattle.pg_model.specs.declared.answers.Streamed.TheVariants as streams
 use Rattle.pg_model.specs.Facts.{ServerFacts, entries_of}
-use Rattle.pg_model.specs.Replication.{stream_by, stream_of, streamed, received_from, is_current, news_where, news_by, news_of, told, after_news}
-use Rattle.pg_model.specs.declared.server.hearing.Met.{Met}
-use Rattle.pg_model.specs.declared.server.hearing.Met.TheVariants as mets
-use Rattle.pg_model.specs.InStep.{standing_of, IsBehind, Hears, answer_of, has_received}
-use Rattle.pg_model.specs.Servers.{news_between, news_at, told_from, after_news_at, streamed_at}
+use Rattle.pg_model.specs.Replication.{stream_by, stream_of, streamed, received_from, is_current, news_where, news_by, news_of, after_streamed, after_news}
+use Rattle.pg_model.specs.declared.server.catching_up.Met.{Met}
+use Rattle.pg_model.specs.declared.server.catching_up.Met.TheVariants as mets
+use Rattle.pg_model.specs.InStep.{log_position_of, IsBehind, CatchesUp, answer_of, has_received}
+use Rattle.pg_model.specs.Servers.{news_between, news_at, after_streamed_from, after_news_at, streamed_at}
 use Rattle.wal_model.proofs.Entries.{is_prefix-to}
 use Rattle.wal_model.proofs.Points.{same-points-to, same-points-from}
 
@@ -47,9 +47,9 @@ answer-by (streams.Received count) news s upstream e = only-some ((count == 0) &
 pub news-answer : (s upstream : ServerFacts) (most : ℕ) (news : Streamed) → news_of s upstream most ≡ Some news → stream_of s upstream most ≡ news
 news-answer s upstream most news e = answer-by (stream_of s upstream most) news s upstream e
 
--- and they tell what streaming makes of the standby
-pub news-told : (s upstream : ServerFacts) (most : ℕ) (news : Streamed) → news_of s upstream most ≡ Some news → streamed s upstream most ≡ told news s upstream
-news-told s upstream most news e = ap (λ answer. told answer s upstream) (news-answer s upstream most news e)
+-- and they tell what streaming makes of the replica
+pub news-after_streamed : (s upstream : ServerFacts) (most : ℕ) (news : Streamed) → news_of s upstream most ≡ Some news → streamed s upstream most ≡ after_streamed news s upstream
+news-after_streamed s upstream most news e = ap (λ answer. after_streamed answer s upstream) (news-answer s upstream most news e)
 
 is-zero : (n : ℕ) → (n == 0) ≡ true → n ≡ 0
 is-zero n e = grind (arith, nat_tests)
@@ -69,7 +69,7 @@ is_current-from s upstream timeline history = and_from (s.timeline == upstream.t
     number : (m n : ℕ) → m ≡ n → (m == n) ≡ true
     number m n e = grind (arith, nat_tests)
 
--- a standby that has the timeline and the history takes only the log
+-- a replica that has the timeline and the history takes only the log
 pub taken-current : (s upstream : ServerFacts) (log : Option (List Entry)) → is_current s upstream ≡ true → record s { log = log } ≡ record s { log = log; timeline = upstream.timeline; history = upstream.history }
 taken-current s upstream log e =
     ap (λ timeline. record s { log = log; timeline = timeline }) (current-timeline s upstream e)
@@ -101,34 +101,34 @@ received-prefix mine from most p =
       whole = is ∙ ap (λ t. mine ++ t) (sym (take-append-drop most rest)) ∙ sym (append_assoc mine (take most rest) (drop most rest));
     }
 
-told-none : (answer : Streamed) (s upstream : ServerFacts) → IsSome s.log → news_by answer s upstream ≡ None → told answer s upstream ≡ s
-told-none streams.NotConnected s upstream there e = refl
-told-none (streams.Diverged at) s upstream there e = ap (λ diverged. record s { diverged = diverged }) (sym (only-none s.diverged (streams.Diverged at) e))
-told-none (streams.Received count) s upstream there e =
+after_streamed-none : (answer : Streamed) (s upstream : ServerFacts) → IsSome s.log → news_by answer s upstream ≡ None → after_streamed answer s upstream ≡ s
+after_streamed-none streams.NotConnected s upstream there e = refl
+after_streamed-none (streams.Diverged at) s upstream there e = ap (λ diverged. record s { diverged = diverged }) (sym (only-none s.diverged (streams.Diverged at) e))
+after_streamed-none (streams.Received count) s upstream there e =
     let nothing : ((count == 0) && is_current s upstream) ≡ true = only-none _ (streams.Received count) e in
     let parts = and_parts _ _ nothing in
     ap (λ n. received_from n s upstream) (is-zero count parts.0) ∙ received-nothing s upstream there parts.1
 
 -- where there are no news, streaming changes nothing
 pub no-news : (s upstream : ServerFacts) (most : ℕ) → IsSome s.log → news_of s upstream most ≡ None → streamed s upstream most ≡ s
-no-news s upstream most there e = told-none (stream_of s upstream most) s upstream there e
+no-news s upstream most there e = after_streamed-none (stream_of s upstream most) s upstream there e
 
--- an answer makes of a standby what its news make of it
-told-news : (answer : Streamed) (s upstream : ServerFacts) (news : Option Streamed) → IsSome s.log → news_by answer s upstream ≡ news → told answer s upstream ≡ after_news news s upstream
-told-news answer s upstream None there e = told-none answer s upstream there e
-told-news answer s upstream (Some news) there e = ap (λ t. told t s upstream) (answer-by answer news s upstream e)
+-- an answer makes of a replica what its news make of it
+after_streamed-news : (answer : Streamed) (s upstream : ServerFacts) (news : Option Streamed) → IsSome s.log → news_by answer s upstream ≡ news → after_streamed answer s upstream ≡ after_news news s upstream
+after_streamed-news answer s upstream None there e = after_streamed-none answer s upstream there e
+after_streamed-news answer s upstream (Some news) there e = ap (λ t. after_streamed t s upstream) (answer-by answer news s upstream e)
 
--- ---- what a standby met
+-- ---- what a replica met
 -- what it answers once it has changed
-pub answer-told : (met : Met) (s upstream : ServerFacts) → answer_of met (told (answer_of met s upstream) s upstream) upstream ≡ answer_of met s upstream
-answer-told mets.Nothing s upstream = refl
-answer-told mets.Parted s upstream = refl
-answer-told (mets.Received count) s upstream = refl
+pub answer-after_streamed : (met : Met) (s upstream : ServerFacts) → answer_of met (after_streamed (answer_of met s upstream) s upstream) upstream ≡ answer_of met s upstream
+answer-after_streamed mets.Nothing s upstream = refl
+answer-after_streamed mets.Parted s upstream = refl
+answer-after_streamed (mets.Received count) s upstream = refl
 
-standing-met : (met : Met) (s upstream : ServerFacts) → has_received met ≡ false → standing_of (told (answer_of met s upstream) s upstream) ≡ standing_of s
-standing-met mets.Nothing s upstream e = refl
-standing-met mets.Parted s upstream e = refl
-standing-met (mets.Received count) s upstream e = absurd (clash e)
+log_position-met : (met : Met) (s upstream : ServerFacts) → has_received met ≡ false → log_position_of (after_streamed (answer_of met s upstream) s upstream) ≡ log_position_of s
+log_position-met mets.Nothing s upstream e = refl
+log_position-met mets.Parted s upstream e = refl
+log_position-met (mets.Received count) s upstream e = absurd (clash e)
   where
     clash : true ≡ false → ⊥
     clash e = cc
@@ -151,7 +151,7 @@ front-by : (writing : Bool) (mine theirs : List Entry) (most count : ℕ) → st
 front-by false mine theirs most count e = cc
 front-by true mine theirs most count e = prefix-by (is_prefix mine theirs) count _ _ e
 
-behind-met : (met : Met) (s upstream : ServerFacts) (most : ℕ) → answer_of met s upstream ≡ stream_of s upstream most → has_received met ≡ true → IsBehind (standing_of (told (answer_of met s upstream) s upstream)) (standing_of upstream)
+behind-met : (met : Met) (s upstream : ServerFacts) (most : ℕ) → answer_of met s upstream ≡ stream_of s upstream most → has_received met ≡ true → IsBehind (log_position_of (after_streamed (answer_of met s upstream) s upstream)) (log_position_of upstream)
 behind-met mets.Nothing s upstream most is e = absurd (clash e)
   where
     clash : false ≡ true → ⊥
@@ -167,27 +167,27 @@ behind-met (mets.Received count) s upstream most is e = record {
 }
 
 -- what it heard
-pub heard : (met : Met) (s upstream after : ServerFacts) (most : ℕ) (news : Option Streamed) (diverged current received : Bool) → IsSome s.log → answer_of met s upstream ≡ stream_of s upstream most → after ≡ told (answer_of met s upstream) s upstream → diverged ≡ s.diverged → current ≡ is_current s upstream → news ≡ news_where (answer_of met after upstream) diverged current → received ≡ has_received met → Hears s upstream most after news received
-heard met s upstream after most news diverged current received there is changed known had told_is got =
-    let answer : answer_of met after upstream ≡ answer_of met s upstream = ap (λ (t : ServerFacts). answer_of met t upstream) changed ∙ answer-told met s upstream in
+pub caught_up : (met : Met) (s upstream after : ServerFacts) (most : ℕ) (news : Option Streamed) (diverged current received : Bool) → IsSome s.log → answer_of met s upstream ≡ stream_of s upstream most → after ≡ after_streamed (answer_of met s upstream) s upstream → diverged ≡ s.diverged → current ≡ is_current s upstream → news ≡ news_where (answer_of met after upstream) diverged current → received ≡ has_received met → CatchesUp s upstream most after news received
+caught_up met s upstream after most news diverged current received there is changed known had told_is got =
+    let answer : answer_of met after upstream ≡ answer_of met s upstream = ap (λ (t : ServerFacts). answer_of met t upstream) changed ∙ answer-after_streamed met s upstream in
     let by : news ≡ news_by (answer_of met s upstream) s upstream = told_is ∙ ap (λ t. news_where t diverged current) answer ∙ ap (λ t. news_where (answer_of met s upstream) t current) known ∙ ap (news_where (answer_of met s upstream) s.diverged) had in
     record {
       news_are = by ∙ ap (λ t. news_by t s upstream) is;
-      after_is = changed ∙ told-news (answer_of met s upstream) s upstream news there (sym by);
-      behind = λ e. subst (λ (t : ServerFacts). IsBehind (standing_of t) (standing_of upstream)) (sym changed) (behind-met met s upstream most is (sym got ∙ e));
-      standing = λ e. ap standing_of changed ∙ standing-met met s upstream (sym got ∙ e);
+      after_is = changed ∙ after_streamed-news (answer_of met s upstream) s upstream news there (sym by);
+      behind = λ e. subst (λ (t : ServerFacts). IsBehind (log_position_of t) (log_position_of upstream)) (sym changed) (behind-met met s upstream most is (sym got ∙ e));
+      log_position = λ e. ap log_position_of changed ∙ log_position-met met s upstream (sym got ∙ e);
     }
 
 -- the servers after news of one at another
-pub streamed_at-told : (servers : List ServerFacts) (place from most : ℕ) (upstream : ServerFacts) (news : Streamed) → slice_get servers from ≡ Some upstream → news_at servers place from most ≡ Some news → streamed_at servers place from most ≡ changed_by servers place (λ s. told news s upstream)
-streamed_at-told servers place from most upstream news found e =
-    ap (after_news_at servers place from) e ∙ ap (told_from servers place news) found
+pub streamed_at-after_streamed : (servers : List ServerFacts) (place from most : ℕ) (upstream : ServerFacts) (news : Streamed) → slice_get servers from ≡ Some upstream → news_at servers place from most ≡ Some news → streamed_at servers place from most ≡ changed_by servers place (λ s. after_streamed news s upstream)
+streamed_at-after_streamed servers place from most upstream news found e =
+    ap (after_news_at servers place from) e ∙ ap (after_streamed_from servers place news) found
 
 pub streamed_at-received : (servers : List ServerFacts) (place from most : ℕ) (upstream : ServerFacts) (count : ℕ) → slice_get servers from ≡ Some upstream → news_at servers place from most ≡ Some (streams.Received count) → streamed_at servers place from most ≡ changed_by servers place (λ s. received_from count s upstream)
-streamed_at-received servers place from most upstream count found e = streamed_at-told servers place from most upstream (streams.Received count) found e
+streamed_at-received servers place from most upstream count found e = streamed_at-after_streamed servers place from most upstream (streams.Received count) found e
 
 pub streamed_at-diverged : (servers : List ServerFacts) (place from most : ℕ) (upstream : ServerFacts) (at : Lsn) → slice_get servers from ≡ Some upstream → news_at servers place from most ≡ Some (streams.Diverged at) → streamed_at servers place from most ≡ changed_by servers place (λ s. record s { diverged = true })
-streamed_at-diverged servers place from most upstream at found e = streamed_at-told servers place from most upstream (streams.Diverged at) found e
+streamed_at-diverged servers place from most upstream at found e = streamed_at-after_streamed servers place from most upstream (streams.Diverged at) found e
 
 pub streamed_at-none : (servers : List ServerFacts) (place from most : ℕ) → news_at servers place from most ≡ None → streamed_at servers place from most ≡ servers
 streamed_at-none servers place from most e = ap (after_news_at servers place from) e

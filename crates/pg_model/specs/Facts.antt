@@ -20,7 +20,7 @@ pub record ServerFacts : Type 0 where
   pub history : List HistoryPoint
   -- for how many more points of the history there is room
   pub spare : ℕ
-  -- whom it follows as a standby
+  -- whom it follows as a replica
   pub upstream : Option ServerId
   -- its log is no prefix of its upstream's
   pub diverged : Bool
@@ -43,7 +43,7 @@ pub record ServerFacts : Type 0 where
 abbrev pub none_confirmed : List (Option Lsn)
 none_confirmed = replicate 16 None
 
--- a new server: a running standby on timeline 1, whose log has so many bytes and no commit
+-- a new server: a running replica on timeline 1, whose log has so many bytes and no commit
 abbrev pub fresh : ℕ → ServerFacts
 fresh base = record {
   state = states.Replica;
@@ -73,7 +73,7 @@ abbrev pub is_creating : State → Bool
 is_creating states.Creating = true
 is_creating _ = false
 
--- it runs as a standby
+-- it runs as a replica
 abbrev pub is_replica : State → Bool
 is_replica states.Replica = true
 is_replica _ = false

@@ -36,17 +36,17 @@ appended entry s =
 abbrev pub committed : ℕ → ℕ → ServerFacts → ServerFacts
 committed serial bytes s = appended (entry_of s serial bytes) s
 
--- what a standby gets, by whether the upstream writes, and by the two logs
+-- what a replica gets, by whether the upstream writes, and by the two logs
 abbrev pub stream_by : Bool → List Entry → List Entry → ℕ → Streamed
 stream_by false mine theirs most = streams.NotConnected
 stream_by true mine theirs most = if is_prefix mine theirs then streams.Received (min most (length theirs - length mine)) else streams.Diverged (lsn_at (fork_of mine theirs))
 
--- what a standby gets from its upstream: nothing where that one doesn't write, no entry where its own log is no prefix
+-- what a replica gets from its upstream: nothing where that one doesn't write, no entry where its own log is no prefix
 -- of the upstream's, and else the next entries, at most so many
 abbrev pub stream_of : ServerFacts → ServerFacts → ℕ → Streamed
 stream_of s upstream most = stream_by (writes upstream.state) (entries_of s.log) (entries_of upstream.log) most
 
--- the standby has so many more entries of its upstream's log, and its timeline and history
+-- the replica has so many more entries of its upstream's log, and its timeline and history
 abbrev pub received_from : ℕ → ServerFacts → ServerFacts → ServerFacts
 received_from count s upstream = record s {
   log = Some (received (entries_of s.log) (entries_of upstream.log) count);
@@ -54,40 +54,40 @@ received_from count s upstream = record s {
   history = upstream.history;
 }
 
--- the standby after such an answer
-abbrev pub told : Streamed → ServerFacts → ServerFacts → ServerFacts
-told streams.NotConnected s upstream = s
-told (streams.Diverged at) s upstream = record s { diverged = true }
-told (streams.Received count) s upstream = received_from count s upstream
+-- the replica after such an answer
+abbrev pub after_streamed : Streamed → ServerFacts → ServerFacts → ServerFacts
+after_streamed streams.NotConnected s upstream = s
+after_streamed (streams.Diverged at) s upstream = record s { diverged = true }
+after_streamed (streams.Received count) s upstream = received_from count s upstream
 
--- the standby after it got what it gets
+-- the replica after it got what it gets
 abbrev pub streamed : ServerFacts → ServerFacts → ℕ → ServerFacts
-streamed s upstream most = told (stream_of s upstream most) s upstream
+streamed s upstream most = after_streamed (stream_of s upstream most) s upstream
 
 -- its timeline and its history are the upstream's
 abbrev pub is_current : ServerFacts → ServerFacts → Bool
 is_current s upstream = (s.timeline == upstream.timeline) && same_points s.history upstream.history
 
--- what of an answer changes anything: by whether the logs were known to have parted, and whether the standby had the
+-- what of an answer changes anything: by whether the logs were known to have parted, and whether the replica had the
 -- timeline and the history
 abbrev pub news_where : Streamed → Bool → Bool → Option Streamed
 news_where streams.NotConnected diverged current = None
 news_where (streams.Diverged at) diverged current = if diverged then None else Some (streams.Diverged at)
 news_where (streams.Received count) diverged current = if (count == 0) && current then None else Some (streams.Received count)
 
--- what of an answer changes anything at a standby
+-- what of an answer changes anything at a replica
 abbrev pub news_by : Streamed → ServerFacts → ServerFacts → Option Streamed
 news_by answer s upstream = news_where answer s.diverged (is_current s upstream)
 
--- what a standby gets from its upstream, where that changes anything: a divergence that wasn't found before, an entry,
+-- what a replica gets from its upstream, where that changes anything: a divergence that wasn't found before, an entry,
 -- or another timeline or history
 abbrev pub news_of : ServerFacts → ServerFacts → ℕ → Option Streamed
 news_of s upstream most = news_by (stream_of s upstream most) s upstream
 
--- the standby after such news
+-- the replica after such news
 abbrev pub after_news : Option Streamed → ServerFacts → ServerFacts → ServerFacts
 after_news None s upstream = s
-after_news (Some news) s upstream = told news s upstream
+after_news (Some news) s upstream = after_streamed news s upstream
 
 -- a member has flushed the log up to this position
 abbrev pub confirming : MemberId → Lsn → ServerFacts → ServerFacts

@@ -9,14 +9,14 @@ use Rattle.wal_model.specs.Log.{end_of}
 use Rattle.pg_model.specs.Facts.{ServerFacts, none_confirmed, entries_of}
 
 -- a moment after a delay
-abbrev pub later : Ticks → Ticks → Ticks
-later now delay = record { 0 = now.0 + delay.0 }
+abbrev pub moment_after : Ticks → Ticks → Ticks
+moment_after now delay = record { 0 = now.0 + delay.0 }
 
 -- it has room for one more point of its history
 abbrev pub reserved : ServerFacts → ServerFacts
 reserved s = record s { spare = max s.spare 1 }
 
--- a standby begins to accept writes on the next timeline, which it enters into its history; what was confirmed to
+-- a replica begins to accept writes on the next timeline, which it enters into its history; what was confirmed to
 -- an earlier primary counts no more
 abbrev pub promoted : ServerFacts → ServerFacts
 promoted s = record s {
@@ -28,16 +28,16 @@ promoted s = record s {
   confirmed = none_confirmed;
 }
 
--- its start is complete: it runs as a standby, or accepts writes
+-- its start is complete: it runs as a replica, or accepts writes
 abbrev pub started : Bool → ServerFacts → ServerFacts
 started false s = record s { state = states.Replica }
 started true s = record s { state = states.Primary; was_primary = true }
 
 -- it starts: at once where starts take no time, and else it is ready after the delay
 abbrev pub starting : Bool → Ticks → ServerFacts → ServerFacts
-starting as_primary now s = if s.start_delay.0 == 0 then started as_primary s else record s { state = states.Starting as_primary (later now s.start_delay) }
+starting as_primary now s = if s.start_delay.0 == 0 then started as_primary s else record s { state = states.Starting as_primary (moment_after now s.start_delay) }
 
--- it starts as a standby of this server, or of none
+-- it starts as a replica of this server, or of none
 abbrev pub replica_started : Ticks → Option ServerId → ServerFacts → ServerFacts
 replica_started now upstream s = starting false now (record s { upstream = upstream; was_primary = false })
 
@@ -56,7 +56,7 @@ is_primary _ = false
 
 -- it shuts down: at once where stops take no time, and else it has ended after the delay; a primary accepts writes until then
 abbrev pub stopping : Ticks → ServerFacts → ServerFacts
-stopping now s = if s.stop_delay.0 == 0 then stopped s else record s { state = states.Stopping (is_primary s.state) (later now s.stop_delay) }
+stopping now s = if s.stop_delay.0 == 0 then stopped s else record s { state = states.Stopping (is_primary s.state) (moment_after now s.stop_delay) }
 
 -- the state after a crash: also a stopped server is crashed then
 abbrev pub crashed_state : State → State

@@ -9,19 +9,19 @@ use Rattle.wal_model.specs.Log.{end_of}
 use Rattle.pg_model.specs.declared.answers.Streamed.{Streamed}
 use Rattle.pg_model.specs.Facts.{ServerFacts, entries_of}
 use Rattle.pg_model.specs.Running.{ticked}
-use Rattle.pg_model.specs.Replication.{entry_of, appended, news_of, told}
+use Rattle.pg_model.specs.Replication.{entry_of, appended, news_of, after_streamed}
 
 -- what a server is to others: without the room of its history
-abbrev pub seen : ServerFacts → ServerFacts
-seen s = record s { spare = 0 }
+abbrev pub without_spare : ServerFacts → ServerFacts
+without_spare s = record s { spare = 0 }
 
 -- its commits wait for these
 abbrev pub requiring : Required → ServerFacts → ServerFacts
 requiring required s = record s { required = required }
 
 -- a start or a stop is complete whose moment has come, but for a start as a primary and the stop of one
-abbrev pub quietly_ticked : Ticks → ServerFacts → ServerFacts
-quietly_ticked now s = if live s.state then s else ticked now s
+abbrev pub ticked_unless_live : Ticks → ServerFacts → ServerFacts
+ticked_unless_live now s = if live s.state then s else ticked now s
 
 -- the entry of a commit at this server, if there is one
 abbrev pub entry_at : Option ServerFacts → ℕ → ℕ → Option Entry
@@ -48,19 +48,19 @@ news_between None upstream most = None
 news_between (Some s) None most = None
 news_between (Some s) (Some upstream) most = news_of s upstream most
 
--- what the standby at a place gets from the server at another one, where that changes anything
+-- what the replica at a place gets from the server at another one, where that changes anything
 abbrev pub news_at : List ServerFacts → ℕ → ℕ → ℕ → Option Streamed
 news_at servers place from most = news_between (slice_get servers place) (slice_get servers from) most
 
 -- the servers after such news from an upstream, if it is there
-abbrev pub told_from : List ServerFacts → ℕ → Streamed → Option ServerFacts → List ServerFacts
-told_from servers place news None = servers
-told_from servers place news (Some upstream) = changed_by servers place (λ s. told news s upstream)
+abbrev pub after_streamed_from : List ServerFacts → ℕ → Streamed → Option ServerFacts → List ServerFacts
+after_streamed_from servers place news None = servers
+after_streamed_from servers place news (Some upstream) = changed_by servers place (λ s. after_streamed news s upstream)
 
 -- the servers after such news, if there are any
 abbrev pub after_news_at : List ServerFacts → ℕ → ℕ → Option Streamed → List ServerFacts
 after_news_at servers place from None = servers
-after_news_at servers place from (Some news) = told_from servers place news (slice_get servers from)
+after_news_at servers place from (Some news) = after_streamed_from servers place news (slice_get servers from)
 
 -- the servers after that
 abbrev pub streamed_at : List ServerFacts → ℕ → ℕ → ℕ → List ServerFacts

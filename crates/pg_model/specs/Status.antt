@@ -11,7 +11,7 @@ use Rattle.wal_model.specs.declared.entry.Entry.{Entry}
 use Rattle.wal_model.specs.Log.{end_of}
 use Rattle.pg_model.specs.declared.status.ServerStatus.{ServerStatus}
 use Rattle.pg_model.specs.Facts.{ServerFacts, is_replica, is_down, is_up}
-use Rattle.pg_model.specs.Running.{later, is_primary}
+use Rattle.pg_model.specs.Running.{moment_after, is_primary}
 
 -- the end of a log, if there is one
 abbrev pub end_in : Option (List Entry) → Option Lsn
@@ -31,7 +31,7 @@ status_of s = record {
   start_delay = s.start_delay;
 }
 
--- a standby that is promoted accepts writes on the next timeline; another server stays as it is
+-- a replica that is promoted accepts writes on the next timeline; another server stays as it is
 abbrev pub status_promoted : ServerStatus → ServerStatus
 status_promoted s = if is_replica s.state then record s { state = states.Primary; timeline = s.timeline + 1; was_primary = true } else s
 
@@ -41,9 +41,9 @@ status_started true s = record s { state = states.Primary; was_primary = true }
 
 -- it starts: at once where starts take no time, and else it is ready after the delay
 abbrev pub status_starting : Bool → Ticks → ServerStatus → ServerStatus
-status_starting as_primary now s = if s.start_delay.0 == 0 then status_started as_primary s else record s { state = states.Starting as_primary (later now s.start_delay) }
+status_starting as_primary now s = if s.start_delay.0 == 0 then status_started as_primary s else record s { state = states.Starting as_primary (moment_after now s.start_delay) }
 
--- one that is down starts as a standby of this server, or of none; another stays as it is
+-- one that is down starts as a replica of this server, or of none; another stays as it is
 abbrev pub status_replica_started : Ticks → Option ServerId → ServerStatus → ServerStatus
 status_replica_started now upstream s = if is_down s.state then status_starting false now (record s { upstream = upstream; was_primary = false }) else s
 
@@ -52,12 +52,12 @@ abbrev pub status_primary_started : Ticks → ServerStatus → ServerStatus
 status_primary_started now s = if is_down s.state && s.was_primary then status_starting true now s else s
 
 abbrev pub status_ending : Ticks → ServerStatus → ServerStatus
-status_ending now s = if s.stop_delay.0 == 0 then record s { state = states.Stopped } else record s { state = states.Stopping (is_primary s.state) (later now s.stop_delay) }
+status_ending now s = if s.stop_delay.0 == 0 then record s { state = states.Stopped } else record s { state = states.Stopping (is_primary s.state) (moment_after now s.stop_delay) }
 
 -- one that runs or starts shuts down: at once where stops take no time, and else it has ended after the delay; another stays as it is
 abbrev pub status_stopping : Ticks → ServerStatus → ServerStatus
 status_stopping now s = if is_up s.state then status_ending now s else s
 
--- a standby follows this server from now on; another server stays as it is
+-- a replica follows this server from now on; another server stays as it is
 abbrev pub status_following : ServerId → ServerStatus → ServerStatus
 status_following upstream s = if is_replica s.state then record s { upstream = Some upstream; diverged = false } else s

@@ -12,7 +12,7 @@ use thiserror::Error;
 #[error("the server is in another state")]
 pub struct InState(pub State);
 
-/// What a standby got from its upstream, by PostgreSQL's documentation, "Streaming Replication".
+/// What a replica got from its upstream, by PostgreSQL's documentation, "Streaming Replication".
 #[derive(Clone, Copy, Debug, PartialEq, Eq)]
 pub enum Streamed {
     /// Nothing, since the upstream doesn't accept writes.
@@ -23,7 +23,7 @@ pub enum Streamed {
     Received(usize),
 }
 
-/// Why a standby got no answer. It is as it was.
+/// Why a replica got no answer. It is as it was.
 #[derive(Clone, Copy, Debug, PartialEq, Eq, Error)]
 pub enum StreamFault {
     /// It is in this state, and runs as no replica.

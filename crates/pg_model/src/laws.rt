@@ -8,18 +8,18 @@ ghost use Rattle.pat_base.specs.declared.ticks.Ticks.{Ticks};
 ghost use Rattle.pg_model.specs.Facts.{ServerFacts, is_replica, is_down, is_up};
 ghost use Rattle.pg_model.specs.Running.{promoted, replica_started, primary_started, stopping};
 ghost use Rattle.pg_model.specs.Status.{status_of, status_promoted, status_replica_started, status_primary_started, status_stopping, status_following};
-ghost use Rattle.pg_model.specs.Replication.{following, is_met, MeetsRequired, stream_of, streamed, news_of, told};
+ghost use Rattle.pg_model.specs.Replication.{following, is_met, MeetsRequired, stream_of, streamed, news_of, after_streamed};
 
 /// The end of a commit is confirmed by whom it waits for exactly where the test says so.
 pub fn required_is_met()
     ensures { (required : Required) (end : Lsn) (confirmed : List (Option Lsn)) → IsTrue (is_met required end confirmed) ↔ MeetsRequired required end confirmed }
 {}
 
-/// The news of a standby are what streaming answers, and tell what it makes of the standby; where there are none, it
+/// The news of a replica are what streaming answers, and tell what it makes of the replica; where there are none, it
 /// changes nothing.
 pub fn news_are_streamed()
     ensures answer { (s upstream : ServerFacts) (most : ℕ) (news : Streamed) → news_of s upstream most ≡ Some news → stream_of s upstream most ≡ news }
-    ensures told { (s upstream : ServerFacts) (most : ℕ) (news : Streamed) → news_of s upstream most ≡ Some news → streamed s upstream most ≡ told news s upstream }
+    ensures told { (s upstream : ServerFacts) (most : ℕ) (news : Streamed) → news_of s upstream most ≡ Some news → streamed s upstream most ≡ after_streamed news s upstream }
     ensures none { (s upstream : ServerFacts) (most : ℕ) → IsSome s.log → news_of s upstream most ≡ None → streamed s upstream most ≡ s }
 {}
 

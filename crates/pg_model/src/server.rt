@@ -11,10 +11,10 @@ ghost use Rattle.pg_model.specs.Replication.{following, committed, stream_of, st
 ghost use Rattle.pg_model.specs.declared.answers.CommitFault.TheVariants as commit_faults;
 ghost use Rattle.pg_model.specs.declared.answers.StreamFault.TheVariants as stream_faults;
 
-mod hearing;
+mod catching_up;
 
 use crate::{CommitFault, InState, StreamFault, Streamed, Waiting};
-pub(crate) use hearing::Heard;
+pub(crate) use catching_up::CaughtUp;
 use pat_base::{Lsn, MemberId, MemberSet, Required, ServerId, State, Ticks};
 use std::alloc::{AllocError, Global};
 use std::collections::VecDeque;
@@ -74,7 +74,7 @@ impl Model for Server {
 }
 
 impl Server {
-    /// A running standby on timeline 1, which follows nobody and whose log begins with so many bytes of data, at most 2^63.
+    /// A running replica on timeline 1, which follows nobody and whose log begins with so many bytes of data, at most 2^63.
     /// Its starts and stops take no time. It fails only for want of memory.
     pub fn new(alloc: Global, base: u64) -> Result<Server, AllocError>
         requires { base ≤ 2 ^ 63 }
@@ -142,7 +142,7 @@ impl Server {
         &self.history
     }
 
-    /// Whom it follows as a standby, or is to follow when it is one. A primary keeps whom it followed before.
+    /// Whom it follows as a replica, or is to follow when it is one. A primary keeps whom it followed before.
     pub fn upstream(&self) -> Option<ServerId>
         ensures { result ≡ self.now.upstream }
     {
@@ -250,7 +250,7 @@ impl Server {
         self.history.reserve(1)
     }
 
-    /// Promotes a standby, as `pg_promote` does (PostgreSQL's documentation, "Recovery Control Functions"): it accepts writes
+    /// Promotes a replica, as `pg_promote` does (PostgreSQL's documentation, "Recovery Control Functions"): it accepts writes
     /// at once, on the next timeline, and enters into its history where it left the one before ("Timelines"). What was
     /// confirmed to an earlier primary is forgotten. Refused exactly unless it runs as a replica, and then it stays as it
     /// was.
@@ -279,7 +279,7 @@ impl Server {
         Ok(())
     }
 
-    /// Starts as a standby of a server, or of none: it runs at once, or after its start delay. Refused exactly unless it is
+    /// Starts as a replica of a server, or of none: it runs at once, or after its start delay. Refused exactly unless it is
     /// stopped or crashed, and then it stays as it was. The moment is at most 2^62 ticks.
     pub fn start_replica(&mut self, now: Ticks, upstream: Option<ServerId>) -> Result<(), InState>
         requires { now.0 ≤ 2 ^ 62 }
@@ -331,7 +331,7 @@ impl Server {
         }
     }
 
-    /// Runs from now on, as a standby or as a primary.
+    /// Runs from now on, as a replica or as a primary.
     fn complete_start(&mut self, as_primary: bool)
         requires { IsTrue (has_data self.old.state) }
         ensures { self.new ≡ started as_primary self.old }

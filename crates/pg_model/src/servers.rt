@@ -5,10 +5,10 @@ ghost use Rattle.pat_base.specs.Changes.{changed_by};
 ghost use Rattle.pg_model.specs.Facts.{ServerFacts, fresh, is_replica, is_down, is_up};
 ghost use Rattle.pg_model.specs.Running.{promoted, replica_started, primary_started, stopping, crashed, ticked, delayed};
 ghost use Rattle.pg_model.specs.Replication.{following, confirming, next_acknowledged, acknowledged};
-ghost use Rattle.pg_model.specs.InStep.{Forgets, Renews, HearsAt, AreInStep, standing_of, number_of, is_place};
-ghost use Rattle.pg_model.specs.Servers.{seen, requiring, quietly_ticked, entry_at, entry_for, after_entry, committed_at, news_at, streamed_at};
+ghost use Rattle.pg_model.specs.InStep.{Forgets, Renews, CatchesUpAt, AreInStep, log_position_of, upstream_number_of, is_place};
+ghost use Rattle.pg_model.specs.Servers.{without_spare, requiring, ticked_unless_live, entry_at, entry_for, after_entry, committed_at, news_at, streamed_at};
 
-use crate::server::Heard;
+use crate::server::CaughtUp;
 use crate::{CommitFault, Server, Streamed};
 use pat_base::{Lsn, MemberId, Required, ServerId, Ticks};
 use std::alloc::{AllocError, Global};
@@ -18,9 +18,9 @@ use wal_model::Entry;
 /// The servers of a cluster: at each place, counted from 0, that of the member of this number.
 ///
 /// It keeps for each server whether it is known to be in step: it follows one of these servers, that one's log begins
-/// with its own, and both are on one timeline with one history. A standby in step isn't compared with its upstream:
+/// with its own, and both are on one timeline with one history. A replica in step isn't compared with its upstream:
 /// receiving costs the entries that move. Logs and histories are compared after a promotion and after a change of
-/// upstream, until the standby received once; a log that diverged mostly shows that by its last entry alone.
+/// upstream, until the replica received once; a log that diverged mostly shows that by its last entry alone.
 #[derive(Drop)]
 pub struct Servers {
     servers: Vec<Server>,
@@ -30,24 +30,24 @@ pub struct Servers {
 impl Model for Servers {
     ghost use Rattle.std.specs.Prelude.{List, map};
     ghost use Rattle.pg_model.specs.Facts.{ServerFacts};
-    ghost use Rattle.pg_model.specs.Servers.{seen};
-    ghost use Rattle.pg_model.specs.InStep.{MarksHold, standing_of};
+    ghost use Rattle.pg_model.specs.Servers.{without_spare};
+    ghost use Rattle.pg_model.specs.InStep.{MarksHold, log_position_of};
 
     ghost Value = { List ServerFacts };
 
-    ghost view = { λ cluster. map seen cluster.servers.items };
+    ghost view = { λ cluster. map without_spare cluster.servers.items };
 
-    ghost invariant = { λ cluster. MarksHold cluster.in_step.items (map standing_of cluster.servers.items) };
+    ghost invariant = { λ cluster. MarksHold cluster.in_step.items (map log_position_of cluster.servers.items) };
 }
 
 impl Servers {
-    /// So many running standbys on timeline 1, which follow nobody, each with a log of so many bytes of data, at most 2^63.
+    /// So many running replicas on timeline 1, which follow nobody, each with a log of so many bytes of data, at most 2^63.
     /// It fails only for want of memory.
     pub fn new(alloc: Global, count: usize, base: u64) -> Result<Servers, AllocError>
         requires { base ≤ 2 ^ 63 }
         ensures { IfOk result (λ servers. servers ≡ replicate count (fresh base)) }
     {
-        let servers = standbys(alloc, count, base)?;
+        let servers = replicas(alloc, count, base)?;
         let in_step = vec![in alloc; false; count]?;
         Ok(Servers { servers, in_step })
     }
@@ -68,7 +68,7 @@ impl Servers {
 
     /// The server at a place, counted from 0. `None` exactly past the last one.
     pub fn get(&self, place: usize) -> Option<&Server>
-        ensures { option_map seen (option_copied result) ≡ slice_get self.now place }
+        ensures { option_map without_spare (option_copied result) ≡ slice_get self.now place }
     {
         self.servers.get(place)
     }
@@ -101,8 +101,8 @@ impl Servers {
         }
     }
 
-    /// Lets the server at a place, if there is one there, follow another server: a standby receives from that one from now
-    /// on, and any other from when it runs as a standby. A divergence that was noted is forgotten.
+    /// Lets the server at a place, if there is one there, follow another server: a replica receives from that one from now
+    /// on, and any other from when it runs as a replica. A divergence that was noted is forgotten.
     pub fn follow(&mut self, place: usize, upstream: ServerId)
         ensures { self.new ≡ changed_by self.old place (following upstream) }
     {
@@ -115,7 +115,7 @@ impl Servers {
         self.in_step[place] &= is_same;
     }
 
-    /// Starts the server at a place, if there is one there, as a standby of a server, or of none, as `Server::start_replica`
+    /// Starts the server at a place, if there is one there, as a replica of a server, or of none, as `Server::start_replica`
     /// does. That server is stopped or crashed. The moment is at most 2^62 ticks.
     pub fn start_replica(&mut self, place: usize, now: Ticks, upstream: Option<ServerId>)
         requires moment { now.0 ≤ 2 ^ 62 }
@@ -212,7 +212,7 @@ impl Servers {
     /// with the timeline and the history, and answers what it got, as `Server::stream` does. The server at the first place
     /// runs as a replica. `None` exactly where that changes nothing: one of the two is absent, the upstream doesn't accept
     /// writes, a divergence was found before, or there is nothing to receive. It fails only for want of memory, and then
-    /// all stay as they were. It costs the entries that move, and time in the number of servers; only a standby that isn't
+    /// all stay as they were. It costs the entries that move, and time in the number of servers; only a replica that isn't
     /// known to be in step is compared with the other server.
     pub fn stream(
         &mut self,
@@ -231,8 +231,8 @@ impl Servers {
         }
         let is_upstream = follows(&self.servers[place], from);
         let in_step = self.in_step[place] & is_upstream;
-        let heard = hear_between(&mut self.servers, place, from, most, in_step)?;
-        let renewed = heard.received & !in_step;
+        let caught_up = catch_up_between(&mut self.servers, place, from, most, in_step)?;
+        let renewed = caught_up.received & !in_step;
         renew(
             &mut self.in_step,
             &self.servers,
@@ -240,7 +240,7 @@ impl Servers {
             is_upstream,
             renewed,
         );
-        Ok(heard.news)
+        Ok(caught_up.news)
     }
 
     /// Records at the server at a place, if there is one there, up to where a member has flushed its log.
@@ -276,14 +276,14 @@ impl Servers {
     /// Completes each start and each stop whose moment has come, but for a start as a primary and the stop of one:
     /// those are told by events of their own, and whoever tells of one calls `complete`.
     pub fn tick(&mut self, now: Ticks)
-        ensures { self.new ≡ map (quietly_ticked now) self.old }
+        ensures { self.new ≡ map (ticked_unless_live now) self.old }
     {
         tick_all(&mut self.servers, now);
     }
 }
 
-/// So many new standbys.
-fn standbys(alloc: Global, count: usize, base: u64) -> Result<Vec<Server>, AllocError>
+/// So many new replicas.
+fn replicas(alloc: Global, count: usize, base: u64) -> Result<Vec<Server>, AllocError>
     requires { base ≤ 2 ^ 63 }
     ensures { IfOk result (λ servers. servers.items ≡ replicate count (fresh base)) }
 {
@@ -296,7 +296,7 @@ fn standbys(alloc: Global, count: usize, base: u64) -> Result<Vec<Server>, Alloc
 
 /// Completes each start and each stop whose moment has come, but for those of primaries.
 fn tick_all(servers: &mut [Server], now: Ticks)
-    ensures { servers.new ≡ map (quietly_ticked now) servers.old }
+    ensures { servers.new ≡ map (ticked_unless_live now) servers.old }
 {
     for place in 0..servers.len() {
         tick_one(&mut servers[place], now);
@@ -305,7 +305,7 @@ fn tick_all(servers: &mut [Server], now: Ticks)
 
 /// Completes a start or a stop whose moment has come, but for that of a primary.
 fn tick_one(server: &mut Server, now: Ticks)
-    ensures { server.new ≡ quietly_ticked now server.old }
+    ensures { server.new ≡ ticked_unless_live now server.old }
 {
     if !server.live() {
         server.tick(now);
@@ -314,7 +314,7 @@ fn tick_one(server: &mut Server, now: Ticks)
 
 /// Whether a server follows the one at a place.
 fn follows(server: &Server, place: usize) -> bool
-    ensures { result ≡ is_place place (number_of server.now.upstream) }
+    ensures { result ≡ is_place place (upstream_number_of server.now.upstream) }
 {
     match server.upstream() {
         Some(upstream) => upstream.number as usize == place,
@@ -325,7 +325,7 @@ fn follows(server: &Server, place: usize) -> bool
 /// Clears the mark of the server at a place, and of each that follows it.
 fn forget(in_step: &mut [bool], servers: &[Server], place: usize)
     requires { length in_step.old ≡ length servers.now }
-    ensures { Forgets in_step.old in_step.new (map standing_of servers.now) place }
+    ensures { Forgets in_step.old in_step.new (map log_position_of servers.now) place }
 {
     for k in 0..in_step.len() {
         let concerned = is_concerned(k, &servers[k], place);
@@ -333,12 +333,12 @@ fn forget(in_step: &mut [bool], servers: &[Server], place: usize)
     }
 }
 
-/// Where a standby received that wasn't in step, clears its mark and those of its followers, and sets its own one as
+/// Where a replica received that wasn't in step, clears its mark and those of its followers, and sets its own one as
 /// told.
 fn renew(in_step: &mut [bool], servers: &[Server], place: usize, mark: bool, renewed: bool)
     requires one_each { length in_step.old ≡ length servers.now }
     requires within { place < length servers.now }
-    ensures { Renews renewed mark in_step.old in_step.new (map standing_of servers.now) place }
+    ensures { Renews renewed mark in_step.old in_step.new (map log_position_of servers.now) place }
 {
     if !renewed {
         return;
@@ -349,7 +349,7 @@ fn renew(in_step: &mut [bool], servers: &[Server], place: usize, mark: bool, ren
 
 /// Whether the server at a place is the one at another place, or follows that one.
 fn is_concerned(k: usize, server: &Server, place: usize) -> bool
-    ensures { result ≡ ((k == place) || is_place place (number_of server.now.upstream)) }
+    ensures { result ≡ ((k == place) || is_place place (upstream_number_of server.now.upstream)) }
 {
     k == place || follows(server, place)
 }
@@ -373,28 +373,28 @@ fn commit_entry(server: &mut Server, serial: u64, bytes: u64) -> Result<Option<E
     }
 }
 
-/// Lets the standby at a place receive from the server at another one. One that is known to be in step with it isn't
+/// Lets the replica at a place receive from the server at another one. One that is known to be in step with it isn't
 /// compared.
-fn hear_between(
+fn catch_up_between(
     servers: &mut [Server],
     place: usize,
     from: usize,
     most: usize,
     in_step: bool,
-) -> Result<Heard, AllocError>
+) -> Result<CaughtUp, AllocError>
     requires apart { place ≢ from }
     requires standby { place < length servers.old }
     requires upstream { from < length servers.old }
     requires replica { (s : ServerFacts) → slice_get servers.old place ≡ Some s → IsTrue (is_replica s.state) }
     requires in_step { IsTrue in_step → AreInStep servers.old place from }
-    ensures ok { IfOk result (λ heard. HearsAt servers.old servers.new place from most heard.news heard.received) }
+    ensures ok { IfOk result (λ caught_up. CatchesUpAt servers.old servers.new place from most caught_up.news caught_up.received) }
     ensures err { OnErr result (servers.new ≡ servers.old) }
 {
     if place < from {
         let (low, high) = servers.split_at_mut(from);
-        low[place].hear(&high[0], most, in_step)
+        low[place].catch_up(&high[0], most, in_step)
     } else {
         let (low, high) = servers.split_at_mut(place);
-        high[0].hear(&low[from], most, in_step)
+        high[0].catch_up(&low[from], most, in_step)
     }
 }

@@ -118,7 +118,7 @@ impl ServerStatus {
         }
     }
 
-    /// It runs from now on, as a standby or as a primary.
+    /// It runs from now on, as a replica or as a primary.
     fn complete_start(&mut self, as_primary: bool)
         ensures { self.new ≡ status_started as_primary self.old }
     {

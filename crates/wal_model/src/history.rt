@@ -108,7 +108,7 @@ impl History {
     }
 
     /// The same points once more, without the room. It fails only for want of memory.
-    pub fn copy(&self) -> Result<History, AllocError>
+    pub fn try_clone(&self) -> Result<History, AllocError>
         ensures { IfOk result (λ history. history ≡ record { points = self.now.points; spare = 0 }) }
     {
         Ok(History {
@@ -119,7 +119,7 @@ impl History {
 
     /// Takes the points of another history in place of its own, and keeps its room. It fails only for want of memory,
     /// and then stays as it was.
-    pub fn copy_from(&mut self, other: &History) -> Result<(), AllocError>
+    pub fn try_clone_from(&mut self, other: &History) -> Result<(), AllocError>
         ensures ok { OnOk result (self.new ≡ record self.old { points = other.now.points }) }
         ensures err { OnErr result (self.new ≡ self.old) }
     {

@@ -153,7 +153,7 @@ impl Wal {
     }
 
     /// Keeps the first entries, so many, of which there are at least so many, and drops the others.
-    pub fn cut(&mut self, entries: usize)
+    pub fn truncate(&mut self, entries: usize)
         requires { entries ≤ length self.old }
         ensures { self.new ≡ take entries self.old }
     {
@@ -182,7 +182,7 @@ impl Wal {
     }
 
     /// The same log once more. It fails only for want of memory.
-    pub fn copy(&self) -> Result<Wal, AllocError>
+    pub fn try_clone(&self) -> Result<Wal, AllocError>
         ensures { IfOk result (λ wal. wal ≡ self.now) }
     {
         Ok(Wal {

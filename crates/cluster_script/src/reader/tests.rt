@@ -1,6 +1,6 @@
 //! Scripts that are read, and the first fault of bytes that are none.
 use super::read;
-use crate::{Command, CommitSize, Delay, End, Fault, Line, ScriptFault, Transition};
+use crate::{Command, CommitSize, Delay, End, Fault, Line, ScriptFault, SlowedCall};
 use pat_base::MemberId;
 use std::alloc::Global;
 use std::test::Fail;
@@ -114,11 +114,11 @@ fn lines_of_servers_say_what_they_say(rt: HostRuntime) -> Result<(), Fail> {
         ),
         (
             b"slow a stop 0",
-            Command::Slow(a, Transition::Stop, at_once),
+            Command::Slow(a, SlowedCall::Stop, at_once),
         ),
         (
             b"slow b start 100000",
-            Command::Slow(b, Transition::Start, longest),
+            Command::Slow(b, SlowedCall::Start, longest),
         ),
     ];
     for (line, command) in cases {

@@ -1,17 +1,17 @@
 //! Commits whose clients are told that they are stored.
 ghost use Rattle.std.specs.Prelude.{◌≡◌, ◌+◌, OnOk, length};
 ghost use Rattle.pat_world.specs.Acknowledging.{AreAcknowledged};
-ghost use Rattle.pat_world.specs.Next.{acknowledges, each};
-ghost use Rattle.pat_world.specs.Took.{Took};
+ghost use Rattle.pat_world.specs.Next.{acknowledge_events, each};
+ghost use Rattle.pat_world.specs.Emits.{Emits};
 
 use super::{World, note};
-use event_book::{Event, Kind, Member, ReplicationEvent, ServerOf};
+use event_book::{Event, EventKind, Member, ReplicationEvent, ServerOf};
 use std::alloc::AllocError;
 
 impl World {
     /// The commits of all servers are acknowledged as far as they may be, in script order. Then none is left that may be.
     pub fn acknowledge_all(&mut self, events: &mut Vec<Event>) -> Result<(), AllocError>
-        ensures took { OnOk result (Took self.old self.new events.old.items events.new.items (each acknowledges self.old self.old.book.members) 0) }
+        ensures emits { OnOk result (Emits self.old self.new events.old.items events.new.items (each acknowledge_events self.old self.old.book.members) 0) }
         ensures done { OnOk result (AreAcknowledged self.new.book.members self.new.book.servers) }
     {
         for place in 0..self.members.len() {
@@ -22,7 +22,7 @@ impl World {
 
     /// Those of the server of a member.
     fn acknowledge(&mut self, member: Member, events: &mut Vec<Event>) -> Result<(), AllocError>
-        ensures { OnOk result (Took self.old self.new events.old.items events.new.items (acknowledges self.old member) 0) }
+        ensures { OnOk result (Emits self.old self.new events.old.items events.new.items (acknowledge_events self.old member) 0) }
     {
         let server = ServerOf::of(member);
         let place = member.id.number as usize;
@@ -31,7 +31,7 @@ impl World {
             note(
                 events,
                 self.clock,
-                Kind::Replication(ReplicationEvent::Acknowledged { server, commit }),
+                EventKind::Replication(ReplicationEvent::Acknowledged { server, commit }),
             )?;
         }
         Ok(())

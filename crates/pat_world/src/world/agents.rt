@@ -2,15 +2,17 @@
 ghost use Rattle.std.specs.Prelude.{◌≡◌, ◌+◌, ◌*◌, OnOk, IfOk, IfSome, slice_get};
 ghost use Rattle.cluster_script.specs.Script.{IsMember};
 ghost use Rattle.pat_world.specs.Steps.{names_in};
-ghost use Rattle.pat_world.specs.Next.{asked, does, each, follows, for_some, happens, reacts, roused, seat_at, seat_for, wakes};
+ghost use Rattle.pat_world.specs.Next.{ask_events, does, each, follow_events, for_some, event_of, reaction_events, reaction_to_wake, member_agent_at, member_agent_for, wake_events};
 ghost use Rattle.pat_world.specs.Room.{HasRoom, input_cost, reaction_cost, sending_cost, wakes_cost};
 ghost use Rattle.pat_world.specs.Short.{AsksShortly};
-ghost use Rattle.pat_world.specs.Took.{Took};
+ghost use Rattle.pat_world.specs.Emits.{Emits};
 
 use super::{World, declared_member, note};
-use crate::agents::{is_ready, rouse, seat_for};
-use crate::phase::{Reaction, Seat};
-use event_book::{AgentEvent, AgentState, Body, Event, Kind, LinkEnd, Member, Message, Note};
+use crate::agent_state::{MemberAgent, Reaction};
+use crate::agents::{is_to_wake, member_agent_for, rouse};
+use event_book::{
+    AgentEvent, AgentProcess, Body, Event, EventKind, LinkEnd, Member, Message, Note,
+};
 use pat_base::{MemberId, Ticks};
 use std::alloc::AllocError;
 
@@ -18,7 +20,7 @@ impl World {
     /// The agents are woken where they have something to do, in script order.
     pub fn wakes(&mut self, events: &mut Vec<Event>) -> Result<(), AllocError>
         requires { HasRoom self.old wakes_cost }
-        ensures { OnOk result (Took self.old self.new events.old.items events.new.items (each wakes self.old self.old.book.members) wakes_cost) }
+        ensures { OnOk result (Emits self.old self.new events.old.items events.new.items (each wake_events self.old self.old.book.members) wakes_cost) }
     {
         for place in 0..self.members.len() {
             self.wake(self.member(place), events)?;
@@ -29,12 +31,12 @@ impl World {
     /// The agent of a member is woken, where it has something to do.
     pub fn wake(&mut self, member: Member, events: &mut Vec<Event>) -> Result<(), AllocError>
         requires { HasRoom self.old input_cost }
-        ensures { OnOk result (Took self.old self.new events.old.items events.new.items (wakes self.old member) input_cost) }
+        ensures { OnOk result (Emits self.old self.new events.old.items events.new.items (wake_events self.old member) input_cost) }
     {
-        let Some(seat) = self.seat_for(member) else {
+        let Some(member_agent) = self.member_agent_for(member) else {
             return Ok(());
         };
-        if !is_ready(self.clock, &seat) {
+        if !is_to_wake(self.clock, &member_agent) {
             return Ok(());
         }
         let reaction = self.rouse(member, events)?;
@@ -48,12 +50,16 @@ impl World {
         events: &mut Vec<Event>,
     ) -> Result<Option<Reaction>, AllocError>
         requires { HasRoom self.old 1 }
-        ensures took { OnOk result (Took self.old self.new events.old.items events.new.items (happens self.old (Kind.Agent (AgentEvent.Woken agent))) 1) }
-        ensures reaction { IfOk result (λ reaction. reaction ≡ roused self.old.book.clock self.old.phases agent) }
+        ensures emits { OnOk result (Emits self.old self.new events.old.items events.new.items (event_of self.old (EventKind.Agent (AgentEvent.Woken agent))) 1) }
+        ensures reaction { IfOk result (λ reaction. reaction ≡ reaction_to_wake self.old.book.clock self.old.agent_states agent) }
         ensures short { IfOk result (λ reaction. IfSome reaction (λ r. AsksShortly r.asks)) }
     {
-        let reaction = rouse(&mut self.phases, self.clock, agent);
-        note(events, self.clock, Kind::Agent(AgentEvent::Woken { agent }))?;
+        let reaction = rouse(&mut self.agent_states, self.clock, agent);
+        note(
+            events,
+            self.clock,
+            EventKind::Agent(AgentEvent::Woken { agent }),
+        )?;
         Ok(reaction)
     }
 
@@ -66,14 +72,14 @@ impl World {
     ) -> Result<(), AllocError>
         requires room { HasRoom self.old reaction_cost }
         requires short { IfSome reaction (λ r. AsksShortly r.asks) }
-        ensures { OnOk result (Took self.old self.new events.old.items events.new.items (reacts self.old member reaction) reaction_cost) }
+        ensures { OnOk result (Emits self.old self.new events.old.items events.new.items (reaction_events self.old member reaction) reaction_cost) }
     {
         let Some(reaction) = reaction else {
             return Ok(());
         };
         let leader = declared_member(&self.members, reaction.follows);
         self.follow(member, leader, events)?;
-        self.ask(member, reaction.phase.sequence, reaction.asks, events)
+        self.ask(member, reaction.agent_state.sequence, reaction.asks, events)
     }
 
     /// The agent of a member asks the store, if it has a question.
@@ -86,7 +92,7 @@ impl World {
     ) -> Result<(), AllocError>
         requires room { HasRoom self.old sending_cost }
         requires short { AsksShortly asks }
-        ensures { OnOk result (Took self.old self.new events.old.items events.new.items (for_some asks (asked self.old member sequence)) sending_cost) }
+        ensures { OnOk result (Emits self.old self.new events.old.items events.new.items (for_some asks (ask_events self.old member sequence)) sending_cost) }
     {
         let Some(body) = asks else {
             return Ok(());
@@ -105,7 +111,7 @@ impl World {
     }
 
     /// Whether the agent of a member runs, and in which run.
-    pub fn state(&self, member: Member) -> Option<AgentState>
+    pub fn state(&self, member: Member) -> Option<AgentProcess>
         ensures { result ≡ slice_get self.now.book.agents member.id.number }
     {
         let state = self.agents.get(member.id.number as usize)?;
@@ -113,17 +119,17 @@ impl World {
     }
 
     /// A member with its agent.
-    pub fn seat_for(&self, member: Member) -> Option<Seat>
-        ensures { result ≡ seat_for self.now member }
+    pub fn member_agent_for(&self, member: Member) -> Option<MemberAgent>
+        ensures { result ≡ member_agent_for self.now member }
     {
-        seat_for(&self.agents, &self.phases, member)
+        member_agent_for(&self.agents, &self.agent_states, member)
     }
 
     /// The declared member of this number, with its agent.
-    pub fn seat_at(&self, id: MemberId) -> Option<Seat>
+    pub fn member_agent_at(&self, id: MemberId) -> Option<MemberAgent>
         requires { IsMember (names_in self.now.book.members) id }
-        ensures { result ≡ seat_at self.now id }
+        ensures { result ≡ member_agent_at self.now id }
     {
-        self.seat_for(self.declared(id))
+        self.member_agent_for(self.declared(id))
     }
 }

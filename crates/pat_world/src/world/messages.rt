@@ -4,60 +4,68 @@ ghost use Rattle.lease_store.specs.Answers.{present_pairs};
 ghost use Rattle.lease_store.specs.Decision.{decision_on};
 ghost use Rattle.lease_store.specs.Writes.{ttl_of};
 ghost use Rattle.event_book.specs.Flight.{in_flight, snapshot_for, grant_for};
-ghost use Rattle.pat_world.specs.Next.{happens, stamped, lost_at_once, sends, answer_to, answers, comes, decides, delivers, each, for_some, loses, moves};
+ghost use Rattle.pat_world.specs.Next.{event_of, events_at, lost_at_once, send_events, answer_message, answer_events, arrival_events, decision_events, deliver_events, each, for_some, lose_events, message_events};
 ghost use Rattle.pat_world.specs.Room.{HasRoom, decision_cost, message_cost, sending_cost};
 ghost use Rattle.pat_world.specs.Short.{IsShort};
-ghost use Rattle.pat_world.specs.Took.{Took};
-ghost use Rattle.pat_world.specs.Ways.{way_of};
+ghost use Rattle.pat_world.specs.Emits.{Emits};
+ghost use Rattle.pat_world.specs.Deliveries.{delivery_of};
 
 use super::{World, note};
 use crate::agents::listen;
+use crate::deliveries::delivery_of;
+use crate::delivery::Delivery;
 use crate::flight::InFlight;
-use crate::way::Way;
-use crate::ways::way_of;
-use event_book::{Body, Event, Kind, LinkEnd, Message, MessageEvent, Names, Note, StoreEvent};
-use lease_store::{Granted, Held, Key, StoreRefusal, Txn};
+use event_book::{Body, Event, EventKind, LinkEnd, Message, MessageEvent, Names, Note, StoreEvent};
+use lease_store::{Granted, Key, KeyEntry, StoreRefusal, Txn};
 use pat_base::Ticks;
 use std::alloc::AllocError;
 
 impl World {
     /// These messages move, one after another.
-    pub fn all_move(&mut self, numbers: &[u64], events: &mut Vec<Event>) -> Result<(), AllocError>
+    pub fn pass_messages(
+        &mut self,
+        numbers: &[u64],
+        events: &mut Vec<Event>,
+    ) -> Result<(), AllocError>
         requires { HasRoom self.old (message_cost * length numbers.now) }
-        ensures { OnOk result (Took self.old self.new events.old.items events.new.items (each moves self.old numbers.now) (message_cost * length numbers.now)) }
+        ensures { OnOk result (Emits self.old self.new events.old.items events.new.items (each message_events self.old numbers.now) (message_cost * length numbers.now)) }
     {
         for number in numbers {
-            self.move_message(*number, events)?;
+            self.pass_message(*number, events)?;
         }
         Ok(())
     }
 
-    /// A message comes to its receiver, is lost, or is kept for a receiver that is held.
-    pub fn move_message(&mut self, number: u64, events: &mut Vec<Event>) -> Result<(), AllocError>
+    /// A message comes to its receiver, is lost, or is kept for a receiver that is suspended.
+    pub fn pass_message(&mut self, number: u64, events: &mut Vec<Event>) -> Result<(), AllocError>
         requires { HasRoom self.old message_cost }
-        ensures { OnOk result (Took self.old self.new events.old.items events.new.items (moves self.old number) message_cost) }
+        ensures { OnOk result (Emits self.old self.new events.old.items events.new.items (message_events self.old number) message_cost) }
     {
-        match self.way(number) {
-            None | Some(Way::Held) => Ok(()),
-            Some(Way::Open) => self.arrive(number, events),
-            Some(Way::Cut | Way::Gone) => self.drop_message(number, events),
+        match self.delivery(number) {
+            None | Some(Delivery::Suspended) => Ok(()),
+            Some(Delivery::Open) => self.arrive(number, events),
+            Some(Delivery::Cut | Delivery::Gone) => self.drop_message(number, events),
         }
     }
 
     /// A script delivers a message, where it is in flight and nothing stands in its way.
     pub fn deliver(&mut self, number: u64, events: &mut Vec<Event>) -> Result<(), AllocError>
         requires { HasRoom self.old message_cost }
-        ensures { OnOk result (Took self.old self.new events.old.items events.new.items (delivers self.old number (in_flight self.old.book.flight number)) message_cost) }
+        ensures { OnOk result (Emits self.old self.new events.old.items events.new.items (deliver_events self.old number (in_flight self.old.book.flight number)) message_cost) }
     {
-        match self.way(number) {
-            None => note(events, self.clock, Kind::Note(Note::NoMessage { number })),
-            Some(Way::Open) => self.arrive(number, events),
-            Some(Way::Gone) => self.drop_message(number, events),
-            Some(Way::Cut | Way::Held) => {
+        match self.delivery(number) {
+            None => note(
+                events,
+                self.clock,
+                EventKind::Note(Note::NoMessage { number }),
+            ),
+            Some(Delivery::Open) => self.arrive(number, events),
+            Some(Delivery::Gone) => self.drop_message(number, events),
+            Some(Delivery::Cut | Delivery::Suspended) => {
                 note(
                     events,
                     self.clock,
-                    Kind::Note(Note::Undeliverable { number }),
+                    EventKind::Note(Note::Undeliverable { number }),
                 )
             }
         }
@@ -66,34 +74,38 @@ impl World {
     /// A script loses a message, where it is in flight.
     pub fn lose(&mut self, number: u64, events: &mut Vec<Event>) -> Result<(), AllocError>
         requires { HasRoom self.old 1 }
-        ensures { OnOk result (Took self.old self.new events.old.items events.new.items (loses self.old number (in_flight self.old.book.flight number)) 1) }
+        ensures { OnOk result (Emits self.old self.new events.old.items events.new.items (lose_events self.old number (in_flight self.old.book.flight number)) 1) }
     {
-        match self.way(number) {
-            None => note(events, self.clock, Kind::Note(Note::NoMessage { number })),
+        match self.delivery(number) {
+            None => note(
+                events,
+                self.clock,
+                EventKind::Note(Note::NoMessage { number }),
+            ),
             Some(_) => self.drop_message(number, events),
         }
     }
 
     /// What stands between a message and its receiver. `None` exactly where it isn't in flight.
-    pub fn way(&self, number: u64) -> Option<Way>
-        ensures { result ≡ option_map (λ m. way_of self.now.book.cuts self.now.book.agents m.message) (in_flight self.now.book.flight number) }
+    pub fn delivery(&self, number: u64) -> Option<Delivery>
+        ensures { result ≡ option_map (λ m. delivery_of self.now.book.cuts self.now.book.agents m.message) (in_flight self.now.book.flight number) }
     {
         let carried = self.flight.get(number)?;
-        Some(way_of(&self.cuts, &self.agents, &carried.message))
+        Some(delivery_of(&self.cuts, &self.agents, &carried.message))
     }
 
     /// A message in flight is lost.
     pub fn drop_message(&mut self, number: u64, events: &mut Vec<Event>) -> Result<(), AllocError>
         requires { HasRoom self.old 1 }
-        ensures { OnOk result (Took self.old self.new events.old.items events.new.items (happens self.old (Kind.Message (MessageEvent.Lost number))) 1) }
+        ensures { OnOk result (Emits self.old self.new events.old.items events.new.items (event_of self.old (EventKind.Message (MessageEvent.Lost number))) 1) }
     {
-        self.happen(Kind::Message(MessageEvent::Lost { number }), events)
+        self.happen(EventKind::Message(MessageEvent::Lost { number }), events)
     }
 
     /// A message in flight comes to its receiver, which acts on it.
     pub fn arrive(&mut self, number: u64, events: &mut Vec<Event>) -> Result<(), AllocError>
         requires { HasRoom self.old message_cost }
-        ensures { OnOk result (Took self.old self.new events.old.items events.new.items (for_some (in_flight self.old.book.flight number) (comes self.old number)) message_cost) }
+        ensures { OnOk result (Emits self.old self.new events.old.items events.new.items (for_some (in_flight self.old.book.flight number) (arrival_events self.old number)) message_cost) }
     {
         let Some(carried) = self.flight.land(number) else {
             return Ok(());
@@ -103,16 +115,16 @@ impl World {
                 note(
                     events,
                     self.clock,
-                    Kind::Message(MessageEvent::Delivered { number }),
+                    EventKind::Message(MessageEvent::Delivered { number }),
                 )?;
                 self.answer(number, &carried.message, events)
             }
             LinkEnd::Member(member) => {
-                let reaction = listen(&mut self.phases, self.clock, &carried, member);
+                let reaction = listen(&mut self.agent_states, self.clock, &carried, member);
                 note(
                     events,
                     self.clock,
-                    Kind::Message(MessageEvent::Delivered { number }),
+                    EventKind::Message(MessageEvent::Delivered { number }),
                 )?;
                 self.react(member, reaction, events)
             }
@@ -128,10 +140,10 @@ impl World {
     ) -> Result<(), AllocError>
         requires room { HasRoom self.old decision_cost }
         requires short { IsShort message.now.body }
-        ensures { OnOk result (Took self.old self.new events.old.items events.new.items (answers self.old number message.now) decision_cost) }
+        ensures { OnOk result (Emits self.old self.new events.old.items events.new.items (answer_events self.old number message.now) decision_cost) }
     {
         match &message.body {
-            Body::Read => self.send(answer_to(message, Body::Snapshot), None, events),
+            Body::Read => self.send(answer_message(message, Body::Snapshot), None, events),
             Body::Request(txn) => self.decide(number, message, txn, events),
             _ => Ok(()),
         }
@@ -147,25 +159,25 @@ impl World {
     ) -> Result<(), AllocError>
         requires room { HasRoom self.old decision_cost }
         requires span { ttl_of txn.now ≤ 2 ^ 40 }
-        ensures { OnOk result (Took self.old self.new events.old.items events.new.items (decides self.old number message.now txn.now (decision_on self.old.book.keys self.old.book.clock txn.now) message.now.from) decision_cost) }
+        ensures { OnOk result (Emits self.old self.new events.old.items events.new.items (decision_events self.old number message.now txn.now (decision_on self.old.book.keys self.old.book.clock txn.now) message.now.from) decision_cost) }
     {
         let LinkEnd::Member(by) = message.from else {
             return Ok(());
         };
-        match self.store.apply(self.clock, by.id, txn.copy()?) {
+        match self.store.apply(self.clock, by.id, txn.try_clone()?) {
             Ok(grant) => {
                 let granted = StoreEvent::Granted {
                     number,
                     by,
-                    txn: txn.copy()?,
+                    txn: txn.try_clone()?,
                     standbys: Names::none(self.alloc),
                 };
-                note(events, self.clock, Kind::Store(granted))?;
+                note(events, self.clock, EventKind::Store(granted))?;
                 let body = Body::Granted {
                     request: number,
                     leased: grant.leased(),
                 };
-                self.send(answer_to(message, body), Some(grant), events)
+                self.send(answer_message(message, body), Some(grant), events)
             }
             Err(StoreRefusal::Mismatch { key, found }) => {
                 let refused = StoreEvent::Refused {
@@ -175,13 +187,13 @@ impl World {
                     key,
                     found,
                 };
-                note(events, self.clock, Kind::Store(refused))?;
+                note(events, self.clock, EventKind::Store(refused))?;
                 let body = Body::Refused {
                     request: number,
                     key,
                     found,
                 };
-                self.send(answer_to(message, body), None, events)
+                self.send(answer_message(message, body), None, events)
             }
             Err(StoreRefusal::Memory) => Err(AllocError),
         }
@@ -198,11 +210,11 @@ impl World {
         requires room { HasRoom self.old sending_cost }
         requires short { IsShort message.body }
         requires grant { grant ≡ grant_for message.body message.to self.old.book.keys.revision }
-        ensures { OnOk result (Took self.old self.new events.old.items events.new.items (sends self.old message) sending_cost) }
+        ensures { OnOk result (Emits self.old self.new events.old.items events.new.items (send_events self.old message) sending_cost) }
     {
         let number = self.sent + 1;
         let carried = InFlight {
-            message: message.copy()?,
+            message: message.try_clone()?,
             snapshot: self.snapshot_for(&message.body)?,
             grant,
         };
@@ -211,13 +223,13 @@ impl World {
         note(
             events,
             self.clock,
-            Kind::Message(MessageEvent::Sent { number, message }),
+            EventKind::Message(MessageEvent::Sent { number, message }),
         )?;
         note_lost(events, self.clock, lost, number)
     }
 
     /// What the store holds, for an answer that tells it.
-    pub fn snapshot_for(&self, body: &Body) -> Result<Vec<(Key, Held)>, AllocError>
+    pub fn snapshot_for(&self, body: &Body) -> Result<Vec<(Key, KeyEntry)>, AllocError>
         ensures { IfOk result (λ snapshot. snapshot.items ≡ snapshot_for body.now (present_pairs self.now.book.clock self.now.book.keys.pairs)) }
     {
         match body {
@@ -228,8 +240,8 @@ impl World {
 }
 
 /// An answer of the store.
-fn answer_to(message: &Message, body: Body) -> Message
-    ensures { result ≡ answer_to message.now body }
+fn answer_message(message: &Message, body: Body) -> Message
+    ensures { result ≡ answer_message message.now body }
 {
     Message {
         from: LinkEnd::Store,
@@ -247,10 +259,14 @@ fn note_lost(
     lost: bool,
     number: u64,
 ) -> Result<(), AllocError>
-    ensures { OnOk result (events.new.items ≡ events.old.items ++ stamped tick (lost_at_once lost number)) }
+    ensures { OnOk result (events.new.items ≡ events.old.items ++ events_at tick (lost_at_once lost number)) }
 {
     if lost {
-        note(events, tick, Kind::Message(MessageEvent::Lost { number }))
+        note(
+            events,
+            tick,
+            EventKind::Message(MessageEvent::Lost { number }),
+        )
     } else {
         Ok(())
     }

@@ -1,14 +1,14 @@
-//! What standbys receive and confirm.
+//! What replicas receive and confirm.
 ghost use Rattle.std.specs.Prelude.{◌≡◌, ◌+◌, ◌*◌, OnOk, IfSome, IsTrue, slice_get};
 ghost use Rattle.pg_model.specs.Facts.{is_replica};
 ghost use Rattle.pg_model.specs.Servers.{news_at};
-ghost use Rattle.pat_world.specs.Next.{confirms, each, receives, receives_all, receives_at_most};
+ghost use Rattle.pat_world.specs.Next.{confirm_events, each, receive_events, receive_events_of, receive_events_at_most};
 ghost use Rattle.pat_world.specs.Room.{HasRoom, receiving_cost, streaming_cost};
-ghost use Rattle.pat_world.specs.Took.{Took};
+ghost use Rattle.pat_world.specs.Emits.{Emits};
 
 use super::{World, note};
 use crate::streaming::{source_of, unconfirmed_end};
-use event_book::{Event, Kind, LogEvent, Member, ReplicationEvent, ServerEvent, ServerOf};
+use event_book::{Event, EventKind, LogEvent, Member, ReplicationEvent, ServerEvent, ServerOf};
 use pg_model::Streamed;
 use std::alloc::AllocError;
 
@@ -16,7 +16,7 @@ impl World {
     /// The servers receive all that they lack, in script order, but for those that are frozen.
     pub fn all_receive(&mut self, events: &mut Vec<Event>) -> Result<(), AllocError>
         requires { HasRoom self.old receiving_cost }
-        ensures { OnOk result (Took self.old self.new events.old.items events.new.items (each receives_all self.old self.old.book.members) receiving_cost) }
+        ensures { OnOk result (Emits self.old self.new events.old.items events.new.items (each receive_events_of self.old self.old.book.members) receiving_cost) }
     {
         for place in 0..self.members.len() {
             self.receive_all(self.member(place), events)?;
@@ -27,7 +27,7 @@ impl World {
     /// The server of a member receives all that it lacks, unless it is frozen.
     fn receive_all(&mut self, member: Member, events: &mut Vec<Event>) -> Result<(), AllocError>
         requires { HasRoom self.old streaming_cost }
-        ensures { OnOk result (Took self.old self.new events.old.items events.new.items (receives_all self.old member) streaming_cost) }
+        ensures { OnOk result (Emits self.old self.new events.old.items events.new.items (receive_events_of self.old member) streaming_cost) }
     {
         match self.frozen(member) {
             None | Some(true) => Ok(()),
@@ -51,7 +51,7 @@ impl World {
         events: &mut Vec<Event>,
     ) -> Result<(), AllocError>
         requires { HasRoom self.old streaming_cost }
-        ensures { OnOk result (Took self.old self.new events.old.items events.new.items (receives_at_most self.old most member) streaming_cost) }
+        ensures { OnOk result (Emits self.old self.new events.old.items events.new.items (receive_events_at_most self.old most member) streaming_cost) }
     {
         match source_of(&self.members, &self.servers, &self.cuts, member) {
             None => Ok(()),
@@ -69,7 +69,7 @@ impl World {
     ) -> Result<(), AllocError>
         requires room { HasRoom self.old streaming_cost }
         requires standby { IfSome (slice_get self.old.book.servers member.id.number) (λ s. IsTrue (is_replica s.state)) }
-        ensures { OnOk result (Took self.old self.new events.old.items events.new.items (receives self.old member from (news_at self.old.book.servers member.id.number from.id.number most)) streaming_cost) }
+        ensures { OnOk result (Emits self.old self.new events.old.items events.new.items (receive_events self.old member from (news_at self.old.book.servers member.id.number from.id.number most)) streaming_cost) }
     {
         let (place, upstream) = (member.id.number as usize, from.id.number as usize);
         match self.servers.stream(place, upstream, most as usize)? {
@@ -81,7 +81,7 @@ impl World {
                     upstream: ServerOf::of(from),
                     at,
                 };
-                note(events, self.clock, Kind::Server(diverged))
+                note(events, self.clock, EventKind::Server(diverged))
             }
             Some(Streamed::Received(count)) => {
                 let received = LogEvent::Received {
@@ -89,13 +89,13 @@ impl World {
                     from: ServerOf::of(from),
                     count: count as u64,
                 };
-                note(events, self.clock, Kind::Log(received))?;
+                note(events, self.clock, EventKind::Log(received))?;
                 self.confirm(member, from, events)
             }
         }
     }
 
-    /// A standby confirms the end of its log to its upstream, where that isn't known there.
+    /// A replica confirms the end of its log to its upstream, where that isn't known there.
     fn confirm(
         &mut self,
         member: Member,
@@ -103,7 +103,7 @@ impl World {
         events: &mut Vec<Event>,
     ) -> Result<(), AllocError>
         requires { HasRoom self.old 1 }
-        ensures { OnOk result (Took self.old self.new events.old.items events.new.items (confirms self.old member from) 1) }
+        ensures { OnOk result (Emits self.old self.new events.old.items events.new.items (confirm_events self.old member from) 1) }
     {
         let Some(end) = unconfirmed_end(&self.servers, member, from) else {
             return Ok(());
@@ -115,6 +115,6 @@ impl World {
             by: member,
             end,
         };
-        note(events, self.clock, Kind::Replication(confirmed))
+        note(events, self.clock, EventKind::Replication(confirmed))
     }
 }

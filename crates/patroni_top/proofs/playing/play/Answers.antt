@@ -4,8 +4,8 @@ use Rattle.pat_base.specs.Prints.{Prints}
 use Rattle.pat_base.proofs.Printing.{Prints-then, Prints-stop}
 use Rattle.event_book.specs.Text.{summary_at}
 use Rattle.cluster_script.specs.Steps.{steps_of}
-use Rattle.pat_world.specs.Cluster.{Cluster, cluster_of, moved_all}
-use Rattle.pat_world.specs.Next.{run_from}
+use Rattle.pat_world.specs.Cluster.{Cluster, cluster_of, cluster_over}
+use Rattle.pat_world.specs.Next.{run_events}
 use Rattle.pat_world.specs.Steps.{names_in}
 use Rattle.pat_world.proofs.Declaring.{names-start}
 use Rattle.patroni_top.specs.declared.print_error.PrintError.TheVariants.{Write}
@@ -24,7 +24,7 @@ pub returns-in_err-play_body : goal.returns-in_err-play_body
 returns-in_err-play_body g c =
     let script = c.args.script.now in
     let player = c.in_ok-player.player in
-    let end = (moved_all player.world (run_from player.world (steps_of script.body))).book.clock in
+    let end = (cluster_over player.world (run_events player.world (steps_of script.body))).book.clock in
     let final = c.from_residual-in_err-play_body.result in
     let p = err_from_is_err_and final c.from_residual-in_err-play_body.ensures.1 in
     subst (λ (t : List ℕ). Prints g.K.Sink c.args.out.now c.play_body.new.out Write final t)

@@ -1,6 +1,6 @@
 use Rattle.std.proofs.Common.{◌+◌, ◌≤◌, length}
 use Rattle.std.specs.Prelude.{slice_get}
-use Rattle.pat_world.specs.Next.{acknowledges}
+use Rattle.pat_world.specs.Next.{acknowledge_events}
 use Rattle.pat_world.specs.Room.{most_members}
 use Rattle.pat_world.specs.Settled.{AreKeptBelow}
 use Rattle.pat_world.proofs.Acknowledgements.{waiting_at}
@@ -11,7 +11,7 @@ use Rattle.pat_world.proofs.world.World.acknowledge.Given as goal
 -- the commits that may be acknowledged now are still to be, and what a world keeps holds
 abbrev pub invariant-loop-commit : goal.invariant-loop-commit
 invariant-loop-commit l = record {
-  left : Left l.fn.self (seen l.self-inside) l.fn.events.items l.events.items (acknowledges l.fn.self l.fn.member) (acknowledges (seen l.self-inside) l.fn.member) 0 0;
+  left : Left l.fn.self (seen l.self-inside) l.fn.events.items l.events.items (acknowledge_events l.fn.self l.fn.member) (acknowledge_events (seen l.self-inside) l.fn.member) 0 0;
   members : length l.self-inside.members.items ≤ most_members;
   settled : l.self-inside.settled ≤ l.self-inside.sent + 1;
   kept : AreKeptBelow l.self-inside.settled l.self-inside.flight l.self-inside.agents.items l.self-inside.cuts;

@@ -3,7 +3,7 @@ use Rattle.pat_world.specs.Cluster.{Cluster}
 use Rattle.pat_world.specs.Room.{most_members, receiving_cost, streaming_cost}
 use Rattle.pat_world.proofs.Rest.{EachLeft-end, EachLeft-members, EachLeft-more, EachLeft-place, EachLeft-room}
 use Rattle.pat_world.proofs.Rooms.{HasRoom-fewer}
-use Rattle.pat_world.proofs.Taking.{Took-weaker}
+use Rattle.pat_world.proofs.Taking.{Emits-weaker}
 use Rattle.pat_world.proofs.world.World.all_receive.Goals as goal
 
 pub member-requires : goal.member-requires
@@ -23,4 +23,4 @@ pub returns : goal.returns
 returns c =
     let few : length c.args.self.now.book.members ≤ most_members = omega (arith, c.self.invariant.0, ap (λ (b : Cluster). length b.book.members) c.self.view_is) in
     let over : length c.args.self.now.book.members ≤ c.loop-place.place = omega (arith, c.loop-place-test.false, c.len-place-end.ensures, ap (λ (b : Cluster). length b.book.members) c.self.view_is) in
-    Took-weaker _ _ _ _ _ _ receiving_cost (EachLeft-end _ _ _ _ _ _ _ _ c.loop-place.place c.loop-place.invariant over) (omega (arith, few))
+    Emits-weaker _ _ _ _ _ _ receiving_cost (EachLeft-end _ _ _ _ _ _ _ _ c.loop-place.place c.loop-place.invariant over) (omega (arith, few))

@@ -1,12 +1,12 @@
 use Rattle.std.proofs.Common.{arith}
 use Rattle.std.proofs.lemmas.Result.{on_ok_weaker}
-use Rattle.pat_world.specs.Next.{acknowledges, each, taken}
+use Rattle.pat_world.specs.Next.{acknowledge_events, each, step_events}
 use Rattle.pat_world.specs.Room.{step_cost}
-use Rattle.pat_world.proofs.Taking.{Took-then}
+use Rattle.pat_world.proofs.Taking.{Emits-then}
 use Rattle.pat_world.proofs.world.World.play.Goals as goal
 
 pub returns-clause-took : goal.returns-clause-took
 returns-clause-took c =
     on_ok_weaker c.acknowledge_all.result
-    (λ took. Took-then c.args.self.now c.take.new.self c.acknowledge_all.new.self _ _ _ (taken c.args.self.now c.args.step.now) (λ later. each acknowledges later later.book.members) step_cost 0 step_cost c.in_ok-take.ensures took (omega arith))
-    c.acknowledge_all.ensures.took
+    (λ took. Emits-then c.args.self.now c.perform.new.self c.acknowledge_all.new.self _ _ _ (step_events c.args.self.now c.args.step.now) (λ later. each acknowledge_events later later.book.members) step_cost 0 step_cost c.in_ok-perform.ensures took (omega arith))
+    c.acknowledge_all.ensures.emits

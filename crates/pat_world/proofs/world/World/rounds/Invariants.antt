@@ -1,9 +1,9 @@
 use Rattle.std.proofs.Common.{◌-◌, ◌*◌}
-use Rattle.pat_world.specs.Next.{rounds}
+use Rattle.pat_world.specs.Next.{rounds_events}
 use Rattle.pat_world.specs.Room.{most_rounds, round_cost, rounds_cost}
 use Rattle.pat_world.proofs.Rest.{Left}
 use Rattle.pat_world.proofs.world.World.rounds.Given as goal
 
 -- so many rounds may still follow
 abbrev pub invariant-loop-done : goal.invariant-loop-done
-invariant-loop-done l = Left l.fn.self l.self l.fn.events.items l.events.items (rounds l.fn.self most_rounds) (rounds l.self (most_rounds - l.done)) rounds_cost (round_cost * (most_rounds - l.done))
+invariant-loop-done l = Left l.fn.self l.self l.fn.events.items l.events.items (rounds_events l.fn.self most_rounds) (rounds_events l.self (most_rounds - l.done)) rounds_cost (round_cost * (most_rounds - l.done))

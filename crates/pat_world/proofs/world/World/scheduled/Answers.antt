@@ -1,9 +1,9 @@
 use Rattle.std.proofs.Common.{◌+◌, arith}
 use Rattle.std.proofs.lemmas.Result.{on_ok_weaker}
-use Rattle.pat_world.specs.Next.{each, receives_all, rounds}
+use Rattle.pat_world.specs.Next.{each, receive_events_of, rounds_events}
 use Rattle.pat_world.specs.Room.{most_rounds, receiving_cost, rounds_cost, schedule_cost}
 use Rattle.pat_world.proofs.Rooms.{HasRoom-fewer}
-use Rattle.pat_world.proofs.Taking.{Took-then}
+use Rattle.pat_world.proofs.Taking.{Emits-then}
 use Rattle.pat_world.proofs.world.World.scheduled.Goals as goal
 
 pub all_receive-requires : goal.all_receive-requires
@@ -15,6 +15,6 @@ rounds-requires c = (c.in_ok-all_receive.ensures).room rounds_cost (HasRoom-fewe
 pub returns : goal.returns
 returns c =
     on_ok_weaker c.rounds.result
-    (λ took. Took-then c.args.self.now c.all_receive.new.self c.rounds.new.self _ _ _ (each receives_all c.args.self.now c.args.self.now.book.members) (λ later. rounds later most_rounds)
+    (λ took. Emits-then c.args.self.now c.all_receive.new.self c.rounds.new.self _ _ _ (each receive_events_of c.args.self.now c.args.self.now.book.members) (λ later. rounds_events later most_rounds)
     receiving_cost rounds_cost schedule_cost c.in_ok-all_receive.ensures took (omega arith))
     c.rounds.ensures

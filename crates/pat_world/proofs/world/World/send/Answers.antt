@@ -4,8 +4,8 @@ use Rattle.lease_store.specs.Answers.{present_pairs}
 use Rattle.event_book.specs.Flight.{grant_for, snapshot_for}
 use Rattle.pat_world.specs.Cluster.{Cluster}
 use Rattle.pat_world.specs.Launches.{launched_into}
-use Rattle.pat_world.specs.Next.{sends}
-use Rattle.pat_world.specs.Took.{Took}
+use Rattle.pat_world.specs.Next.{send_events}
+use Rattle.pat_world.specs.Emits.{Emits}
 use Rattle.pat_world.proofs.Sending.{send-took, loaded-is, with_flight}
 use Rattle.pat_world.proofs.Settling.{kept-sent}
 use Rattle.pat_world.proofs.Worlds.{seen}
@@ -32,10 +32,10 @@ returns c =
     let message = c.args.message in
     let grant = c.requires.grant ∙ ap (λ (f : Cluster). grant_for message.body message.to f.book.keys.revision) (sym c.self.view_is) in
     let told = c.in_ok-snapshot_for.ensures ∙ ap (λ (f : Cluster). snapshot_for message.body (present_pairs f.book.clock f.book.keys.pairs)) (sym c.self.view_is) in
-    let loaded = loaded-is before message c.in_ok-copy.field-0 c.in_ok-snapshot_for.field-0.items c.args.grant c.in_ok-copy.ensures told grant in
+    let loaded = loaded-is before message c.in_ok-try_clone.field-0 c.in_ok-snapshot_for.field-0.items c.args.grant c.in_ok-try_clone.ensures told grant in
     let after = with_flight before c.launch.new.self (before.book.sent + 1) in
     on_ok_weaker c.note_lost.result
-    (λ has. subst (λ (b : Cluster). Took b after c.args.events.now.items c.note_lost.new.events.items (sends b message) 2) c.self.view_is
+    (λ has. subst (λ (b : Cluster). Emits b after c.args.events.now.items c.note_lost.new.events.items (send_events b message) 2) c.self.view_is
     (send-took before after message c.self.inside.clock c.launch.new.self c.in_ok-lost.lost c.args.events.now.items c.note.new.events.items c.note_lost.new.events.items refl
     (c.in_ok-lost.ensures.flight ∙ ap (λ m. launched_into before.book.flight (before.book.sent + 1) m) loaded)
     c.in_ok-lost.ensures.lost refl c.in_ok-note.ensures has))

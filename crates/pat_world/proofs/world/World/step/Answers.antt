@@ -4,4 +4,4 @@ use Rattle.pat_world.proofs.Standing.{step-stands}
 use Rattle.pat_world.proofs.world.World.step.Goals as goal
 
 pub returns-else-is_err-clause-book : goal.returns-else-is_err-clause-book
-returns-else-is_err-clause-book c = on_ok_weaker c.play-taken.result (λ took start book stands. step-stands start book _ _ _ _ c.args.step.now step_cost stands took) c.play-taken.ensures.took
+returns-else-is_err-clause-book c = on_ok_weaker c.play-taken.result (λ took start book stands. step-stands start book _ _ _ _ c.args.step.now step_cost stands took) c.play-taken.ensures.emits

@@ -7,7 +7,7 @@ pub returns-in_err-print_events : goal.returns-in_err-print_events
 returns-in_err-print_events g c =
     let final = c.from_residual-in_err-print_events.result in
     let p = err_from_is_err_and final c.from_residual-in_err-print_events.ensures.1 in
-    Plays-step-stop final c.in_ok-step.ensures.took c.clear.ensures.items c.deref.ensures.value c.in_err-print_events.ensures (p.1 ∙ ap Err p.2)
+    Plays-step-stop final c.in_ok-step.ensures.emits c.clear.ensures.items c.deref.ensures.value c.in_err-print_events.ensures (p.1 ∙ ap Err p.2)
 
 pub returns : goal.returns
-returns g c = Plays-step c.in_ok-step.ensures.took c.clear.ensures.items c.deref.ensures.value c.traced_after-self.ensures c.in_ok-print_events.ensures
+returns g c = Plays-step c.in_ok-step.ensures.emits c.clear.ensures.items c.deref.ensures.value c.traced_after-self.ensures c.in_ok-print_events.ensures

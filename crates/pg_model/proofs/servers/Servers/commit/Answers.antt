@@ -2,8 +2,8 @@ use Rattle.std.proofs.Common.{◌≡◌, Some, false, true, arith, ap, rules, sy
 use Rattle.std.specs.Prelude.{slice_get}
 use Rattle.std.proofs.lemmas.Option.{slice_get_read}
 use Rattle.pg_model.specs.Servers.{entry_at}
-use Rattle.pg_model.specs.InStep.{standing_of, IsBehind}
-use Rattle.pg_model.proofs.Clusters.{committed, seen-at, moved-at}
+use Rattle.pg_model.specs.InStep.{log_position_of, IsBehind}
+use Rattle.pg_model.proofs.Clusters.{committed, without_spare-at, moved-at}
 use Rattle.pg_model.proofs.Sights.{behind-after_entry}
 use Rattle.pg_model.proofs.servers.Servers.commit.Goals as goal
 
@@ -14,13 +14,13 @@ pub invariant_of-self-2 : goal.invariant_of-self-2
 invariant_of-self-2 c =
     let found : slice_get c.self.inside.servers.items c.args.place ≡ Some c.index_mut-server.result.now = slice_get_read c.self.inside.servers.items c.len.result c.args.place c.index_mut-server.result.now (search rules) (omega arith) c.index_mut-server.ensures.value in
     moved-at c.self.inside.in_step.items c.self.inside.servers.items c.args.place c.index_mut-server.result.now c.commit_entry.new.server false c.self.invariant found
-    (subst (λ s. IsBehind (standing_of c.index_mut-server.result.now) (standing_of s)) (sym c.in_ok-entry.ensures.ok) (behind-after_entry (entry_at (Some c.index_mut-server.result.now) c.args.serial c.args.bytes) c.index_mut-server.result.now))
+    (subst (λ s. IsBehind (log_position_of c.index_mut-server.result.now) (log_position_of s)) (sym c.in_ok-entry.ensures.ok) (behind-after_entry (entry_at (Some c.index_mut-server.result.now) c.args.serial c.args.bytes) c.index_mut-server.result.now))
     (λ e. absurd (no e))
 
 pub returns-clause-entry : goal.returns-clause-entry
 returns-clause-entry c =
     let found : slice_get c.self.inside.servers.items c.args.place ≡ Some c.index_mut-server.result.now = slice_get_read c.self.inside.servers.items c.len.result c.args.place c.index_mut-server.result.now (search rules) (omega arith) c.index_mut-server.ensures.value in
-    sym c.in-Some.is ∙ c.in_ok-entry.ensures.entry ∙ sym (ap (λ s. entry_at s c.args.serial c.args.bytes) (seen-at _ _ _ _ c.self.view_is found))
+    sym c.in-Some.is ∙ c.in_ok-entry.ensures.entry ∙ sym (ap (λ s. entry_at s c.args.serial c.args.bytes) (without_spare-at _ _ _ _ c.self.view_is found))
 
 pub returns-in_default-clause-ok : goal.returns-in_default-clause-ok
 returns-in_default-clause-ok c =

@@ -1,19 +1,19 @@
 use Rattle.std.proofs.Common.{◌≡◌, map, ap, sym, subst, ◌∙◌, rules}
 use Rattle.std.specs.Vec.{with_items}
 use Rattle.std.proofs.lemmas.List.{with_items_is}
-use Rattle.pg_model.specs.Servers.{seen, quietly_ticked}
-use Rattle.pg_model.specs.InStep.{standing_of, MarksHold}
-use Rattle.pg_model.proofs.Rounds.{seen-ticked, standing-ticked}
+use Rattle.pg_model.specs.Servers.{without_spare, ticked_unless_live}
+use Rattle.pg_model.specs.InStep.{log_position_of, MarksHold}
+use Rattle.pg_model.proofs.Rounds.{without_spare-ticked, log_position-ticked}
 use Rattle.pg_model.proofs.servers.Servers.tick.Goals as goal
 
 pub invariant_of-self : goal.invariant_of-self
 invariant_of-self c =
     let items : (with_items c.self.inside.servers c.tick_all.new.servers).items ≡ c.tick_all.new.servers = with_items_is c.self.inside.servers c.tick_all.new.servers (search rules) in
-    let after : c.tick_all.new.servers ≡ map (quietly_ticked c.args.now) c.self.inside.servers.items = c.tick_all.ensures ∙ ap (map (quietly_ticked c.args.now)) c.deref_mut.ensures.value in
-    subst (MarksHold c.self.inside.in_step.items) (sym (ap (map standing_of) (items ∙ after) ∙ standing-ticked c.args.now c.self.inside.servers.items)) c.self.invariant
+    let after : c.tick_all.new.servers ≡ map (ticked_unless_live c.args.now) c.self.inside.servers.items = c.tick_all.ensures ∙ ap (map (ticked_unless_live c.args.now)) c.deref_mut.ensures.value in
+    subst (MarksHold c.self.inside.in_step.items) (sym (ap (map log_position_of) (items ∙ after) ∙ log_position-ticked c.args.now c.self.inside.servers.items)) c.self.invariant
 
 pub returns : goal.returns
 returns c =
     let items : (with_items c.self.inside.servers c.tick_all.new.servers).items ≡ c.tick_all.new.servers = with_items_is c.self.inside.servers c.tick_all.new.servers (search rules) in
-    let after : c.tick_all.new.servers ≡ map (quietly_ticked c.args.now) c.self.inside.servers.items = c.tick_all.ensures ∙ ap (map (quietly_ticked c.args.now)) c.deref_mut.ensures.value in
-    ap (map seen) (items ∙ after) ∙ seen-ticked c.args.now c.self.inside.servers.items ∙ ap (map (quietly_ticked c.args.now)) c.self.view_is
+    let after : c.tick_all.new.servers ≡ map (ticked_unless_live c.args.now) c.self.inside.servers.items = c.tick_all.ensures ∙ ap (map (ticked_unless_live c.args.now)) c.deref_mut.ensures.value in
+    ap (map without_spare) (items ∙ after) ∙ without_spare-ticked c.args.now c.self.inside.servers.items ∙ ap (map (ticked_unless_live c.args.now)) c.self.view_is

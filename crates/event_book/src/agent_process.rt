@@ -1,0 +1,10 @@
+//! What a book leaves of an agent.
+
+/// Whether the agent of a member runs, whether it is held, and the number of its run, which is 1 at first and grows by
+/// one with each start. Only an agent that runs is held.
+#[derive(Clone, Copy, Debug, PartialEq, Eq)]
+pub struct AgentProcess {
+    pub running: bool,
+    pub suspended: bool,
+    pub run: u64,
+}
