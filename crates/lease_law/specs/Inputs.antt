@@ -154,6 +154,7 @@ pub record MayCarry (s : State) (input : AgentInput) (agent : Agent) (carried : 
   -- its members are known from then on, and asked later
   pub known : (p : ℕ) → carried p ≡ true → agent.known p ≡ true
 
+-- what a renewal owes for a set that it carries; without one it owes nothing
 abbrev pub MayCarryIf : State → AgentInput → Agent → Option (ℕ → Bool) → Type 0
 MayCarryIf s input agent None = Unit {0}
 MayCarryIf s input agent (Some carried) = MayCarry s input agent carried
