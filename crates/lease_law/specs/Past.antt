@@ -66,7 +66,7 @@ pub record Past : Type 0 where
   pub runs : ℕ → ℕ
   pub writes : ℕ → Bool
 
--- the leader key after a granted question of this member at a moment, under the next revision
+-- the leader key after a renewal granted at this moment, if there is the key
 abbrev pub extended_by : ℕ → ℕ → ℕ → Option LeaderKey → Option LeaderKey
 extended_by clock revision ttl None = None
 extended_by clock revision ttl (Some key) = Some (renewed clock revision ttl key)

@@ -78,7 +78,7 @@ is_ready (Some agent) = agent.ready
 abbrev pub Acts : Machine → Type 0
 Acts machine = (machine.live ≡ true) ⊎ (is_ready machine.agent ≡ true)
 
--- a tick: due watchdogs reset their machines, the leader key expires, and stops of servers are completed
+-- a watchdog with this deadline resets its machine at this moment
 abbrev pub is_due : ℕ → Option ℕ → Bool
 is_due now None = false
 is_due now (Some deadline) = nat_le deadline now
