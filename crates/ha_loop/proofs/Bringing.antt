@@ -1,5 +1,5 @@
 -- An input without a grant brings an agent nothing of the leader key, and its server no power to write.
-use Rattle.std.proofs.Common.{◌≡◌, ℕ, Bool, true, false, Option, Some, None, List, refl, sym, subst, ◌∙◌}
+use Rattle.std.proofs.Common.{◌≡◌, ℕ, true, false, Option, Some, None, List, refl, sym, subst, ◌∙◌}
 use Rattle.pat_base.specs.declared.member_id.MemberId.{MemberId}
 use Rattle.pat_base.specs.declared.ticks.Ticks.{Ticks}
 use Rattle.pat_base.specs.ServerState.{live}
@@ -16,7 +16,7 @@ use Rattle.ha_loop.specs.Powers.{BringsNothing, lease_of, leads, is_ready}
 use Rattle.ha_loop.specs.Snapshots.{leader_loses_key, stray_loses_key, renewing, follows, finds_free, creating, read_noted, got}
 use Rattle.ha_loop.specs.Wake.{leader_out_of_reach, stray_out_of_reach, reading, turn_noted, overdue, turned, woken}
 use Rattle.ha_loop.proofs.Living.{no-way, stop-live, start-live, follow-live}
-use Rattle.ha_loop.proofs.Rows.{BeforeRows, before-by, OverdueRows, overdue-by, TurnRows, turn-by, wake-by, GotRows, got-by, RefusedRows, refused-by, follow-by, free-by}
+use Rattle.ha_loop.proofs.Rows.{before-by, overdue-by, turn-by, wake-by, got-by, refused-by, follow-by, free-by}
 
 none-some : {revision : ℕ} → ◌≡◌ {A = Option ℕ} None (Some revision) → ⊥
 none-some e = cc
@@ -33,7 +33,7 @@ ready-leads (Ending held why) e = e
 ready-leads Stray e = e
 
 -- the role stays
-same-role : (o after : Outcome) → after.role ≡ o.role → Lives o after → BringsNothing o after
+pub same-role : (o after : Outcome) → after.role ≡ o.role → Lives o after → BringsNothing o after
 same-role o after is lives = record {
   live = lives;
   leads = λ e. subst (λ (r : RoleFacts). leads r ≡ true) is e;
@@ -42,7 +42,7 @@ same-role o after is lives = record {
 }
 
 -- the agent rests without a lease
-no-lease : (o after : Outcome) → lease_of after.role ≡ None → leads after.role ≡ false → Lives o after → BringsNothing o after
+pub no-lease : (o after : Outcome) → lease_of after.role ≡ None → leads after.role ≡ false → Lives o after → BringsNothing o after
 no-lease o after none rests lives = record {
   live = lives;
   leads = λ e. absurd (no-way (sym rests ∙ e));

@@ -1,5 +1,5 @@
 -- After what comes before an input the role fits the server.
-use Rattle.std.proofs.Common.{◌≡◌, ℕ, Bool, true, false, refl}
+use Rattle.std.proofs.Common.{◌≡◌, ℕ, false}
 use Rattle.pat_base.specs.declared.ticks.Ticks.{Ticks}
 use Rattle.pat_base.specs.ServerState.{live}
 use Rattle.ha_loop.specs.declared.role.Why.{Why}
@@ -7,7 +7,7 @@ use Rattle.ha_loop.specs.declared.role.Why.TheVariants.{HandOver, Lost}
 use Rattle.ha_loop.specs.Agents.{Outcome}
 use Rattle.ha_loop.specs.Before.{has_ended, before}
 use Rattle.ha_loop.specs.Fits.{Fits}
-use Rattle.ha_loop.proofs.Rows.{BeforeRows, before-by}
+use Rattle.ha_loop.proofs.Rows.{before-by}
 
 abbrev FitsIn : Outcome → Type 0
 FitsIn o = Fits o.role (live o.machine.server.state)

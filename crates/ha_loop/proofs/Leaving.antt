@@ -1,10 +1,9 @@
 -- What an input without a grant does to the watchdog and the hold.
-use Rattle.std.proofs.Common.{◌≡◌, ℕ, Bool, true, false, Option, Some, None, List, refl, sym, subst, ◌∙◌, inl, inr, ◌⊎◌}
+use Rattle.std.proofs.Common.{◌≡◌, ℕ, true, false, List, refl, sym, ◌∙◌, inl, inr}
 use Rattle.pat_base.specs.declared.member_id.MemberId.{MemberId}
 use Rattle.pat_base.specs.declared.ticks.Ticks.{Ticks}
 use Rattle.pat_base.specs.ServerState.{live}
 use Rattle.wal_model.specs.declared.entry.HistoryPoint.{HistoryPoint}
-use Rattle.leader_key.specs.Watchdog.{WatchdogFacts}
 use Rattle.cluster_config.specs.Snapshots.{SnapshotFacts}
 use Rattle.ha_loop.specs.declared.role.Why.{Why}
 use Rattle.ha_loop.specs.declared.role.Why.TheVariants.{HandOver, Lost}
@@ -12,13 +11,13 @@ use Rattle.ha_loop.specs.Acting.{touching}
 use Rattle.ha_loop.specs.Agents.{RoleFacts, Follower, Ready, Outcome}
 use Rattle.ha_loop.specs.Before.{leader_finds_ended, has_ended, stray_finds_ended, before}
 use Rattle.ha_loop.specs.Decisions.{refused}
-use Rattle.ha_loop.specs.Powers.{BringsNothing, DeadlineMay, LeavesMachine, Acts, is_ready}
+use Rattle.ha_loop.specs.Powers.{BringsNothing, LeavesMachine, Acts, is_ready}
 use Rattle.ha_loop.specs.Powers.DeadlineMay.{Kept, Removed, Undone}
 use Rattle.ha_loop.specs.Snapshots.{follows, finds_free, read_noted, got}
 use Rattle.ha_loop.specs.Wake.{overdue, turned, woken}
-use Rattle.ha_loop.proofs.Bringing.{overdue-brings, turn-brings, got-brings, refused-brings, brings-then}
+use Rattle.ha_loop.proofs.Bringing.{overdue-brings, turn-brings, got-brings, refused-brings}
 use Rattle.ha_loop.proofs.Living.{no-way}
-use Rattle.ha_loop.proofs.Rows.{BeforeRows, before-by, OverdueRows, overdue-by, TurnRows, turn-by, wake-by, GotRows, got-by, RefusedRows, refused-by, follow-by, free-by}
+use Rattle.ha_loop.proofs.Rows.{before-by, overdue-by, turn-by, wake-by, got-by, refused-by, follow-by, free-by}
 
 -- neither changes
 record Stays (o after : Outcome) : Type 0 where

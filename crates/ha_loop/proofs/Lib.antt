@@ -4,3 +4,4 @@ pub mod Fitting
 pub mod Living
 pub mod Bringing
 pub mod Leaving
+pub mod Granting

@@ -1,5 +1,6 @@
 -- The rows of the decision table, one by one: what holds of each row that applies holds of the whole.
 use Rattle.std.proofs.Common.{◌≡◌, ℕ, ◌==◌, ◌&&◌, nat_le, Bool, true, false, if◌then◌else◌, Option, Some, None, List, refl, subst}
+use Rattle.lease_store.specs.declared.granted.Granted.{Granted}
 use Rattle.wal_model.specs.declared.entry.HistoryPoint.{HistoryPoint}
 use Rattle.cluster_config.specs.declared.snapshot.LeaderEntry.{LeaderEntry}
 use Rattle.cluster_config.specs.Snapshots.{SnapshotFacts, leader_in}
@@ -15,10 +16,10 @@ use Rattle.ha_loop.specs.declared.role.Why.{Why}
 use Rattle.ha_loop.specs.Acting.{disarming, waiting_no_more, touching, starting_replica, following_server, is_held}
 use Rattle.ha_loop.specs.Agents.{RoleFacts, Follower, Holder, Ready, Leader, Ending, Stray, Outcome}
 use Rattle.ha_loop.specs.Before.{leader_finds_ended, has_ended, finds_live, stray_finds_ended, before_as, before}
-use Rattle.ha_loop.specs.Decisions.{may_create, is_decision, follower_for, create_refused, renewal_refused, refused_as, refused_for, refused}
+use Rattle.ha_loop.specs.Decisions.{may_create, leader_renewed, stray_renewed, takes_key, lease_granted, belongs, accepted_grant, is_lease_of, granted_for, granted, is_decision, follower_for, renewal_refused, refused_as, refused_for, refused}
 use Rattle.ha_loop.specs.Fits.{Fits}
-use Rattle.ha_loop.specs.Snapshots.{leader_loses_key, stray_loses_key, renewing, finds_own_key, own_key, starts_behind, is_upstream, follow_row, follows, others_key, creating, free_in, finds_free, no_key, led, is_active, awaits_read, read_noted, accepted, got}
-use Rattle.ha_loop.specs.Wake.{is_due, has_turn, leader_out_of_reach, stray_out_of_reach, out_of_reach_as, out_of_reach, unanswered, overdue_for, overdue, is_stopping, reading, turn_noted, turn_as, turn_begins, turned, woken}
+use Rattle.ha_loop.specs.Snapshots.{leader_loses_key, stray_loses_key, renewing, finds_own_key, own_key, starts_behind, is_upstream, follow_row, follows, others_key, creating, free_in, finds_free, no_key, led, is_active, awaits_read, read_noted, informed, accepted, got}
+use Rattle.ha_loop.specs.Wake.{is_due, has_turn, leader_out_of_reach, stray_out_of_reach, out_of_reach_as, unanswered, overdue_for, overdue, is_stopping, reading, turn_noted, turn_as, turn_begins, turned, woken}
 
 pub if-cases : {A : Type 0} (P : A → Type 0) (test : Bool) (x y : A) → (test ≡ true → P x) → (test ≡ false → P y) → P (if test then x else y)
 if-cases P true x y yes-case no-case = yes-case refl
@@ -204,3 +205,32 @@ free-by P now states.Creating o kept starts creates = kept
 free-by P now (states.Starting as_primary at) o kept starts creates = kept
 free-by P now states.Primary o kept starts creates = kept
 free-by P now (states.Stopping was_primary at) o kept starts creates = kept
+
+-- the lease of a request that was granted
+pub record GrantRows (P : Outcome → Type 0) (now ttl : Ticks) (revision : ℕ) (o : Outcome) : Type 0 where
+  pub other : P o
+  pub leader : (held : ℕ) → o.role ≡ Leader held → P (leader_renewed now ttl revision o)
+  pub stray : o.role ≡ Stray → P (stray_renewed now ttl revision o)
+  pub takes : may_create o.role ≡ true → P (takes_key now ttl revision o)
+
+lease-granted : (P : Outcome → Type 0) (now ttl : Ticks) (revision : ℕ) (role : RoleFacts) (o : Outcome) → o.role ≡ role → GrantRows P now ttl revision o → P (lease_granted now ttl revision role o)
+lease-granted P now ttl revision (Leader held) o is rows = rows.leader held is
+lease-granted P now ttl revision Stray o is rows = rows.stray is
+lease-granted P now ttl revision Follower o is rows = rows.takes (rw is refl)
+lease-granted P now ttl revision (Holder held) o is rows = rows.takes (rw is refl)
+lease-granted P now ttl revision (Ready held) o is rows = rows.other
+lease-granted P now ttl revision (Ending held why) o is rows = rows.other
+
+granted-for : (P : Outcome → Type 0) (now : Ticks) (sequence : ℕ) (grant : Granted) (snapshot : SnapshotFacts) (waited : Option Waited) (o : Outcome) → o.knows.waited ≡ waited → P o → P (waiting_no_more o)
+    → ((asked : Waited) → o.knows.waited ≡ Some asked → GrantRows P now asked.ttl grant.revision (record o { knows = informed snapshot o.knows })) → P (granted_for now sequence grant snapshot waited o)
+granted-for P now sequence grant snapshot None o is kept quiet rows = kept
+granted-for P now sequence grant snapshot (Some waited) o is kept quiet rows =
+    if-cases P (is_decision waited sequence && is_lease_of o.knows.who.me grant) (accepted_grant now waited grant.revision snapshot o) o
+    (λ _. if-cases P (belongs waited.question o.role) (lease_granted now waited.ttl grant.revision o.role (record o { knows = informed snapshot o.knows })) (waiting_no_more o)
+    (λ _. lease-granted P now waited.ttl grant.revision o.role (record o { knows = informed snapshot o.knows }) refl (rows waited is)) (λ _. quiet))
+    (λ _. kept)
+
+-- a request was granted
+pub granted-by : (P : Outcome → Type 0) (now : Ticks) (sequence : ℕ) (grant : Granted) (snapshot : SnapshotFacts) (o : Outcome) → P o → P (waiting_no_more o)
+    → ((asked : Waited) → o.knows.waited ≡ Some asked → GrantRows P now asked.ttl grant.revision (record o { knows = informed snapshot o.knows })) → P (granted now sequence grant snapshot o)
+granted-by P now sequence grant snapshot o kept quiet rows = granted-for P now sequence grant snapshot o.knows.waited o refl kept quiet rows

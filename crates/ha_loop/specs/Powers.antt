@@ -1,8 +1,11 @@
 -- What an agent has of the leader key, and what an input brings it of that.
 use Rattle.std.specs.Prelude.{ℕ, ◌≡◌, ◌⊎◌, Bool, true, false, Option, Some, None}
 use Rattle.pat_base.specs.ServerState.{live}
-use Rattle.leader_key.specs.Watchdog.{WatchdogFacts}
-use Rattle.ha_loop.specs.Agents.{RoleFacts, Follower, Holder, Ready, Leader, Ending, Stray, Outcome}
+use Rattle.pat_base.specs.declared.ticks.Ticks.{Ticks}
+use Rattle.leader_key.specs.Watchdog.{fed}
+use Rattle.ha_loop.specs.declared.knowledge.Waited.{Waited}
+use Rattle.ha_loop.specs.Acting.{is_held, is_refusing}
+use Rattle.ha_loop.specs.Agents.{RoleFacts, Holder, Ready, Leader, Ending, Outcome}
 
 -- the revision of the lease that an agent has
 abbrev pub lease_of : RoleFacts → Option ℕ
@@ -45,3 +48,12 @@ pub data DeadlineMay (o after : Outcome) : Type 0 where
 pub record LeavesMachine (o after : Outcome) : Type 0 where
   pub deadline : DeadlineMay o after
   pub hold : after.machine.hold ≡ o.machine.hold
+
+-- what a granted request may bring an agent: nothing; or the lease of its revision, on which the watchdog is fed for the span that
+-- was asked for, if this member needs one then with a device that works. Whose server wasn't live has no active hold
+pub data GrantMay (now : Ticks) (revision : ℕ) (o after : Outcome) : Type 0 where
+  Nothing : (brings : BringsNothing o after) → (same : after.machine.watchdog ≡ o.machine.watchdog) → GrantMay now revision o after
+  Leads : (waited : Waited) → (is : o.knows.waited ≡ Some waited) → (fed : after.machine.watchdog ≡ fed now.0 waited.ttl.0 o.machine.watchdog) → (lease : lease_of after.role ≡ Some revision) → (unready : is_ready after.role ≡ false)
+      → (free : live after.machine.server.state ≡ true → (live o.machine.server.state ≡ true) ⊎ (is_held now o.machine.hold ≡ false))
+      → (armed : live after.machine.server.state ≡ true → (live o.machine.server.state ≡ true) ⊎ (is_refusing o.machine.watchdog.mode o.machine.watchdog.works ≡ false))
+      → GrantMay now revision o after

@@ -10,7 +10,7 @@ use crate::decisions::{granted, refused};
 use crate::role::Role;
 use crate::snapshots::got;
 use crate::wake::{is_due, wake};
-use crate::{CaughtUp, Knowledge, Machine, Outputs, Who};
+use crate::{Heard, Knowledge, Machine, Outputs, Who};
 use cluster_config::{AgentView, RoleWord};
 use lease_store::{Config, OperatorAction};
 use pat_base::{MemberSet, Ticks};
@@ -66,7 +66,7 @@ impl Agent {
     pub fn step(
         self,
         now: Ticks,
-        heard: CaughtUp,
+        heard: Heard,
         history: &History,
         machine: &mut Machine,
         out: &mut Outputs,
@@ -186,7 +186,7 @@ fn hear(
     machine: &mut Machine,
     out: &mut Outputs,
     now: Ticks,
-    heard: CaughtUp,
+    heard: Heard,
     history: &History,
 ) -> Role
     requires moment { now.0 ≤ latest }
@@ -200,12 +200,12 @@ fn hear(
     ensures room { out.old.spare ≤ out.new.spare + 40 }
 {
     match heard {
-        CaughtUp::Wake => wake(role, knows, machine, out, now),
-        CaughtUp::Got { sequence, snapshot } => {
+        Heard::Wake => wake(role, knows, machine, out, now),
+        Heard::Got { sequence, snapshot } => {
             let role = before(role, knows, machine, out, now);
             got(role, knows, machine, out, now, history, sequence, snapshot)
         }
-        CaughtUp::Granted {
+        Heard::Granted {
             sequence,
             granted: grant,
             snapshot,
@@ -213,7 +213,7 @@ fn hear(
             let role = before(role, knows, machine, out, now);
             granted(role, knows, machine, out, now, sequence, grant, snapshot)
         }
-        CaughtUp::Mismatch { sequence, .. } => {
+        Heard::Mismatch { sequence, .. } => {
             let role = before(role, knows, machine, out, now);
             refused(role, knows, machine, out, now, sequence)
         }

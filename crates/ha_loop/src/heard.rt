@@ -5,7 +5,7 @@ use lease_store::{Expected, Granted, Key};
 
 /// What comes to an agent: a wake, or an answer of the key store to the question of this number in its run.
 #[derive(Debug, Drop)]
-pub enum CaughtUp {
+pub enum Heard {
     Wake,
     /// What the key store held when it answered.
     Got {

@@ -2,6 +2,7 @@
 ghost use Rattle.std.specs.Prelude.{ℕ, List};
 ghost use Rattle.pat_base.specs.declared.ticks.Ticks.{Ticks};
 ghost use Rattle.pat_base.specs.ServerState.{live};
+ghost use Rattle.lease_store.specs.declared.granted.Granted.{Granted};
 ghost use Rattle.lease_store.specs.declared.key.Key.{Key};
 ghost use Rattle.lease_store.specs.declared.txn.Expected.{Expected};
 ghost use Rattle.wal_model.specs.declared.entry.HistoryPoint.{HistoryPoint};
@@ -10,7 +11,7 @@ ghost use Rattle.ha_loop.specs.declared.heard.Heard.TheVariants as heard;
 ghost use Rattle.ha_loop.specs.Agents.{Outcome};
 ghost use Rattle.ha_loop.specs.Before.{before};
 ghost use Rattle.ha_loop.specs.Fits.{Fits};
-ghost use Rattle.ha_loop.specs.Powers.{BringsNothing, LeavesMachine};
+ghost use Rattle.ha_loop.specs.Powers.{BringsNothing, GrantMay, LeavesMachine};
 ghost use Rattle.ha_loop.specs.Table.{step, act};
 
 /// What comes before an input makes the role fit the server: nobody is about to lead, or follows, whose server is live, and
@@ -35,4 +36,10 @@ pub fn only_a_grant_sets_deadlines()
     ensures read { (now : Ticks) (points : List HistoryPoint) (sequence : ℕ) (snapshot : SnapshotFacts) (o : Outcome) → LeavesMachine o (step now points (heard.Got sequence snapshot) o) }
     ensures refusal { (now : Ticks) (points : List HistoryPoint) (sequence : ℕ) (key : Key) (found : Expected) (o : Outcome) → LeavesMachine o (step now points (heard.Mismatch sequence key found) o) }
     ensures action { (now : Ticks) (o : Outcome) → LeavesMachine o (act now o) }
+{}
+
+/// A grant gives at most the lease of its revision, with the watchdog fed on it for the span that was asked for. A server becomes
+/// live by it only where no hold is active, and where the watchdog was armed or isn't needed.
+pub fn a_grant_feeds_the_watchdog()
+    ensures { (now : Ticks) (points : List HistoryPoint) (sequence : ℕ) (grant : Granted) (snapshot : SnapshotFacts) (o : Outcome) → GrantMay now grant.revision (before now o) (step now points (heard.Granted sequence grant snapshot) o) }
 {}

@@ -20,9 +20,12 @@ mod wake;
 mod who;
 
 pub use agent::Agent;
-pub use heard::CaughtUp;
+pub use heard::Heard;
 pub use knowledge::{Knowledge, Question, Waited};
-pub use laws::{only_a_grant_lets_lead, only_a_grant_sets_deadlines, role_fits_server};
+pub use laws::{
+    a_grant_feeds_the_watchdog, only_a_grant_lets_lead, only_a_grant_sets_deadlines,
+    role_fits_server,
+};
 pub use machine::Machine;
 pub use output::{Output, Target};
 pub use outputs::Outputs;

@@ -2,7 +2,7 @@
 ghost use Rattle.std.specs.Prelude.{◌≡◌};
 
 use crate::info::info_of;
-use crate::{Agent, CaughtUp, Machine, Output, Outputs, Who};
+use crate::{Agent, Heard, Machine, Output, Outputs, Who};
 use cluster_config::{RoleWord, Snapshot};
 use event_book::{Body, Reason};
 use leader_key::{Mode, Watchdog};
@@ -79,7 +79,7 @@ fn input(
     rt: &impl Abort,
     agent: Agent,
     at: Ticks,
-    heard: CaughtUp,
+    heard: Heard,
     history: &History,
     machine: &mut Machine,
     out: &mut Outputs,
@@ -132,13 +132,13 @@ fn one_member(rt: HostRuntime) -> Result<(), Fail> {
         &rt,
         agent,
         Ticks(1),
-        CaughtUp::Wake,
+        Heard::Wake,
         &history,
         &mut machine,
         &mut out,
         &["read"],
     );
-    let got = CaughtUp::Got {
+    let got = Heard::Got {
         sequence: 1,
         snapshot: free,
     };
@@ -152,7 +152,7 @@ fn one_member(rt: HostRuntime) -> Result<(), Fail> {
         &mut out,
         &["create"],
     );
-    let grant = CaughtUp::Granted {
+    let grant = Heard::Granted {
         sequence: 2,
         granted,
         snapshot: held,
@@ -172,7 +172,7 @@ fn one_member(rt: HostRuntime) -> Result<(), Fail> {
         &rt,
         agent,
         Ticks(100),
-        CaughtUp::Wake,
+        Heard::Wake,
         &history,
         &mut machine,
         &mut out,
@@ -182,13 +182,13 @@ fn one_member(rt: HostRuntime) -> Result<(), Fail> {
         &rt,
         agent,
         Ticks(101),
-        CaughtUp::Wake,
+        Heard::Wake,
         &history,
         &mut machine,
         &mut out,
         &["read"],
     );
-    let got = CaughtUp::Got {
+    let got = Heard::Got {
         sequence: 3,
         snapshot: read,
     };
@@ -206,7 +206,7 @@ fn one_member(rt: HostRuntime) -> Result<(), Fail> {
         &rt,
         agent,
         Ticks(201),
-        CaughtUp::Wake,
+        Heard::Wake,
         &history,
         &mut machine,
         &mut out,
@@ -216,7 +216,7 @@ fn one_member(rt: HostRuntime) -> Result<(), Fail> {
         &rt,
         agent,
         Ticks(202),
-        CaughtUp::Wake,
+        Heard::Wake,
         &history,
         &mut machine,
         &mut out,
