@@ -33,10 +33,12 @@ pub record IsRead (entries : List (Key × KeyEntry)) : Type 0 where
 abbrev pub held_in : Key → SnapshotFacts → Option KeyEntry
 held_in key snapshot = find key_cmp key snapshot.entries
 
+-- who leads, by a value that was written to the leader key at this revision
 abbrev pub leader_by : ℕ → Value → Option LeaderEntry
 leader_by revision (values.Leader member) = Some (record { holder = member; revision = revision })
 leader_by revision _ = None
 
+-- who leads, by what is held at the leader key
 abbrev pub leader_held : Option KeyEntry → Option LeaderEntry
 leader_held None = None
 leader_held (Some held) = leader_by held.revision held.value
@@ -45,10 +47,12 @@ leader_held (Some held) = leader_by held.revision held.value
 abbrev pub leader_in : SnapshotFacts → Option LeaderEntry
 leader_in snapshot = leader_held (held_in keys.Leader snapshot)
 
+-- what a value of the configuration sets, or these settings where it is none
 abbrev pub settings_by : Config → Value → Config
 settings_by settings (values.Config config) = config.config
 settings_by settings _ = settings
 
+-- what is set by what is held at the configuration's key, or these settings where nothing is held
 abbrev pub settings_held : Config → Option KeyEntry → Config
 settings_held settings None = settings
 settings_held settings (Some held) = settings_by settings held.value
@@ -57,10 +61,12 @@ settings_held settings (Some held) = settings_by settings held.value
 abbrev pub settings_in : Config → SnapshotFacts → Config
 settings_in settings snapshot = settings_held settings (held_in keys.Config snapshot)
 
+-- the members that a value of the failsafe key lists
 abbrev pub failsafe_by : Value → Option MemberSet
 failsafe_by (values.Failsafe members) = Some members
 failsafe_by _ = None
 
+-- the members listed by what is held at the failsafe key
 abbrev pub failsafe_held : Option KeyEntry → Option MemberSet
 failsafe_held None = None
 failsafe_held (Some held) = failsafe_by held.value

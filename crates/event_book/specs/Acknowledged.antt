@@ -16,6 +16,7 @@ abbrev pub acknowledged_after : List ℕ → EventKind → List ℕ
 acknowledged_after told (kinds.Replication (replications.Acknowledged server commit)) = told ++ commit ∷ []
 acknowledged_after told _ = told
 
+-- the commits of which one event says that they are acknowledged: one, or none
 abbrev pub acknowledged_of : EventKind → List ℕ
 acknowledged_of (kinds.Replication (replications.Acknowledged server commit)) = commit ∷ []
 acknowledged_of _ = []

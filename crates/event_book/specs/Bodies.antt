@@ -5,6 +5,7 @@ use Rattle.lease_store.specs.Words.{kind_text}
 use Rattle.event_book.specs.declared.message.Body.{Body}
 use Rattle.event_book.specs.declared.message.Body.TheVariants as bodies
 
+-- the kind of a message in a word or two
 abbrev pub body_text : Body → List ℕ
 body_text bodies.Read = codes "read"
 body_text (bodies.Request txn) = kind_text (txn_kind_of txn)

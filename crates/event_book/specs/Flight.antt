@@ -34,6 +34,7 @@ snapshot_for bodies.Snapshot present = present
 snapshot_for (bodies.Granted request leased) present = present
 snapshot_for _ present = []
 
+-- the grant of this revision, for an answer to this end of a link; no grant is told to the key store
 abbrev pub grant_to : LinkEnd → ℕ → Bool → Option Granted
 grant_to link_ends.Store revision leased = None
 grant_to (link_ends.Member member) revision leased = Some (record { revision = revision; by = member.id; leased = leased })
@@ -55,6 +56,7 @@ launched now known message = record {
 abbrev pub in_flight : Flight → ℕ → Option InFlightFacts
 in_flight flight number = lookup (is_at (nat_cmp number)) flight
 
+-- the messages in flight, but for the one of this number
 abbrev pub without_message : Flight → ℕ → Flight
 without_message flight number = remove_entry (is_at (nat_cmp number)) flight
 
@@ -69,6 +71,7 @@ abbrev pub flight_after : ℕ → Keys → Flight → EventKind → Flight
 flight_after now known flight (kinds.Message happening) = flight_by now known flight happening
 flight_after now known flight _ = flight
 
+-- the number of the message that was sent last, after what happens to one
 abbrev pub sent_by : ℕ → MessageEvent → ℕ
 sent_by last (Sent number message) = number
 sent_by last _ = last

@@ -13,6 +13,7 @@ abbrev pub end_number : LinkEnd → ℕ
 end_number Store = 16
 end_number (Member member) = member.id.number
 
+-- how lines name an end of a link: as the store, or by the member's name
 abbrev pub end_text : LinkEnd → List ℕ
 end_text Store = codes "store"
 end_text (Member member) = name_bytes member.name

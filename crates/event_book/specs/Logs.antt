@@ -18,10 +18,12 @@ Logs = List (Option (List Entry))
 abbrev pub logs_in : List ServerFacts → Logs
 logs_in servers = map (λ s. s.log) servers
 
+-- the logs after the next entries of another server's log came to the end of one; without such a server all are as before
 abbrev pub log_received : Logs → ℕ → ℕ → Option (Option (List Entry)) → Logs
 log_received known number count None = known
 log_received known number count (Some theirs) = changed_by known number (λ log. Some (received (entries_of log) (entries_of theirs) count))
 
+-- the logs after one became a copy of another server's; without such a server all are as before
 abbrev pub log_copied : Logs → ℕ → Option (Option (List Entry)) → Logs
 log_copied known number None = known
 log_copied known number (Some theirs) = changed_by known number (λ log. theirs)
@@ -35,6 +37,7 @@ logs_by known (logs.Rewound server from kept at) = changed_by known server.id.nu
 logs_by known (logs.Copied server from) = log_copied known server.id.number (slice_get known from.id.number)
 logs_by known (logs.Wiped server) = changed_by known server.id.number (λ log. None)
 
+-- the logs after an event
 abbrev pub logs_after : Logs → EventKind → Logs
 logs_after known (kinds.Log happening) = logs_by known happening
 logs_after known _ = known

@@ -8,6 +8,7 @@ use Rattle.pat_base.specs.declared.server_id.ServerId.{ServerId}
 use Rattle.event_book.specs.declared.member.Member.{Member}
 use Rattle.event_book.specs.declared.member.ServerOf.{ServerOf}
 
+-- these members behind one of this number and name; a number that no member may have adds none
 abbrev pub put_first : Option MemberId → Name → List Member → List Member
 put_first None name members = members
 put_first (Some id) name members = record { id = id; name = name } ∷ members

@@ -37,6 +37,7 @@ own_note_line tick (notes.RunsWithoutKey member) = Some (decimal tick ++ (codes 
 own_note_line tick (notes.StaysByFailsafe member) = Some (decimal tick ++ (codes " " ++ (name_bytes member.name ++ codes " stays primary by failsafe\n")))
 own_note_line tick note = reply_line tick note
 
+-- the line of a note
 abbrev pub note_line : ℕ → Note → Option (List ℕ)
 note_line tick (notes.EndsServer member reason) =
     Some (decimal tick ++ (codes " " ++ (name_bytes member.name ++ (codes " ends its server: " ++ (reason_text reason ++ codes "\n")))))

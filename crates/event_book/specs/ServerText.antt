@@ -17,10 +17,12 @@ use Rattle.event_book.specs.declared.event.WatchdogEvent.TheVariants as watchdog
 use Rattle.event_book.specs.Listing.{listed}
 use Rattle.event_book.specs.Traced.{traced}
 
+-- the line of a new deadline for the watchdog of the member of this name, which it has only while messages are traced
 abbrev pub fed_line : Bool → ℕ → List ℕ → ℕ → Option (List ℕ)
 fed_line trace tick name until =
     traced trace (decimal tick ++ (codes " " ++ (name ++ (codes " feeds its watchdog until " ++ (decimal until ++ codes "\n")))))
 
+-- the line of what happens to a watchdog, if it has one
 abbrev pub watchdog_line : Bool → ℕ → WatchdogEvent → Option (List ℕ)
 watchdog_line trace tick (watchdogs.Armed member until answer) =
     Some (decimal tick ++ (codes " " ++ (name_bytes member.name ++ (codes " arms its watchdog until " ++ (decimal until.0 ++ codes "\n")))))
@@ -39,6 +41,7 @@ own_server_line tick (servers.Frozen server) = Some (decimal tick ++ (codes " " 
 own_server_line tick (servers.Thawed server) = Some (decimal tick ++ (codes " " ++ (name_bytes server.name ++ codes " is thawed\n")))
 own_server_line tick _ = None
 
+-- the line of what happens to a server, if it has one
 abbrev pub server_line : ℕ → ServerEvent → Option (List ℕ)
 server_line tick (servers.Began server timeline) =
     Some (decimal tick ++ (codes " " ++ (name_bytes server.name ++ (codes " accepts writes on timeline " ++ (decimal timeline ++ codes "\n")))))
@@ -48,6 +51,7 @@ server_line tick (servers.Diverged server upstream at) =
     Some (decimal tick ++ (codes " " ++ (name_bytes server.name ++ (codes " diverges from " ++ (name_bytes upstream.name ++ (codes " at " ++ (lsn_text at.position ++ codes "\n")))))))
 server_line tick event = own_server_line tick event
 
+-- the line of what happens to a log, if it has one
 abbrev pub log_line : ℕ → LogEvent → Option (List ℕ)
 log_line tick (logs.Appended server entry) =
     Some (decimal tick ++ (codes " commit " ++ (decimal entry.serial ++ (codes " of " ++ (decimal entry.bytes ++ (codes " bytes on " ++ (name_bytes server.name ++ codes "\n")))))))
@@ -64,6 +68,7 @@ required_line tick name AnyOne names = Some (decimal tick ++ (codes " " ++ (name
 required_line tick name (All members) names =
     Some (decimal tick ++ (codes " " ++ (name ++ (codes " requires " ++ (listed (codes "no standby") names ++ codes "\n")))))
 
+-- the line of what happens in synchronous replication, if it has one
 abbrev pub replication_line : ℕ → ReplicationEvent → Option (List ℕ)
 replication_line tick (replications.RequiredSet server required names) = required_line tick (name_bytes server.name) required names
 replication_line tick (replications.Confirmed server by end) = None

@@ -39,10 +39,12 @@ servers_by now known (servers.Diverged server upstream at) = changed_by known se
 servers_by now known (servers.Slowed server stop start) = changed_by known server.id.number (delayed stop start)
 servers_by now known _ = known
 
+-- the servers after one received so many entries from another; without such another all are as before
 abbrev pub received_by : List ServerFacts → ℕ → ℕ → Option ServerFacts → List ServerFacts
 received_by known number count None = known
 received_by known number count (Some upstream) = changed_by known number (λ s. received_from count s upstream)
 
+-- the servers after the log of one became a copy of another's; without such another all are as before
 abbrev pub copied_by : List ServerFacts → ℕ → Option ServerFacts → List ServerFacts
 copied_by known number None = known
 copied_by known number (Some source) = changed_by known number (λ s. record s { log = source.log })
@@ -55,6 +57,7 @@ servers_by_log known (logs.Rewound server from kept at) = changed_by known serve
 servers_by_log known (logs.Copied server from) = copied_by known server.id.number (slice_get known from.id.number)
 servers_by_log known (logs.Wiped server) = changed_by known server.id.number (λ s. record s { log = None })
 
+-- the servers after what happens in synchronous replication
 abbrev pub servers_by_replication : List ServerFacts → ReplicationEvent → List ServerFacts
 servers_by_replication known (replications.RequiredSet server required names) = changed_by known server.id.number (requiring required)
 servers_by_replication known (replications.Confirmed server by end) = changed_by known server.id.number (confirming by.id end)

@@ -27,6 +27,7 @@ granted_line tick name (txns.SetSync revision sync members) standbys =
 granted_line tick name (txns.DropSync revision sync) standbys = Some (decimal tick ++ (codes " " ++ (name ++ codes " removes the sync key\n")))
 granted_line tick name txn standbys = request_line tick name txn
 
+-- the line of what happens at the key store, if it has one
 abbrev pub store_line : ℕ → StoreEvent → Option (List ℕ)
 store_line tick (stores.Granted number by txn standbys) = granted_line tick (name_bytes by.name) txn standbys
 store_line tick (stores.Refused number by request key found) =

@@ -18,12 +18,14 @@ use Rattle.event_book.specs.ServerText.{watchdog_line, server_line, log_line, re
 use Rattle.event_book.specs.StoreText.{store_line}
 use Rattle.event_book.specs.Traced.{traced}
 
+-- the line of what happens to a message, which it has only while messages are traced
 abbrev pub message_line : Bool → ℕ → MessageEvent → Option (List ℕ)
 message_line trace tick (messages.Sent number message) =
     traced trace (decimal tick ++ (codes " message " ++ (decimal number ++ (codes " from " ++ (end_text message.from ++ (codes " to " ++ (end_text message.to ++ (codes ": " ++ (body_text message.body ++ codes "\n")))))))))
 message_line trace tick (messages.Delivered number) = traced trace (decimal tick ++ (codes " message " ++ (decimal number ++ codes " is delivered\n")))
 message_line trace tick (messages.Lost number) = traced trace (decimal tick ++ (codes " message " ++ (decimal number ++ codes " is lost\n")))
 
+-- the line of what happens to an agent, if it has one
 abbrev pub agent_line : ℕ → AgentEvent → Option (List ℕ)
 agent_line tick (agents.Suspended agent) = Some (decimal tick ++ (codes " " ++ (name_bytes agent.name ++ codes " is held\n")))
 agent_line tick (agents.Resumed agent) = Some (decimal tick ++ (codes " " ++ (name_bytes agent.name ++ codes " resumes\n")))
@@ -31,10 +33,12 @@ agent_line tick (agents.Killed agent) = Some (decimal tick ++ (codes " " ++ (nam
 agent_line tick (agents.Started agent run) = Some (decimal tick ++ (codes " " ++ (name_bytes agent.name ++ codes " is started\n")))
 agent_line tick _ = None
 
+-- the line of what happens to a link
 abbrev pub link_line : ℕ → LinkEvent → Option (List ℕ)
 link_line tick (links.Cut link) = Some (decimal tick ++ (codes " " ++ (end_text link.first ++ (codes " and " ++ (end_text link.second ++ codes " are cut\n")))))
 link_line tick (links.Joined link) = Some (decimal tick ++ (codes " " ++ (end_text link.first ++ (codes " and " ++ (end_text link.second ++ codes " are joined\n")))))
 
+-- the line of what happens at this moment, if it has one
 abbrev pub kind_line : Bool → ℕ → EventKind → Option (List ℕ)
 kind_line trace tick kinds.Tick = None
 kind_line trace tick (kinds.Message happening) = message_line trace tick happening
@@ -51,6 +55,7 @@ kind_line trace tick (kinds.Note note) = note_line tick note
 abbrev pub line_of : Bool → Event → Option (List ℕ)
 line_of trace event = kind_line trace event.tick.0 event.kind
 
+-- the bytes of a line, or none where there is no line
 abbrev pub bytes_or_none : Option (List ℕ) → List ℕ
 bytes_or_none None = []
 bytes_or_none (Some line) = line

@@ -11,6 +11,7 @@ use Rattle.event_book.specs.declared.event.WatchdogEvent.{WatchdogEvent}
 use Rattle.event_book.specs.declared.event.WatchdogEvent.TheVariants as watchdogs
 use Rattle.event_book.specs.Functions.{put_at}
 
+-- whether there is such a server, and it accepts writes by its state
 abbrev pub writes_now : Option ServerFacts → Bool
 writes_now None = false
 writes_now (Some s) = writes s.state
@@ -31,11 +32,13 @@ abbrev pub writes_by_watchdog : (ℕ → Bool) → WatchdogEvent → ℕ → Boo
 writes_by_watchdog writes (watchdogs.Reset member) = put_at writes member.id.number false
 writes_by_watchdog writes _ = writes
 
+-- which servers accept writes after an event
 abbrev pub writes_after : (ℕ → Bool) → EventKind → ℕ → Bool
 writes_after writes (kinds.Server happening) = writes_by_server writes happening
 writes_after writes (kinds.Watchdog happening) = writes_by_watchdog writes happening
 writes_after writes _ = writes
 
+-- which servers accept writes after these events
 abbrev pub writes_over : (ℕ → Bool) → List Event → ℕ → Bool
 writes_over writes [] = writes
 writes_over writes (event ∷ events) = writes_over (writes_after writes event.kind) events
@@ -54,6 +57,7 @@ abbrev pub BeginsServer : (ℕ → Type 0) → ServerEvent → Type 0
 BeginsServer P (servers.Began server timeline) = P server.id.number
 BeginsServer P _ = Unit {0}
 
+-- this holds of the server that begins in this happening, if one does
 abbrev pub BeginsKind : (ℕ → Type 0) → EventKind → Type 0
 BeginsKind P (kinds.Server happening) = BeginsServer P happening
 BeginsKind P _ = Unit {0}

@@ -1,7 +1,7 @@
 //! What a book leaves of an agent.
 
-/// Whether the agent of a member runs, whether it is held, and the number of its run, which is 1 at first and grows by
-/// one with each start. Only an agent that runs is held.
+/// Whether the agent of a member runs, whether it is suspended, and the number of its run, which is 1 at first and grows
+/// by one with each start. Only an agent that runs is suspended.
 #[derive(Clone, Copy, Debug, PartialEq, Eq)]
 pub struct AgentProcess {
     pub running: bool,

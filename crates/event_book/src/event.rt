@@ -5,7 +5,7 @@ use lease_store::{Bar, Expected, Key, OperatorAction, Txn, TxnKind};
 use pat_base::{Lsn, Name, Required, Ticks};
 use wal_model::Entry;
 
-/// A happening, at a moment.
+/// A happening, at a moment in ticks of 100 ms.
 #[derive(Debug, Drop)]
 pub struct Event {
     pub tick: Ticks,
@@ -42,7 +42,7 @@ pub enum MessageEvent {
 /// What happens at the key store.
 #[derive(Debug, Drop)]
 pub enum StoreEvent {
-    /// The request that this message carries was granted. `replicas` are the names that a sync write publishes.
+    /// The request that this message carries was granted. `standbys` are the names that a sync write publishes.
     Granted {
         number: u64,
         by: Member,
@@ -261,6 +261,7 @@ pub enum Note {
     DisablesWatchdog {
         member: Member,
     },
+    /// The member's agent ends its server for this reason.
     EndsServer {
         member: Member,
         reason: Reason,

@@ -43,7 +43,7 @@ pub enum Body {
     Ask,
     /// An agent's answer to `Ask`.
     Answer(PeerAnswer),
-    /// To another agent, by a leader that can't reach the store: may I stay primary for `ttl` from now on?
+    /// To another agent, by a leader that can't reach the store: may I stay primary for `ttl` ticks from now on?
     FailsafeRequest {
         ttl: Ticks,
     },

@@ -8,7 +8,7 @@ use pat_base::Name;
 use std::alloc::AllocError;
 use std::cmp::Ordering;
 
-/// Puts a name at its place among names in order, where it isn't there.
+/// Puts a name at its place among names in order, where it isn't there. It fails only for want of memory.
 pub fn put_name(names: &mut Vec<Name>, name: Name) -> Result<(), AllocError>
     ensures { OnOk result (names.new.items ≡ insert_key name_cmp names.old.items name) }
 {

@@ -85,12 +85,14 @@ impl Model for Bytes {
 impl Bytes {
     ghost use Rattle.std.specs.Prelude.{◌≡◌, string_bytes};
 
+    /// This text, to be printed as it stands.
     pub fn new(text: String) -> Bytes
         ensures { result ≡ string_bytes text }
     {
         Bytes { text }
     }
 
+    /// The text.
     pub fn as_str(&self) -> &str
         ensures { result.now ≡ self.now }
     {

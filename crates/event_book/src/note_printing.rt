@@ -8,6 +8,7 @@ use crate::{Bytes, Note};
 use pat_base::{Name, Ticks};
 use std::alloc::{AllocError, Global};
 
+/// The line of a note. It fails only for want of memory.
 pub fn note_line(alloc: Global, tick: Ticks, note: &Note) -> Result<Option<String>, AllocError>
     ensures { IfOk result (λ line. option_map string_bytes line ≡ note_line tick.0 note.now) }
 {

@@ -8,6 +8,7 @@ use crate::{LogEvent, Names, ReplicationEvent, ServerEvent, WatchdogEvent};
 use pat_base::{Name, Required, Ticks};
 use std::alloc::{AllocError, Global};
 
+/// The line of what happens to a watchdog, if it has one. It fails only for want of memory.
 pub fn watchdog_line(
     alloc: Global,
     trace: bool,
@@ -47,6 +48,7 @@ fn fed_line(
     Ok(Some(format!(in alloc; "{tick} {name} feeds its watchdog until {until}\n")?))
 }
 
+/// The line of what happens to a server, if it has one. It fails only for want of memory.
 pub fn server_line(
     alloc: Global,
     tick: Ticks,
@@ -112,6 +114,7 @@ fn own_server_line(
     }
 }
 
+/// The line of what happens to a log, if it has one. It fails only for want of memory.
 pub fn log_line(alloc: Global, tick: Ticks, event: &LogEvent) -> Result<Option<String>, AllocError>
     ensures { IfOk result (λ line. option_map string_bytes line ≡ log_line tick.0 event.now) }
 {
@@ -136,6 +139,7 @@ pub fn log_line(alloc: Global, tick: Ticks, event: &LogEvent) -> Result<Option<S
     }
 }
 
+/// The line of what happens in synchronous replication, if it has one. It fails only for want of memory.
 pub fn replication_line(
     alloc: Global,
     tick: Ticks,

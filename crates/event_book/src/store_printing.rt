@@ -9,6 +9,7 @@ use lease_store::Txn;
 use pat_base::{Name, Ticks};
 use std::alloc::{AllocError, Global};
 
+/// The line of what happens at the key store, if it has one. It fails only for want of memory.
 pub fn store_line(
     alloc: Global,
     tick: Ticks,

@@ -136,7 +136,7 @@ taken-cases m clock None taken P old new t is = old t is
 taken-cases m clock (Some failsafe_request) taken P old new t (inl e) = subst P e (new failsafe_request refl)
 taken-cases m clock (Some failsafe_request) taken P old new t (inr before) = old t before
 
--- what is begged for has a counted number
+-- a failsafe request that is waited for has a counted number
 counted-failsafe_request : (s : State) (m : ℕ) (input : AgentInput) (b : FailsafeCheck) → IsSound s → (law : IsLawful s m input) → law.agent.failsafe_check ≡ Some b → b.sequence ≤ law.agent.last
 counted-failsafe_request s m input b inv law is = elim (law.failsafe_check b is) [
   | inl g ↦ omega (arith, g.sequence, (inv.failsafe_check m law.was g.before law.was_is g.is).counted, law.last)

@@ -25,9 +25,11 @@ abbrev pub taken_by : ℕ → ℕ → Option FailsafeRequest → List Taking →
 taken_by member clock None taken = taken
 taken_by member clock (Some failsafe_request) taken = record { by = member; from = failsafe_request.member; run = failsafe_request.run; sequence = failsafe_request.sequence; moment = clock } ∷ taken
 
+-- the state with this machine in place of the member's own
 abbrev pub with_machine : State → ℕ → Machine → State
 with_machine s member machine = record s { members = put_at s.members member machine }
 
+-- the state after an input of this member's agent
 abbrev pub with_input : State → ℕ → AgentInput → State
 with_input s member input = record s { flight = input.flight; taken = taken_by member s.clock input.takes s.taken; members = put_at s.members member input.machine }
 
@@ -47,6 +49,7 @@ abbrev pub IsLawfulAction : State → Action → Type 0
 IsLawfulAction s (Input member input) = IsLawful s member input
 IsLawfulAction s _ = Unit {0}
 
+-- only inputs must be in time
 abbrev pub IsInTimeAction : State → Action → Type 0
 IsInTimeAction s (Input member input) = IsInTime s member input
 IsInTimeAction s _ = Unit {0}

@@ -21,9 +21,11 @@ AreAllowed declared book volatile_states [] = Unit {0}
 AreAllowed declared book volatile_states (transition ∷ transitions) =
     IsAllowed (state_of declared (past_of book) volatile_states) transition.action transition.events × (IsShown declared book volatile_states transition × AreAllowed declared (book ++ transition.events) transition.volatile_states transitions)
 
+-- before the first event: no server is live, and each agent is in its first run
 abbrev pub first_volatile_states : ℕ → VolatileState
 first_volatile_states m = first_volatile_state
 
+-- the book of a run: the events of its transitions, one after another
 abbrev pub book_of : List Transition → List Event
 book_of [] = []
 book_of (transition ∷ transitions) = transition.events ++ book_of transitions

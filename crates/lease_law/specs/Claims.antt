@@ -30,6 +30,7 @@ MayBeginBehind s (Tick stops) before n = (s.members n).live ≡ true
 MayBeginBehind s (Input m input) before n = (n ≡ m) × (Acts (s.members m) ⊎ MayBeginArmed s m input before)
 MayBeginBehind s _ before n = ⊥
 
+-- whoever begins in one of these events may begin behind those that stand before it
 abbrev pub BeginsBehind : (List Event → ℕ → Type 0) → List Event → List Event → Type 0
 BeginsBehind P before [] = Unit {0}
 BeginsBehind P before (event ∷ events) = BeginsKind (P before) event.kind × BeginsBehind P (before ++ event ∷ []) events
@@ -46,6 +47,7 @@ pub record IsLawfulTransition (s : State) (action : Action) (events : List Event
   pub begins : BeginsBehind (MayBeginBehind s action) [] events
   pub lives : (n : ℕ) → writes_over s.writes events n ≡ true → ((act s action).members n).live ≡ true
 
+-- each transition is lawful behind this book, and told by its events
 abbrev pub AreLawful : Declared → List Event → (ℕ → VolatileState) → List Transition → Type 0
 AreLawful declared book volatile_states [] = Unit {0}
 AreLawful declared book volatile_states (transition ∷ transitions) =

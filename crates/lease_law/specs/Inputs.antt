@@ -121,7 +121,7 @@ pub data WatchdogMay (s : State) (m : ℕ) (input : AgentInput) (was agent : Age
       → (acts : Acts input.machine → Acts (s.members m)) → WatchdogMay s m input was agent
   -- a deadline isn't removed from who acts: a server without one writes on while its lease ends and another begins
   Removed : (rests : Acts input.machine → ⊥) → WatchdogMay s m input was agent
-  -- nothing is begged for after a grant: acknowledgements of members that an older failsafe key listed would set a deadline after
+  -- no acknowledgement is waited for after a grant: acknowledgements of members that an older failsafe key listed would set a deadline after
   -- a newer key lists one that never held. And while its hold is active nobody comes to act: b acknowledges a, hears the grant of
   -- an older create, and begins while a writes by b's word
   SetByGrant : (fed : FedKnown s m input agent) → (is : input.machine.deadline ≡ Some fed.fed.deadline) → (none : agent.failsafe_check ≡ None)
@@ -149,11 +149,12 @@ pub record MayCarry (s : State) (input : AgentInput) (agent : Agent) (carried : 
   -- the deadline was set by a grant. Over one by acknowledgements the set could take in c, which holds nothing, creates the key
   -- at its expiry and begins
   pub by_grant : input.machine.by_failsafe ≡ false
-  -- nothing is begged for: the members of the set weren't asked
+  -- no acknowledgement is waited for: the members of the set weren't asked
   pub failsafe_check : agent.failsafe_check ≡ None
   -- its members are known from then on, and asked later
   pub known : (p : ℕ) → carried p ≡ true → agent.known p ≡ true
 
+-- what a renewal owes for a set that it carries; without one it owes nothing
 abbrev pub MayCarryIf : State → AgentInput → Agent → Option (ℕ → Bool) → Type 0
 MayCarryIf s input agent None = Unit {0}
 MayCarryIf s input agent (Some carried) = MayCarry s input agent carried

@@ -82,6 +82,7 @@ pub record Taking : Type 0 where
   pub sequence : ℕ
   pub moment : ℕ
 
+-- this hold is among those that were taken
 abbrev pub IsTaken : List Taking → Taking → Type 0
 IsTaken [] taking = ⊥
 IsTaken (one ∷ others) taking = (one ≡ taking) ⊎ IsTaken others taking

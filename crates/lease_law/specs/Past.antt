@@ -26,9 +26,11 @@ use Rattle.lease_law.specs.Leases.{LeaderKey, FailsafeKey, Query, Create, Renew,
 use Rattle.lease_law.specs.Outcomes.{seen_of, shown_if, failsafe_carried, renewed}
 use Rattle.lease_law.specs.States.{Agent, Machine, Declared, State, leader_kept, fresh_agent}
 
+-- who is in the set, by the numbers of members
 abbrev pub set_members : MemberSet → ℕ → Bool
 set_members set p = bit_at set.bits p == 1
 
+-- the same of a set that may be absent
 abbrev pub members_if : Option MemberSet → Option (ℕ → Bool)
 members_if None = None
 members_if (Some set) = Some (set_members set)
@@ -40,6 +42,7 @@ query_of (txns.Renew revision info ttl status row failsafe) = Renew revision ttl
 query_of (txns.Release revision) = Release revision
 query_of _ = Write
 
+-- the ttl that a create or a renewal asks for, in ticks; 0 for other questions
 abbrev pub lease_span : Query → ℕ
 lease_span (Create ttl expected) = ttl
 lease_span (Renew revision ttl carried) = ttl
@@ -63,30 +66,35 @@ pub record Past : Type 0 where
   pub runs : ℕ → ℕ
   pub writes : ℕ → Bool
 
--- the leader key after a granted question of this member at a moment, under the next revision
+-- the leader key after a renewal granted at this moment, if there is the key
 abbrev pub extended_by : ℕ → ℕ → ℕ → Option LeaderKey → Option LeaderKey
 extended_by clock revision ttl None = None
 extended_by clock revision ttl (Some key) = Some (renewed clock revision ttl key)
 
+-- the leader key after a granted question of this member: created, extended, released, or as it was
 abbrev pub leader_granted : ℕ → ℕ → Option LeaderKey → ℕ → Query → Option LeaderKey
 leader_granted clock revision leader by (Create ttl expected) = Some (record { holder = by; revision = revision + 1; expiry = clock + ttl })
 leader_granted clock revision leader by (Renew compared ttl carried) = extended_by clock (revision + 1) ttl leader
 leader_granted clock revision leader by (Release compared) = None
 leader_granted clock revision leader by _ = leader
 
+-- the leader key after an event
 abbrev pub leader_after : ℕ → ℕ → Option LeaderKey → EventKind → Option LeaderKey
 leader_after clock revision leader kinds.Tick = leader_kept (clock + 1) leader
 leader_after clock revision leader (kinds.Store (stores.Granted number by txn standbys)) = leader_granted clock revision leader by.id.number (query_of txn)
 leader_after clock revision leader _ = leader
 
+-- the failsafe key after a granted question: only a renewal may write it
 abbrev pub failsafe_granted : ℕ → Option FailsafeKey → Query → Option FailsafeKey
 failsafe_granted revision failsafe (Renew compared ttl carried) = failsafe_carried (revision + 1) carried failsafe
 failsafe_granted revision failsafe _ = failsafe
 
+-- the failsafe key after an event
 abbrev pub failsafe_after : ℕ → Option FailsafeKey → EventKind → Option FailsafeKey
 failsafe_after revision failsafe (kinds.Store (stores.Granted number by txn standbys)) = failsafe_granted revision failsafe (query_of txn)
 failsafe_after revision failsafe _ = failsafe
 
+-- the last granted revision, after an event
 abbrev pub revision_after : ℕ → EventKind → ℕ
 revision_after revision (kinds.Store (stores.Granted number by txn standbys)) = revision + 1
 revision_after revision _ = revision
@@ -96,6 +104,7 @@ abbrev pub grant_of : Bool → Past → Option Question → Option Grant
 grant_of true past (Some request) = Some (record { revision = past.revision; sent = request.sent; moment = past.clock; ttl = lease_span request.query; failsafe = past.failsafe })
 grant_of _ past _ = None
 
+-- an answer to this member: with a snapshot it shows the keys as they are, and it may tell a grant
 abbrev pub answer_of : Past → ℕ → ℕ → ℕ → Bool → Option Grant → Answer
 answer_of past member run sequence snapshot grant = record { member = member; run = run; sequence = sequence; leader = shown_if snapshot (seen_of past.leader); failsafe = shown_if snapshot past.failsafe; grant = grant }
 
@@ -125,31 +134,38 @@ flying_of past ends.Store (ends.Member member) run sequence body = answer_in_fli
 flying_of past (ends.Member by) (ends.Member member) run sequence body = peer_in_flight_of past by.id.number member.id.number run sequence body
 flying_of past ends.Store ends.Store run sequence body = None
 
+-- the questions so far, and the one that this message carries, if it is a question
 abbrev pub asked_with : (ℕ → Option Question) → ℕ → Option Flying → ℕ → Option Question
 asked_with asked number (Some (Requested request)) = put_at asked number (Some request)
 asked_with asked number _ = asked
 
+-- the messages in flight, after one is sent, delivered or lost
 abbrev pub past_flight_by : Past → MessageEvent → ℕ → Option Flying
 past_flight_by past (Sent number message) = put_at past.flight number (flying_of past message.from message.to message.run message.sequence message.body)
 past_flight_by past (Delivered number) = put_at past.flight number None
 past_flight_by past (Lost number) = put_at past.flight number None
 
+-- the questions so far, after a message is sent, delivered or lost
 abbrev pub asked_by : Past → MessageEvent → ℕ → Option Question
 asked_by past (Sent number message) = asked_with past.asked number (flying_of past message.from message.to message.run message.sequence message.body)
 asked_by past _ = past.asked
 
+-- the messages in flight, after an event
 abbrev pub past_flight_after : Past → EventKind → ℕ → Option Flying
 past_flight_after past (kinds.Message happening) = past_flight_by past happening
 past_flight_after past _ = past.flight
 
+-- the questions so far, after an event
 abbrev pub asked_after : Past → EventKind → ℕ → Option Question
 asked_after past (kinds.Message happening) = asked_by past happening
 asked_after past _ = past.asked
 
+-- the moment at which each message was sent, after an event
 abbrev pub moments_sent_after : ℕ → (ℕ → Option ℕ) → EventKind → ℕ → Option ℕ
 moments_sent_after clock sent (kinds.Message (Sent number message)) = put_at sent number (Some clock)
 moments_sent_after clock sent _ = sent
 
+-- the deadline of each watchdog, after one is armed, fed or disarmed, or resets its machine
 abbrev pub deadline_by : (ℕ → Option ℕ) → WatchdogEvent → ℕ → Option ℕ
 deadline_by deadline (watchdogs.Armed member until answer) = put_at deadline member.id.number (Some until.0)
 deadline_by deadline (watchdogs.Fed member until basis) = put_at deadline member.id.number (Some until.0)
@@ -157,35 +173,43 @@ deadline_by deadline (watchdogs.Disarmed member) = put_at deadline member.id.num
 deadline_by deadline (watchdogs.Reset member) = put_at deadline member.id.number None
 deadline_by deadline _ = deadline
 
+-- a watchdog is fed by acknowledgements of a failsafe request, and not by a grant
 abbrev pub is_acknowledged : Basis → Bool
 is_acknowledged (bases.Grant answer) = false
 is_acknowledged (bases.Acknowledgements members sequence) = true
 
+-- whose deadline acknowledgements set last, after a watchdog is armed or fed
 abbrev pub by_failsafe_by : (ℕ → Bool) → WatchdogEvent → ℕ → Bool
 by_failsafe_by by_failsafe (watchdogs.Armed member until answer) = put_at by_failsafe member.id.number false
 by_failsafe_by by_failsafe (watchdogs.Fed member until basis) = put_at by_failsafe member.id.number (is_acknowledged basis)
 by_failsafe_by by_failsafe _ = by_failsafe
 
+-- when the hold of each member ends, after one takes a hold, which never ends earlier than the one before
 abbrev pub hold_by : (ℕ → ℕ) → WatchdogEvent → ℕ → ℕ
 hold_by hold (watchdogs.HoldTaken member until from run sequence) = put_at hold member.id.number (max (hold member.id.number) until.0)
 hold_by hold _ = hold
 
+-- the deadline of each watchdog, after an event
 abbrev pub deadline_after : (ℕ → Option ℕ) → EventKind → ℕ → Option ℕ
 deadline_after deadline (kinds.Watchdog happening) = deadline_by deadline happening
 deadline_after deadline _ = deadline
 
+-- whose deadline acknowledgements set last, after an event
 abbrev pub by_failsafe_after : (ℕ → Bool) → EventKind → ℕ → Bool
 by_failsafe_after by_failsafe (kinds.Watchdog happening) = by_failsafe_by by_failsafe happening
 by_failsafe_after by_failsafe _ = by_failsafe
 
+-- when the hold of each member ends, after an event
 abbrev pub hold_after : (ℕ → ℕ) → EventKind → ℕ → ℕ
 hold_after hold (kinds.Watchdog happening) = hold_by hold happening
 hold_after hold _ = hold
 
+-- each hold that was taken, after an event
 abbrev pub taken_after : ℕ → List Taking → EventKind → List Taking
 taken_after clock taken (kinds.Watchdog (watchdogs.HoldTaken member until from run sequence)) = record { by = member.id.number; from = from.id.number; run = run; sequence = sequence; moment = clock } ∷ taken
 taken_after clock taken _ = taken
 
+-- the run of each agent, after an event
 abbrev pub runs_after : (ℕ → ℕ) → EventKind → ℕ → ℕ
 runs_after runs (kinds.Agent (agents.Started agent run)) = put_at runs agent.id.number run
 runs_after runs _ = runs
@@ -208,10 +232,12 @@ past_after past kind = record {
   writes = writes_after past.writes kind;
 }
 
+-- what a list of events leaves
 abbrev pub past_over : Past → List Event → Past
 past_over past [] = past
 past_over past (event ∷ events) = past_over (past_after past event.kind) events
 
+-- before the first event: there is no leader key and no failsafe key, nothing is in flight, and each agent is in its first run
 abbrev pub first_past : Past
 first_past = record {
   clock = 0;
@@ -238,9 +264,11 @@ pub record VolatileState : Type 0 where
   pub live : Bool
   pub agent : Option Agent
 
+-- before the first event: the server isn't live, and the agent is in its first run
 abbrev pub first_volatile_state : VolatileState
 first_volatile_state = record { live = false; agent = Some (fresh_agent 1) }
 
+-- the machine of a member, by the book and by what no event says of it
 abbrev pub machine_of : Past → VolatileState → ℕ → Machine
 machine_of past volatile_state m = record { live = volatile_state.live; deadline = past.deadline m; by_failsafe = past.by_failsafe m; hold = past.hold m; agent = volatile_state.agent; runs = past.runs m }
 

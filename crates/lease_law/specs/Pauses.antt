@@ -11,10 +11,12 @@ use Rattle.lease_store.specs.Kept.{IsKept}
 use Rattle.event_book.specs.Flight.{Flight}
 use Rattle.event_book.specs.Facts.{Facts}
 
+-- this value is no configuration that pauses the cluster
 abbrev pub IsUnpausedValue : Value → Type 0
 IsUnpausedValue (values.Config config) = config.config.pause ≡ false
 IsUnpausedValue _ = Unit {0}
 
+-- this key is absent, or holds no configuration that pauses the cluster
 abbrev pub IsUnpausedHeld : Option KeyEntry → Type 0
 IsUnpausedHeld None = Unit {0}
 IsUnpausedHeld (Some found_key) = IsUnpausedValue found_key.value
@@ -28,6 +30,7 @@ abbrev pub AreUnpaused : Flight → Type 0
 AreUnpaused [] = Unit {0}
 AreUnpaused (entry ∷ entries) = IsUnpausedIn entry.1.snapshot × AreUnpaused entries
 
+-- no configuration pauses the cluster: neither that of the key store nor that of a snapshot in flight
 pub record NobodyPauses (facts : Facts) : Type 0 where
   pub store : IsUnpausedIn facts.keys.pairs
   pub flight : AreUnpaused facts.flight

@@ -28,6 +28,7 @@ pub record Moments : Type 0 where
   pub taken : List Taking
   pub runs : ℕ → ℕ
 
+-- the moments that feeds are measured from, after an event
 abbrev pub moments_after : Moments → EventKind → Moments
 moments_after moments kind = record {
   clock = now_after moments.clock kind;
@@ -36,9 +37,11 @@ moments_after moments kind = record {
   runs = runs_after moments.runs kind;
 }
 
+-- before the first event: nothing was sent, no hold was taken, and each agent is in its first run
 abbrev pub first_moments : Moments
 first_moments = record { clock = 0; sent = λ i. None; taken = []; runs = λ m. 1 }
 
+-- a feed by an answer comes at most the margin after that answer was sent, if it was sent at all
 abbrev pub IsSentInTime : Option ℕ → ℕ → Option ℕ → Type 0
 IsSentInTime margin clock None = Unit {0}
 IsSentInTime margin clock (Some sent) = IsOnTime margin clock sent
@@ -50,15 +53,18 @@ IsFeedInTime margin moments m (bases.Grant answer) = IsSentInTime (margin m) mom
 IsFeedInTime margin moments m (bases.Acknowledgements members sequence) =
     (p moment : ℕ) → set_members members p ≡ true → IsTaken moments.taken (record { by = p; from = m; run = moments.runs m; sequence = sequence; moment = moment }) → IsOnTime (margin m) moments.clock moment
 
+-- where this event arms or feeds a watchdog, it does so in time
 abbrev pub IsWatchdogInTime : (ℕ → Option ℕ) → Moments → WatchdogEvent → Type 0
 IsWatchdogInTime margin moments (watchdogs.Armed member until answer) = IsFeedInTime margin moments member.id.number (bases.Grant answer)
 IsWatchdogInTime margin moments (watchdogs.Fed member until basis) = IsFeedInTime margin moments member.id.number basis
 IsWatchdogInTime margin moments _ = Unit {0}
 
+-- where this is an event of a watchdog that is armed or fed, that is in time
 abbrev pub IsKindInTime : (ℕ → Option ℕ) → Moments → EventKind → Type 0
 IsKindInTime margin moments (kinds.Watchdog happening) = IsWatchdogInTime margin moments happening
 IsKindInTime margin moments _ = Unit {0}
 
+-- each watchdog is armed and fed in time in these events
 abbrev pub AreInTime : (ℕ → Option ℕ) → Moments → List Event → Type 0
 AreInTime margin moments [] = Unit {0}
 AreInTime margin moments (event ∷ events) = IsKindInTime margin moments event.kind × AreInTime margin (moments_after moments event.kind) events
@@ -72,11 +78,13 @@ abbrev pub IsUnpaused : Txn → Type 0
 IsUnpaused (txns.SetConfig revision config) = config.config.pause ≡ false
 IsUnpaused _ = Unit {0}
 
+-- in this event no configuration that pauses is granted, and no operator promotes a server
 abbrev pub IsHandsOffKind : EventKind → Type 0
 IsHandsOffKind (kinds.Store (stores.Granted number by txn standbys)) = IsUnpaused txn
 IsHandsOffKind (kinds.Server (servers.Promoted server)) = ⊥
 IsHandsOffKind _ = Unit {0}
 
+-- in none of these events does anybody pause or promote by hand
 abbrev pub AreHandsOff : List Event → Type 0
 AreHandsOff [] = Unit {0}
 AreHandsOff (event ∷ events) = IsHandsOffKind event.kind × AreHandsOff events
@@ -99,6 +107,7 @@ abbrev pub KeepsMomentOf : ℕ → EventKind → Type 0
 KeepsMomentOf number (kinds.Message (messages.Sent other message)) = other ≡ number → ⊥
 KeepsMomentOf number kind = KeepsClockAndRuns kind
 
+-- the same holds of each of these events
 abbrev pub AllAre : (EventKind → Type 0) → List Event → Type 0
 AllAre P [] = Unit {0}
 AllAre P (event ∷ events) = P event.kind × AllAre P events

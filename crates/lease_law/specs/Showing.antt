@@ -23,6 +23,7 @@ use Rattle.lease_law.specs.Inputs.{AgentInput}
 use Rattle.lease_law.specs.Actions.{Action, Start, Kill, Crash, Note}
 use Rattle.lease_law.specs.Past.{Past, past_over, VolatileState, machine_of}
 
+-- an event of this member's watchdog or of its hold
 abbrev pub IsOwnWatchdog : ℕ → WatchdogEvent → Type 0
 IsOwnWatchdog m (watchdogs.Armed member until answer) = member.id.number ≡ m
 IsOwnWatchdog m (watchdogs.Fed member until basis) = member.id.number ≡ m
@@ -56,6 +57,7 @@ granted_events tick number answer by run sequence txn standbys =
     ∷ record { tick = tick; kind = kinds.Message (messages.Sent answer (record { from = ends.Store; to = ends.Member by; run = run; sequence = sequence; body = bodies.Granted number (is_lease txn) })) }
     ∷ []
 
+-- the events of one delivery to the key store, of a request that is refused
 abbrev pub refused_events : Ticks → ℕ → ℕ → Member → ℕ → ℕ → TxnKind → Key → Expected → List Event
 refused_events tick number answer by run sequence request key found =
     record { tick = tick; kind = kinds.Message (messages.Delivered number) }
@@ -63,6 +65,7 @@ refused_events tick number answer by run sequence request key found =
     ∷ record { tick = tick; kind = kinds.Message (messages.Sent answer (record { from = ends.Store; to = ends.Member by; run = run; sequence = sequence; body = bodies.Refused number key found })) }
     ∷ []
 
+-- the events of one delivery to the key store, of a read
 abbrev pub read_events : Ticks → ℕ → ℕ → Member → ℕ → ℕ → List Event
 read_events tick number answer by run sequence =
     record { tick = tick; kind = kinds.Message (messages.Delivered number) }

@@ -54,6 +54,7 @@ pub record Declared : Type 0 where
   pub margin : ℕ → Option ℕ
   pub failsafe : Bool
 
+-- the state of a cluster, as far as the lease needs it
 pub record State : Type 0 where
   pub declared : Declared
   pub clock : ℕ
@@ -68,6 +69,7 @@ pub record State : Type 0 where
   pub members : ℕ → Machine
   pub writes : ℕ → Bool
 
+-- the agent runs, and is Ready
 abbrev pub is_ready : Option Agent → Bool
 is_ready None = false
 is_ready (Some agent) = agent.ready
@@ -76,16 +78,18 @@ is_ready (Some agent) = agent.ready
 abbrev pub Acts : Machine → Type 0
 Acts machine = (machine.live ≡ true) ⊎ (is_ready machine.agent ≡ true)
 
--- a tick: due watchdogs reset their machines, the leader key expires, and stops of servers are completed
+-- a watchdog with this deadline resets its machine at this moment
 abbrev pub is_due : ℕ → Option ℕ → Bool
 is_due now None = false
 is_due now (Some deadline) = nat_le deadline now
 
+-- a machine after a tick: reset where its watchdog is due, and its server not live where its stop is complete
 abbrev pub tick_machine : Bool → Bool → Machine → Machine
 tick_machine true stops machine = record machine { live = false; deadline = None; agent = None }
 tick_machine false true machine = record machine { live = false }
 tick_machine false false machine = machine
 
+-- the leader key, if it hasn't expired
 abbrev pub kept_if : Bool → LeaderKey → Option LeaderKey
 kept_if true key = None
 kept_if false key = Some key
@@ -95,6 +99,7 @@ abbrev pub leader_kept : ℕ → Option LeaderKey → Option LeaderKey
 leader_kept now None = None
 leader_kept now (Some key) = kept_if (nat_le key.expiry now) key
 
+-- the state after a tick, in which the stops of these servers are completed
 abbrev pub state_after_tick : State → (ℕ → Bool) → State
 state_after_tick s stops = record s {
   clock = s.clock + 1;
@@ -102,10 +107,12 @@ state_after_tick s stops = record s {
   members = λ m. tick_machine (is_due (s.clock + 1) (s.members m).deadline) (stops m) (s.members m);
 }
 
+-- the deadline, if the server is live over which the agent starts
 abbrev pub deadline_if : Bool → Option ℕ → Option ℕ
 deadline_if true deadline = deadline
 deadline_if false deadline = None
 
+-- an agent at the beginning of its run: it waits for nothing, and knows nothing
 abbrev pub fresh_agent : ℕ → Agent
 fresh_agent run = record { run = run; last = 0; waits = None; lease = None; ready = false; leads = false; leader = None; failsafe = None; known = λ p. false; informed = false; failsafe_check = None }
 
@@ -113,8 +120,10 @@ fresh_agent run = record { run = run; last = 0; waits = None; lease = None; read
 abbrev pub start_machine : Machine → Machine
 start_machine machine = record machine { deadline = deadline_if machine.live machine.deadline; agent = Some (fresh_agent (machine.runs + 1)); runs = machine.runs + 1 }
 
+-- a kill ends the agent, and leaves its server and the deadline
 abbrev pub kill_machine : Machine → Machine
 kill_machine machine = record machine { agent = None }
 
+-- a crash ends the server, and leaves its agent and the deadline
 abbrev pub crash_machine : Machine → Machine
 crash_machine machine = record machine { live = false }

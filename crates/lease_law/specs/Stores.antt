@@ -19,18 +19,22 @@ use Rattle.lease_law.specs.Leases.{LeaderKey, FailsafeKey, Query, Create, Renew,
 use Rattle.lease_law.specs.Outcomes.{Outcome, refused_outcome}
 use Rattle.lease_law.specs.Past.{Past, set_members, leader_granted, failsafe_granted}
 
+-- the leader key with this value, revision and expiry, if the value is one of a leader key
 abbrev pub leader_value : Value → ℕ → Option Ticks → Option LeaderKey
 leader_value (values.Leader member) revision (Some expiry) = Some (record { holder = member.number; revision = revision; expiry = expiry.0 })
 leader_value _ revision _ = None
 
+-- the leader key as the key store has it
 abbrev pub leader_key_of : Option KeyEntry → Option LeaderKey
 leader_key_of None = None
 leader_key_of (Some found_key) = leader_value found_key.value found_key.revision found_key.expiry
 
+-- the failsafe key with this value and revision, if the value is one of a failsafe key
 abbrev pub failsafe_value : Value → ℕ → Option FailsafeKey
 failsafe_value (values.Failsafe members) revision = Some (record { revision = revision; members = set_members members })
 failsafe_value _ revision = None
 
+-- the failsafe key as the key store has it
 abbrev pub failsafe_key_of : Option KeyEntry → Option FailsafeKey
 failsafe_key_of None = None
 failsafe_key_of (Some found_key) = failsafe_value found_key.value found_key.revision
@@ -40,10 +44,12 @@ abbrev pub IsLeased : Option KeyEntry → Type 0
 IsLeased None = Unit {0}
 IsLeased (Some found_key) = IsSome found_key.expiry
 
+-- the key is absent, or has no expiry
 abbrev pub IsEndless : Option KeyEntry → Type 0
 IsEndless None = Unit {0}
 IsEndless (Some found_key) = found_key.expiry ≡ None
 
+-- a create asks for a lease of at least one tick
 abbrev pub IsSpannedTxn : Txn → Type 0
 IsSpannedTxn (txns.Create info ttl failsafe sync) = 0 < ttl.0
 IsSpannedTxn _ = Unit {0}
@@ -80,6 +86,7 @@ granted_outcome clock leader failsafe revision by sent query = record {
   grant = lease_given clock (revision + 1) (failsafe_granted revision failsafe query) sent query;
 }
 
+-- the key store grants what it was asked for
 abbrev pub is_granted : Decision → Bool
 is_granted Granting = true
 is_granted (Refusing key found) = false

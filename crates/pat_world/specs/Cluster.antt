@@ -27,10 +27,12 @@ agent_states_by now agent_states (agents.Woken agent) = with_member_changed agen
 agent_states_by now agent_states (agents.Started agent run) = with_member_changed agent_states agent (λ agent_state. fresh_agent_state (now + 1))
 agent_states_by now agent_states _ = agent_states
 
+-- the agents after a message came to this receiver: the agent of a member acts on it, and none does at the store
 abbrev pub agent_states_reached_at : ℕ → List AgentState → InFlightFacts → LinkEnd → List AgentState
 agent_states_reached_at now agent_states message link_ends.Store = agent_states
 agent_states_reached_at now agent_states message (link_ends.Member member) = with_member_changed agent_states member (λ agent_state. (message_reaction now member.id message agent_state).agent_state)
 
+-- the agents after this message came to its receiver; where none was in flight, all are as before
 abbrev pub agent_states_by_message : ℕ → List AgentState → Option InFlightFacts → List AgentState
 agent_states_by_message now agent_states None = agent_states
 agent_states_by_message now agent_states (Some message) = agent_states_reached_at now agent_states message message.message.to

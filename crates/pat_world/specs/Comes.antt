@@ -24,14 +24,17 @@ abbrev pub CountsMessage : ℕ → MessageEvent → Type 0
 CountsMessage sent (messages.Sent number message) = number ≤ sent + 1
 CountsMessage sent _ = Unit {0}
 
+-- an agent that starts is at most in the run after its last one
 abbrev pub CountsAgent : List AgentProcess → AgentEvent → Type 0
 CountsAgent states (agents.Started agent run) = (state : AgentProcess) → slice_get states agent.id.number ≡ Some state → run ≤ state.run + 1
 CountsAgent states _ = Unit {0}
 
+-- a commit has at most the next number
 abbrev pub CountsLog : ℕ → LogEvent → Type 0
 CountsLog last (logs.Appended server entry) = entry.serial ≤ last + 1
 CountsLog last _ = Unit {0}
 
+-- what a happening counts up, it counts up by one at most
 abbrev pub Counts : Cluster → EventKind → Type 0
 Counts cluster (kinds.Message happening) = CountsMessage cluster.book.sent happening
 Counts cluster (kinds.Agent happening) = CountsAgent cluster.book.agents happening
@@ -59,6 +62,7 @@ abbrev pub LogComes : List ServerFacts → LogEvent → Type 0
 LogComes known (logs.Appended server entry) = entry_for known server.id.number entry.serial entry.bytes ≡ Some entry
 LogComes known _ = ⊥
 
+-- required lists and confirmations come. That a commit is acknowledged doesn't come in this way
 abbrev pub ReplicationComes : ReplicationEvent → Type 0
 ReplicationComes (replications.Acknowledged server commit) = ⊥
 ReplicationComes _ = Unit {0}

@@ -2,6 +2,8 @@
 use Rattle.event_book.specs.declared.event.EventKind.{EventKind}
 use Rattle.event_book.specs.declared.event.EventKind.TheVariants as kinds
 
+-- what a happening concerns: time, messages, the key store, watchdogs, servers, logs, synchronous replication, agents,
+-- links or notes
 pub data Concern : Type 0 where
   Time : Concern
   Messages : Concern
@@ -14,6 +16,7 @@ pub data Concern : Type 0 where
   Links : Concern
   Notes : Concern
 
+-- what this happening concerns
 abbrev pub concern_of : EventKind → Concern
 concern_of kinds.Tick = Time
 concern_of (kinds.Message happening) = Messages

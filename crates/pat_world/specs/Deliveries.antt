@@ -28,10 +28,12 @@ is_answer _ = false
 abbrev pub is_stale : Message → AgentProcess → Bool
 is_stale message state = is_answer message.body && not (message.run == state.run)
 
+-- what stands between a message and the agent that it is for, where their link is joined
 abbrev pub delivery_to_agent : Message → Option AgentProcess → Delivery
 delivery_to_agent message None = deliveries.Gone
 delivery_to_agent message (Some state) = if state.suspended then deliveries.Suspended else (if not state.running || is_stale message state then deliveries.Gone else deliveries.Open)
 
+-- what stands between a message and this receiver, where their link is joined; the store always takes it
 abbrev pub delivery_to : List AgentProcess → Message → LinkEnd → Delivery
 delivery_to agents message link_ends.Store = deliveries.Open
 delivery_to agents message (link_ends.Member member) = delivery_to_agent message (slice_get agents member.id.number)

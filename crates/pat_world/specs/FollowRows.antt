@@ -12,14 +12,17 @@ use Rattle.event_book.specs.Members.{server_of}
 use Rattle.pat_world.specs.declared.follow_row.FollowRow.{FollowRow}
 use Rattle.pat_world.specs.declared.follow_row.FollowRow.TheVariants as rows
 
+-- whether the leader's server is this upstream
 abbrev pub is_upstream : Member → Option ServerId → Bool
 is_upstream leader None = false
 is_upstream leader (Some upstream) = upstream.number == leader.id.number
 
+-- a server that is down starts as a replica, unless its log diverged
 abbrev pub start_unless : Bool → Option FollowRow
 start_unless true = None
 start_unless false = Some rows.Start
 
+-- a replica follows the leader's server from now on, unless it already does
 abbrev pub follow_unless : Bool → Option FollowRow
 follow_unless true = None
 follow_unless false = Some rows.Follow
@@ -31,6 +34,7 @@ follow_row leader states.Crashed diverged upstream = start_unless diverged
 follow_row leader states.Replica diverged upstream = follow_unless (is_upstream leader upstream)
 follow_row leader _ diverged upstream = None
 
+-- what this server does under that leader, if anything
 abbrev pub follow_row_of : Member → ServerFacts → Option FollowRow
 follow_row_of leader s = follow_row leader s.state s.diverged s.upstream
 

@@ -77,6 +77,7 @@ abbrev pub each : {X : Type 0} → (Cluster → X → List Event) → Cluster �
 each events cluster [] = []
 each events cluster (x ∷ more) = events_then cluster (events cluster x) (λ later. each events later more)
 
+-- the loss of the message of this number, where as many are in flight as may be
 abbrev pub lost_at_once : Bool → ℕ → List EventKind
 lost_at_once true number = kinds.Message (Lost number) ∷ []
 lost_at_once false number = []
@@ -86,6 +87,7 @@ abbrev pub send_events : Cluster → Message → List Event
 send_events cluster message =
     events_of cluster (kinds.Message (Sent (cluster.book.sent + 1) message) ∷ lost_at_once (nat_le most_in_flight (length cluster.book.flight)) (cluster.book.sent + 1))
 
+-- a member with its agent, where there is one
 abbrev pub member_agent_of : Member → Option AgentProcess → Option AgentState → Option MemberAgent
 member_agent_of member (Some state) (Some agent_state) = Some (record { member = member; process = state; agent_state = agent_state })
 member_agent_of member _ _ = None
@@ -102,6 +104,7 @@ question member run sequence body = record { from = link_ends.Member member; to 
 abbrev pub ask_events : Cluster → Member → ℕ → Body → List Event
 ask_events cluster member sequence body = for_some (slice_get cluster.book.agents member.id.number) (λ state. send_events cluster (question member state.run sequence body))
 
+-- the declared member of this number, if there is a number
 abbrev pub declared_member : List Member → Option MemberId → Option Member
 declared_member members id = option_and_then (λ (member : MemberId). slice_get members member.number) id
 
@@ -114,6 +117,7 @@ abbrev pub does : Cluster → Member → Reaction → List Event
 does cluster member reaction =
     events_then cluster (for_some (declared_member cluster.book.members reaction.follows) (follow_events cluster member)) (λ later. for_some reaction.asks (ask_events later member reaction.agent_state.sequence))
 
+-- what an agent's reaction comes to, where there is an agent
 abbrev pub reaction_events : Cluster → Member → Option Reaction → List Event
 reaction_events cluster member reaction = for_some reaction (does cluster member)
 
@@ -125,6 +129,7 @@ is_to_wake now member_agent = member_agent.process.running && (not member_agent.
 abbrev pub reaction_to_wake : ℕ → List AgentState → Member → Option Reaction
 reaction_to_wake now agent_states member = option_map (wake_reaction now) (slice_get agent_states member.id.number)
 
+-- the agent of a member is woken, and acts
 abbrev pub wake_events_of : Cluster → Member → List Event
 wake_events_of cluster member = events_then cluster (event_of cluster (kinds.Agent (Woken member))) (λ later. reaction_events later member (reaction_to_wake cluster.book.clock cluster.agent_states member))
 
@@ -146,11 +151,13 @@ abbrev pub decision_body : ℕ → Txn → Decision → Body
 decision_body number txn Grant = bodies.Granted number (is_lease txn)
 decision_body number txn (Refusal key found) = bodies.Refused number key found
 
+-- the store decides on a member's request, and answers it
 abbrev pub decision_events : Cluster → ℕ → Message → Txn → Decision → LinkEnd → List Event
 decision_events cluster number message txn decision link_ends.Store = []
 decision_events cluster number message txn decision (link_ends.Member by) =
     events_then cluster (event_of cluster (decision_kind number by txn decision)) (λ later. send_events later (answer_message message (decision_body number txn decision)))
 
+-- what the store answers to a message that says this
 abbrev pub answer_events_by : Cluster → ℕ → Message → Body → List Event
 answer_events_by cluster number message bodies.Read = send_events cluster (answer_message message bodies.Snapshot)
 answer_events_by cluster number message (bodies.Request txn) = decision_events cluster number message txn (decision_on cluster.book.keys cluster.book.clock txn) message.from
@@ -169,6 +176,7 @@ abbrev pub hear_events : Cluster → ℕ → InFlightFacts → Member → List E
 hear_events cluster number message member =
     events_then cluster (event_of cluster (kinds.Message (Delivered number))) (λ later. reaction_events later member (reaction_to_message cluster.book.clock cluster.agent_states message member))
 
+-- a message comes to this receiver: the store answers it, or the agent of a member acts on it
 abbrev pub arrival_events_at : Cluster → ℕ → InFlightFacts → LinkEnd → List Event
 arrival_events_at cluster number message link_ends.Store = events_then cluster (event_of cluster (kinds.Message (Delivered number))) (λ later. answer_events later number message.message)
 arrival_events_at cluster number message (link_ends.Member member) = hear_events cluster number message member
@@ -177,6 +185,7 @@ arrival_events_at cluster number message (link_ends.Member member) = hear_events
 abbrev pub arrival_events : Cluster → ℕ → InFlightFacts → List Event
 arrival_events cluster number message = arrival_events_at cluster number message message.message.to
 
+-- what becomes of a message in flight, by what stands between it and its receiver
 abbrev pub message_events_by : Cluster → ℕ → InFlightFacts → Delivery → List Event
 message_events_by cluster number message deliveries.Open = arrival_events cluster number message
 message_events_by cluster number message deliveries.Cut = event_of cluster (kinds.Message (Lost number))
@@ -191,6 +200,7 @@ message_events cluster number = for_some (in_flight cluster.book.flight number) 
 abbrev pub round_events : Cluster → List Event
 round_events cluster = events_then cluster (each wake_events cluster cluster.book.members) (λ later. each message_events later (keys_of later.book.flight))
 
+-- whether nothing happens
 abbrev pub is_empty : List Event → Bool
 is_empty [] = true
 is_empty (event ∷ events) = false
@@ -200,6 +210,7 @@ unfoldable pub rounds_events : Cluster → ℕ → List Event
 rounds_events cluster zero = []
 rounds_events cluster (suc count) = if is_empty (round_events cluster) then [] else events_then cluster (round_events cluster) (λ later. rounds_events later count)
 
+-- the expiry of the leader key, which names its holder
 abbrev pub leader_expiry : Option Member → List EventKind
 leader_expiry None = []
 leader_expiry (Some holder) = kinds.Store (stores.LeaderExpired holder) ∷ []
@@ -209,6 +220,7 @@ abbrev pub expiry_of : Option Member → Key → List EventKind
 expiry_of holder keys.Leader = leader_expiry holder
 expiry_of holder key = kinds.Store (stores.Expired key) ∷ []
 
+-- the expiries of these keys, as events
 abbrev pub expiries_of : Option Member → List Key → List EventKind
 expiries_of holder [] = []
 expiries_of holder (key ∷ more) = expiry_of holder key ++ expiries_of holder more
@@ -225,6 +237,7 @@ deliver_events_by cluster number message deliveries.Cut = event_of cluster (kind
 deliver_events_by cluster number message deliveries.Suspended = event_of cluster (kinds.Note (Undeliverable number))
 deliver_events_by cluster number message deliveries.Gone = event_of cluster (kinds.Message (Lost number))
 
+-- a script delivers a message; a note says so where none of this number is in flight
 abbrev pub deliver_events : Cluster → ℕ → Option InFlightFacts → List Event
 deliver_events cluster number None = event_of cluster (kinds.Note (NoMessage number))
 deliver_events cluster number (Some message) = deliver_events_by cluster number message (delivery_of cluster.book.cuts cluster.book.agents message.message)
@@ -303,6 +316,7 @@ command_events cluster command = events_of cluster (kinds_of (command_kind clust
 abbrev pub scheduled_events : Cluster → List Event
 scheduled_events cluster = events_then cluster (each receive_events_of cluster cluster.book.members) (λ later. rounds_events later most_rounds)
 
+-- what happens in a step, before the acknowledgements
 abbrev pub step_events : Cluster → Step → List Event
 step_events cluster steps.Scheduled = events_then cluster (tick_events cluster) scheduled_events
 step_events cluster steps.Tick = tick_events cluster

@@ -74,6 +74,7 @@ wakes_cost = most_members * input_cost
 abbrev pub round_cost : ℕ
 round_cost = wakes_cost + most_in_flight * message_cost
 
+-- all rounds of a tick
 abbrev pub rounds_cost : ℕ
 rounds_cost = most_rounds * round_cost
 

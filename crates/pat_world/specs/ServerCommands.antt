@@ -40,6 +40,7 @@ freezing_of true member false = Some (kinds.Server (servers.Frozen (server_of me
 freezing_of false member true = Some (kinds.Server (servers.Thawed (server_of member)))
 freezing_of to member frozen = None
 
+-- a delay in ticks
 abbrev pub ticks_of : Delay → Ticks
 ticks_of delay = record { 0 = delay.ticks }
 
@@ -48,6 +49,7 @@ abbrev pub slow_by : Member → SlowedCall → Delay → Ticks → Ticks → Opt
 slow_by member slowed_calls.Stop delay stop start = if stop.0 == delay.ticks then None else Some (kinds.Server (servers.Slowed (server_of member) (Some (ticks_of delay)) None))
 slow_by member slowed_calls.Start delay stop start = if start.0 == delay.ticks then None else Some (kinds.Server (servers.Slowed (server_of member) None (Some (ticks_of delay))))
 
+-- later stops, or later starts, of this server take so long, where they don't already
 abbrev pub slow_of : Member → SlowedCall → Delay → ServerFacts → Option EventKind
 slow_of member slowed delay s = slow_by member slowed delay s.stop_delay s.start_delay
 

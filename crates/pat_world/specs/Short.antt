@@ -11,6 +11,7 @@ abbrev pub IsShort : Body → Type 0
 IsShort (bodies.Request txn) = ttl_of txn ≤ 2 ^ 40
 IsShort _ = Unit {0}
 
+-- what an agent asks, if anything, asks for leases that the store can write
 abbrev pub AsksShortly : Option Body → Type 0
 AsksShortly asks = IfSome asks IsShort
 

@@ -20,15 +20,18 @@ use Rattle.event_book.specs.Members.{server_of}
 abbrev pub link_of_members : Member → Member → Link
 link_of_members member other = record { first = link_ends.Member member; second = link_ends.Member other }
 
+-- the member of the upstream, where that accepts writes and the link to it is joined
 abbrev pub source_at : CutLinks → Member → Option Member → Option ServerFacts → Option Member
 source_at cuts member None upstream = None
 source_at cuts member (Some from) None = None
 source_at cuts member (Some from) (Some upstream) = if writes upstream.state && not (is_cut cuts (link_of_members member from)) then Some from else None
 
+-- the member of this upstream, where that accepts writes and the link to it is joined
 abbrev pub source_named : List Member → List ServerFacts → CutLinks → Member → Option ServerId → Option Member
 source_named members servers cuts member None = None
 source_named members servers cuts member (Some id) = source_at cuts member (slice_get members id.number) (slice_get servers id.number)
 
+-- the member from whose server this one receives, if it is a replica whose log didn't diverge
 abbrev pub source_for : List Member → List ServerFacts → CutLinks → Member → Option ServerFacts → Option Member
 source_for members servers cuts member None = None
 source_for members servers cuts member (Some s) = if is_replica s.state && not s.diverged then source_named members servers cuts member s.upstream else None
@@ -38,13 +41,16 @@ source_for members servers cuts member (Some s) = if is_replica s.state && not s
 abbrev pub source_of : List Member → List ServerFacts → CutLinks → Member → Option Member
 source_of members servers cuts member = source_for members servers cuts member (slice_get servers member.id.number)
 
+-- whether this end of a log is what was confirmed
 abbrev pub is_confirmed : Lsn → Option Lsn → Bool
 is_confirmed end None = false
 is_confirmed end (Some confirmed) = confirmed.position == end.position
 
+-- this end of a log, where it isn't what was confirmed
 abbrev pub unless_confirmed : Lsn → Option Lsn → Option Lsn
 unless_confirmed end confirmed = if is_confirmed end confirmed then None else Some end
 
+-- the end of this log, where there is one and its end isn't what was confirmed
 abbrev pub end_unless_confirmed : Option (List Entry) → Option Lsn → Option Lsn
 end_unless_confirmed None confirmed = None
 end_unless_confirmed (Some log) confirmed = unless_confirmed (lsn_at (end_of log)) confirmed

@@ -53,6 +53,7 @@ has_turn now agent_state = is_none agent_state.waited && nat_le agent_state.next
 abbrev pub has_work : ℕ → AgentState → Bool
 has_work now agent_state = is_overdue now agent_state.waited || has_turn now agent_state
 
+-- the agent asks nothing and names no leader to follow
 abbrev pub no_reaction : AgentState → Reaction
 no_reaction agent_state = record { agent_state = agent_state; asks = None; follows = None }
 
@@ -73,6 +74,7 @@ turn_start now agent_state = ask_reaction Reading (seconds_after now agent_state
 abbrev pub after_deadline : ℕ → AgentState → AgentState
 after_deadline now agent_state = if is_overdue now agent_state.waited then record agent_state { waited = None } else agent_state
 
+-- a turn begins, where it is due; else the agent does nothing
 abbrev pub turn_reaction : ℕ → AgentState → Reaction
 turn_reaction now agent_state = if has_turn now agent_state then turn_start now agent_state else no_reaction agent_state
 
@@ -80,6 +82,7 @@ turn_reaction now agent_state = if has_turn now agent_state then turn_start now 
 abbrev pub wake_reaction : ℕ → AgentState → Reaction
 wake_reaction now agent_state = turn_reaction now (after_deadline now agent_state)
 
+-- whether both are reads, both creates, or both renewals
 abbrev pub is_same_question : Pending → Pending → Bool
 is_same_question Reading Reading = true
 is_same_question Creating Creating = true
@@ -95,10 +98,12 @@ awaits (Some waited) question sequence = is_same_question waited.question questi
 abbrev pub awaits_lease : Option Waited → ℕ → Bool
 awaits_lease waited sequence = awaits waited Creating sequence || awaits waited Renewing sequence
 
+-- what a value of the configuration sets, or these settings where it is none
 abbrev pub settings_by : Config → Value → Config
 settings_by settings (values.Config config) = config.config
 settings_by settings _ = settings
 
+-- what the store's configuration sets, or these settings where it has none
 abbrev pub settings_or : Config → Option KeyEntry → Config
 settings_or settings None = settings
 settings_or settings (Some stored) = settings_by settings stored.value
@@ -128,10 +133,12 @@ follow_reaction leader agent_state = record {
   follows = Some leader;
 }
 
+-- what the agent does where the leader key names this holder: it renews its own lease, or follows another's server
 abbrev pub holder_reaction : MemberId → ℕ → Option MemberId → AgentState → Reaction
 holder_reaction me revision None agent_state = no_reaction agent_state
 holder_reaction me revision (Some holder) agent_state = if holder.number == me.number then renew_reaction revision agent_state else follow_reaction holder agent_state
 
+-- what the agent does on the leader key that it read
 abbrev pub leader_reaction : ℕ → MemberId → Option KeyEntry → AgentState → Reaction
 leader_reaction now me None agent_state = create_reaction now agent_state
 leader_reaction now me (Some stored) agent_state = holder_reaction me stored.revision (holder_of stored.value) agent_state
@@ -155,6 +162,7 @@ state_by_grant me sequence snapshot (Some grant) agent_state =
 abbrev pub state_by_refusal : ℕ → AgentState → AgentState
 state_by_refusal sequence agent_state = if awaits_lease agent_state.waited sequence then record agent_state { role = Follower; waited = None } else agent_state
 
+-- what an agent does on a message that says this
 abbrev pub body_reaction : ℕ → MemberId → InFlightFacts → Body → AgentState → Reaction
 body_reaction now me message bodies.Snapshot agent_state = snapshot_reaction now me message.message.sequence message.snapshot agent_state
 body_reaction now me message (bodies.Granted request leased) agent_state = no_reaction (state_by_grant me message.message.sequence message.snapshot message.grant agent_state)

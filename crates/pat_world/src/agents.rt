@@ -1,4 +1,4 @@
-//! Agents of members: what commands change of them, and which are ready.
+//! Agents of members: what commands change of them, and which are to be woken.
 ghost use Rattle.std.specs.Prelude.{◌≡◌, ◌<◌, ◌^◌, slice_get, true, false, IfSome, All};
 ghost use Rattle.event_book.specs.Agents.{agents_by, with_member_changed, running_in};
 ghost use Rattle.pat_world.specs.Cluster.{Cluster};
@@ -42,7 +42,7 @@ pub fn is_to_wake(now: Ticks, member_agent: &MemberAgent) -> bool
         && has_work(now, &member_agent.agent_state)
 }
 
-/// A hold: what happens where the agent runs and isn't suspended.
+/// The suspension of an agent: what happens where it runs and isn't suspended already.
 pub fn hold_of(member_agent: MemberAgent) -> Option<EventKind>
     ensures kind { result ≡ hold_of member_agent }
     ensures comes { (cluster : Cluster) → IfSome result (MayCome cluster) }
@@ -56,7 +56,7 @@ pub fn hold_of(member_agent: MemberAgent) -> Option<EventKind>
     }
 }
 
-/// The end of a hold: what happens where the agent is suspended.
+/// The end of a suspension: what happens where the agent is suspended.
 pub fn resume_of(member_agent: MemberAgent) -> Option<EventKind>
     ensures kind { result ≡ resume_of member_agent }
     ensures comes { (cluster : Cluster) → IfSome result (MayCome cluster) }
@@ -98,7 +98,7 @@ pub fn restarted(member_agent: MemberAgent) -> EventKind
     }
 }
 
-/// The agents after what happens to one of them.
+/// The processes of agents after what happens to one of them.
 pub fn change_agent(agents: &mut Vec<AgentProcess>, happening: &AgentEvent)
     ensures { agents.new.items ≡ agents_by agents.old.items happening.now }
 {

@@ -46,7 +46,7 @@ pub fn change_keys(store: &mut Store, now: Ticks, kind: &EventKind)
     }
 }
 
-/// The agents after a happening.
+/// The processes of agents after a happening.
 pub fn change_agents(agents: &mut Vec<AgentProcess>, kind: &EventKind)
     ensures { agents.new.items ≡ agents_after agents.old.items kind.now }
 {

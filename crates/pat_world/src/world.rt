@@ -123,7 +123,7 @@ impl World {
         })
     }
 
-    /// The moment.
+    /// The moment, in ticks of 100 ms.
     pub fn clock(&self) -> Ticks
         ensures { result.0 ≡ self.now.book.clock }
     {

@@ -24,6 +24,7 @@ pub record KeepsLimits (script : ScriptText) : Type 0 where
 abbrev pub run_of : ScriptText → List Event
 run_of script = run_events (cluster_of script.head) (steps_of script.body)
 
+-- whether messages are traced after a command
 abbrev pub traced_by : Bool → Command → Bool
 traced_by trace (commands.Trace on) = on
 traced_by trace _ = trace
@@ -33,6 +34,7 @@ abbrev pub traced_after : Bool → Step → Bool
 traced_after trace (steps.Command command) = traced_by trace command
 traced_after trace _ = trace
 
+-- whether messages are traced after these steps
 abbrev pub traced_over : Bool → List Step → Bool
 traced_over trace [] = trace
 traced_over trace (step ∷ more) = traced_over (traced_after trace step) more
@@ -50,6 +52,7 @@ output_of script =
     let start = cluster_of script.head in
     printed_from start false (steps_of script.body) ++ summary_at (cluster_over start (run_of script)).book.clock
 
+-- the printed run of a script that was read, or nothing where its bytes pass a limit or are none
 abbrev pub output_or_none : Option Limit → Result ScriptText (ℕ × Fault) → List ℕ
 output_or_none (Some limit) read = []
 output_or_none None (Err fault) = []

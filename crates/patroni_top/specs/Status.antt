@@ -19,6 +19,7 @@ use Rattle.patroni_top.specs.declared.print_error.PrintError.TheVariants as prin
 use Rattle.patroni_top.specs.declared.status.Status.{Status}
 use Rattle.patroni_top.specs.declared.status.Status.TheVariants as statuses
 
+-- the number of an exit status
 abbrev pub code_of : Status → ℕ
 code_of statuses.Done = 0
 code_of statuses.NotScript = 1
@@ -28,6 +29,7 @@ code_of statuses.WriteFault = 4
 code_of statuses.Memory = 5
 code_of statuses.Limit = 7
 
+-- the exit status of an ending
 abbrev pub status_of : Ending → Status
 status_of endings.Done = statuses.Done
 status_of (endings.NotScript line fault) = statuses.NotScript
@@ -50,21 +52,26 @@ IsRefusal endings.Usage = ⊥
 IsRefusal endings.WriteFault = ⊥
 IsRefusal _ = Unit {0}
 
+-- how a run ends where its input can't be read
 abbrev pub ending_of_read : ReadError → Ending
 ending_of_read reads.Fault = endings.ReadFault
 ending_of_read reads.Memory = endings.Memory
 
+-- how a run ends where its input is no script, or memory is wanting for one
 abbrev pub ending_of_fault : ScriptFault → Ending
 ending_of_fault (faults.At line fault) = endings.NotScript line fault
 ending_of_fault faults.Memory = endings.Memory
 
+-- how a run ends where its output can't be written whole
 abbrev pub ending_of_print : PrintError → Ending
 ending_of_print prints.Write = endings.WriteFault
 ending_of_print prints.Memory = endings.Memory
 
+-- the line that names the first line with a fault, and its first fault
 abbrev pub fault_line : ℕ → Fault → List ℕ
 fault_line line fault = codes "line " ++ (decimal line ++ (codes ": " ++ (text_of fault ++ codes "\n")))
 
+-- the line that names the limit that the input passes
 abbrev pub limit_line : Limit → List ℕ
 limit_line limit = codes "limit: " ++ (limit_text limit ++ codes "\n")
 

@@ -11,7 +11,7 @@ use itoa::Buffer;
 use pat_base::ReadError;
 use std::alloc::AllocError;
 
-/// A line of the error output. It lies in the value, so that no want of memory can shorten what is told.
+/// A line of the error output, of at most 96 bytes. It lies in the value, so that no want of memory can shorten what is told.
 pub type Message = ArrayString<96>;
 
 /// How a run ended. It is a status, with what its line names.
@@ -31,6 +31,7 @@ pub enum Ending {
 impl Ending {
     ghost use Rattle.patroni_top.specs.Status.{status_of};
 
+    /// The exit status of this ending.
     pub fn status(self) -> Status
         ensures { result ≡ status_of self }
     {

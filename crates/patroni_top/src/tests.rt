@@ -140,7 +140,7 @@ const MESSAGES: [(&str, &str); 20] = [
         "kill b\ntick 1\nturn a\ndeliver 1\ncut a store\ntrace on\nrun 1\n",
         "0 b is killed\n1 a and store are cut\n2 message 2 is lost\nend at 2\n",
     ),
-    // A held agent.
+    // A suspended agent.
     (
         "tick 1\nturn a\ndeliver 1\nhold a\ndeliver 2\nresume a\ntrace on\ndeliver 2\n",
         "1 a is held\n\

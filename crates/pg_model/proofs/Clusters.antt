@@ -63,7 +63,7 @@ kept marks xs place x y hold found e =
     subst (MarksHold marks) (sym same) hold
 
 -- the same two, of a server that was read at a place where there is one
-pub changed-read : (xs list : List ServerFacts) (place count : ℕ) (x y : ServerFacts) (change : ServerFacts → ServerFacts) → map without_spare xs ≡ list → x ≡ get_or xs place x → count ≡ length xs → place < count → without_spare y ≡ change (without_spare x) → map without_spare (slice_set xs place y) ≡ with_server list place change
+pub changed-read : (xs list : List ServerFacts) (place count : ℕ) (x y : ServerFacts) (change : ServerFacts → ServerFacts) → map without_spare xs ≡ list → x ≡ get_or xs place x → count ≡ length xs → place < count → without_spare y ≡ change (without_spare x) → map without_spare (slice_set xs place y) ≡ changed_by list place change
 changed-read xs list place count x y change view read long within e = changed xs list place x y change view (slice_get_read xs count place x long within read) e
 
 pub kept-read : (marks : List Bool) (xs : List ServerFacts) (place count : ℕ) (x y : ServerFacts) → MarksHold marks (map log_position_of xs) → x ≡ get_or xs place x → count ≡ length xs → place < count → log_position_of y ≡ log_position_of x → MarksHold marks (map log_position_of (slice_set xs place y))

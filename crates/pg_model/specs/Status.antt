@@ -35,6 +35,7 @@ status_of s = record {
 abbrev pub status_promoted : ServerStatus → ServerStatus
 status_promoted s = if is_replica s.state then record s { state = states.Primary; timeline = s.timeline + 1; was_primary = true } else s
 
+-- its start is complete: it accepts writes as a primary, or is a replica
 abbrev pub status_started : Bool → ServerStatus → ServerStatus
 status_started false s = record s { state = states.Replica }
 status_started true s = record s { state = states.Primary; was_primary = true }
@@ -51,6 +52,7 @@ status_replica_started now upstream s = if is_down s.state then status_starting 
 abbrev pub status_primary_started : Ticks → ServerStatus → ServerStatus
 status_primary_started now s = if is_down s.state && s.was_primary then status_starting true now s else s
 
+-- its shutdown begins: it has ended at once where stops take no time, and else after the delay
 abbrev pub status_ending : Ticks → ServerStatus → ServerStatus
 status_ending now s = if s.stop_delay.0 == 0 then record s { state = states.Stopped } else record s { state = states.Stopping (is_primary s.state) (moment_after now s.stop_delay) }
 

@@ -110,7 +110,7 @@ impl World {
         self.send(question, None, events)
     }
 
-    /// Whether the agent of a member runs, and in which run.
+    /// The process of a member's agent: whether it runs, whether it is suspended, and in which run.
     pub fn state(&self, member: Member) -> Option<AgentProcess>
         ensures { result ≡ slice_get self.now.book.agents member.id.number }
     {
