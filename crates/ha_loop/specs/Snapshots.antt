@@ -124,7 +124,7 @@ others_key now leader _ o = o
 
 -- the agent asks for the leader key
 abbrev pub creating : Ticks → Outcome → Outcome
-creating now o = asking now Creating (seconds_after now o.knows.settings.retry_timeout) (bodies.Request (txns.Create (info_of o.knows.who o.machine.server) (lease_span o.knows.settings) None)) o
+creating now o = asking now Creating (seconds_after now o.knows.settings.retry_timeout) (bodies.Request (txns.Create (info_of o.knows.who o.machine.server) (lease_span o.knows.settings) None None)) o
 
 abbrev pub free_in : Ticks → State → Outcome → Outcome
 free_in now states.Stopped o = touching (starts_behind now None o)

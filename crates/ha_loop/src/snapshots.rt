@@ -313,13 +313,14 @@ fn create(knows: &mut Knowledge, machine: &Machine, out: &mut Outputs, now: Tick
     requires numbers { knows.old.sequence < 2 ^ 60 }
     requires room { 1 ≤ out.old.spare }
     ensures knows { knows.new ≡ waiting now questions.Creating (seconds_after now knows.old.settings.retry_timeout) (counted knows.old) }
-    ensures out { out.new ≡ listed (outputs.Send targets.Store (knows.old.sequence + 1) (bodies.Request (txns.Create (info_of knows.old.who machine.now.server) (lease_span knows.old.settings) None))) out.old }
+    ensures out { out.new ≡ listed (outputs.Send targets.Store (knows.old.sequence + 1) (bodies.Request (txns.Create (info_of knows.old.who machine.now.server) (lease_span knows.old.settings) None None))) out.old }
     ensures sound { IsSound knows.new }
 {
     let create = Txn::Create {
         info: info_of(&knows.who, &machine.server),
         ttl: knows.settings.ttl_ticks(),
         failsafe: None,
+        sync: None,
     };
     let until = now + knows.settings.retry_timeout_ticks();
     ask(

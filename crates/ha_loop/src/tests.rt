@@ -118,6 +118,7 @@ fn one_member(rt: HostRuntime) -> Result<(), Fail> {
         info: info_of(&who(&rt), &server(&rt)),
         ttl: Ticks(300),
         failsafe: None,
+        sync: None,
     };
     let granted = store.apply(Ticks(1), who(&rt).me, create)?;
     let held = snapshot(rt.alloc(), &rt, &store, Ticks(1))?;
