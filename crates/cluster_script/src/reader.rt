@@ -20,6 +20,3 @@ pub fn read(alloc: Global, bytes: &[u8]) -> Result<Script, ScriptFault>
     draft.add_lines(&lines)?;
     draft.finish(lines.len() as u64 + 1)
 }
-
-#[cfg(test)]
-mod tests;

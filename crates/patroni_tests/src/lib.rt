@@ -3,7 +3,15 @@
 #![tactic(auto)]
 
 #[cfg(test)]
+mod limits;
+#[cfg(test)]
 mod logs;
+#[cfg(test)]
+mod runs;
+#[cfg(test)]
+mod runs_of_servers;
+#[cfg(test)]
+mod scripts;
 #[cfg(test)]
 mod servers;
 #[cfg(test)]

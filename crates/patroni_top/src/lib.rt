@@ -13,6 +13,3 @@ mod top;
 
 pub use status::Status;
 pub use top::run;
-
-#[cfg(test)]
-mod tests;

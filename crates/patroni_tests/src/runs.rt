@@ -1,11 +1,9 @@
 //! The worked runs by their names, and what no clause says: which words are printed, and that a call can succeed.
-use super::*;
 use pat_base::{MemorySink, MemorySource};
+use patroni_top::run;
 use std::alloc::{AllocError, Global};
 use std::process::Abort;
 use std::test::Fail;
-
-mod servers;
 
 const KEY_PASSED_ON: &str = "cluster demo\nmember a\nmember b\nrun 50\nhold a\nrun 310\n";
 
@@ -140,7 +138,7 @@ const MESSAGES: [(&str, &str); 20] = [
         "kill b\ntick 1\nturn a\ndeliver 1\ncut a store\ntrace on\nrun 1\n",
         "0 b is killed\n1 a and store are cut\n2 message 2 is lost\nend at 2\n",
     ),
-    // A suspended agent.
+    // A held agent.
     (
         "tick 1\nturn a\ndeliver 1\nhold a\ndeliver 2\nresume a\ntrace on\ndeliver 2\n",
         "1 a is held\n\
@@ -406,27 +404,27 @@ const SIXTEEN_READS: &str = "tick 100\n\
 
 /// Which calls are to fail, counted from 1; 0 fails none.
 #[derive(Clone, Copy)]
-struct Faults {
-    input: u64,
-    out: u64,
-    err: u64,
+pub struct Faults {
+    pub input: u64,
+    pub out: u64,
+    pub err: u64,
 }
 
-const NO_FAULTS: Faults = Faults {
+pub const NO_FAULTS: Faults = Faults {
     input: 0,
     out: 0,
     err: 0,
 };
 
 #[derive(Drop)]
-struct Outcome {
-    status: u8,
-    out: Vec<u8>,
-    err: Vec<u8>,
+pub struct Outcome {
+    pub status: u8,
+    pub out: Vec<u8>,
+    pub err: Vec<u8>,
 }
 
 /// A run over objects in memory with ample room.
-fn run_in_memory(
+pub fn run_in_memory(
     alloc: Global,
     word: &str,
     script: &str,
@@ -470,7 +468,7 @@ fn the_key_passed_on(rt: HostRuntime) -> Result<(), Fail> {
 }
 
 /// Checks that these bodies of scripts of two members print these runs.
-fn prints(rt: &impl Abort, alloc: Global, runs: &[(&str, &str)]) -> Result<(), Fail> {
+pub fn prints(rt: &impl Abort, alloc: Global, runs: &[(&str, &str)]) -> Result<(), Fail> {
     for (body, printed) in runs {
         let script = repeated(alloc, TWO_MEMBERS, body, 1)?;
         let ended = run_in_memory(alloc, "run", script.as_str(), NO_FAULTS)?;
@@ -532,54 +530,53 @@ fn refusals_of_the_first_form(rt: HostRuntime) -> Result<(), Fail> {
     Ok(())
 }
 
+/// A run in which the write of this number fails: the lines before it are written.
+fn fails_at_write(rt: &impl Abort, alloc: Global, call: u64, before: usize) -> Result<(), Fail> {
+    let faults = Faults {
+        out: call,
+        ..NO_FAULTS
+    };
+    let ended = run_in_memory(alloc, "run", KEY_PASSED_ON, faults)?;
+    let written = first_lines(alloc, &KEY_PASSED_ON_PRINTED, before)?;
+    assert_eq!(rt; ended.status, 4, "write {call}");
+    assert_eq!(rt; ended.out.as_slice(), written.as_slice(), "write {call}");
+    assert_eq!(rt;
+        ended.err.as_slice(),
+        b"write fault\n".as_slice(),
+        "write {call}"
+    );
+    Ok(())
+}
+
 #[test]
-fn a_fault_at_each_call(rt: HostRuntime) -> Result<(), Fail> {
-    let alloc = rt.alloc();
-    for call in 1..=6u64 {
-        let ended = run_in_memory(
-            alloc,
-            "run",
-            KEY_PASSED_ON,
-            Faults {
-                out: call,
-                ..NO_FAULTS
-            },
-        )?;
-        assert_eq!(rt; ended.status, 4, "write {call}");
-        let before = usize::try_from(call).unwrap_or(0).saturating_sub(1);
-        assert_eq!(rt;
-            ended.out.as_slice(),
-            first_lines(alloc, &KEY_PASSED_ON_PRINTED, before)?.as_slice(),
-            "write {call}"
-        );
-        assert_eq!(rt;
-            ended.err.as_slice(),
-            b"write fault\n".as_slice(),
-            "write {call}"
-        );
+fn a_fault_at_each_write(rt: HostRuntime) -> Result<(), Fail> {
+    for (call, before) in [(1, 0), (2, 1), (3, 2), (4, 3), (5, 4), (6, 5)] {
+        fails_at_write(&rt, rt.alloc(), call, before)?;
     }
-    for call in 1..=2u64 {
-        let ended = run_in_memory(
-            alloc,
-            "run",
-            KEY_PASSED_ON,
-            Faults {
-                input: call,
-                ..NO_FAULTS
-            },
-        )?;
+    Ok(())
+}
+
+#[test]
+fn a_fault_at_each_read(rt: HostRuntime) -> Result<(), Fail> {
+    for call in [1, 2] {
+        let faults = Faults {
+            input: call,
+            ..NO_FAULTS
+        };
+        let ended = run_in_memory(rt.alloc(), "run", KEY_PASSED_ON, faults)?;
         assert_eq!(rt; ended.status, 3, "read {call}");
         assert_eq!(rt; ended.out.as_slice(), b"".as_slice(), "read {call}");
     }
-    let ended = run_in_memory(
-        alloc,
-        "runs",
-        KEY_PASSED_ON,
-        Faults {
-            err: 1,
-            ..NO_FAULTS
-        },
-    )?;
+    Ok(())
+}
+
+#[test]
+fn a_fault_where_the_refusal_is_told(rt: HostRuntime) -> Result<(), Fail> {
+    let faults = Faults {
+        err: 1,
+        ..NO_FAULTS
+    };
+    let ended = run_in_memory(rt.alloc(), "runs", KEY_PASSED_ON, faults)?;
     assert_eq!(rt; ended.status, 2);
     assert_eq!(rt; ended.err.as_slice(), b"".as_slice());
     Ok(())

@@ -1,8 +1,8 @@
 //! Runs in which servers are promoted, crash, stream and commit.
-use super::{NO_FAULTS, prints, run_in_memory};
+use crate::runs::{NO_FAULTS, prints, run_in_memory};
 use std::test::Fail;
 
-/// A server that its operator promotes: it accepts writes, and its replica doesn't.
+/// A server that its operator promotes: it accepts writes, and its standby doesn't.
 const PROMOTED_BY_HAND: [(&str, &str); 1] = [(
     "run 5\npromote a\ncommit a 100\ncommit b 1\nrun 1\n",
     "1 a takes the leader key\n\
@@ -41,7 +41,7 @@ const SERVERS: [(&str, &str); 11] = [
          0 commit 1 is acknowledged\n\
          end at 0\n",
     ),
-    // Which timeline a replica is promoted to tells what it received: all in a tick, nothing over a cut link or while it
+    // Which timeline a standby is promoted to tells what it received: all in a tick, nothing over a cut link or while it
     // is frozen, but what a line streams.
     (
         "run 2\npromote a\nrun 1\npromote b\n",
@@ -86,7 +86,7 @@ const SERVERS: [(&str, &str); 11] = [
          2 b accepts writes on timeline 3\n\
          end at 2\n",
     ),
-    // A crashed replica starts again under its leader, at once or after its delay.
+    // A crashed standby starts again under its leader, at once or after its delay.
     (
         "run 2\nslow b start 5\ncrash b\nrun 104\npromote b\nrun 1\npromote b\n",
         "1 a takes the leader key\n\

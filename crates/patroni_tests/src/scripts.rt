@@ -1,0 +1,382 @@
+//! Scripts that are read, and the first fault of bytes that are none.
+use cluster_script::{Command, CommitSize, Delay, End, Fault, Line, ScriptFault, SlowedCall, read};
+use pat_base::MemberId;
+use std::alloc::Global;
+use std::process::Abort;
+use std::test::Fail;
+
+const HEAD: &[u8] = b"cluster demo\nmember a\nmember b\n";
+
+const SEVENTEEN: &[u8] =
+    b"cluster c\nmember a\nmember b\nmember c\nmember d\nmember e\nmember f\nmember g\nmember h\nmember i\nmember j\nmember k\nmember l\nmember m\nmember n\nmember o\nmember p\nmember q\n";
+
+/// Lines that may stand behind the head.
+const READ: [&[u8]; 16] = [
+    b"",
+    b"\n",
+    b"# \xc3\xa4",
+    b"tick 0",
+    b"tick 18446744073709551615\n",
+    b"run 1\n",
+    b"turn a\n",
+    b"deliver 1\n",
+    b"lose 1\n",
+    b"hold b\n",
+    b"resume b\n",
+    b"kill a\n",
+    b"restart a\n",
+    b"cut a b\n",
+    b"join store a\n",
+    b"trace on\n",
+];
+
+/// Whole inputs, and the first line with a fault and its first fault.
+const FAULTY_INPUTS: [(&[u8], u64, Fault); 22] = [
+    (b"", 1, Fault::NoCluster),
+    (b"\n# none\n", 3, Fault::NoCluster),
+    (b"# none", 2, Fault::NoCluster),
+    (b"member a\n", 1, Fault::NoCluster),
+    (b"\ndance\n", 2, Fault::NoCluster),
+    (b"cluster\n", 1, Fault::WordCount),
+    (b"cluster \n", 1, Fault::BadName),
+    (b"cluster a b\n", 1, Fault::WordCount),
+    (b"cluster A b\n", 1, Fault::BadName),
+    (b"cluster a\n", 2, Fault::NoMember),
+    (b"cluster a\n\n#", 4, Fault::NoMember),
+    (b"cluster a\ntick 1\n", 2, Fault::NoMember),
+    (b"cluster a\nhold\n", 2, Fault::NoMember),
+    (b"cluster a\ntick x\n", 2, Fault::BadNumber),
+    (b"cluster a\nhold b\n", 2, Fault::UnknownName),
+    (b"cluster a\ncommit\n", 2, Fault::NoMember),
+    (b"cluster a\nslow b stop 5\n", 2, Fault::UnknownName),
+    (b"cluster a\nbase 5\n", 3, Fault::NoMember),
+    (b"base 5\ncluster a\n", 1, Fault::NoCluster),
+    (
+        b"cluster a\nbase 5\nmember a\ntick 1\nbase 5\n",
+        5,
+        Fault::Duplicate,
+    ),
+    (
+        b"cluster a\nbase 5\nmember a\ntick 1\nbase\n",
+        5,
+        Fault::Duplicate,
+    ),
+    (SEVENTEEN, 18, Fault::BadWord),
+];
+
+/// Lines behind the head, and the first fault there.
+const FAULTY_LINES: [(&[u8], Fault); 37] = [
+    (b"\xff", Fault::NotUtf8),
+    (b"# \xff", Fault::NotUtf8),
+    (b"dance", Fault::BadWord),
+    (b" tick 1", Fault::BadWord),
+    (b"runs 1", Fault::BadWord),
+    (b"member c nosync=true", Fault::NotBuilt),
+    (b"member C x nosync=true", Fault::NotBuilt),
+    (b"hold A b", Fault::BadName),
+    (b"hold ", Fault::BadName),
+    (b"cut c B", Fault::BadName),
+    (b"member C", Fault::BadName),
+    (b"cluster X", Fault::BadName),
+    (b"tick x y", Fault::BadNumber),
+    (b"tick ", Fault::BadNumber),
+    (b"tick 01", Fault::BadNumber),
+    (b"run 18446744073709551616", Fault::BadNumber),
+    (b"trace maybe", Fault::BadOption),
+    (b"member c d", Fault::BadOption),
+    (b"member a d", Fault::BadOption),
+    (b"member c host", Fault::BadOption),
+    (b"member a", Fault::Duplicate),
+    (b"cluster x", Fault::Duplicate),
+    (b"cluster", Fault::Duplicate),
+    (b"hold c d", Fault::UnknownName),
+    (b"cut a c", Fault::UnknownName),
+    (b"turn store", Fault::UnknownName),
+    (b"tick", Fault::WordCount),
+    (b"tick 1 ", Fault::WordCount),
+    (b"hold a b", Fault::WordCount),
+    (b"member", Fault::WordCount),
+    (b"cut a", Fault::WordCount),
+    (b"cut a a a", Fault::WordCount),
+    (b"trace on off", Fault::WordCount),
+    (b"cut a a", Fault::SameEnds),
+    (b"join store store", Fault::SameEnds),
+    (b"dance\n\xff", Fault::BadWord),
+    (b"tick x\ndance", Fault::BadNumber),
+];
+
+/// Two lines behind the head, and the fault of the second.
+const FAULTY_SECOND_LINES: [(&[u8], Fault); 12] = [
+    (b"base 5\nbase 5", Fault::Duplicate),
+    (b"base 5\nbase", Fault::Duplicate),
+    (b"base 5\nbase 5 6", Fault::Duplicate),
+    (b"base 5\nbase x", Fault::BadNumber),
+    (b"tick 1\nbase x", Fault::BadNumber),
+    (b"tick 1\nbase 5", Fault::HeadLate),
+    (b"tick 1\nbase 5 6", Fault::HeadLate),
+    (b"tick 1\nbase", Fault::HeadLate),
+    (b"tick 1\nmember c", Fault::HeadLate),
+    (b"tick 1\nmember", Fault::HeadLate),
+    (b"tick 1\nmember a", Fault::Duplicate),
+    (b"tick 1\ncluster x", Fault::Duplicate),
+];
+
+/// Lines on servers, and the first fault there.
+const FAULTY_SERVER_LINES: [(&[u8], Fault); 35] = [
+    (b"base x", Fault::BadNumber),
+    (b"base 0", Fault::BadNumber),
+    (b"base 1099511627777", Fault::BadNumber),
+    (b"base 05", Fault::BadNumber),
+    (b"base", Fault::WordCount),
+    (b"base 5 6", Fault::WordCount),
+    (b"commit A x", Fault::BadName),
+    (b"commit zz x", Fault::BadNumber),
+    (b"commit a 0", Fault::BadNumber),
+    (b"commit a 1073741825", Fault::BadNumber),
+    (b"commit zz 5", Fault::UnknownName),
+    (b"commit zz", Fault::UnknownName),
+    (b"commit a", Fault::WordCount),
+    (b"commit a 5 6", Fault::WordCount),
+    (b"commit", Fault::WordCount),
+    (b"stream a x", Fault::BadNumber),
+    (b"stream a 18446744073709551616", Fault::BadNumber),
+    (b"stream zz 0", Fault::UnknownName),
+    (b"stream a", Fault::WordCount),
+    (b"stream a 0 0", Fault::WordCount),
+    (b"slow A halt x", Fault::BadName),
+    (b"slow a halt x", Fault::BadNumber),
+    (b"slow a stop 100001", Fault::BadNumber),
+    (b"slow a halt 5", Fault::BadOption),
+    (b"slow zz halt 5", Fault::BadOption),
+    (b"slow a halt", Fault::BadOption),
+    (b"slow zz stop 5", Fault::UnknownName),
+    (b"slow zz", Fault::UnknownName),
+    (b"slow a stop", Fault::WordCount),
+    (b"slow a stop 5 6", Fault::WordCount),
+    (b"slow a", Fault::WordCount),
+    (b"slow", Fault::WordCount),
+    (b"promote zz", Fault::UnknownName),
+    (b"crash a b", Fault::WordCount),
+    (b"thaw", Fault::WordCount),
+];
+
+/// Lines that are to come.
+const NOT_BUILT: [&[u8]; 11] = [
+    b"config {}",
+    b"rest a GET /",
+    b"ctl list",
+    b"member c host=h",
+    b"member c nofailover=true",
+    b"member c nosync=true",
+    b"member c noloadbalance=true",
+    b"member c priority=1",
+    b"member c watchdog=off",
+    b"member c device=ok",
+    b"member c margin=0",
+];
+
+/// Faults of line 7, and how they are printed.
+const TEXTS: [(Fault, &str); 15] = [
+    (Fault::NotUtf8, "line 7: not UTF-8"),
+    (Fault::TooLong, "line 7: line too long"),
+    (Fault::NoCluster, "line 7: no cluster line"),
+    (Fault::BadWord, "line 7: unknown line"),
+    (Fault::NotBuilt, "line 7: not built"),
+    (Fault::BadName, "line 7: bad name"),
+    (Fault::BadNumber, "line 7: bad number"),
+    (Fault::BadOption, "line 7: bad option"),
+    (Fault::Duplicate, "line 7: declared twice"),
+    (Fault::UnknownName, "line 7: unknown name"),
+    (Fault::NoMember, "line 7: no member"),
+    (Fault::HeadLate, "line 7: head line after body"),
+    (Fault::WordCount, "line 7: wrong number of words"),
+    (Fault::BadConfig, "line 7: bad configuration"),
+    (Fault::SameEnds, "line 7: same ends"),
+];
+
+fn is_read(alloc: Global, bytes: &[u8]) -> bool {
+    read(alloc, bytes).is_ok()
+}
+
+fn has_fault(alloc: Global, bytes: &[u8], line: u64, fault: Fault) -> bool {
+    match read(alloc, bytes) {
+        Ok(_) => false,
+        Err(found) => found == ScriptFault::At { line, fault },
+    }
+}
+
+/// The head of a script, and so many times this line behind it.
+fn with_body(alloc: Global, line: &[u8], count: usize) -> Result<Vec<u8>, Fail> {
+    let mut bytes = Vec::new(alloc);
+    bytes.extend_from_slice(HEAD)?;
+    for _ in 0..count {
+        bytes.extend_from_slice(line)?;
+    }
+    Ok(bytes)
+}
+
+#[test]
+fn a_script_says_what_its_lines_say(rt: HostRuntime) -> Result<(), Fail> {
+    let alloc = rt.alloc();
+    let bytes =
+        b"# a run\n\ncluster demo\nmember a\nmember store\n#\nrun 50\ncut store a\ntrace off\ndeliver 7\nturn store";
+    let script = read(alloc, bytes).map_err(|_| "none")?;
+    assert_eq!(rt; script.head().cluster().as_str(), "demo");
+    assert_eq!(rt; script.head().member_count(), 2);
+    assert_eq!(rt; script.head().member(1).ok_or("none")?.as_str(), "store");
+    assert!(rt; script.head().member(2).is_none());
+    assert_eq!(rt; script.len(), 5);
+    assert!(rt; !script.is_empty());
+    assert_eq!(rt; *script.get(0).ok_or("none")?, Line::Run(50));
+    assert!(rt;
+        matches!(script.get(1), Some(Line::Command(Command::Cut(End::Store, End::Member(member)))) if member.number == 0)
+    );
+    assert_eq!(rt;
+        *script.get(2).ok_or("none")?,
+        Line::Command(Command::Trace(false))
+    );
+    assert_eq!(rt;
+        *script.get(3).ok_or("none")?,
+        Line::Command(Command::Deliver(7))
+    );
+    assert!(rt;
+        matches!(script.get(4), Some(Line::Command(Command::Turn(member))) if member.number == 1)
+    );
+    assert!(rt; script.get(5).is_none());
+    Ok(())
+}
+
+#[test]
+fn lines_that_are_read(rt: HostRuntime) -> Result<(), Fail> {
+    let alloc = rt.alloc();
+    for line in READ {
+        assert!(rt; is_read(alloc, &with_body(alloc, line, 1)?));
+    }
+    assert!(rt; is_read(alloc, &SEVENTEEN[..SEVENTEEN.len() - 9]));
+    assert!(rt; is_read(alloc, &with_body(alloc, b"run 1000000\n", 1000)?));
+    Ok(())
+}
+
+#[test]
+fn lines_of_servers_say_what_they_say(rt: HostRuntime) -> Result<(), Fail> {
+    let alloc = rt.alloc();
+    let a = MemberId::new(0).ok_or("none")?;
+    let b = MemberId::new(1).ok_or("none")?;
+    let least = CommitSize::new(1).ok_or("none")?;
+    let most = CommitSize::new(1_073_741_824).ok_or("none")?;
+    let at_once = Delay::new(0).ok_or("none")?;
+    let longest = Delay::new(100_000).ok_or("none")?;
+    let cases: [(&[u8], Command); 10] = [
+        (b"promote a", Command::Promote(a)),
+        (b"crash b", Command::Crash(b)),
+        (b"freeze a", Command::Freeze(a)),
+        (b"thaw b", Command::Thaw(b)),
+        (b"commit a 1", Command::Commit(a, least)),
+        (b"commit b 1073741824", Command::Commit(b, most)),
+        (b"stream a 0", Command::Stream(a, 0)),
+        (
+            b"stream b 18446744073709551615",
+            Command::Stream(b, 18_446_744_073_709_551_615),
+        ),
+        (
+            b"slow a stop 0",
+            Command::Slow(a, SlowedCall::Stop, at_once),
+        ),
+        (
+            b"slow b start 100000",
+            Command::Slow(b, SlowedCall::Start, longest),
+        ),
+    ];
+    for (line, command) in cases {
+        let script = read(alloc, &with_body(alloc, line, 1)?).map_err(|_| "none")?;
+        assert_eq!(rt; *script.get(0).ok_or("none")?, Line::Command(command));
+    }
+    Ok(())
+}
+
+#[test]
+fn a_base_stands_anywhere_in_the_head(rt: HostRuntime) -> Result<(), Fail> {
+    let alloc = rt.alloc();
+    let cases: [(&[u8], u64); 5] = [
+        (HEAD, 83_886_080),
+        (b"cluster c\nbase 1\nmember a\nmember b", 1),
+        (
+            b"cluster c\nmember a\n\nbase 1099511627776\nmember b\ntick 1",
+            1_099_511_627_776,
+        ),
+        (b"cluster c\nmember a\nmember b\nbase 7\ntick 1", 7),
+        (b"cluster c\nbase 83886080\nmember a\nmember b", 83_886_080),
+    ];
+    for (bytes, base) in cases {
+        let script = read(alloc, bytes).map_err(|_| "none")?;
+        assert_eq!(rt; script.head().base(), base);
+        assert_eq!(rt; script.head().member_count(), 2);
+    }
+    Ok(())
+}
+
+#[test]
+fn whole_inputs_with_a_fault(rt: HostRuntime) -> Result<(), Fail> {
+    let alloc = rt.alloc();
+    for (bytes, line, fault) in FAULTY_INPUTS {
+        assert!(rt; has_fault(alloc, bytes, line, fault), "{fault:?} at {line}");
+    }
+    Ok(())
+}
+
+/// Checks that each of these behind the head has this fault at a line of this number.
+fn have_faults(
+    rt: &impl Abort,
+    alloc: Global,
+    number: u64,
+    lines: &[(&[u8], Fault)],
+) -> Result<(), Fail> {
+    for (line, fault) in lines {
+        let bytes = with_body(alloc, line, 1)?;
+        assert!(rt; has_fault(alloc, &bytes, number, *fault), "{fault:?}");
+    }
+    Ok(())
+}
+
+#[test]
+fn lines_with_a_fault(rt: HostRuntime) -> Result<(), Fail> {
+    have_faults(&rt, rt.alloc(), 4, &FAULTY_LINES)
+}
+
+#[test]
+fn second_lines_with_a_fault(rt: HostRuntime) -> Result<(), Fail> {
+    have_faults(&rt, rt.alloc(), 5, &FAULTY_SECOND_LINES)
+}
+
+#[test]
+fn lines_of_servers_with_a_fault(rt: HostRuntime) -> Result<(), Fail> {
+    have_faults(&rt, rt.alloc(), 4, &FAULTY_SERVER_LINES)
+}
+
+#[test]
+fn lines_that_are_still_to_be_built(rt: HostRuntime) -> Result<(), Fail> {
+    for line in NOT_BUILT {
+        have_faults(&rt, rt.alloc(), 4, &[(line, Fault::NotBuilt)])?;
+    }
+    Ok(())
+}
+
+#[test]
+fn the_longest_line(rt: HostRuntime) -> Result<(), Fail> {
+    let alloc = rt.alloc();
+    let mut bytes = with_body(alloc, b"#", 8_192)?;
+    assert!(rt; is_read(alloc, &bytes));
+    bytes.push(b'#')?;
+    assert!(rt; has_fault(alloc, &bytes, 4, Fault::TooLong));
+    Ok(())
+}
+
+#[test]
+fn texts_of_faults(rt: HostRuntime) -> Result<(), Fail> {
+    let alloc = rt.alloc();
+    for (fault, text) in TEXTS {
+        let found = ScriptFault::At { line: 7, fault };
+        assert_eq!(rt; format!(in alloc; "{found}")?.as_str(), text);
+    }
+    Ok(())
+}
