@@ -38,6 +38,8 @@ counted knows = record knows { sequence = knows.sequence + 1 }
 abbrev pub sending : Body → Outcome → Outcome
 sending body o = record o { knows = counted o.knows; outputs = listed (outputs.Send targets.Store (o.knows.sequence + 1) body) o.outputs }
 
+-- the agent waits for the answer to its last question until a moment: what it asked for are leases of its settings'
+-- span
 abbrev pub waiting : Ticks → Question → Ticks → Knowledge → Knowledge
 waiting now question until knows = record knows { waited = Some (record { question = question; sequence = knows.sequence; until = until; ttl = lease_span knows.settings; sent = now }) }
 
@@ -61,6 +63,7 @@ releasing revision o = sending (bodies.Request (txns.Release revision)) o
 abbrev pub ending_server : Ticks → Reason → Outcome → Outcome
 ending_server now reason o = record o { machine = record o.machine { server = status_stopping now o.machine.server }; outputs = listed (outputs.Stop reason) o.outputs }
 
+-- the server of this member, if one is named
 abbrev pub upstream_of : Option MemberId → Option ServerId
 upstream_of None = None
 upstream_of (Some leader) = Some (server_id_of leader)
@@ -77,6 +80,7 @@ following_server leader o = record o { machine = record o.machine { server = sta
 abbrev pub promoting : Outcome → Outcome
 promoting o = record o { machine = record o.machine { server = status_promoted o.machine.server }; outputs = listed outputs.Promote o.outputs }
 
+-- the machine with no deadline of its watchdog
 abbrev pub without_deadline : Machine → Machine
 without_deadline machine = record machine { watchdog = record machine.watchdog { deadline = None } }
 
@@ -93,6 +97,7 @@ disarming o = record o { machine = without_deadline o.machine; outputs = disarme
 abbrev pub deadline_after : Ticks → Ticks → WatchdogFacts → Option Ticks
 deadline_after now ttl watchdog = if is_armable watchdog.mode watchdog.works then Some (record { 0 = now.0 + timeout_of watchdog.margin ttl.0 }) else None
 
+-- the machine once its watchdog was fed, over leases of this span
 abbrev pub with_feed : Ticks → Ticks → Machine → Machine
 with_feed now ttl machine = record machine { watchdog = fed now.0 ttl.0 machine.watchdog }
 
@@ -101,10 +106,12 @@ abbrev pub is_refusing : Mode → Bool → Bool
 is_refusing Required works = not works
 is_refusing _ works = false
 
+-- a first deadline is told, if there is one
 abbrev pub armed : Option Ticks → OutputsFacts → OutputsFacts
 armed None out = out
 armed (Some until) out = listed (outputs.Armed until) out
 
+-- a new deadline is told, if there is one
 abbrev pub fed_until : Option Ticks → OutputsFacts → OutputsFacts
 fed_until None out = out
 fed_until (Some until) out = listed (outputs.Fed until) out

@@ -25,6 +25,7 @@ pub data RoleFacts : Type 0 where
   Ending : (revision : ℕ) (why : Why) → RoleFacts
   Stray : RoleFacts
 
+-- what is seen of a role
 abbrev pub role_of : Role → RoleFacts
 role_of roles.Follower = Follower
 role_of (roles.Holder lease) = Holder (lease_revision lease)
@@ -33,6 +34,7 @@ role_of (roles.Leader writer) = Leader (writer_revision writer)
 role_of (roles.Ending writer why) = Ending (writer_revision writer) why
 role_of roles.Stray = Stray
 
+-- the word for a role, as views show it
 abbrev pub word_of : RoleFacts → RoleWord
 word_of Follower = words.Follower
 word_of (Holder revision) = words.Holder
@@ -86,5 +88,6 @@ pub record Outcome : Type 0 where
   pub machine : Machine
   pub outputs : OutputsFacts
 
+-- the outcome of these parts
 abbrev pub made : RoleFacts → Knowledge → Machine → OutputsFacts → Outcome
 made role knows machine outputs = record { role = role; knows = knows; machine = machine; outputs = outputs }

@@ -29,6 +29,7 @@ finds_live o = record o { role = Stray }
 abbrev pub stray_finds_ended : Outcome → Outcome
 stray_finds_ended o = record (disarming o) { role = Follower }
 
+-- what each role comes to before an input, by whether its server is live
 abbrev pub before_as : Ticks → RoleFacts → Outcome → Outcome
 before_as now (Leader revision) o = if live o.machine.server.state then o else leader_finds_ended now revision o
 before_as now (Ending revision why) o = if live o.machine.server.state then o else has_ended why revision o

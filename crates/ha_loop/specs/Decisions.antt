@@ -40,6 +40,7 @@ judges_start now revision o =
 abbrev pub leader_renewed : Ticks → Ticks → ℕ → Outcome → Outcome
 leader_renewed now ttl revision o = judges_start now revision (record (feeding now ttl o) { role = Leader revision })
 
+-- an agent leads from now on with the server that is live already
 abbrev pub takes_over : Ticks → ℕ → Outcome → Outcome
 takes_over now revision o = record o { role = Leader revision; knows = record o.knows { begun = Some now } }
 
@@ -72,6 +73,7 @@ arms now ttl revision o =
 abbrev pub takes_key : Ticks → Ticks → ℕ → Outcome → Outcome
 takes_key now ttl revision o = if may_take now o.machine then arms now ttl revision o else gives_back revision o
 
+-- what each role does with a lease that it was granted
 abbrev pub lease_granted : Ticks → Ticks → ℕ → RoleFacts → Outcome → Outcome
 lease_granted now ttl revision (Leader held) o = leader_renewed now ttl revision o
 lease_granted now ttl revision Stray o = stray_renewed now ttl revision o
@@ -90,10 +92,12 @@ abbrev pub belongs : Question → RoleFacts → Bool
 belongs Creating role = may_create role
 belongs _ role = is_active role
 
+-- a grant that is waited for is used where its question belongs to the role; its snapshot is then the newest
 abbrev pub accepted_grant : Ticks → Waited → ℕ → SnapshotFacts → Outcome → Outcome
 accepted_grant now waited revision snapshot o =
     if belongs waited.question o.role then lease_granted now waited.ttl revision o.role (record o { knows = informed snapshot o.knows }) else waiting_no_more o
 
+-- a question that asks for a lease of the leader key
 abbrev pub asks_lease : Question → Bool
 asks_lease Reading = false
 asks_lease _ = true
@@ -106,6 +110,7 @@ is_decision waited sequence = asks_lease waited.question && waited.sequence == s
 abbrev pub is_lease_of : MemberId → Granted → Bool
 is_lease_of me grant = grant.leased && grant.by.number == me.number
 
+-- a grant, by what is waited for
 abbrev pub granted_for : Ticks → ℕ → Granted → SnapshotFacts → Option Waited → Outcome → Outcome
 granted_for now sequence grant snapshot None o = o
 granted_for now sequence grant snapshot (Some waited) o =
@@ -115,6 +120,7 @@ granted_for now sequence grant snapshot (Some waited) o =
 abbrev pub granted : Ticks → ℕ → Granted → SnapshotFacts → Outcome → Outcome
 granted now sequence grant snapshot o = granted_for now sequence grant snapshot o.knows.waited o
 
+-- a role without its lease, if the member isn't writing on it
 abbrev pub follower_for : RoleFacts → RoleFacts
 follower_for (Holder held) = Follower
 follower_for role = role
@@ -130,11 +136,13 @@ renewal_refused now Stray o = stray_loses_key now o
 renewal_refused now (Holder held) o = record o { role = Follower }
 renewal_refused now _ o = o
 
+-- a refusal of what was asked by this question
 abbrev pub refused_as : Ticks → Question → Outcome → Outcome
 refused_as now Creating o = create_refused o
 refused_as now Renewing o = renewal_refused now o.role o
 refused_as now Reading o = o
 
+-- a refusal, by what is waited for
 abbrev pub refused_for : Ticks → ℕ → Option Waited → Outcome → Outcome
 refused_for now sequence None o = o
 refused_for now sequence (Some waited) o = if is_decision waited sequence then refused_as now waited.question (waiting_no_more o) else o

@@ -21,6 +21,7 @@ leads (Ready revision) = true
 leads (Leader revision) = true
 leads _ = false
 
+-- an agent is about to begin
 abbrev pub is_ready : RoleFacts → Bool
 is_ready (Ready revision) = true
 is_ready _ = false

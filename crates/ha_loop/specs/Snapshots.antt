@@ -28,6 +28,7 @@ use Rattle.ha_loop.specs.Acting.{seconds_after, lease_span, asking, touching, wa
 use Rattle.ha_loop.specs.Agents.{RoleFacts, Follower, Holder, Leader, Ending, Stray, Outcome}
 use Rattle.ha_loop.specs.Info.{info_of}
 
+-- the members that are known, with those that a failsafe key lists
 abbrev pub known_with : MemberSet → Option MemberSet → MemberSet
 known_with known None = known
 known_with known (Some members) = record { bits = bit_or known.bits members.bits }
@@ -50,23 +51,28 @@ leader_loses_key now revision o = record (ending_server now LeaderKeyLost o) { r
 abbrev pub stray_loses_key : Ticks → Outcome → Outcome
 stray_loses_key now o = ending_server now LeaderKeyLost o
 
--- a leader tells where its log ends, and the first row of its history that the key store lacks
+-- a primary tells where its log ends
 abbrev pub status_told : ServerStatus → Option Lsn
 status_told server = if is_primary server.state then server.end else None
 
+-- the row of the history for a point, as its member writes it at this moment
 abbrev pub row_at : Ticks → MemberId → HistoryPoint → HistoryRow
 row_at now me point = record { timeline = point.timeline; at = point.at; tick = now; leader = me }
 
+-- the first point of a history that a snapshot has no row for
 abbrev pub missing_point : SnapshotFacts → List HistoryPoint → Option HistoryPoint
 missing_point snapshot points = find (λ point. not (has_row point.timeline snapshot)) points
 
+-- the row for it, over the newest snapshot
 abbrev pub missing_row : Ticks → MemberId → Option SnapshotFacts → List HistoryPoint → Option HistoryRow
 missing_row now me None points = None
 missing_row now me (Some snapshot) points = option_map (row_at now me) (missing_point snapshot points)
 
+-- the row that a primary tells with its renewal, if one is missing
 abbrev pub row_told : Ticks → List HistoryPoint → Knowledge → ServerStatus → Option HistoryRow
 row_told now points knows server = if is_primary server.state then missing_row now knows.who.me knows.seen points else None
 
+-- the renewal of this revision, with what it tells of the member and of its server
 abbrev pub renewal : Ticks → List HistoryPoint → ℕ → Knowledge → ServerStatus → Txn
 renewal now points revision knows server = txns.Renew revision (info_of knows.who server) (lease_span knows.settings) (status_told server) (row_told now points knows server) None
 
@@ -95,6 +101,7 @@ own_key now points revision _ o = o
 abbrev pub starts_behind : Ticks → Option MemberId → Outcome → Outcome
 starts_behind now leader o = if o.machine.server.diverged then o else starting_replica now leader o
 
+-- the server follows this member's already
 abbrev pub is_upstream : MemberId → Option ServerId → Bool
 is_upstream leader None = false
 is_upstream leader (Some upstream) = upstream.number == leader.number
@@ -126,6 +133,7 @@ others_key now leader _ o = o
 abbrev pub creating : Ticks → Outcome → Outcome
 creating now o = asking now Creating (seconds_after now o.knows.settings.retry_timeout) (bodies.Request (txns.Create (info_of o.knows.who o.machine.server) (lease_span o.knows.settings) None None)) o
 
+-- what a member without a lease does while nobody leads, by the state of its server
 abbrev pub free_in : Ticks → State → Outcome → Outcome
 free_in now states.Stopped o = touching (starts_behind now None o)
 free_in now states.Crashed o = touching (starts_behind now None o)
@@ -144,6 +152,7 @@ no_key now Follower o = finds_free now o
 no_key now (Holder held) o = finds_free now o
 no_key now _ o = o
 
+-- what the agent does where somebody leads
 abbrev pub led_by : Ticks → List HistoryPoint → LeaderEntry → Outcome → Outcome
 led_by now points leader o =
     if leader.holder.number == o.knows.who.me.number then own_key now points leader.revision o.role o else others_key now leader.holder o.role o
@@ -158,6 +167,7 @@ abbrev pub is_active : RoleFacts → Bool
 is_active (Ending revision why) = false
 is_active _ = true
 
+-- a question that reads the key store
 abbrev pub is_read : Question → Bool
 is_read Reading = true
 is_read _ = false
@@ -167,9 +177,11 @@ abbrev pub awaits_read : Option Waited → ℕ → Bool
 awaits_read None sequence = false
 awaits_read (Some waited) sequence = is_read waited.question && waited.sequence == sequence
 
+-- a read was answered at this moment, with this snapshot
 abbrev pub read_noted : Ticks → SnapshotFacts → Knowledge → Knowledge
 read_noted now snapshot knows = record (informed snapshot knows) { last_read = Some now }
 
+-- the answer to a read that is waited for is used by a role that reads
 abbrev pub accepted : Ticks → List HistoryPoint → SnapshotFacts → Outcome → Outcome
 accepted now points snapshot o = if is_active o.role then led now points (leader_in snapshot) (record o { knows = read_noted now snapshot o.knows }) else waiting_no_more o
 

@@ -42,11 +42,13 @@ leader_out_of_reach now revision o = record (ending_server now StoreOutOfReach o
 abbrev pub stray_out_of_reach : Ticks → Outcome → Outcome
 stray_out_of_reach now o = ending_server now StoreOutOfReach o
 
+-- what each role does without an answer: who has a live server ends it
 abbrev pub out_of_reach_as : Ticks → RoleFacts → Outcome → Outcome
 out_of_reach_as now (Leader revision) o = leader_out_of_reach now revision o
 out_of_reach_as now Stray o = stray_out_of_reach now o
 out_of_reach_as now _ o = o
 
+-- the key store is out of reach: nothing is waited for any more
 abbrev pub out_of_reach : Ticks → Outcome → Outcome
 out_of_reach now o = out_of_reach_as now o.role (waiting_no_more o)
 
@@ -56,6 +58,7 @@ unanswered now Reading o = out_of_reach now o
 unanswered now Renewing o = out_of_reach now o
 unanswered now Creating o = waiting_no_more o
 
+-- a deadline that has passed, by what is waited for
 abbrev pub overdue_for : Ticks → Option Waited → Outcome → Outcome
 overdue_for now None o = o
 overdue_for now (Some waited) o = if nat_le waited.until.0 now.0 then unanswered now waited.question o else o
@@ -68,6 +71,7 @@ overdue now o = overdue_for now o.knows.waited o
 abbrev pub reading : Ticks → Outcome → Outcome
 reading now o = asking now Reading (seconds_after now o.knows.settings.retry_timeout) bodies.Read o
 
+-- the server is shutting down
 abbrev pub is_stopping : State → Bool
 is_stopping (states.Stopping was_primary at) = true
 is_stopping _ = false
@@ -78,6 +82,7 @@ turn_as now (Ending revision why) o = o
 turn_as now Stray o = if is_stopping o.machine.server.state then o else reading now o
 turn_as now _ o = reading now o
 
+-- a turn began at this moment, and the next one is due `loop_wait` seconds after it
 abbrev pub turn_noted : Ticks → Knowledge → Knowledge
 turn_noted now knows = record knows { last_turn = Some now; next_turn = seconds_after now knows.settings.loop_wait }
 
@@ -85,6 +90,7 @@ turn_noted now knows = record knows { last_turn = Some now; next_turn = seconds_
 abbrev pub turn_begins : Ticks → Outcome → Outcome
 turn_begins now o = turn_as now o.role (record o { knows = turn_noted now o.knows })
 
+-- a turn begins where one is due
 abbrev pub turned : Ticks → Outcome → Outcome
 turned now o = if has_turn now o.knows then turn_begins now o else o
 
