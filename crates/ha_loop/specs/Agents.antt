@@ -52,6 +52,10 @@ pub record AgentFacts : Type 0 where
 abbrev pub latest : ℕ
 latest = 2 ^ 61
 
+-- so many messages a run may send
+abbrev pub most_messages : ℕ
+most_messages = 2 ^ 60
+
 -- what holds of all that an agent knows: its turns began at moments that are reckoned with, and what it asked for are leases
 pub record IsSound (knows : Knowledge) : Type 0 where
   pub turn : ForSome knows.last_turn (λ moment. moment.0 ≤ latest)

@@ -7,6 +7,10 @@ pub record OutputsFacts : Type 0 where
   pub outputs : List Output
   pub spare : ℕ
 
+-- so many outputs an input brings at most, messages among them
+abbrev pub most_outputs : ℕ
+most_outputs = 40
+
 -- one more stands behind the others
 abbrev pub listed : Output → OutputsFacts → OutputsFacts
 listed output out = record { outputs = out.outputs ++ output ∷ []; spare = out.spare - 1 }

@@ -1,6 +1,7 @@
 //! Agents.
 ghost use Rattle.std.specs.Prelude.{◌≡◌, ◌≤◌, ◌<◌, ◌+◌, ◌-◌, ◌^◌, Some, None, false, option_copied};
-ghost use Rattle.ha_loop.specs.Agents.{AgentFacts, RoleFacts, IsSound, IsWithin, Follower, role_of, word_of, fresh_knowledge, made, latest};
+ghost use Rattle.ha_loop.specs.Agents.{AgentFacts, RoleFacts, IsSound, IsWithin, Follower, role_of, word_of, fresh_knowledge, made, latest, most_messages};
+ghost use Rattle.ha_loop.specs.Outputs.{most_outputs};
 ghost use Rattle.ha_loop.specs.Start.{started_machine};
 ghost use Rattle.ha_loop.specs.Table.{step, act};
 ghost use Rattle.ha_loop.specs.Wake.{is_due};
@@ -73,11 +74,11 @@ impl Agent {
     ) -> Agent
         requires moment { now.0 ≤ latest }
         requires server { IsWithin machine.old.server }
-        requires numbers { self.knows.sequence + 40 ≤ 2 ^ 60 }
-        requires room { 40 ≤ out.old.spare }
+        requires numbers { self.knows.sequence + most_outputs ≤ most_messages }
+        requires room { most_outputs ≤ out.old.spare }
         ensures outcome { made result.role result.knows machine.new out.new ≡ step now history.now.points heard (made self.role self.knows machine.old out.old) }
-        ensures numbers { result.knows.sequence ≤ self.knows.sequence + 40 }
-        ensures room { out.old.spare ≤ out.new.spare + 40 }
+        ensures numbers { result.knows.sequence ≤ self.knows.sequence + most_outputs }
+        ensures room { out.old.spare ≤ out.new.spare + most_outputs }
     {
         let Agent { role, mut knows } = self;
         let role = hear(role, &mut knows, machine, out, now, heard, history);
@@ -92,11 +93,11 @@ impl Agent {
         machine: &mut Machine,
         out: &mut Outputs,
     ) -> Agent
-        requires numbers { self.knows.sequence + 40 ≤ 2 ^ 60 }
-        requires room { 40 ≤ out.old.spare }
+        requires numbers { self.knows.sequence + most_outputs ≤ most_messages }
+        requires room { most_outputs ≤ out.old.spare }
         ensures outcome { made result.role result.knows machine.new out.new ≡ act now (made self.role self.knows machine.old out.old) }
-        ensures numbers { result.knows.sequence ≤ self.knows.sequence + 40 }
-        ensures room { out.old.spare ≤ out.new.spare + 40 }
+        ensures numbers { result.knows.sequence ≤ self.knows.sequence + most_outputs }
+        ensures room { out.old.spare ≤ out.new.spare + most_outputs }
     {
         let Agent { role, mut knows } = self;
         let role = before(role, &mut knows, machine, out, now);
@@ -105,7 +106,7 @@ impl Agent {
 
     /// How many messages of this run are left.
     pub fn room(&self) -> u64
-        ensures { result ≡ 2 ^ 60 - self.now.knows.sequence }
+        ensures { result ≡ most_messages - self.now.knows.sequence }
     {
         MOST.saturating_sub(self.knows.sequence)
     }
@@ -192,12 +193,12 @@ fn hear(
     requires moment { now.0 ≤ latest }
     requires sound { IsSound knows.old }
     requires server { IsWithin machine.old.server }
-    requires numbers { knows.old.sequence + 40 ≤ 2 ^ 60 }
-    requires room { 40 ≤ out.old.spare }
+    requires numbers { knows.old.sequence + most_outputs ≤ most_messages }
+    requires room { most_outputs ≤ out.old.spare }
     ensures outcome { made (role_of result) knows.new machine.new out.new ≡ step now history.now.points heard (made (role_of role) knows.old machine.old out.old) }
     ensures sound { IsSound knows.new }
-    ensures numbers { knows.new.sequence ≤ knows.old.sequence + 40 }
-    ensures room { out.old.spare ≤ out.new.spare + 40 }
+    ensures numbers { knows.new.sequence ≤ knows.old.sequence + most_outputs }
+    ensures room { out.old.spare ≤ out.new.spare + most_outputs }
 {
     match heard {
         Heard::Wake => wake(role, knows, machine, out, now),

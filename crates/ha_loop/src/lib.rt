@@ -14,8 +14,6 @@ mod output;
 mod outputs;
 mod role;
 mod snapshots;
-#[cfg(test)]
-mod tests;
 mod wake;
 mod who;
 

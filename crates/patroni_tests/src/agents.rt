@@ -1,13 +1,12 @@
-//! Inputs of an agent, worked by hand.
+//! Inputs of agents, worked by hand.
 ghost use Rattle.std.specs.Prelude.{◌≡◌};
 
-use crate::info::info_of;
-use crate::{Agent, Heard, Machine, Output, Outputs, Who};
 use cluster_config::{RoleWord, Snapshot};
 use event_book::{Body, Reason};
+use ha_loop::{Agent, Heard, Machine, Output, Outputs, Who};
 use leader_key::{Mode, Watchdog};
-use lease_store::{ConfigValue, Store, Txn, TxnKind};
-use pat_base::{Host, Lsn, MemberId, Name, State, Tags, Ticks};
+use lease_store::{ConfigValue, MemberInfo, Store, Txn, TxnKind};
+use pat_base::{Host, Lsn, MemberId, Name, State, Tags, Ticks, Word};
 use pg_model::ServerStatus;
 use std::alloc::Global;
 use std::process::Abort;
@@ -115,7 +114,14 @@ fn one_member(rt: HostRuntime) -> Result<(), Fail> {
     out.reserve(40)?;
     let free = snapshot(rt.alloc(), &rt, &store, Ticks(1))?;
     let create = Txn::Create {
-        info: info_of(&who(&rt), &server(&rt)),
+        info: MemberInfo {
+            host: Host::local(),
+            tags: who(&rt).tags,
+            state: Word::Running,
+            writes: false,
+            timeline: Some(1),
+            end: server(&rt).end,
+        },
         ttl: Ticks(300),
         failsafe: None,
         sync: None,
