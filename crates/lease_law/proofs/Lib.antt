@@ -2,7 +2,7 @@ pub mod Tools
 pub mod Starting
 pub mod Onward
 pub mod Deliver
-pub mod NobodyActsAnew
+pub mod Uncontended
 pub mod Fed
 pub mod Inputs
 pub mod Runs
