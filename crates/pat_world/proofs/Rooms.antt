@@ -1,7 +1,9 @@
 -- Counters, each of which an event counts up by one at most.
-use Rattle.std.proofs.Common.{◌≡◌, ℕ, ◌+◌, ◌^◌, ◌≤◌, ◌<◌, List, All, Option, Some, None, arith, refl}
-use Rattle.std.specs.Prelude.{slice_get}
+use Rattle.std.proofs.Common.{◌≡◌, ℕ, ◌+◌, ◌^◌, ◌≤◌, ◌<◌, List, All, Option, Some, None, arith, refl, subst}
+use Rattle.std.specs.Prelude.{option_and_then, slice_get}
+use Rattle.std.proofs.lemmas.Option.{none-some, same_Some}
 use Rattle.std.proofs.lemmas.List.Elements.{All-set}
+use Rattle.pat_base.specs.declared.member_id.MemberId.{MemberId}
 use Rattle.pat_base.specs.Changes.{changed_at}
 use Rattle.lease_store.specs.Keys.{Keys}
 use Rattle.pg_model.specs.Facts.{ServerFacts}
@@ -22,8 +24,10 @@ use Rattle.event_book.specs.Clock.{now_after}
 use Rattle.event_book.specs.Flight.{InFlightFacts, Flight, in_flight, sent_after}
 use Rattle.event_book.specs.Keys.{keys_after}
 use Rattle.pat_world.specs.declared.agent_state.AgentState.{AgentState}
+use Rattle.pat_world.specs.declared.agent_state.MemberAgent.{MemberAgent}
 use Rattle.pat_world.specs.Cluster.{Cluster, cluster_after, agent_states_after, agent_states_by, agent_states_reached_at, agent_states_by_message, agent_states_by_delivery}
 use Rattle.pat_world.specs.Comes.{Counts, CountsAgent, CountsMessage}
+use Rattle.pat_world.specs.Next.{declared, member_agent_at, member_agent_for, member_agent_of}
 use Rattle.pat_world.specs.Room.{HasRoom, AgentHasRoom}
 use Rattle.pat_world.proofs.ServerRooms.{All-at, All-weaker, CountsCommit, HasTimeline, commits-more, servers-room}
 use Rattle.pat_world.proofs.TurnRooms.{wake_reaction-room, message_reaction-room, fresh-room, AgentHasRoom-fewer}
@@ -59,6 +63,23 @@ sent-more cluster _ counts = omega arith
 
 abbrev HasRun : ℕ → AgentProcess → Type 0
 HasRun events state = state.run + events < 2 ^ 60
+
+run-of : (agents : List AgentProcess) (events : ℕ) (member : Member) (process : Option AgentProcess) (state : Option AgentState) (agent : MemberAgent)
+    → All (HasRun events) agents → slice_get agents member.id.number ≡ process → member_agent_of member process state ≡ Some agent → agent.process.run < 2 ^ 60
+run-of agents events member None state agent all found is = absurd (none-some agent is)
+run-of agents events member (Some process) None agent all found is = absurd (none-some agent is)
+run-of agents events member (Some process) (Some state) agent all found is =
+    let has : HasRun events process = All-at AgentProcess (HasRun events) agents member.id.number process all found in
+    let below : process.run < 2 ^ 60 = omega (arith, has) in
+    subst (λ (a : MemberAgent). a.process.run < 2 ^ 60) (same_Some _ agent is) below
+
+run-if : (cluster : Cluster) (events : ℕ) (member : Option Member) (agent : MemberAgent) → All (HasRun events) cluster.book.agents → option_and_then (member_agent_for cluster) member ≡ Some agent → agent.process.run < 2 ^ 60
+run-if cluster events None agent all is = absurd (none-some agent is)
+run-if cluster events (Some member) agent all is = run-of cluster.book.agents events member (slice_get cluster.book.agents member.id.number) (slice_get cluster.agent_states member.id.number) agent all refl is
+
+-- the agent of a declared member may begin one more run
+pub run-below : (cluster : Cluster) (events : ℕ) (id : MemberId) (agent : MemberAgent) → HasRoom cluster events → member_agent_at cluster id ≡ Some agent → agent.process.run < 2 ^ 60
+run-below cluster events id agent room is = run-if cluster events (declared cluster id) agent room.runs is
 
 run-fewer : (events : ℕ) (state : AgentProcess) → HasRun (1 + events) state → HasRun events state
 run-fewer events state room = omega (arith, room)

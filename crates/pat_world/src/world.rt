@@ -155,7 +155,7 @@ impl World {
     fn play(&mut self, step: &Step, events: &mut Vec<Event>) -> Result<(), AllocError>
         requires room { HasRoomFor self.old 1 }
         requires declared { IsStep self.old.book.members step.now }
-        ensures took { OnOk result (Emits self.old self.new events.old.items events.new.items (next_events self.old step.now) step_cost) }
+        ensures emits { OnOk result (Emits self.old self.new events.old.items events.new.items (next_events self.old step.now) step_cost) }
         ensures acknowledged { OnOk result (AreAcknowledged self.new.book.members self.new.book.servers) }
     {
         self.perform(step, events)?;

@@ -4,8 +4,12 @@ use Rattle.pg_model.specs.Servers.{entry_for}
 use Rattle.pat_world.specs.Cluster.{Cluster}
 use Rattle.pat_world.specs.Comes.{MayCome}
 use Rattle.pat_world.specs.ServerCommands.{commit_of}
+use Rattle.pat_world.proofs.Rooms.{run-below}
 use Rattle.pat_world.proofs.ServerCommanding.{commit-comes}
 use Rattle.pat_world.proofs.world.World.command_kind.Goals as goal
+
+pub restarted-requires : goal.restarted-requires
+restarted-requires c = run-below c.args.self.now 1 c.in-Restart.id c.in_ok-member_agent_at-in-Restart.field-0 c.requires.room (sym c.member_agent_at-in-Restart.ensures ∙ c.in_ok-member_agent_at-in-Restart.was)
 
 pub returns-in-Commit-clause-comes : goal.returns-in-Commit-clause-comes
 returns-in-Commit-clause-comes c =

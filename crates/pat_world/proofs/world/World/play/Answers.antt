@@ -5,8 +5,8 @@ use Rattle.pat_world.specs.Room.{step_cost}
 use Rattle.pat_world.proofs.Taking.{Emits-then}
 use Rattle.pat_world.proofs.world.World.play.Goals as goal
 
-pub returns-clause-took : goal.returns-clause-took
-returns-clause-took c =
+pub returns-clause-emits : goal.returns-clause-emits
+returns-clause-emits c =
     on_ok_weaker c.acknowledge_all.result
     (λ took. Emits-then c.args.self.now c.perform.new.self c.acknowledge_all.new.self _ _ _ (step_events c.args.self.now c.args.step.now) (λ later. each acknowledge_events later later.book.members) step_cost 0 step_cost c.in_ok-perform.ensures took (omega arith))
     c.acknowledge_all.ensures.emits

@@ -7,7 +7,7 @@ use Rattle.pat_world.proofs.Waking.{wake-took}
 use Rattle.pat_world.proofs.world.World.wake.Goals as goal
 
 pub react-requires-clause-room : goal.react-requires-clause-room
-react-requires-clause-room c = c.in_ok-reaction.ensures.took.room reaction_cost c.requires
+react-requires-clause-room c = c.in_ok-reaction.ensures.emits.room reaction_cost c.requires
 
 pub returns : goal.returns
 returns c =
@@ -15,5 +15,5 @@ returns c =
     let ready : is_to_wake c.args.self.now.book.clock member_agent ≡ true = ap (λ (b : Cluster). is_to_wake b.book.clock member_agent) (sym c.self.view_is) ∙ sym c.is_to_wake.ensures ∙ c.if-not-is_to_wake.false in
     on_ok_weaker c.react.result
     (λ took. wake-took c.args.self.now c.rouse.new.self c.react.new.self c.args.member member_agent c.in_ok-reaction.reaction c.args.events.now.items c.rouse.new.events.items c.react.new.events.items
-    (sym c.member_agent_for.ensures ∙ c.in-Some.is) ready c.in_ok-reaction.ensures.took c.in_ok-reaction.ensures.reaction took)
+    (sym c.member_agent_for.ensures ∙ c.in-Some.is) ready c.in_ok-reaction.ensures.emits c.in_ok-reaction.ensures.reaction took)
     c.react.ensures
