@@ -2,7 +2,7 @@
 ghost use Rattle.std.specs.Prelude.{◌≡◌, ◌+◌, ◌*◌, OnOk, IfOk, IfSome, slice_get};
 ghost use Rattle.cluster_script.specs.Script.{IsMember};
 ghost use Rattle.pat_world.specs.Steps.{names_in};
-ghost use Rattle.pat_world.specs.Next.{ask_events, does, each, follow_events, for_some, event_of, reaction_events, reaction_to_wake, member_agent_at, member_agent_for, wake_events};
+ghost use Rattle.pat_world.specs.Next.{ask_events, does, each, follow_events, for_some, event_of, reaction_events, reaction_to_wake, member_agent_at, member_agent_for, wake_events, wake_events_of};
 ghost use Rattle.pat_world.specs.Room.{HasRoom, input_cost, reaction_cost, sending_cost, wakes_cost};
 ghost use Rattle.pat_world.specs.Short.{AsksShortly};
 ghost use Rattle.pat_world.specs.Emits.{Emits};
@@ -39,6 +39,16 @@ impl World {
         if !is_to_wake(self.clock, &member_agent) {
             return Ok(());
         }
+        self.awaken(member, events)
+    }
+
+    /// The agent of a member is woken, and acts. Apart from the test whether it is to be woken, which most ticks end with: so that
+    /// costs no room for a reaction.
+    #[inline(never)]
+    fn awaken(&mut self, member: Member, events: &mut Vec<Event>) -> Result<(), AllocError>
+        requires { HasRoom self.old input_cost }
+        ensures { OnOk result (Emits self.old self.new events.old.items events.new.items (wake_events_of self.old member) input_cost) }
+    {
         let reaction = self.rouse(member, events)?;
         self.react(member, reaction, events)
     }

@@ -2,18 +2,13 @@ use Rattle.std.proofs.Common.{◌≡◌, ◌∙◌, true, ap, sym}
 use Rattle.std.proofs.lemmas.Result.{on_ok_weaker}
 use Rattle.pat_world.specs.Cluster.{Cluster}
 use Rattle.pat_world.specs.Next.{is_to_wake}
-use Rattle.pat_world.specs.Room.{reaction_cost}
 use Rattle.pat_world.proofs.Waking.{wake-took}
 use Rattle.pat_world.proofs.world.World.wake.Goals as goal
-
-pub react-requires-clause-room : goal.react-requires-clause-room
-react-requires-clause-room c = c.in_ok-reaction.ensures.emits.room reaction_cost c.requires
 
 pub returns : goal.returns
 returns c =
     let member_agent = c.in-Some.member_agent in
     let ready : is_to_wake c.args.self.now.book.clock member_agent ≡ true = ap (λ (b : Cluster). is_to_wake b.book.clock member_agent) (sym c.self.view_is) ∙ sym c.is_to_wake.ensures ∙ c.if-not-is_to_wake.false in
-    on_ok_weaker c.react.result
-    (λ took. wake-took c.args.self.now c.rouse.new.self c.react.new.self c.args.member member_agent c.in_ok-reaction.reaction c.args.events.now.items c.rouse.new.events.items c.react.new.events.items
-    (sym c.member_agent_for.ensures ∙ c.in-Some.is) ready c.in_ok-reaction.ensures.emits c.in_ok-reaction.ensures.reaction took)
-    c.react.ensures
+    on_ok_weaker c.awaken.result
+    (λ took. wake-took c.args.self.now c.awaken.new.self c.args.member member_agent c.args.events.now.items c.awaken.new.events.items (sym c.member_agent_for.ensures ∙ c.in-Some.is) ready took)
+    c.awaken.ensures
