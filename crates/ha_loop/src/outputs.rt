@@ -1,5 +1,5 @@
 //! Lists of outputs, with room taken before.
-ghost use Rattle.std.specs.Prelude.{◌≡◌, ◌≤◌, ◌++◌, [], OnOk, OnErr, option_to_list};
+ghost use Rattle.std.specs.Prelude.{◌≡◌, ◌≤◌, ◌++◌, [], OnOk, OnErr, option_to_list, IsNone, ◌↔◌};
 ghost use Rattle.std.specs.VecDeque.{deque_len, deque_capacity};
 ghost use Rattle.ha_loop.specs.Outputs.{OutputsFacts, listed};
 
@@ -53,6 +53,7 @@ impl Outputs {
     /// Takes the first. `None` exactly where there is none.
     pub fn take(&mut self) -> Option<Output>
         ensures outputs { self.old.outputs ≡ option_to_list result ++ self.new.outputs }
+        ensures none { IsNone result ↔ (self.old.outputs ≡ []) }
         ensures room { self.old.spare ≤ self.new.spare }
     {
         self.outputs.pop_front()
