@@ -202,9 +202,9 @@ seen-vouched None top z bounded e = absurd (none-some z e)
 seen-vouched (Some key) top z bounded e = subst (λ (y : LeaderSeen). IsVouched (Some key) top y.holder y.revision) (some-is (record { holder = key.holder; revision = key.revision }) z e)
     (record { bound = bounded key refl; owner = λ k is same. ap (λ (x : LeaderKey). x.holder) (sym (some-is key k is)) })
 
-told-is : {A : Type 0} (b : Bool) (o : Option A) (x : A) → shown_if b o ≡ Some x → o ≡ Some x
-told-is true o x e = e
-told-is false o x e = absurd (none-some x e)
+shown_if-is : {A : Type 0} (b : Bool) (o : Option A) (x : A) → shown_if b o ≡ Some x → o ≡ Some x
+shown_if-is true o x e = e
+shown_if-is false o x e = absurd (none-some x e)
 
 abbrev Onward : (ℕ → Option Flying) → ℕ → ℕ → Answer → ℕ → Option Flying
 Onward flight i j new = put_at (put_at flight i None) j (Some (Answered new))
@@ -251,13 +251,13 @@ deliver-answer s q d inv request ok failsafe_bounded = record {
   numbered = request.numbered;
   seen = λ z is. seen-vouched d.leader d.revision z
       (λ k e. elim (ok.onward.known k e) [ inl p ↦ omega (arith, inv.bounded k p, ok.onward.grows) | inr p ↦ p.1 ])
-      (told-is d.snapshot (seen_of d.leader) z is);
+      (shown_if-is d.snapshot (seen_of d.leader) z is);
   grant = λ g is. let h = ok.granted g is in record {
     bound = omega (arith, h.revision);
     owner = λ k is' same. ap (λ (x : LeaderKey). x.holder) (sym (some-is h.found_key k (sym h.key_is ∙ is'))) ∙ h.holder;
   };
   order = λ g is. let h = ok.granted g is in omega (arith, h.sent, h.moment, request.sent);
-  listed = λ f told. let is : d.failsafe ≡ Some f = told-is d.snapshot d.failsafe f told in record {
+  listed = λ f told. let is : d.failsafe ≡ Some f = shown_if-is d.snapshot d.failsafe f told in record {
     bound = failsafe_bounded f is;
     same = λ g is' same p. ap (λ (x : FailsafeKey). x.members p) (some-is g f (sym is' ∙ is));
     there = record { f = f; is = is };

@@ -82,7 +82,7 @@ remembers-after past (event ∷ book) old = remembers-after (past_after past eve
 remembers : (book : List Event) → Remembers (past_of book).asked (past_of book).flight
 remembers book = remembers-after first_past book (λ i q at. absurd (none-no q at))
 
--- ---- what suffices for an action to be told
+-- ---- what suffices for an action to be shown
 question-kept : (s : State) (i j : ℕ) (granted : Bool) (o : Option Flying) → (with_question s i j granted o).declared ≡ s.declared
 question-kept s i j granted (Some (Requested q)) = refl
 question-kept s i j granted _ = refl
@@ -101,9 +101,9 @@ declared-eq : (d d' : Declared) (c : ℕ) (k : Option LeaderKey) (f : Option Fai
     ◌≡◌ {A = State} (record { declared = d; clock = c; leader = k; failsafe = f; revision = t; flight = fl; taken = tk; members = ms; writes = w }) (record { declared = d'; clock = c; leader = k; failsafe = f; revision = t; flight = fl; taken = tk; members = ms; writes = w })
 declared-eq d d' c k f t fl tk ms w e = cc
 
-pub parts-told : (declared : Declared) (book : List Event) (volatile_states : ℕ → VolatileState) (transition : Transition) → let past = past_of (book ++ transition.events) in let s = act (state_of declared (past_of book) volatile_states) transition.action in
+pub parts-shown : (declared : Declared) (book : List Event) (volatile_states : ℕ → VolatileState) (transition : Transition) → let past = past_of (book ++ transition.events) in let s = act (state_of declared (past_of book) volatile_states) transition.action in
     past.clock ≡ s.clock → past.leader ≡ s.leader → past.failsafe ≡ s.failsafe → past.revision ≡ s.revision → ((i : ℕ) → past.flight i ≡ s.flight i) → past.taken ≡ s.taken → ((m : ℕ) → machine_of past (transition.volatile_states m) m ≡ s.members m) → IsShown declared book volatile_states transition
-parts-told declared book volatile_states transition = λ clock leader failsafe revision flight taken members.
+parts-shown declared book volatile_states transition = λ clock leader failsafe revision flight taken members.
     let past : Past = past_of (book ++ transition.events) in
     let s : State = act (state_of declared (past_of book) volatile_states) transition.action in
     let w : (ℕ → Bool) = writes_over (past_of book).writes transition.events in
@@ -125,19 +125,19 @@ delivered-is s i j granted q d at is = ap (λ (o : Option Flying). with_question
 abbrev Granted : Past → ℕ → Member → Txn → List Name → Past
 Granted past i by txn standbys = past_after (past_after past (kinds.Message (messages.Delivered i))) (kinds.Store (stores.Granted i by txn standbys))
 
-told-from : (declared : Declared) (book : List Event) (volatile_states : ℕ → VolatileState) (i j : ℕ) (granted : Bool) (events : List Event) (q : Question) (d : Outcome) → (past_of book).flight i ≡ Some (Requested q) →
+shown-from : (declared : Declared) (book : List Event) (volatile_states : ℕ → VolatileState) (i j : ℕ) (granted : Bool) (events : List Event) (q : Question) (d : Outcome) → (past_of book).flight i ≡ Some (Requested q) →
     outcome_of (past_of book).clock (past_of book).leader (past_of book).failsafe (past_of book).revision q.member q.sent granted q.query ≡ d →
     state_of declared (past_over (past_of book) events) volatile_states ≡ record (with_outcome (state_of declared (past_of book) volatile_states) i j q d) { writes = writes_over (past_of book).writes events } →
     IsShown declared book volatile_states (record { action = Deliver i j granted; events = events; volatile_states = volatile_states })
-told-from declared book volatile_states i j granted events q d at is same =
+shown-from declared book volatile_states i j granted events q d at is same =
     ap (λ (past : Past). state_of declared past volatile_states) (past-append first_past book events) ∙ same
     ∙ sym (ap (λ (s : State). record s { writes = writes_over (past_of book).writes events }) (delivered-is (state_of declared (past_of book) volatile_states) i j granted q d at is))
 
-pub granted-told : (declared : Declared) (book : List Event) (facts : Facts) (volatile_states : ℕ → VolatileState) (tick : Ticks) (i j : ℕ) (by : Member) (run sequence sent : ℕ) (txn : Txn) (standbys : List Name) →
+pub granted-shown : (declared : Declared) (book : List Event) (facts : Facts) (volatile_states : ℕ → VolatileState) (tick : Ticks) (i j : ℕ) (by : Member) (run sequence sent : ℕ) (txn : Txn) (standbys : List Name) →
     IsSameStore (past_of book) facts → decision_on facts.keys facts.clock txn ≡ Granting →
     (past_of book).flight i ≡ Some (Requested (record { member = by.id.number; run = run; sequence = sequence; sent = sent; query = query_of txn })) →
     IsShown declared book volatile_states (record { action = Deliver i j true; events = granted_events tick i j by run sequence txn standbys; volatile_states = volatile_states })
-granted-told declared book facts volatile_states tick i j by run sequence sent txn standbys same decision at =
+granted-shown declared book facts volatile_states tick i j by run sequence sent txn standbys same decision at =
     let past : Past = past_of book in
     let q : Question = record { member = by.id.number; run = run; sequence = sequence; sent = sent; query = query_of txn } in
     let d : Outcome = granted_outcome past.clock past.leader past.failsafe past.revision by.id.number sent (query_of txn) in
@@ -146,24 +146,24 @@ granted-told declared book facts volatile_states tick i j by run sequence sent t
     subst (λ (x : Decision). outcome_of past.clock past.leader past.failsafe past.revision by.id.number sent (is_granted x) (query_of txn) ≡ outcome_by x past.clock past.leader past.failsafe past.revision by.id.number sent (query_of txn)) decision
     (outcome-decision_if past facts by.id.number sent txn same) in
     let grant : grant_of (is_lease txn) mid (past.asked i) ≡ d.grant = ap (λ (o : Option Question). grant_of (is_lease txn) mid o) (remembers book i q at) ∙ granted-grant mid by.id.number run sequence sent txn in
-    told-from declared book volatile_states i j true (granted_events tick i j by run sequence txn standbys) q d at is
+    shown-from declared book volatile_states i j true (granted_events tick i j by run sequence txn standbys) q d at is
     (ap (λ (g : Option Grant). record (with_outcome (state_of declared past volatile_states) i j q (record d { grant = g })) { writes = past.writes }) grant)
 
-pub refused_outcome-told : (declared : Declared) (book : List Event) (facts : Facts) (volatile_states : ℕ → VolatileState) (tick : Ticks) (i j : ℕ) (by : Member) (run sequence sent : ℕ) (txn : Txn) (request : TxnKind) (key : Key) (found : Expected) →
+pub refused_outcome-shown : (declared : Declared) (book : List Event) (facts : Facts) (volatile_states : ℕ → VolatileState) (tick : Ticks) (i j : ℕ) (by : Member) (run sequence sent : ℕ) (txn : Txn) (request : TxnKind) (key : Key) (found : Expected) →
     IsSameStore (past_of book) facts → decision_on facts.keys facts.clock txn ≡ Refusing key found →
     (past_of book).flight i ≡ Some (Requested (record { member = by.id.number; run = run; sequence = sequence; sent = sent; query = query_of txn })) →
     IsShown declared book volatile_states (record { action = Deliver i j false; events = refused_events tick i j by run sequence request key found; volatile_states = volatile_states })
-refused_outcome-told declared book facts volatile_states tick i j by run sequence sent txn request key found same decision at =
+refused_outcome-shown declared book facts volatile_states tick i j by run sequence sent txn request key found same decision at =
     let past : Past = past_of book in
-    told-from declared book volatile_states i j false (refused_events tick i j by run sequence request key found) (record { member = by.id.number; run = run; sequence = sequence; sent = sent; query = query_of txn }) (refused_outcome past.leader past.failsafe past.revision) at
+    shown-from declared book volatile_states i j false (refused_events tick i j by run sequence request key found) (record { member = by.id.number; run = run; sequence = sequence; sent = sent; query = query_of txn }) (refused_outcome past.leader past.failsafe past.revision) at
     (subst (λ (x : Decision). outcome_of past.clock past.leader past.failsafe past.revision by.id.number sent (is_granted x) (query_of txn) ≡ outcome_by x past.clock past.leader past.failsafe past.revision by.id.number sent (query_of txn)) decision
     (outcome-decision_if past facts by.id.number sent txn same))
     refl
 
-pub read-told : (declared : Declared) (book : List Event) (volatile_states : ℕ → VolatileState) (tick : Ticks) (i j : ℕ) (by : Member) (run sequence sent : ℕ) →
+pub read-shown : (declared : Declared) (book : List Event) (volatile_states : ℕ → VolatileState) (tick : Ticks) (i j : ℕ) (by : Member) (run sequence sent : ℕ) →
     (past_of book).flight i ≡ Some (Requested (record { member = by.id.number; run = run; sequence = sequence; sent = sent; query = Read })) →
     IsShown declared book volatile_states (record { action = Deliver i j true; events = read_events tick i j by run sequence; volatile_states = volatile_states })
-read-told declared book volatile_states tick i j by run sequence sent at =
+read-shown declared book volatile_states tick i j by run sequence sent at =
     let past : Past = past_of book in
-    told-from declared book volatile_states i j true (read_events tick i j by run sequence) (record { member = by.id.number; run = run; sequence = sequence; sent = sent; query = Read })
+    shown-from declared book volatile_states i j true (read_events tick i j by run sequence) (record { member = by.id.number; run = run; sequence = sequence; sent = sent; query = Read })
     (record { leader = past.leader; failsafe = past.failsafe; revision = past.revision; snapshot = true; grant = None }) at refl refl

@@ -1,4 +1,4 @@
--- A lawful, timely run, told by its events, at the end of which member 0 accepts writes: the law isn't empty.
+-- A lawful, timely run, shown by its events, at the end of which member 0 accepts writes: the law isn't empty.
 use Rattle.std.proofs.Common.{◌≡◌, ◌⊎◌, ℕ, true, false, List, [], ◌∷◌, ◌++◌, Option, Some, None, refl, ◌∙◌, sym, subst, arith, inl, inr}
 use Rattle.pat_base.specs.declared.name.Name.{Name}
 use Rattle.lease_store.specs.declared.value.MemberInfo.{MemberInfo}
@@ -27,7 +27,7 @@ use Rattle.lease_law.specs.Premises.{IsTimely, ShowsFeed}
 use Rattle.lease_law.specs.Claims.{IsArmedIn, AreLawful}
 use Rattle.lease_law.specs.Showing.{input_of}
 use Rattle.lease_law.proofs.Tools.{some-is, none-some, both, put-all}
-use Rattle.lease_law.proofs.Showing.{input-told-of}
+use Rattle.lease_law.proofs.Showing.{input-shown-of}
 
 abbrev pub declared : Declared
 declared = record { margin = λ m. Some 50; failsafe = false }
@@ -216,7 +216,7 @@ pub lawful : (name : Name) (info : MemberInfo) (standbys : List Name) → AreLaw
 lawful name info standbys = (
   record { lawful = asks-lawful name info; shows = inl refl; begins = (tt, tt); lives = λ n e. absurd (both e) },
   (
-    input-told-of declared [] first_volatile_states 0 asked None false None (asking name info) (tt, tt) refl,
+    input-shown-of declared [] first_volatile_states 0 asked None false None (asking name info) (tt, tt) refl,
     (
       record { lawful = tt; shows = tt; begins = (tt, (tt, (tt, tt))); lives = λ n e. absurd (both e) },
       (
@@ -229,7 +229,7 @@ lawful name info standbys = (
             lives = live-there name info standbys;
           },
           (
-            input-told-of declared (asking name info ++ granting name info standbys) asked_volatile_states 0 leads (Some 2) true None (beginning name) (tt, (refl, (tt, tt))) refl,
+            input-shown-of declared (asking name info ++ granting name info standbys) asked_volatile_states 0 leads (Some 2) true None (beginning name) (tt, (refl, (tt, tt))) refl,
             tt,
           ),
         ),

@@ -214,8 +214,8 @@ watchdog-guards s m input members inv timely law (SetAlone until is basis acts a
 watchdog-guards s m input members inv timely law (Undone ready live) grow ya = absurd (not-false (s.members m).live (inv.parted m ready) live)
 
 -- a release in flight still finds its member at rest, and a carried set its sender alone
-pub watchdog-quiet : (s : State) (m : ℕ) (input : AgentInput) (was agent : Agent) (j : ℕ) (q : Question) (r : ℕ) → IsSound s → IsInTime s m input → WatchdogMay s m input was agent → s.flight j ≡ Some (Requested q) → q.query ≡ Release r → IsAtRest s.leader (s.members m) r → IsAtRest s.leader input.machine r
-watchdog-quiet s m input was agent j q r inv timely dog at txn quiet k k_is e a = elim (was-acting s m input was agent inv dog a) [
+pub watchdog-unheard : (s : State) (m : ℕ) (input : AgentInput) (was agent : Agent) (j : ℕ) (q : Question) (r : ℕ) → IsSound s → IsInTime s m input → WatchdogMay s m input was agent → s.flight j ≡ Some (Requested q) → q.query ≡ Release r → IsAtRest s.leader (s.members m) r → IsAtRest s.leader input.machine r
+watchdog-unheard s m input was agent j q r inv timely dog at txn quiet k k_is e a = elim (was-acting s m input was agent inv dog a) [
   | inl ax ↦ quiet k k_is e ax
   | inr f ↦
       let p = (known-ok s m input agent inv timely f.0).present in

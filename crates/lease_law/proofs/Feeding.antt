@@ -49,11 +49,11 @@ asked-moment past member run sequence bodies.Read a e = requested-no _ a e
 asked-moment past member run sequence (bodies.Request txn) a e = requested-no _ a e
 asked-moment past member run sequence _ a e = none-answer a e
 
-told-moment : (past : Past) (member run sequence : ℕ) (body : Body) (a : Answer) (g : Grant) → answer_in_flight_of past member run sequence body ≡ Some (Answered a) → a.grant ≡ Some g → g.moment ≡ past.clock
-told-moment past member run sequence bodies.Snapshot a g e is = absurd (none-some g (answered-is a (answer_of past member run sequence true None) g e is))
-told-moment past member run sequence (bodies.Granted request leased) a g e is = granted-moment leased past (past.asked request) g (answered-is a (answer_of past member run sequence true (grant_of leased past (past.asked request))) g e is)
-told-moment past member run sequence (bodies.Refused request key found) a g e is = absurd (none-some g (answered-is a (answer_of past member run sequence false None) g e is))
-told-moment past member run sequence _ a g e is = absurd (none-answer a e)
+shown-moment : (past : Past) (member run sequence : ℕ) (body : Body) (a : Answer) (g : Grant) → answer_in_flight_of past member run sequence body ≡ Some (Answered a) → a.grant ≡ Some g → g.moment ≡ past.clock
+shown-moment past member run sequence bodies.Snapshot a g e is = absurd (none-some g (answered-is a (answer_of past member run sequence true None) g e is))
+shown-moment past member run sequence (bodies.Granted request leased) a g e is = granted-moment leased past (past.asked request) g (answered-is a (answer_of past member run sequence true (grant_of leased past (past.asked request))) g e is)
+shown-moment past member run sequence (bodies.Refused request key found) a g e is = absurd (none-some g (answered-is a (answer_of past member run sequence false None) g e is))
+shown-moment past member run sequence _ a g e is = absurd (none-answer a e)
 
 said-moment : (past : Past) (by member run sequence : ℕ) (body : Body) (a : Answer) → peer_in_flight_of past by member run sequence body ≡ Some (Answered a) → ⊥
 said-moment past by member run sequence (bodies.FailsafeRequest ttl) a e = cc
@@ -62,7 +62,7 @@ said-moment past by member run sequence _ a e = none-answer a e
 
 flying-moment : (past : Past) (from to : LinkEnd) (run sequence : ℕ) (body : Body) (a : Answer) (g : Grant) → flying_of past from to run sequence body ≡ Some (Answered a) → a.grant ≡ Some g → g.moment ≡ past.clock
 flying-moment past (ends.Member member) ends.Store run sequence body a g e is = absurd (asked-moment past member.id.number run sequence body a e)
-flying-moment past ends.Store (ends.Member member) run sequence body a g e is = told-moment past member.id.number run sequence body a g e is
+flying-moment past ends.Store (ends.Member member) run sequence body a g e is = shown-moment past member.id.number run sequence body a g e is
 flying-moment past (ends.Member by) (ends.Member member) run sequence body a g e is = absurd (said-moment past by.id.number member.id.number run sequence body a e)
 flying-moment past ends.Store ends.Store run sequence body a g e is = absurd (none-answer a e)
 

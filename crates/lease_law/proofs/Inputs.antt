@@ -9,7 +9,7 @@ use Rattle.lease_law.specs.Actions.{taken_by, with_input}
 use Rattle.lease_law.proofs.Tools.{some-is, none-some, not-false, put-all}
 use Rattle.lease_law.specs.Carried.{Spans, IsGuarded, IsFailsafeVouched, IsVouched, IsAtRest, IsQueryKept, IsNumbered, IsQuestionKept, AwaitsIt, IsFailsafeRequestKept, HasTaken, IsTakingKept, IsFailsafeCheckKept, IsAgentKept, IsFresh, IsToken, IsSound}
 use Rattle.lease_law.proofs.Onward.{spans-sub, holds-grow}
-use Rattle.lease_law.proofs.Fed.{sole-new, was-acting, may-renew, may-release, sends-of, spans-input, spans-listed, took-same, said-yes, informed-there, watchdog-guards, watchdog-quiet, watchdog-carrier}
+use Rattle.lease_law.proofs.Fed.{sole-new, was-acting, may-renew, may-release, sends-of, spans-input, spans-listed, took-same, said-yes, informed-there, watchdog-guards, watchdog-unheard, watchdog-carrier}
 
 old-asked : (s : State) (m : ℕ) (input : AgentInput) (was agent : Agent) (j : ℕ) (q : Question) (query : Query) → IsSound s → IsInTime s m input → WatchdogMay s m input was agent → s.flight j ≡ Some (Requested q) → q.query ≡ query → IsQueryKept s.declared.failsafe s.leader s.failsafe s.revision s.members q.member query → IsQueryKept s.declared.failsafe s.leader s.failsafe s.revision (put_at s.members m input.machine) q.member query
 old-asked s m input was agent j q (Renew compared ttl None) inv timely dog at txn a = a
@@ -21,7 +21,7 @@ old-asked s m input was agent j q (Renew compared ttl (Some set)) inv timely dog
 )
 old-asked s m input was agent j q (Release compared) inv timely dog at txn a = (
   a.0,
-  put-all s.members m input.machine (λ n z. IsAtRest s.leader (s.members n) compared → IsAtRest s.leader z compared) (watchdog-quiet s m input was agent j q compared inv timely dog at txn) (λ n other quiet. quiet) q.member a.1,
+  put-all s.members m input.machine (λ n z. IsAtRest s.leader (s.members n) compared → IsAtRest s.leader z compared) (watchdog-unheard s m input was agent j q compared inv timely dog at txn) (λ n other quiet. quiet) q.member a.1,
 )
 old-asked s m input was agent j q (Create ttl None) inv timely dog at txn a = a
 old-asked s m input was agent j q (Create ttl (Some Absent)) inv timely dog at txn a = tt

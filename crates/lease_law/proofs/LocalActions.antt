@@ -1,4 +1,4 @@
--- Actions that change machines alone, ticks and losses, told by their events.
+-- Actions that change machines alone, ticks and losses, shown by their events.
 use Rattle.std.proofs.Common.{◌≡◌, ℕ, ◌+◌, Bool, List, [], ◌∷◌, ◌++◌, Option, refl, ◌∙◌, ap}
 use Rattle.pat_base.specs.declared.ticks.Ticks.{Ticks}
 use Rattle.event_book.specs.declared.event.Event.{Event}
@@ -15,7 +15,7 @@ use Rattle.lease_law.specs.Premises.{AllAre}
 use Rattle.lease_law.specs.Books.{Transition, IsShown}
 use Rattle.lease_law.specs.Showing.{IsLocal, IsLocalAction}
 use Rattle.lease_law.proofs.Showing.{past-append}
-use Rattle.lease_law.proofs.Delivering.{parts-told}
+use Rattle.lease_law.proofs.Delivering.{parts-shown}
 
 -- all but machines is as before
 record Same (f g : Past) : Type 0 where
@@ -71,23 +71,23 @@ rests s (Deliver number answer granted) is = absurd is
 rests s (Lose number) is = absurd is
 rests s (Input member input) is = absurd is
 
-pub quiet-told : (declared : Declared) (book : List Event) (volatile_states : ℕ → VolatileState) (transition : Transition) → IsLocalAction transition.action → AllAre IsLocal transition.events →
+pub local-shown : (declared : Declared) (book : List Event) (volatile_states : ℕ → VolatileState) (transition : Transition) → IsLocalAction transition.action → AllAre IsLocal transition.events →
     ((m : ℕ) → machine_of (past_of (book ++ transition.events)) (transition.volatile_states m) m ≡ (act (state_of declared (past_of book) volatile_states) transition.action).members m) → IsShown declared book volatile_states transition
-quiet-told declared book volatile_states transition uncontended quiet members =
+local-shown declared book volatile_states transition uncontended quiet members =
     let a = same-book book transition.events (past_of book) (same-all (past_of book) transition.events quiet) in
     let r = rests (state_of declared (past_of book) volatile_states) transition.action uncontended in
-    parts-told declared book volatile_states transition (a.clock ∙ r.clock) (a.leader ∙ r.leader) (a.failsafe ∙ r.failsafe) (a.revision ∙ r.revision)
+    parts-shown declared book volatile_states transition (a.clock ∙ r.clock) (a.leader ∙ r.leader) (a.failsafe ∙ r.failsafe) (a.revision ∙ r.revision)
     (λ i. ap (λ (f : ℕ → Option Flying). f i) (a.flight ∙ r.flight)) (a.taken ∙ r.taken) members
 
-pub tick-told : (declared : Declared) (book : List Event) (volatile_states after : ℕ → VolatileState) (tick : Ticks) (rest : List Event) (stops : ℕ → Bool) → AllAre IsLocal rest → let events : List Event = record { tick = tick; kind = kinds.Tick } ∷ rest in
+pub tick-shown : (declared : Declared) (book : List Event) (volatile_states after : ℕ → VolatileState) (tick : Ticks) (rest : List Event) (stops : ℕ → Bool) → AllAre IsLocal rest → let events : List Event = record { tick = tick; kind = kinds.Tick } ∷ rest in
     ((m : ℕ) → machine_of (past_of (book ++ events)) (after m) m ≡ tick_machine (is_due ((past_of book).clock + 1) ((past_of book).deadline m)) (stops m) (machine_of (past_of book) (volatile_states m) m)) →
     IsShown declared book volatile_states (record { action = Tick stops; events = events; volatile_states = after })
-tick-told declared book volatile_states after tick rest stops quiet = λ members.
+tick-shown declared book volatile_states after tick rest stops quiet = λ members.
     let events : List Event = record { tick = tick; kind = kinds.Tick } ∷ rest in
     let ticked : Past = past_after (past_of book) kinds.Tick in
     let a = same-book book events ticked (same-all ticked rest quiet) in
-    parts-told declared book volatile_states (record { action = Tick stops; events = events; volatile_states = after }) a.clock a.leader a.failsafe a.revision
+    parts-shown declared book volatile_states (record { action = Tick stops; events = events; volatile_states = after }) a.clock a.leader a.failsafe a.revision
     (λ i. ap (λ (f : ℕ → Option Flying). f i) a.flight) a.taken members
 
-pub loss-told : (declared : Declared) (book : List Event) (volatile_states : ℕ → VolatileState) (tick : Ticks) (number : ℕ) → IsShown declared book volatile_states (record { action = Lose number; events = record { tick = tick; kind = kinds.Message (messages.Lost number) } ∷ []; volatile_states = volatile_states })
-loss-told declared book volatile_states tick number = ap (λ (past : Past). state_of declared past volatile_states) (past-append first_past book (record { tick = tick; kind = kinds.Message (messages.Lost number) } ∷ []))
+pub loss-shown : (declared : Declared) (book : List Event) (volatile_states : ℕ → VolatileState) (tick : Ticks) (number : ℕ) → IsShown declared book volatile_states (record { action = Lose number; events = record { tick = tick; kind = kinds.Message (messages.Lost number) } ∷ []; volatile_states = volatile_states })
+loss-shown declared book volatile_states tick number = ap (λ (past : Past). state_of declared past volatile_states) (past-append first_past book (record { tick = tick; kind = kinds.Message (messages.Lost number) } ∷ []))

@@ -130,9 +130,9 @@ machines-input f g volatile_states m volatile_state a = fun_ext (λ n.
     n other)
     n)
 
-pub input-told : (declared : Declared) (past : Past) (volatile_states : ℕ → VolatileState) (m : ℕ) (volatile_state : VolatileState) (heard : Option ℕ) (feeds : Bool) (takes : Option FailsafeRequest) (events : List Event) → AllAre (IsOwn m) events → (past_over past events).taken ≡ taken_by m past.clock takes past.taken →
+pub input-shown : (declared : Declared) (past : Past) (volatile_states : ℕ → VolatileState) (m : ℕ) (volatile_state : VolatileState) (heard : Option ℕ) (feeds : Bool) (takes : Option FailsafeRequest) (events : List Event) → AllAre (IsOwn m) events → (past_over past events).taken ≡ taken_by m past.clock takes past.taken →
     state_of declared (past_over past events) (put_at volatile_states m volatile_state) ≡ state_after (state_of declared past volatile_states) (Input m (input_of past m volatile_state heard feeds takes events)) events
-input-told declared past volatile_states m volatile_state heard feeds takes events mine taken =
+input-shown declared past volatile_states m volatile_state heard feeds takes events mine taken =
     let g : Past = past_over past events in
     let a = frame-all m past events mine in
     state-eq declared g.clock past.clock g.leader past.leader g.failsafe past.failsafe g.revision past.revision g.flight g.flight g.taken (taken_by m past.clock takes past.taken)
@@ -144,7 +144,7 @@ past-append past [] events = refl
 past-append past (event ∷ book) events = past-append (past_after past event.kind) book events
 
 -- the same of a book
-pub input-told-of : (declared : Declared) (book : List Event) (volatile_states : ℕ → VolatileState) (m : ℕ) (volatile_state : VolatileState) (heard : Option ℕ) (feeds : Bool) (takes : Option FailsafeRequest) (events : List Event) → AllAre (IsOwn m) events → (past_over (past_of book) events).taken ≡ taken_by m (past_of book).clock takes (past_of book).taken →
+pub input-shown-of : (declared : Declared) (book : List Event) (volatile_states : ℕ → VolatileState) (m : ℕ) (volatile_state : VolatileState) (heard : Option ℕ) (feeds : Bool) (takes : Option FailsafeRequest) (events : List Event) → AllAre (IsOwn m) events → (past_over (past_of book) events).taken ≡ taken_by m (past_of book).clock takes (past_of book).taken →
     state_of declared (past_of (book ++ events)) (put_at volatile_states m volatile_state) ≡ state_after (state_of declared (past_of book) volatile_states) (Input m (input_of (past_of book) m volatile_state heard feeds takes events)) events
-input-told-of declared book volatile_states m volatile_state heard feeds takes events mine taken =
-    ap (λ (past : Past). state_of declared past (put_at volatile_states m volatile_state)) (past-append first_past book events) ∙ input-told declared (past_of book) volatile_states m volatile_state heard feeds takes events mine taken
+input-shown-of declared book volatile_states m volatile_state heard feeds takes events mine taken =
+    ap (λ (past : Past). state_of declared past (put_at volatile_states m volatile_state)) (past-append first_past book events) ∙ input-shown declared (past_of book) volatile_states m volatile_state heard feeds takes events mine taken

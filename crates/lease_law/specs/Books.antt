@@ -15,7 +15,7 @@ pub record Transition : Type 0 where
 abbrev pub IsShown : Declared → List Event → (ℕ → VolatileState) → Transition → Type 0
 IsShown declared book volatile_states transition = state_of declared (past_of (book ++ transition.events)) transition.volatile_states ≡ state_after (state_of declared (past_of book) volatile_states) transition.action transition.events
 
--- each transition is allowed behind this book, and told by its events
+-- each transition is allowed behind this book, and shown by its events
 abbrev pub AreAllowed : Declared → List Event → (ℕ → VolatileState) → List Transition → Type 0
 AreAllowed declared book volatile_states [] = Unit {0}
 AreAllowed declared book volatile_states (transition ∷ transitions) =

@@ -47,7 +47,7 @@ pub record IsLawfulTransition (s : State) (action : Action) (events : List Event
   pub begins : BeginsBehind (MayBeginBehind s action) [] events
   pub lives : (n : ℕ) → writes_over s.writes events n ≡ true → ((act s action).members n).live ≡ true
 
--- each transition is lawful behind this book, and told by its events
+-- each transition is lawful behind this book, and shown by its events
 abbrev pub AreLawful : Declared → List Event → (ℕ → VolatileState) → List Transition → Type 0
 AreLawful declared book volatile_states [] = Unit {0}
 AreLawful declared book volatile_states (transition ∷ transitions) =

@@ -105,7 +105,7 @@ pub fn same_store()
         ≡ outcome_by decision past.clock past.leader past.failsafe past.revision by sent (query_of txn) }
 {}
 
-/// The events of a delivery to the key store, folded, are the action; and any action is told where what the book leaves is, part by part,
+/// The events of a delivery to the key store, folded, are the action; and any action is shown where what the book leaves is, part by part,
 /// the state after it.
 pub fn delivery_is_shown()
     ensures granted { (declared : Declared) (book : List Event) (facts : Facts) (volatile_states : ℕ → VolatileState) (tick : Ticks) (i j : ℕ) (by : Member) (run sequence sent : ℕ) (txn : Txn) (standbys : List Name)
@@ -134,9 +134,9 @@ pub fn nobody_pauses()
     ensures each { (facts : Facts) (kind : EventKind) → IsHandsOffKind kind → NobodyPauses facts → NobodyPauses (facts_after facts kind) }
 {}
 
-/// Starts, kills, crashes, what changes nothing, ticks and losses are told by their events where the machines are as the action leaves them.
+/// Starts, kills, crashes, what changes nothing, ticks and losses are shown by their events where the machines are as the action leaves them.
 pub fn local_action_is_shown()
-    ensures quiet { (declared : Declared) (book : List Event) (volatile_states : ℕ → VolatileState) (transition : Transition)
+    ensures local { (declared : Declared) (book : List Event) (volatile_states : ℕ → VolatileState) (transition : Transition)
         → IsLocalAction transition.action → AllAre IsLocal transition.events
         → ((m : ℕ) → machine_of (past_of (book ++ transition.events)) (transition.volatile_states m) m ≡ (act (state_of declared (past_of book) volatile_states) transition.action).members m)
         → IsShown declared book volatile_states transition }
