@@ -72,4 +72,5 @@ required_line tick name (All members) names =
 abbrev pub replication_line : ℕ → ReplicationEvent → Option (List ℕ)
 replication_line tick (replications.RequiredSet server required names) = required_line tick (name_bytes server.name) required names
 replication_line tick (replications.Confirmed server by end) = None
+replication_line tick (replications.Lacks server) = None
 replication_line tick (replications.Acknowledged server commit) = Some (decimal tick ++ (codes " commit " ++ (decimal commit ++ codes " is acknowledged\n")))

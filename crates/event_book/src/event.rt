@@ -213,6 +213,10 @@ pub enum ReplicationEvent {
         server: ServerOf,
         commit: u64,
     },
+    /// The server accepts writes, and its log lacks a commit whose client was told that it is stored.
+    Lacks {
+        server: ServerOf,
+    },
 }
 
 /// What happens to agents.

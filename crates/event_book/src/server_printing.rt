@@ -153,7 +153,7 @@ pub fn replication_line(
             required,
             names,
         } => required_line(alloc, tick, server.name, *required, names),
-        ReplicationEvent::Confirmed { .. } => Ok(None),
+        ReplicationEvent::Confirmed { .. } | ReplicationEvent::Lacks { .. } => Ok(None),
         ReplicationEvent::Acknowledged { commit, .. } => {
             Ok(Some(format!(in alloc; "{tick} commit {commit} is acknowledged\n")?))
         }
