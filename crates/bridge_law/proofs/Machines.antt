@@ -185,13 +185,13 @@ machines-by past facts kind old =
     let holds_are = holds-long facts.holds kind in
     let servers_are = count-of now facts.servers kind in
     record {
-      watchdogs = deadlines_are ∙ old.watchdogs ∙ sym agents_are;
-      holders = holds_are ∙ old.holders ∙ sym agents_are;
-      servers = servers_are ∙ old.servers ∙ sym agents_are;
-      deadline = λ m small. deadline-kept facts.deadlines past.deadline kind (λ n few. old.deadline n (omega (arith, few, old.watchdogs))) m (omega (arith, small, agents_are, deadlines_are, old.watchdogs));
-      hold = λ m small. hold-kept facts.holds past.hold kind (λ n few. old.hold n (omega (arith, few, old.holders))) m (omega (arith, small, agents_are, holds_are, old.holders));
+      deadline_count = deadlines_are ∙ old.deadline_count ∙ sym agents_are;
+      hold_count = holds_are ∙ old.hold_count ∙ sym agents_are;
+      server_count = servers_are ∙ old.server_count ∙ sym agents_are;
+      deadline = λ m small. deadline-kept facts.deadlines past.deadline kind (λ n few. old.deadline n (omega (arith, few, old.deadline_count))) m (omega (arith, small, agents_are, deadlines_are, old.deadline_count));
+      hold = λ m small. hold-kept facts.holds past.hold kind (λ n few. old.hold n (omega (arith, few, old.hold_count))) m (omega (arith, small, agents_are, holds_are, old.hold_count));
       runs = λ m small. runs-kept facts.agents past.runs kind old.runs m small;
-      writes = λ m small. writes-kept now facts.servers past.writes kind (λ n few. old.writes n (omega (arith, few, old.servers))) m (omega (arith, small, agents_are, servers_are, old.servers));
+      writes = λ m small. writes-kept now facts.servers past.writes kind (λ n few. old.writes n (omega (arith, few, old.server_count))) m (omega (arith, small, agents_are, servers_are, old.server_count));
     }
 
 -- ---- at the start
@@ -223,9 +223,9 @@ pub machines-first : (names : List Name) (base : ℕ) → IsSameMachines first_p
 machines-first names base =
     let count : ℕ = length names in
     record {
-      watchdogs = length-replicate count None ∙ sym (first-long count);
-      holders = length-replicate count None ∙ sym (first-long count);
-      servers = length-replicate count (fresh base) ∙ sym (first-long count);
+      deadline_count = length-replicate count None ∙ sym (first-long count);
+      hold_count = length-replicate count None ∙ sym (first-long count);
+      server_count = length-replicate count (fresh base) ∙ sym (first-long count);
       deadline = λ m small. none-armed count m;
       hold = λ m small. none-taken count m;
       runs = λ m small. first-run count m small;

@@ -28,9 +28,9 @@ run_if (Some process) = process.run
 -- the law has the deadline, the hold, the run and the writing of each member as the book leaves them, and the book has each of these
 -- for each agent
 pub record IsSameMachines (past : Past) (facts : Facts) : Type 0 where
-  pub watchdogs : length facts.deadlines ≡ length facts.agents
-  pub holders : length facts.holds ≡ length facts.agents
-  pub servers : length facts.servers ≡ length facts.agents
+  pub deadline_count : length facts.deadlines ≡ length facts.agents
+  pub hold_count : length facts.holds ≡ length facts.agents
+  pub server_count : length facts.servers ≡ length facts.agents
   pub deadline : (m : ℕ) → m < length facts.agents → past.deadline m ≡ deadline_if (slice_get facts.deadlines m)
   pub hold : (m : ℕ) → m < length facts.agents → past.hold m ≡ hold_if (slice_get facts.holds m)
   pub runs : (m : ℕ) → m < length facts.agents → past.runs m ≡ run_if (slice_get facts.agents m)
