@@ -112,7 +112,7 @@ overdue-reaches now start o r = overdue-by (Reaches now start) now o (record {
 })
 
 turn-reaches : (now : Ticks) (start : Machine) (o : Outcome) → Reaches now start o → Reaches now start (turned now o)
-turn-reaches now start o r = turn-by (Reaches now start) now o (record { kept = r; quiet = r; reads = one-more now start o.machine o.outputs _ tt r })
+turn-reaches now start o r = turn-by (Reaches now start) now o (record { kept = r; quiet = r; reads = λ _. one-more now start o.machine o.outputs _ tt r })
 
 wake-reaches : (now : Ticks) (start : Machine) (o : Outcome) → Reaches now start o → Reaches now start (woken now o)
 wake-reaches now start o r = let first = before-reaches now start o r in
@@ -140,7 +140,7 @@ got-reaches now points start sequence snapshot o r = let read : Outcome = record
       other = r;
       leader = λ held _. end-reaches now start LeaderKeyLost read r;
       stray = λ _. end-reaches now start LeaderKeyLost read r;
-      renews = λ leader _ _. one-more now start o.machine o.outputs _ tt r;
+      renews = λ _ leader _ _. one-more now start o.machine o.outputs _ tt r;
       touches = touch-reaches now start read r;
       follows = λ leader _ _. follow-reaches now start leader.holder read r;
       free = λ _ _. free-reaches now start read r;
@@ -182,7 +182,7 @@ takes-reaches now ttl start revision o r =
 granted-reaches : (now : Ticks) (start : Machine) (sequence : ℕ) (grant : Granted) (snapshot : SnapshotFacts) (o : Outcome) → Reaches now start o → Reaches now start (granted now sequence grant snapshot o)
 granted-reaches now start sequence grant snapshot o r = let told : Outcome = record o { knows = informed snapshot o.knows } in
     granted-by (Reaches now start) now sequence grant snapshot o r r
-    (λ waited _. record {
+    (λ waited _ _. record {
       other = r;
       leader = λ held _. renewed-reaches now waited.ttl start grant.revision told r;
       stray = λ _. stray-reaches now waited.ttl start grant.revision told r;

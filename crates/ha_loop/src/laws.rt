@@ -42,10 +42,10 @@ pub fn only_a_grant_sets_deadlines()
     ensures action { (now : Ticks) (o : Outcome) → LeavesMachine o (act now o) }
 {}
 
-/// A grant gives at most the lease of its revision, with the watchdog fed on it for the span that was asked for. A server becomes
-/// live by it only where no hold is active, and where the watchdog was armed or isn't needed.
+/// A grant gives at most the lease of its revision, where that is waited for, with the watchdog fed on it for the span that was
+/// asked for. A server becomes live by it only where no hold is active, and where the watchdog was armed or isn't needed.
 pub fn a_grant_feeds_the_watchdog()
-    ensures { (now : Ticks) (points : List HistoryPoint) (sequence : ℕ) (grant : Granted) (snapshot : SnapshotFacts) (o : Outcome) → GrantMay now grant.revision (before now o) (step now points (heard.Granted sequence grant snapshot) o) }
+    ensures { (now : Ticks) (points : List HistoryPoint) (sequence : ℕ) (grant : Granted) (snapshot : SnapshotFacts) (o : Outcome) → GrantMay now sequence grant snapshot (before now o) (step now points (heard.Granted sequence grant snapshot) o) }
 {}
 
 /// The outputs of an input are all that becomes of its machine: the machine that it leaves is what they, carried out in their
