@@ -29,6 +29,7 @@ watchdog_line trace tick (watchdogs.Armed member until answer) =
 watchdog_line trace tick (watchdogs.Fed member until basis) = fed_line trace tick (name_bytes member.name) until.0
 watchdog_line trace tick (watchdogs.Disarmed member) = None
 watchdog_line trace tick (watchdogs.Reset member) = Some (decimal tick ++ (codes " " ++ (name_bytes member.name ++ codes " is reset by its watchdog\n")))
+watchdog_line trace tick (watchdogs.Measured member since) = None
 watchdog_line trace tick (watchdogs.HoldTaken member until from run sequence) = None
 
 -- the line of what happens to a server by itself

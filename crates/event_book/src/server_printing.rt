@@ -29,7 +29,9 @@ pub fn watchdog_line(
             let name = member.name;
             Ok(Some(format!(in alloc; "{tick} {name} is reset by its watchdog\n")?))
         }
-        WatchdogEvent::Disarmed { .. } | WatchdogEvent::HoldTaken { .. } => Ok(None),
+        WatchdogEvent::Disarmed { .. }
+        | WatchdogEvent::Measured { .. }
+        | WatchdogEvent::HoldTaken { .. } => Ok(None),
     }
 }
 
