@@ -1,30 +1,34 @@
 -- What commands of a script come to.
 use Rattle.std.specs.Prelude.{◌+◌, ◌&&◌, not, if◌then◌else◌, List, [], ◌∷◌, Option, Some, None, option_and_then, option_map, slice_get}
+use Rattle.pat_base.specs.declared.ticks.Ticks.{Ticks}
+use Rattle.pat_base.specs.ServerState.{live}
+use Rattle.event_book.specs.declared.agent_process.AgentProcess.{AgentProcess}
 use Rattle.event_book.specs.declared.event.EventKind.{EventKind}
 use Rattle.event_book.specs.declared.event.EventKind.TheVariants as kinds
 use Rattle.event_book.specs.declared.event.AgentEvent.TheVariants.{Suspended, Resumed, Killed, Started}
 use Rattle.event_book.specs.declared.event.LinkEvent.TheVariants as changes
 use Rattle.event_book.specs.declared.event.Note.TheVariants.{AlreadyRunning}
+use Rattle.event_book.specs.declared.event.WatchdogEvent.TheVariants.{Disarmed}
 use Rattle.event_book.specs.declared.member.Member.{Member}
 use Rattle.event_book.specs.declared.link.Link.{Link}
 use Rattle.event_book.specs.declared.link.LinkEnd.{LinkEnd}
 use Rattle.event_book.specs.declared.link.LinkEnd.TheVariants as link_ends
 use Rattle.event_book.specs.Links.{CutLinks, is_cut}
-use Rattle.pat_world.specs.declared.agent_state.MemberAgent.{MemberAgent}
 use Rattle.cluster_script.specs.declared.line.End.{End}
 use Rattle.cluster_script.specs.declared.line.End.TheVariants as ends
+use Rattle.ha_loop.specs.declared.machine.Machine.{Machine}
 
 -- an agent that runs and isn't suspended becomes suspended
-abbrev pub hold_of : MemberAgent → Option EventKind
-hold_of member_agent = if member_agent.process.running && not member_agent.process.suspended then Some (kinds.Agent (Suspended member_agent.member)) else None
+abbrev pub hold_of : Member → AgentProcess → Option EventKind
+hold_of member process = if process.running && not process.suspended then Some (kinds.Agent (Suspended member)) else None
 
 -- a suspended agent goes on
-abbrev pub resume_of : MemberAgent → Option EventKind
-resume_of member_agent = if member_agent.process.suspended then Some (kinds.Agent (Resumed member_agent.member)) else None
+abbrev pub resume_of : Member → AgentProcess → Option EventKind
+resume_of member process = if process.suspended then Some (kinds.Agent (Resumed member)) else None
 
 -- an agent that runs ends
-abbrev pub kill_of : MemberAgent → Option EventKind
-kill_of member_agent = if member_agent.process.running then Some (kinds.Agent (Killed member_agent.member)) else None
+abbrev pub kill_of : Member → AgentProcess → Option EventKind
+kill_of member process = if process.running then Some (kinds.Agent (Killed member)) else None
 
 -- an end that a script names
 abbrev pub link_end_of : List Member → End → Option LinkEnd
@@ -48,6 +52,16 @@ abbrev pub kinds_of : Option EventKind → List EventKind
 kinds_of None = []
 kinds_of (Some kind) = kind ∷ []
 
+-- a deadline is removed, if there is one
+abbrev pub disarm_if : Member → Option Ticks → Option EventKind
+disarm_if member None = None
+disarm_if member (Some deadline) = Some (kinds.Watchdog (Disarmed member))
+
+-- an agent that starts removes the deadline of its watchdog, but over a live server leaves it
+abbrev pub disarm_of : Member → Option Machine → Option EventKind
+disarm_of member None = None
+disarm_of member (Some machine) = if live machine.server.state then None else disarm_if member machine.watchdog.deadline
+
 -- an agent that doesn't run is started, in its next run; of one that runs it is said that it does
-abbrev pub restarted : MemberAgent → EventKind
-restarted member_agent = if member_agent.process.running then kinds.Note (AlreadyRunning member_agent.member) else kinds.Agent (Started member_agent.member (member_agent.process.run + 1))
+abbrev pub restarted : Member → AgentProcess → EventKind
+restarted member process = if process.running then kinds.Note (AlreadyRunning member) else kinds.Agent (Started member (process.run + 1))

@@ -8,8 +8,8 @@ use Rattle.event_book.specs.declared.message.Body.{Body}
 use Rattle.event_book.specs.declared.message.Body.TheVariants as bodies
 use Rattle.event_book.specs.declared.message.Message.{Message}
 use Rattle.event_book.specs.Links.{CutLinks, is_cut}
-use Rattle.pat_world.specs.declared.delivery.Delivery.{Delivery}
-use Rattle.pat_world.specs.declared.delivery.Delivery.TheVariants as deliveries
+use Rattle.cluster_model.specs.declared.delivery.Delivery.{Delivery}
+use Rattle.cluster_model.specs.declared.delivery.Delivery.TheVariants as deliveries
 
 -- the link that a message takes
 abbrev pub link_of_message : Message → Link

@@ -1,0 +1,54 @@
+-- The machines of members, as their agents find them.
+use Rattle.std.specs.Prelude.{ℕ, ◌*◌, Bool, is_some, List, [], Option, Some, None, map, slice_get, length}
+use Rattle.pat_base.specs.declared.host.Host.{Host}
+use Rattle.pat_base.specs.declared.name.Name.{Name}
+use Rattle.pat_base.specs.declared.ticks.Ticks.{Ticks}
+use Rattle.pat_base.specs.Host.{local_host}
+use Rattle.cluster_script.specs.declared.head.MemberOptions.{MemberOptions}
+use Rattle.wal_model.specs.declared.entry.HistoryPoint.{HistoryPoint}
+use Rattle.pg_model.specs.Facts.{ServerFacts}
+use Rattle.pg_model.specs.Status.{status_of}
+use Rattle.event_book.specs.declared.member.Member.{Member}
+use Rattle.leader_key.specs.Watchdog.{WatchdogFacts}
+use Rattle.ha_loop.specs.declared.machine.Machine.{Machine}
+use Rattle.ha_loop.specs.declared.who.Who.{Who}
+use Rattle.cluster_model.specs.State.{Cluster}
+use Rattle.cluster_model.specs.Streaming.{source_of}
+use Rattle.cluster_model.specs.Tags.{no_tags}
+
+-- ticks of 100 ms in a second
+abbrev pub ticks_of_second : ℕ
+ticks_of_second = 10
+
+-- the watchdog of a member with these options and this deadline
+abbrev pub watchdog_of : MemberOptions → Option Ticks → WatchdogFacts
+watchdog_of options deadline = record { mode = options.watchdog; works = options.device_works; margin = Some (record { 0 = ticks_of_second * options.margin.seconds }); deadline = deadline }
+
+-- a machine of these parts; its server receives, or not
+abbrev pub machine_from : Bool → Option MemberOptions → Option (Option Ticks) → Option (Option Ticks) → Option ServerFacts → Option Machine
+machine_from receives (Some options) (Some deadline) (Some hold) (Some s) = Some (record { server = record (status_of s) { receives = receives }; watchdog = watchdog_of options deadline; hold = hold })
+machine_from receives _ _ _ _ = None
+
+-- the machine of a member. A replica receives where its upstream accepts writes, the link to that is joined, and its log didn't
+-- diverge
+abbrev pub machine_of : Cluster → Member → Option Machine
+machine_of cluster member =
+    machine_from (is_some (source_of cluster.book.members cluster.book.servers cluster.book.cuts member))
+        (slice_get cluster.options member.id.number) (slice_get cluster.book.deadlines member.id.number) (slice_get cluster.book.holds member.id.number) (slice_get cluster.book.servers member.id.number)
+
+-- the history of a server, none where there is no server
+abbrev pub points_from : Option ServerFacts → List HistoryPoint
+points_from None = []
+points_from (Some s) = s.history
+
+-- the history of a member's server
+abbrev pub points_of : Cluster → Member → List HistoryPoint
+points_of cluster member = points_from (slice_get cluster.book.servers member.id.number)
+
+-- whose agent that of this member is, in a cluster of this name with these members; hosts and tags can't be declared yet
+abbrev pub who_of : Name → List Member → Member → Who
+who_of scope members member = record { me = member.id; members = length members; scope = scope; name = member.name; host = local_host; tags = no_tags }
+
+-- where members are reached, as snapshots tell agents
+abbrev pub hosts_of : List Member → List (Name × Host)
+hosts_of members = map (λ (member : Member). (member.name, local_host)) members

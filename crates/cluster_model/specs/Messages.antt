@@ -1,0 +1,175 @@
+-- What messages bring: how they are sent, come, and are decided on.
+use Rattle.std.specs.Prelude.{ℕ, ◌+◌, nat_le, Bool, true, false, if◌then◌else◌, List, [], ◌∷◌, Option, Some, None, option_map, length, slice_get}
+use Rattle.lease_store.specs.declared.txn.Txn.{Txn}
+use Rattle.lease_store.specs.Decision.{Decision, Grant, Refusal, decision_on}
+use Rattle.lease_store.specs.TxnKinds.{txn_kind_of}
+use Rattle.lease_store.specs.Writes.{is_lease}
+use Rattle.event_book.specs.declared.agent_process.AgentProcess.{AgentProcess}
+use Rattle.event_book.specs.declared.event.AgentEvent.TheVariants.{Woken}
+use Rattle.event_book.specs.declared.event.Event.{Event}
+use Rattle.event_book.specs.declared.event.EventKind.{EventKind}
+use Rattle.event_book.specs.declared.event.EventKind.TheVariants as kinds
+use Rattle.event_book.specs.declared.event.MessageEvent.TheVariants.{Sent, Delivered, Lost}
+use Rattle.event_book.specs.declared.event.Note.TheVariants.{NoMessage, Undeliverable}
+use Rattle.event_book.specs.declared.event.StoreEvent.TheVariants as stores
+use Rattle.event_book.specs.declared.link.LinkEnd.{LinkEnd}
+use Rattle.event_book.specs.declared.link.LinkEnd.TheVariants as link_ends
+use Rattle.event_book.specs.declared.member.Member.{Member}
+use Rattle.event_book.specs.declared.message.Body.{Body}
+use Rattle.event_book.specs.declared.message.Body.TheVariants as bodies
+use Rattle.event_book.specs.declared.message.Message.{Message}
+use Rattle.event_book.specs.Flight.{InFlightFacts, in_flight}
+use Rattle.event_book.specs.declared.reason.Reason.{Reason}
+use Rattle.ha_loop.specs.declared.heard.Heard.{Heard}
+use Rattle.ha_loop.specs.declared.heard.Heard.TheVariants.{Wake}
+use Rattle.ha_loop.specs.declared.output.Output.{Output}
+use Rattle.ha_loop.specs.declared.output.Output.TheVariants as outputs
+use Rattle.ha_loop.specs.declared.output.Target.{Target}
+use Rattle.ha_loop.specs.declared.output.Target.TheVariants as targets
+use Rattle.ha_loop.specs.Agents.{Outcome}
+use Rattle.cluster_model.specs.declared.delivery.Delivery.{Delivery}
+use Rattle.cluster_model.specs.declared.delivery.Delivery.TheVariants as deliveries
+use Rattle.cluster_model.specs.declared.heard_message.HeardMessage.{HeardMessage}
+use Rattle.cluster_model.specs.Deliveries.{delivery_of}
+use Rattle.cluster_model.specs.Hearing.{heard_from}
+use Rattle.cluster_model.specs.Commands.{kinds_of}
+use Rattle.cluster_model.specs.Inputs.{moment_of, outcome_of, outcome_of_heard, outputs_of, standing_of, is_to_wake}
+use Rattle.cluster_model.specs.Limits.{most_in_flight}
+use Rattle.cluster_model.specs.Orders.{declared_member, order_kind, replica_start_kinds, server_at, stop_kinds}
+use Rattle.cluster_model.specs.Parts.{event_of, events_of, events_then, for_some, each}
+use Rattle.cluster_model.specs.State.{Cluster}
+
+-- the loss of the message of this number, where as many are in flight as may be
+abbrev pub lost_at_once : Bool → ℕ → List EventKind
+lost_at_once true number = kinds.Message (Lost number) ∷ []
+lost_at_once false number = []
+
+-- a message is sent under the next number; one that is sent beyond the most in flight is lost at once
+abbrev pub send_events : Cluster → Message → List Event
+send_events cluster message =
+    events_of cluster (kinds.Message (Sent (cluster.book.sent + 1) message) ∷ lost_at_once (nat_le most_in_flight (length cluster.book.flight)) (cluster.book.sent + 1))
+
+-- the message of a member's agent to this end of a link, in its run of this number
+abbrev pub agent_message : Member → LinkEnd → ℕ → ℕ → Body → Message
+agent_message member to run sequence body = record { from = link_ends.Member member; to = to; run = run; sequence = sequence; body = body }
+
+-- whom an agent writes to, if that is declared
+abbrev pub receiver_of : List Member → Target → Option LinkEnd
+receiver_of members targets.Store = Some link_ends.Store
+receiver_of members (targets.Member id) = option_map (λ (member : Member). link_ends.Member member) (slice_get members id.number)
+
+-- what an agent sends, in the run in which it is
+abbrev pub sending_events : Cluster → Member → Option AgentProcess → Option LinkEnd → ℕ → Body → List Event
+sending_events cluster member (Some process) (Some to) sequence body = send_events cluster (agent_message member to process.run sequence body)
+sending_events cluster member _ _ sequence body = []
+
+-- the server of a member starts as a replica, where it is down
+abbrev pub replica_start_events : Cluster → Member → Option Member → List Event
+replica_start_events cluster member leader = for_some (server_at cluster member) (λ s. events_of cluster (replica_start_kinds member leader s))
+
+-- the agent of a member ends its server
+abbrev pub stop_events : Cluster → Member → Reason → List Event
+stop_events cluster member reason = for_some (server_at cluster member) (λ s. events_of cluster (stop_kinds member reason s))
+
+-- what an output of the agent of a member comes to, on the message that it heard
+abbrev pub output_events : Member → HeardMessage → Cluster → Output → List Event
+output_events member heard cluster (outputs.Send to sequence body) = sending_events cluster member (slice_get cluster.book.agents member.id.number) (receiver_of cluster.book.members to) sequence body
+output_events member heard cluster (outputs.StartReplica leader) = replica_start_events cluster member (declared_member cluster.book.members leader)
+output_events member heard cluster (outputs.Stop reason) = stop_events cluster member reason
+output_events member heard cluster output = events_of cluster (kinds_of (order_kind cluster member heard output))
+
+-- what the outputs of an input come to, one after another
+abbrev pub input_events : Cluster → Member → HeardMessage → Option Outcome → List Event
+input_events cluster member heard outcome = each (output_events member heard) cluster (outputs_of outcome)
+
+-- no message is heard by an agent that is woken
+abbrev pub no_message : HeardMessage
+no_message = record { number = 0; run = 0 }
+
+-- the agent of a member is woken, and acts
+abbrev pub wake_events_of : Cluster → Member → List Event
+wake_events_of cluster member = events_then cluster (event_of cluster (kinds.Agent (Woken member))) (λ later. input_events later member no_message (outcome_of cluster member Wake))
+
+-- the agent of a member is woken, where it has something to do
+abbrev pub wake_events_if : Cluster → Member → AgentProcess → List Event
+wake_events_if cluster member process = if is_to_wake (moment_of cluster) process (standing_of cluster member) then wake_events_of cluster member else []
+
+-- the agent of a member is woken, where there is one with something to do
+abbrev pub wake_events : Cluster → Member → List Event
+wake_events cluster member = for_some (slice_get cluster.book.agents member.id.number) (wake_events_if cluster member)
+
+-- an answer of the key store
+abbrev pub answer_message : Message → Body → Message
+answer_message message body = record { from = link_ends.Store; to = message.from; run = message.run; sequence = message.sequence; body = body }
+
+-- the key store's decision on the request that a message carries, as an event. No request names standbys yet
+abbrev pub decision_kind : ℕ → Member → Txn → Decision → EventKind
+decision_kind number by txn Grant = kinds.Store (stores.Granted number by txn [])
+decision_kind number by txn (Refusal key found) = kinds.Store (stores.Refused number by (txn_kind_of txn) key found)
+
+-- and what the key store answers
+abbrev pub decision_body : ℕ → Txn → Decision → Body
+decision_body number txn Grant = bodies.Granted number (is_lease txn)
+decision_body number txn (Refusal key found) = bodies.Refused number key found
+
+-- the key store decides on a member's request, and answers it
+abbrev pub decision_events : Cluster → ℕ → Message → Txn → Decision → LinkEnd → List Event
+decision_events cluster number message txn decision link_ends.Store = []
+decision_events cluster number message txn decision (link_ends.Member by) =
+    events_then cluster (event_of cluster (decision_kind number by txn decision)) (λ later. send_events later (answer_message message (decision_body number txn decision)))
+
+-- what the key store answers to a message that says this
+abbrev pub answer_events_by : Cluster → ℕ → Message → Body → List Event
+answer_events_by cluster number message bodies.Read = send_events cluster (answer_message message bodies.Snapshot)
+answer_events_by cluster number message (bodies.Request txn) = decision_events cluster number message txn (decision_on cluster.book.keys cluster.book.clock txn) message.from
+answer_events_by cluster number message _ = []
+
+-- the key store answers a read with a snapshot, and a request with its decision
+abbrev pub answer_events : Cluster → ℕ → Message → List Event
+answer_events cluster number message = answer_events_by cluster number message message.body
+
+-- the message of this number, as its receiver hears it
+abbrev pub heard_message : ℕ → InFlightFacts → HeardMessage
+heard_message number message = record { number = number; run = message.message.run }
+
+-- the agent of a member acts on a message that comes
+abbrev pub hear_events : Cluster → ℕ → InFlightFacts → Member → List Event
+hear_events cluster number message member =
+    events_then cluster (event_of cluster (kinds.Message (Delivered number))) (λ later. input_events later member (heard_message number message) (outcome_of_heard cluster member (heard_from cluster message)))
+
+-- a message comes to this receiver: the key store answers it, or the agent of a member acts on it
+abbrev pub arrival_events_at : Cluster → ℕ → InFlightFacts → LinkEnd → List Event
+arrival_events_at cluster number message link_ends.Store = events_then cluster (event_of cluster (kinds.Message (Delivered number))) (λ later. answer_events later number message.message)
+arrival_events_at cluster number message (link_ends.Member member) = hear_events cluster number message member
+
+-- a message comes to its receiver, which acts on it
+abbrev pub arrival_events : Cluster → ℕ → InFlightFacts → List Event
+arrival_events cluster number message = arrival_events_at cluster number message message.message.to
+
+-- what becomes of a message in flight, by what stands between it and its receiver
+abbrev pub message_events_by : Cluster → ℕ → InFlightFacts → Delivery → List Event
+message_events_by cluster number message deliveries.Open = arrival_events cluster number message
+message_events_by cluster number message deliveries.Cut = event_of cluster (kinds.Message (Lost number))
+message_events_by cluster number message deliveries.Suspended = []
+message_events_by cluster number message deliveries.Gone = event_of cluster (kinds.Message (Lost number))
+
+-- a message in flight comes to its receiver, is lost, or is kept for a receiver that is suspended
+abbrev pub message_events : Cluster → ℕ → List Event
+message_events cluster number = for_some (in_flight cluster.book.flight number) (λ message. message_events_by cluster number message (delivery_of cluster.book.cuts cluster.book.agents message.message))
+
+-- a script delivers a message where nothing stands in its way
+abbrev pub deliver_events_by : Cluster → ℕ → InFlightFacts → Delivery → List Event
+deliver_events_by cluster number message deliveries.Open = arrival_events cluster number message
+deliver_events_by cluster number message deliveries.Cut = event_of cluster (kinds.Note (Undeliverable number))
+deliver_events_by cluster number message deliveries.Suspended = event_of cluster (kinds.Note (Undeliverable number))
+deliver_events_by cluster number message deliveries.Gone = event_of cluster (kinds.Message (Lost number))
+
+-- a script delivers a message; a note says so where none of this number is in flight
+abbrev pub deliver_events : Cluster → ℕ → Option InFlightFacts → List Event
+deliver_events cluster number None = event_of cluster (kinds.Note (NoMessage number))
+deliver_events cluster number (Some message) = deliver_events_by cluster number message (delivery_of cluster.book.cuts cluster.book.agents message.message)
+
+-- a script loses a message that is in flight, wherever it goes
+abbrev pub lose_events : Cluster → ℕ → Option InFlightFacts → List Event
+lose_events cluster number None = event_of cluster (kinds.Note (NoMessage number))
+lose_events cluster number (Some message) = event_of cluster (kinds.Message (Lost number))

@@ -1,0 +1,132 @@
+-- What happens in a step.
+use Rattle.std.specs.Prelude.{ℕ, ◌+◌, ◌-◌, ◌^◌, if◌then◌else◌, true, false, List, [], ◌∷◌, Option, Some, None, option_and_then, option_map, slice_get, zero, suc}
+use Rattle.std.specs.Map.{keys_of}
+use Rattle.pat_base.specs.declared.member_id.MemberId.{MemberId}
+use Rattle.pg_model.specs.declared.answers.Streamed.{Streamed}
+use Rattle.pg_model.specs.declared.answers.Streamed.TheVariants as streams
+use Rattle.pg_model.specs.Servers.{entry_for, news_at}
+use Rattle.event_book.specs.declared.agent_process.AgentProcess.{AgentProcess}
+use Rattle.event_book.specs.declared.event.Event.{Event}
+use Rattle.event_book.specs.declared.event.EventKind.{EventKind}
+use Rattle.event_book.specs.declared.event.EventKind.TheVariants as kinds
+use Rattle.event_book.specs.declared.event.LogEvent.TheVariants as logs
+use Rattle.event_book.specs.declared.event.ServerEvent.TheVariants as servers
+use Rattle.event_book.specs.declared.member.Member.{Member}
+use Rattle.event_book.specs.Flight.{in_flight}
+use Rattle.event_book.specs.Members.{server_of}
+use Rattle.cluster_script.specs.declared.line.Command.{Command}
+use Rattle.cluster_script.specs.declared.line.Command.TheVariants as commands
+use Rattle.cluster_script.specs.declared.line.Step.{Step}
+use Rattle.cluster_script.specs.declared.line.Step.TheVariants as steps
+use Rattle.cluster_model.specs.Acknowledging.{acknowledge_kinds}
+use Rattle.cluster_model.specs.Commands.{kinds_of, hold_of, resume_of, kill_of, restarted, disarm_of, link_of, cut_of, join_of}
+use Rattle.cluster_model.specs.Limits.{most_rounds}
+use Rattle.cluster_model.specs.Machines.{machine_of}
+use Rattle.cluster_model.specs.Messages.{wake_events, message_events, deliver_events, lose_events}
+use Rattle.cluster_model.specs.Parts.{event_of, events_of, events_then, for_some, each, is_empty}
+use Rattle.cluster_model.specs.ServerCommands.{promote_kinds, promoted_timeline, crash_of, freezing_of, slow_of, commit_of}
+use Rattle.cluster_model.specs.State.{Cluster}
+use Rattle.cluster_model.specs.Streaming.{source_of, confirm_of, unconfirmed_end}
+use Rattle.cluster_model.specs.Ticking.{tick_events}
+
+-- each due agent is woken, in script order, and then each message that is in flight at that point moves, in the order of numbers
+abbrev pub round_events : Cluster → List Event
+round_events cluster = events_then cluster (each wake_events cluster cluster.book.members) (λ later. each message_events later (keys_of later.book.flight))
+
+-- at most so many rounds; a round in which nothing happens is the last
+unfoldable pub rounds_events : Cluster → ℕ → List Event
+rounds_events cluster zero = []
+rounds_events cluster (suc count) = if is_empty (round_events cluster) then [] else events_then cluster (round_events cluster) (λ later. rounds_events later count)
+
+-- a replica confirms what it has, where that isn't known
+abbrev pub confirm_events : Cluster → Member → Member → List Event
+confirm_events cluster member from = events_of cluster (kinds_of (confirm_of member from (unconfirmed_end member (slice_get cluster.book.servers member.id.number) (slice_get cluster.book.servers from.id.number))))
+
+-- the server of a member receives from that of another one what is new to it, and confirms; or finds that its log diverged
+abbrev pub receive_events : Cluster → Member → Member → Option Streamed → List Event
+receive_events cluster member from None = confirm_events cluster member from
+receive_events cluster member from (Some streams.NotConnected) = []
+receive_events cluster member from (Some (streams.Diverged at)) = event_of cluster (kinds.Server (servers.Diverged (server_of member) (server_of from) at))
+receive_events cluster member from (Some (streams.Received count)) =
+    events_then cluster (event_of cluster (kinds.Log (logs.Received (server_of member) (server_of from) count))) (λ later. confirm_events later member from)
+
+-- the server of a member receives at most so many entries
+abbrev pub receive_events_at_most : Cluster → ℕ → Member → List Event
+receive_events_at_most cluster most member =
+    for_some (source_of cluster.book.members cluster.book.servers cluster.book.cuts member) (λ from. receive_events cluster member from (news_at cluster.book.servers member.id.number from.id.number most))
+
+-- more entries than a log has
+abbrev pub all_entries : ℕ
+all_entries = 2 ^ 64 - 1
+
+-- the server of a member receives all, unless it is frozen
+abbrev pub receive_events_of : Cluster → Member → List Event
+receive_events_of cluster member = for_some (slice_get cluster.book.frozen member.id.number) (λ frozen. if frozen then [] else receive_events_at_most cluster all_entries member)
+
+-- the commits of the server of a member are acknowledged, as far as they may be
+abbrev pub acknowledge_events : Cluster → Member → List Event
+acknowledge_events cluster member = events_of cluster (acknowledge_kinds member (slice_get cluster.book.servers member.id.number))
+
+-- a replica is promoted by its operator, and begins on the next timeline
+abbrev pub promote_events : Cluster → Member → List Event
+promote_events cluster member = for_some (option_and_then promoted_timeline (slice_get cluster.book.servers member.id.number)) (λ timeline. events_of cluster (promote_kinds member timeline))
+
+-- the declared member of this number
+abbrev pub declared : Cluster → MemberId → Option Member
+declared cluster id = slice_get cluster.book.members id.number
+
+-- what becomes of the agent of the declared member of this number, by its process
+abbrev pub process_kind : (Member → AgentProcess → Option EventKind) → Cluster → MemberId → Option EventKind
+process_kind change cluster id = option_and_then (λ m. option_and_then (change m) (slice_get cluster.book.agents m.id.number)) (declared cluster id)
+
+-- what a command comes to that brings one event at most
+abbrev pub command_kind : Cluster → Command → Option EventKind
+command_kind cluster (commands.Hold id) = process_kind hold_of cluster id
+command_kind cluster (commands.Resume id) = process_kind resume_of cluster id
+command_kind cluster (commands.Kill id) = process_kind kill_of cluster id
+command_kind cluster (commands.Crash id) = option_and_then (λ m. option_and_then (crash_of m) (slice_get cluster.book.servers m.id.number)) (declared cluster id)
+command_kind cluster (commands.Commit id size) = option_map (λ m. commit_of m (entry_for cluster.book.servers m.id.number (cluster.book.commits + 1) size.bytes)) (declared cluster id)
+command_kind cluster (commands.Freeze id) = option_and_then (λ m. option_and_then (freezing_of true m) (slice_get cluster.book.frozen m.id.number)) (declared cluster id)
+command_kind cluster (commands.Thaw id) = option_and_then (λ m. option_and_then (freezing_of false m) (slice_get cluster.book.frozen m.id.number)) (declared cluster id)
+command_kind cluster (commands.Slow id slowed delay) = option_and_then (λ m. option_and_then (slow_of m slowed delay) (slice_get cluster.book.servers m.id.number)) (declared cluster id)
+command_kind cluster (commands.Cut first second) = option_and_then (cut_of cluster.book.cuts) (link_of cluster.book.members first second)
+command_kind cluster (commands.Join first second) = option_and_then (join_of cluster.book.cuts) (link_of cluster.book.members first second)
+command_kind cluster _ = None
+
+-- the agent of a member starts, where it doesn't run
+abbrev pub restart_events_of : Cluster → Member → AgentProcess → List Event
+restart_events_of cluster member process =
+    events_then cluster (event_of cluster (restarted member process)) (λ later. if process.running then [] else events_of later (kinds_of (disarm_of member (machine_of cluster member))))
+
+-- the agent of a member starts, where there is one that doesn't run
+abbrev pub restart_events : Cluster → Member → List Event
+restart_events cluster member = for_some (slice_get cluster.book.agents member.id.number) (restart_events_of cluster member)
+
+-- the events of a command
+abbrev pub command_events : Cluster → Command → List Event
+command_events cluster (commands.Turn id) = for_some (declared cluster id) (wake_events cluster)
+command_events cluster (commands.Deliver number) = deliver_events cluster number (in_flight cluster.book.flight number)
+command_events cluster (commands.Lose number) = lose_events cluster number (in_flight cluster.book.flight number)
+command_events cluster (commands.Restart id) = for_some (declared cluster id) (restart_events cluster)
+command_events cluster (commands.Promote id) = for_some (declared cluster id) (promote_events cluster)
+command_events cluster (commands.Stream id most) = for_some (declared cluster id) (receive_events_at_most cluster most)
+command_events cluster command = events_of cluster (kinds_of (command_kind cluster command))
+
+-- a tick of the default schedule: replicas receive, in script order, and then agents are woken and messages come
+abbrev pub scheduled_events : Cluster → List Event
+scheduled_events cluster = events_then cluster (each receive_events_of cluster cluster.book.members) (λ later. rounds_events later most_rounds)
+
+-- what happens in a step, before the acknowledgements
+abbrev pub step_events : Cluster → Step → List Event
+step_events cluster steps.Scheduled = events_then cluster (tick_events cluster) scheduled_events
+step_events cluster steps.Tick = tick_events cluster
+step_events cluster (steps.Command command) = command_events cluster command
+
+-- the events of a step; after each the commits that may be are acknowledged
+abbrev pub next_events : Cluster → Step → List Event
+next_events cluster step = events_then cluster (step_events cluster step) (λ later. each acknowledge_events later later.book.members)
+
+-- the events of these steps, one after another
+abbrev pub run_events : Cluster → List Step → List Event
+run_events cluster [] = []
+run_events cluster (step ∷ more) = events_then cluster (next_events cluster step) (λ later. run_events later more)

@@ -1,0 +1,10 @@
+//! What happens in a cluster, by definition: the cluster at a moment, and the events of each step of a script.
+#![tactic(auto)]
+
+mod delivery;
+mod heard_message;
+mod laws;
+
+pub use delivery::Delivery;
+pub use heard_message::HeardMessage;
+pub use laws::other_concerns_change_nothing;
