@@ -1,1 +1,4 @@
 pub mod Noting
+pub mod Heads
+pub mod SummaryText
+pub mod Lacking

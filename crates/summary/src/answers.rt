@@ -2,6 +2,9 @@
 
 use pat_base::{Name, Ticks};
 
+/// How many members there may be.
+pub const MEMBERS: usize = 16;
+
 /// How many servers there may be: those of sixteen members, and the remote primary.
 pub const SERVERS: usize = 17;
 

@@ -2,9 +2,13 @@
 #![tactic(auto)]
 
 mod answers;
+mod closing;
+mod head;
+mod lacking;
 mod noting;
 mod watch;
 mod writers;
 
-pub use answers::{Breach, Closing, FirstMoment, Premises, SERVERS, Seen, Synchronous, WatchOf};
+pub use answers::{Breach, Closing, FirstMoment, MEMBERS, Premises, SERVERS, Seen, Synchronous, WatchOf};
+pub use lacking::{has_serial, lacks};
 pub use watch::Watch;
