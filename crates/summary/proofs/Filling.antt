@@ -1,7 +1,7 @@
 -- Margins at their members' places.
-use Rattle.std.proofs.Common.{◌≡◌, ℕ, ◌<◌, ◌+◌, ◌≤◌, List, [], ◌∷◌, length, take, zero, suc, Option, Some, None, refl, ap, sym, arith}
+use Rattle.std.proofs.Common.{◌≡◌, ℕ, ◌<◌, List, [], ◌∷◌, length, take, zero, suc, Option, Some, None, ap, sym, arith}
 use Rattle.std.proofs.lemmas.Option.{same_Some}
-use Rattle.std.specs.Prelude.{slice_get, slice_set, replicate}
+use Rattle.std.specs.Prelude.{slice_get, slice_set}
 use Rattle.pat_base.specs.declared.ticks.Ticks.{Ticks}
 use Rattle.summary.specs.declared.answers.WatchOf.{WatchOf}
 use Rattle.summary.specs.Heads.{filled}

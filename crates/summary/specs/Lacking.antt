@@ -1,5 +1,5 @@
 -- Logs that lack commits.
-use Rattle.std.specs.Prelude.{ℕ, ◌==◌, ◌||◌, not, Bool, true, false, List, [], ◌∷◌, Option, Some, None}
+use Rattle.std.specs.Prelude.{ℕ, ◌==◌, ◌||◌, not, Bool, false, List, [], ◌∷◌, Option, Some, None}
 use Rattle.wal_model.specs.declared.entry.Entry.{Entry}
 
 -- there is such an entry, and it is that of the commit of this serial

@@ -87,8 +87,7 @@ impl Closing {
     {
         let (end, premises, synchronous) = (self.end, self.premises, self.synchronous);
         let two_writers = self.two_writers;
-        format!(
-            in alloc;
+        format!(in alloc;
             "end at {end}\npremises {premises}\nsynchronous {synchronous}\ntwo writers {two_writers}\n"
         )
     }

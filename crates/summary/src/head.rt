@@ -43,13 +43,7 @@ pub fn head_breach(unwatched: Option<Name>, pauses: bool) -> Option<Breach>
 {
     match unwatched {
         Some(name) => Some(Breach::Watchdog(name)),
-        None => {
-            if pauses {
-                Some(Breach::Pause)
-            } else {
-                None
-            }
-        }
+        None => { if pauses { Some(Breach::Pause) } else { None } }
     }
 }
 
@@ -57,5 +51,9 @@ pub fn head_breach(unwatched: Option<Name>, pauses: bool) -> Option<Breach>
 pub fn declared_mode(on: bool) -> Synchronous
     ensures { result ≡ declared_mode on }
 {
-    if on { Synchronous::On } else { Synchronous::Off }
+    if on {
+        Synchronous::On
+    } else {
+        Synchronous::Off
+    }
 }

@@ -5,10 +5,14 @@ mod answers;
 mod closing;
 mod head;
 mod lacking;
+mod laws;
 mod noting;
 mod watch;
 mod writers;
 
-pub use answers::{Breach, Closing, FirstMoment, MEMBERS, Premises, SERVERS, Seen, Synchronous, WatchOf};
+pub use answers::{
+    Breach, Closing, FirstMoment, MEMBERS, Premises, SERVERS, Seen, Synchronous, WatchOf,
+};
 pub use lacking::{has_serial, lacks};
+pub use laws::{premises_guard_writers, summary_tells_the_book};
 pub use watch::Watch;

@@ -204,7 +204,11 @@ fn keeps_mode(on: bool, kind: &EventKind) -> bool
 fn broken_unless(test: bool, now: Ticks, before: Synchronous) -> Synchronous
     ensures { result ≡ broken_unless test now before }
 {
-    if test { before } else { Synchronous::Broken(now) }
+    if test {
+        before
+    } else {
+        Synchronous::Broken(now)
+    }
 }
 
 /// Whether the cluster replicates synchronously after an event of this moment.

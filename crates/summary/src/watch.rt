@@ -4,7 +4,9 @@ ghost use Rattle.summary.specs.Heads.{watch_of};
 ghost use Rattle.summary.specs.Noting.{noted};
 
 use crate::head::{declared_mode, first_unwatched, head_breach, margins_of};
-use crate::noting::{broken_by, count_after, first_if, premises_after, synchronous_after, ticks_after};
+use crate::noting::{
+    broken_by, count_after, first_if, premises_after, synchronous_after, ticks_after,
+};
 use crate::writers::{note_writers, two_after};
 use crate::{Closing, FirstMoment, MEMBERS, SERVERS, Seen, WatchOf};
 use event_book::Event;
@@ -60,8 +62,13 @@ impl Watch {
         let now = ticks_after(self.closing.end, kind);
         note_writers(&mut self.closing.writers, kind);
         let two_writers = two_after(self.closing.two_writers, now, &self.closing.writers, kind);
-        let premises =
-            premises_after(self.closing.premises, now, &self.margins, seen.lateness, kind);
+        let premises = premises_after(
+            self.closing.premises,
+            now,
+            &self.margins,
+            seen.lateness,
+            kind,
+        );
         self.closing.end = now;
         self.closing.premises = premises;
         self.closing.synchronous = synchronous_after(self.closing.synchronous, now, kind);

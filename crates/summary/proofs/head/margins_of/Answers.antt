@@ -1,5 +1,5 @@
-use Rattle.std.proofs.Common.{◌≡◌, ◌<◌, ◌∙◌, refl, length, ap, subst, add-one, arith}
-use Rattle.std.specs.Prelude.{slice_set, slice_get}
+use Rattle.std.proofs.Common.{◌<◌, ◌∙◌, refl, length, ap, add-one, arith}
+use Rattle.std.specs.Prelude.{slice_set}
 use Rattle.std.proofs.lemmas.Option.{slice_get_read}
 use Rattle.summary.proofs.Filling.{filled-more}
 use Rattle.summary.proofs.head.margins_of.Goals as goal

@@ -1,4 +1,4 @@
-use Rattle.std.proofs.Common.{◌≡◌, take, Option, None}
+use Rattle.std.proofs.Common.{◌≡◌, take, None}
 use Rattle.std.specs.Prelude.{replicate}
 use Rattle.summary.specs.declared.answers.TheConstants.{MEMBERS}
 use Rattle.summary.specs.Heads.{filled}

@@ -1,4 +1,4 @@
-use Rattle.std.proofs.Common.{◌≡◌, ℕ, ◌∙◌, ◌<◌, ◌+◌, ◌-◌, length, drop, suc, true, false, sym, subst, ap, arith}
+use Rattle.std.proofs.Common.{◌≡◌, ◌∙◌, ◌-◌, drop, suc, false, sym, subst, ap, arith}
 use Rattle.summary.specs.Lacking.{has_serial, is_entry_of}
 use Rattle.summary.proofs.Serials.{has-at, has-none}
 use Rattle.summary.proofs.lacking.has_serial.Goals as goal

@@ -1,4 +1,4 @@
-use Rattle.std.proofs.Common.{◌≡◌, ℕ, ◌≤◌, Bool, false, length, drop}
+use Rattle.std.proofs.Common.{◌≡◌, ◌≤◌, false, length, drop}
 use Rattle.summary.specs.Lacking.{has_serial}
 use Rattle.summary.proofs.lacking.has_serial.Given as goal
 

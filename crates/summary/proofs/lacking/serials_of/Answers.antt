@@ -1,4 +1,4 @@
-use Rattle.std.proofs.Common.{◌≡◌, ◌∙◌, ◌<◌, ◌||◌, length, take, sym, ap, arith, add-one}
+use Rattle.std.proofs.Common.{◌∙◌, ◌<◌, ◌||◌, length, take, sym, ap, arith, add-one}
 use Rattle.summary.specs.Lacking.{has_serial, is_entry_of}
 use Rattle.summary.proofs.Serials.{has-more}
 use Rattle.summary.proofs.lacking.serials_of.Goals as goal
