@@ -1,7 +1,7 @@
 -- What the outputs of an input, carried out in their order, make of a machine.
 use Rattle.std.specs.Prelude.{◌≡◌, nat_le, if◌then◌else◌, List, [], ◌∷◌, Option, Some, None, All}
 use Rattle.pat_base.specs.declared.ticks.Ticks.{Ticks}
-use Rattle.pg_model.specs.Status.{status_replica_started, status_primary_started, status_stopping, status_following, status_promoted}
+use Rattle.pg_model.specs.Status.{status_replica_started, status_stopping, status_following, status_promoted}
 use Rattle.event_book.specs.Members.{server_id_of}
 use Rattle.pg_model.specs.declared.status.ServerStatus.{ServerStatus}
 use Rattle.ha_loop.specs.declared.machine.Machine.{Machine}
@@ -28,7 +28,6 @@ later_hold until (Some hold) = if nat_le hold.0 until.0 then until else hold
 abbrev pub machine_after_output : Ticks → Machine → Output → Machine
 machine_after_output now machine outputs.Promote = with_server (status_promoted machine.server) machine
 machine_after_output now machine (outputs.StartReplica leader) = with_server (status_replica_started now (upstream_of leader) machine.server) machine
-machine_after_output now machine outputs.StartPrimary = with_server (status_primary_started now machine.server) machine
 machine_after_output now machine (outputs.Stop reason) = with_server (status_stopping now machine.server) machine
 machine_after_output now machine (outputs.Follow leader) = with_server (status_following (server_id_of leader) machine.server) machine
 machine_after_output now machine (outputs.Armed until) = with_deadline (Some until) machine
@@ -42,9 +41,8 @@ abbrev pub machine_after_outputs : Ticks → Machine → List Output → Machine
 machine_after_outputs now machine [] = machine
 machine_after_outputs now machine (output ∷ later) = machine_after_outputs now (machine_after_output now machine output) later
 
--- an output that the table makes so far: it starts no server as a primary, takes no hold, and writes to no other member
+-- an output that the table makes so far: it takes no hold, and writes to no other member
 abbrev pub IsOfTable : Output → Type 0
-IsOfTable outputs.StartPrimary = ⊥
 IsOfTable (outputs.HoldTaken until from sequence) = ⊥
 IsOfTable (outputs.Send (targets.Member member) sequence body) = ⊥
 IsOfTable _ = Unit {0}
