@@ -1,0 +1,9 @@
+pub mod Filling
+pub mod Serials
+pub mod Fronts
+pub mod Writing
+pub mod Breaking
+pub mod Modes
+pub mod Losing
+pub mod Standing
+pub mod Guarding

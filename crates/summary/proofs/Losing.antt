@@ -1,0 +1,51 @@
+-- Commits that are lost.
+use Rattle.std.proofs.Common.{◌≡◌, ℕ, ◌||◌, List, [], ◌∷◌, ◌++◌, Bool, true, false, refl, sym, ap, ◌∙◌}
+use Rattle.std.specs.Prelude.{not, Contains, All}
+use Rattle.std.proofs.lemmas.List.Elements.{All-nil, All-cons, All-contains, Contains-append_left, Contains-append_right, Contains-push}
+use Rattle.pat_base.specs.declared.ticks.Ticks.{Ticks}
+use Rattle.wal_model.specs.declared.entry.Entry.{Entry}
+use Rattle.event_book.specs.declared.event.Event.{Event}
+use Rattle.event_book.specs.Acknowledged.{acknowledged_in}
+use Rattle.event_book.specs.Logs.{Logs, logs_over}
+use Rattle.lease_law.proofs.Tools.{both}
+use Rattle.summary.specs.declared.answers.FirstMoment.{FirstMoment}
+use Rattle.summary.specs.declared.answers.Seen.{Seen}
+use Rattle.summary.specs.Lacking.{has_serial, lacks_in}
+use Rattle.summary.specs.Moments.{now_over, IsToldFirst}
+use Rattle.summary.specs.Noting.{first_if}
+use Rattle.summary.specs.Seeing.{entries_at, LacksOne, WriterLacks, WritersHold, IsSeen}
+use Rattle.summary.proofs.Fronts.{told-tested}
+
+-- a log that lacks none has each
+has-each : (log : List Entry) (serials : List ℕ) → lacks_in log serials ≡ false → All (λ serial. has_serial log serial ≡ true) serials
+has-each log [] none = All-nil (λ serial. has_serial log serial ≡ true)
+has-each log (serial ∷ serials) none = go (has_serial log serial) refl none (has-each log serials)
+  where
+    go : (test : Bool) → has_serial log serial ≡ test → (not test || lacks_in log serials) ≡ false → (lacks_in log serials ≡ false → All (λ s. has_serial log s ≡ true) serials) → All (λ s. has_serial log s ≡ true) (serial ∷ serials)
+    go true is rest others = All-cons (λ s. has_serial log s ≡ true) serial serials is (others rest)
+    go false is rest others = absurd (both (sym rest))
+
+-- a log that lacks one hasn't each
+lacks-some : (log : List Entry) (serials : List ℕ) → lacks_in log serials ≡ true → ((serial : ℕ) → Contains serials serial → has_serial log serial ≡ true) → ⊥
+lacks-some log [] some each = both some
+lacks-some log (serial ∷ serials) some each =
+    lacks-some log serials (ap (λ b. not b || lacks_in log serials) (sym (each serial (Contains-append_left (serial ∷ []) serials serial (Contains-push [] serial)))) ∙ some)
+    (λ s there. each s (Contains-append_right (serial ∷ []) serials s there))
+
+lacks-or-has : (logs : Logs) (book : List Event) (server : ℕ) (test : Bool) → lacks_in (entries_at (logs_over logs book) server) (acknowledged_in book) ≡ test → (LacksOne logs book server → ⊥) → (commit : ℕ) → Contains (acknowledged_in book) commit → has_serial (entries_at (logs_over logs book) server) commit ≡ true
+lacks-or-has logs book server true is none commit there = absurd (none is)
+lacks-or-has logs book server false is none commit there =
+    All-contains (λ s. has_serial (entries_at (logs_over logs book) server) s ≡ true) (acknowledged_in book) commit (has-each (entries_at (logs_over logs book) server) (acknowledged_in book) is) there
+
+hold-if-none : (logs : Logs) (book : List Event) → (WriterLacks logs book → ⊥) → WritersHold logs book
+hold-if-none logs book none server writes commit there =
+    lacks-or-has logs book server (lacks_in (entries_at (logs_over logs book) server) (acknowledged_in book)) refl (λ lacks. none (server, writes, lacks)) commit there
+
+none-if-hold : (logs : Logs) (book : List Event) → WritersHold logs book → WriterLacks logs book → ⊥
+none-if-hold logs book hold lacks = lacks-some (entries_at (logs_over logs book) lacks.0) (acknowledged_in book) lacks.2 (hold lacks.0 lacks.1)
+
+pub lost-more : (logs : Logs) (book : List Event) (event : Event) (lost : FirstMoment) (seen : Seen) (now : Ticks) → IsSeen logs book lost event seen → now.0 ≡ now_over 0 (book ++ event ∷ []) → IsToldFirst (WritersHold logs) book lost → IsToldFirst (WritersHold logs) (book ++ event ∷ []) (first_if lost seen.lacking now)
+lost-more logs book event lost seen now right end told =
+    told-tested (WritersHold logs) book event lost seen.lacking now told end
+    (λ never lacks hold. none-if-hold logs (book ++ event ∷ []) hold ((right.lacking never).0 lacks))
+    (λ never holds. hold-if-none logs (book ++ event ∷ []) (λ lacks. both (sym holds ∙ (right.lacking never).1 lacks)))

@@ -1,0 +1,37 @@
+//! The summary tells what the book says, in its own words.
+ghost use Rattle.std.specs.Prelude.{ℕ, ◌≡◌, ◌≤◌, ◌++◌, List, [], ◌∷◌, length};
+ghost use Rattle.lease_store.specs.Settings.{Settings};
+ghost use Rattle.event_book.specs.Logs.{Logs};
+ghost use Rattle.event_book.specs.Writers.{HasOneWriter};
+ghost use Rattle.event_book.specs.declared.event.Event.{Event};
+ghost use Rattle.summary.specs.declared.answers.Closing.{Closing};
+ghost use Rattle.summary.specs.declared.answers.Seen.{Seen};
+ghost use Rattle.summary.specs.declared.answers.TheConstants.{MEMBERS};
+ghost use Rattle.summary.specs.declared.answers.WatchOf.{WatchOf};
+ghost use Rattle.summary.specs.Claims.{ArePremisesMet, IsGuarded, IsSummaryOf, StandsFor};
+ghost use Rattle.summary.specs.Heads.{watch_of};
+ghost use Rattle.summary.specs.Noting.{WatchFacts, noted};
+ghost use Rattle.summary.specs.Seeing.{AreSeen, IsSeen, Sighting, events_in, noted_over};
+
+/// Each answer of the summary is so of the book whose events were noted, where what was seen beside each was right.
+pub fn summary_tells_the_book()
+    // Before the first event it stands for the book without one.
+    ensures first { (members : List WatchOf) (first : Settings) (logs : Logs) → length members ≤ MEMBERS → StandsFor members first logs [] (watch_of members first.config) }
+    // Noting an event keeps that, for who keeps no list of them.
+    ensures each { (members : List WatchOf) (first : Settings) (logs : Logs) (book : List Event) (facts : WatchFacts) (event : Event) (seen : Seen)
+        → StandsFor members first logs book facts → IsSeen logs book facts.closing.lost event seen
+        → StandsFor members first logs (book ++ event ∷ []) (noted facts event.kind seen) }
+    // So it is after all of them.
+    ensures all { (members : List WatchOf) (first : Settings) (logs : Logs) (sightings : List Sighting)
+        → length members ≤ MEMBERS → AreSeen logs [] (watch_of members first.config) sightings
+        → IsSummaryOf members first logs (events_in sightings) (noted_over (watch_of members first.config) sightings).closing }
+{}
+
+/// Where each front of a book that meets the premises has one writer, its summary says so: with the premises met two servers never
+/// accepted writes, and with the premises broken they didn't before.
+pub fn premises_guard_writers()
+    ensures { (members : List WatchOf) (first : Settings) (logs : Logs) (book : List Event) (closing : Closing)
+        → IsSummaryOf members first logs book closing
+        → ((front rest : List Event) → front ++ rest ≡ book → ArePremisesMet members first front → HasOneWriter front)
+        → IsGuarded closing.premises closing.two_writers }
+{}

@@ -1,0 +1,18 @@
+//! The closing summary of a run, noted event by event: it keeps no event.
+#![tactic(auto)]
+
+mod answers;
+mod closing;
+mod head;
+mod lacking;
+mod laws;
+mod noting;
+mod watch;
+mod writers;
+
+pub use answers::{
+    Breach, Closing, FirstMoment, MEMBERS, Premises, SERVERS, Seen, Synchronous, WatchOf,
+};
+pub use lacking::{has_serial, lacks};
+pub use laws::{premises_guard_writers, summary_tells_the_book};
+pub use watch::Watch;
