@@ -25,7 +25,7 @@ use Rattle.summary.specs.declared.answers.Breach.TheVariants as breaches
 use Rattle.summary.specs.declared.answers.Premises.{Premises}
 use Rattle.summary.specs.declared.answers.Premises.TheVariants as premises
 use Rattle.summary.specs.declared.answers.WatchOf.{WatchOf}
-use Rattle.summary.specs.Claims.{ticks_of, margin_of, works_of, ArePremisesMet, IsBreachBy, IsToldOfPremises}
+use Rattle.summary.specs.Claims.{margin_ticks, margin_of, works_of, ArePremisesMet, IsBreachBy, IsToldOfPremises}
 use Rattle.summary.specs.Heads.{is_watching, first_unwatched, name_unless, head_breach}
 use Rattle.summary.specs.Moments.{now_over, moments_over, AreAllFronts}
 use Rattle.summary.specs.Noting.{margin_at, is_late, late_if, pause_if, breach_by_watchdog, breach_by_store, breach_by_server, breach_of, broken_by, premises_after}
@@ -39,11 +39,11 @@ le-from-not : (m n : ℕ) → nat_lt m n ≡ false → n ≤ m
 le-from-not m n e = grind (arith, nat_tests)
 
 -- what a watchdog's margin says of a lateness
-on-time : (margin : Option Ticks) (clock moment lateness : ℕ) → is_late margin lateness ≡ false → clock - moment ≤ lateness → IsOnTime (ticks_of margin) clock moment
+on-time : (margin : Option Ticks) (clock moment lateness : ℕ) → is_late margin lateness ≡ false → clock - moment ≤ lateness → IsOnTime (margin_ticks margin) clock moment
 on-time None clock moment lateness small span = tt
 on-time (Some margin) clock moment lateness small span = let most : lateness ≤ margin.0 = le-from-not margin.0 lateness small in omega (arith, most, span)
 
-too-late : (margin : Option Ticks) (clock moment lateness : ℕ) → is_late margin lateness ≡ true → lateness ≡ clock - moment → IsOnTime (ticks_of margin) clock moment → ⊥
+too-late : (margin : Option Ticks) (clock moment lateness : ℕ) → is_late margin lateness ≡ true → lateness ≡ clock - moment → IsOnTime (margin_ticks margin) clock moment → ⊥
 too-late None clock moment lateness late span time = both late
 too-late (Some margin) clock moment lateness late span time = let more : margin.0 < lateness = lt-from margin.0 lateness late in omega (arith, more, span, time)
 
@@ -51,22 +51,22 @@ none-late : (margin : Option Ticks) (lateness : ℕ) → lateness ≡ 0 → is_l
 none-late None lateness none late = both late
 none-late (Some margin) lateness none late = let more : margin.0 < lateness = lt-from margin.0 lateness late in omega (arith, more, none)
 
-sent-in-time : (margin : Option Ticks) (clock : ℕ) (sent : Option ℕ) (lateness : ℕ) → is_late margin lateness ≡ false → IsSpanSince clock sent lateness → IsSentInTime (ticks_of margin) clock sent
+sent-in-time : (margin : Option Ticks) (clock : ℕ) (sent : Option ℕ) (lateness : ℕ) → is_late margin lateness ≡ false → IsSpanSince clock sent lateness → IsSentInTime (margin_ticks margin) clock sent
 sent-in-time margin clock None lateness small span = tt
 sent-in-time margin clock (Some sent) lateness small span = on-time margin clock sent lateness small (omega (arith, span))
 
-sent-late : (margin : Option Ticks) (clock : ℕ) (sent : Option ℕ) (lateness : ℕ) → is_late margin lateness ≡ true → IsSpanSince clock sent lateness → IsSentInTime (ticks_of margin) clock sent → ⊥
+sent-late : (margin : Option Ticks) (clock : ℕ) (sent : Option ℕ) (lateness : ℕ) → is_late margin lateness ≡ true → IsSpanSince clock sent lateness → IsSentInTime (margin_ticks margin) clock sent → ⊥
 sent-late margin clock None lateness late span time = none-late margin lateness span late
 sent-late margin clock (Some sent) lateness late span time = too-late margin clock sent lateness late span time
 
 -- the same of a feed by its basis
-fed-in-time : (margin : ℕ → Option ℕ) (own : Option Ticks) (moments : Moments) (m : ℕ) (basis : Basis) (lateness : ℕ) → ticks_of own ≡ margin m → is_late own lateness ≡ false → IsLatenessOn moments m basis lateness → IsFeedInTime margin moments m basis
+fed-in-time : (margin : ℕ → Option ℕ) (own : Option Ticks) (moments : Moments) (m : ℕ) (basis : Basis) (lateness : ℕ) → margin_ticks own ≡ margin m → is_late own lateness ≡ false → IsLatenessOn moments m basis lateness → IsFeedInTime margin moments m basis
 fed-in-time margin own moments m (bases.Grant answer) lateness is small span =
     subst (λ o. IsSentInTime o moments.clock (moments.sent answer)) is (sent-in-time own moments.clock (moments.sent answer) lateness small span)
 fed-in-time margin own moments m (bases.Acknowledgements members sequence) lateness is small span = λ p moment there taken.
     subst (λ o. IsOnTime o moments.clock moment) is (on-time own moments.clock moment lateness small (span.most p moment there taken))
 
-fed-late : (margin : ℕ → Option ℕ) (own : Option Ticks) (moments : Moments) (m : ℕ) (basis : Basis) (lateness : ℕ) → ticks_of own ≡ margin m → is_late own lateness ≡ true → IsLatenessOn moments m basis lateness → IsFeedInTime margin moments m basis → ⊥
+fed-late : (margin : ℕ → Option ℕ) (own : Option Ticks) (moments : Moments) (m : ℕ) (basis : Basis) (lateness : ℕ) → margin_ticks own ≡ margin m → is_late own lateness ≡ true → IsLatenessOn moments m basis lateness → IsFeedInTime margin moments m basis → ⊥
 fed-late margin own moments m (bases.Grant answer) lateness is late span time =
     sent-late own moments.clock (moments.sent answer) lateness late span (subst (λ o. IsSentInTime o moments.clock (moments.sent answer)) (sym is) time)
 fed-late margin own moments m (bases.Acknowledgements members sequence) lateness is late span time =
@@ -86,7 +86,7 @@ late-some false name why e = absurd (none-some why e)
 
 -- margins that are those declared
 abbrev Same : List (Option Ticks) → (ℕ → Option ℕ) → Type 0
-Same margins margin = (m : ℕ) → ticks_of (margin_at margins m) ≡ margin m
+Same margins margin = (m : ℕ) → margin_ticks (margin_at margins m) ≡ margin m
 
 watchdog-right : (margins : List (Option Ticks)) (margin : ℕ → Option ℕ) (moments : Moments) (lateness : ℕ) (happening : WatchdogEvent) → Same margins margin → breach_by_watchdog margins lateness happening ≡ None → IsLatenessBy moments happening lateness → IsWatchdogInTime margin moments happening
 watchdog-right margins margin moments lateness (watchdogs.Armed member until answer) same none span =
@@ -202,7 +202,7 @@ noted-breach members first margins book event lateness now (Some why) is same sp
     }
 
 pub premises-more : (members : List WatchOf) (first : Settings) (margins : List (Option Ticks)) (book : List Event) (event : Event) (lateness : ℕ) (now : Ticks) (told : Premises)
-    → ((m : ℕ) → ticks_of (margin_at margins m) ≡ margin_of members m) → IsLateness (moments_over first_moments book) event.kind lateness → now.0 ≡ now_over 0 (book ++ event ∷ []) → IsToldOfPremises members first book told
+    → ((m : ℕ) → margin_ticks (margin_at margins m) ≡ margin_of members m) → IsLateness (moments_over first_moments book) event.kind lateness → now.0 ≡ now_over 0 (book ++ event ∷ []) → IsToldOfPremises members first book told
     → IsToldOfPremises members first (book ++ event ∷ []) (premises_after told now margins lateness event.kind)
 unfolding breaks-more
 premises-more members first margins book event lateness now premises.Met same span end told =

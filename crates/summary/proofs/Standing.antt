@@ -14,7 +14,7 @@ use Rattle.lease_law.proofs.Runs.{assoc, none-more}
 use Rattle.lease_law.proofs.Tools.{both}
 use Rattle.summary.specs.declared.answers.Seen.{Seen}
 use Rattle.summary.specs.declared.answers.WatchOf.{WatchOf}
-use Rattle.summary.specs.Claims.{ticks_of, declared_margin, is_writer, IsSummaryOf, StandsFor}
+use Rattle.summary.specs.Claims.{margin_ticks, declared_margin, is_writer, IsSummaryOf, WatchStandsFor}
 use Rattle.summary.specs.Heads.{filled, first_unwatched, watch_of}
 use Rattle.summary.specs.Moments.{now_over}
 use Rattle.summary.specs.Noting.{WatchFacts, margin_at, ticks_after, writers_after, count_after, noted}
@@ -60,9 +60,9 @@ none-writes (suc n) zero = refl
 none-writes (suc n) (suc m) = none-writes n m
 
 -- before the first event
-pub stands-first : (members : List WatchOf) (first : Settings) (logs : Logs) → length members ≤ 16 → StandsFor members first logs [] (watch_of members first.config)
+pub stands-first : (members : List WatchOf) (first : Settings) (logs : Logs) → length members ≤ 16 → WatchStandsFor members first logs [] (watch_of members first.config)
 stands-first members first logs within = record {
-  margins = λ m. ap ticks_of (filled-at 16 members m within);
+  margins = λ m. ap margin_ticks (filled-at 16 members m within);
   places = refl;
   closing = record {
     end = refl;
@@ -76,7 +76,7 @@ stands-first members first logs within = record {
 }
 
 -- one more event
-pub stands-more : (members : List WatchOf) (first : Settings) (logs : Logs) (book : List Event) (facts : WatchFacts) (event : Event) (seen : Seen) → StandsFor members first logs book facts → IsSeen logs book facts.closing.lost event seen → StandsFor members first logs (book ++ event ∷ []) (noted facts event.kind seen)
+pub stands-more : (members : List WatchOf) (first : Settings) (logs : Logs) (book : List Event) (facts : WatchFacts) (event : Event) (seen : Seen) → WatchStandsFor members first logs book facts → IsSeen logs book facts.closing.lost event seen → WatchStandsFor members first logs (book ++ event ∷ []) (noted facts event.kind seen)
 stands-more members first logs book facts event seen stands right =
     let closing = facts.closing in
     let was = stands.closing in
@@ -98,10 +98,10 @@ stands-more members first logs book facts event seen stands right =
     }
 
 -- all of them
-stands-over : (members : List WatchOf) (first : Settings) (logs : Logs) (book : List Event) (facts : WatchFacts) (sightings : List Sighting) → StandsFor members first logs book facts → AreSeen logs book facts sightings → StandsFor members first logs (book ++ events_in sightings) (noted_over facts sightings)
-stands-over members first logs book facts [] stands right = subst (λ (l : List Event). StandsFor members first logs l facts) (sym (none-more book)) stands
+stands-over : (members : List WatchOf) (first : Settings) (logs : Logs) (book : List Event) (facts : WatchFacts) (sightings : List Sighting) → WatchStandsFor members first logs book facts → AreSeen logs book facts sightings → WatchStandsFor members first logs (book ++ events_in sightings) (noted_over facts sightings)
+stands-over members first logs book facts [] stands right = subst (λ (l : List Event). WatchStandsFor members first logs l facts) (sym (none-more book)) stands
 stands-over members first logs book facts (s ∷ ss) stands right =
-    subst (λ (l : List Event). StandsFor members first logs l (noted_over (noted facts s.event.kind s.seen) ss)) (assoc book (s.event ∷ []) (events_in ss))
+    subst (λ (l : List Event). WatchStandsFor members first logs l (noted_over (noted facts s.event.kind s.seen) ss)) (assoc book (s.event ∷ []) (events_in ss))
     (stands-over members first logs (book ++ s.event ∷ []) (noted facts s.event.kind s.seen) ss (stands-more members first logs book facts s.event s.seen stands right.0) right.1)
 
 pub stands-all : (members : List WatchOf) (first : Settings) (logs : Logs) (sightings : List Sighting) → length members ≤ 16 → AreSeen logs [] (watch_of members first.config) sightings → IsSummaryOf members first logs (events_in sightings) (noted_over (watch_of members first.config) sightings).closing

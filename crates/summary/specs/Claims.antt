@@ -33,9 +33,9 @@ use Rattle.summary.specs.Noting.{WatchFacts, margin_at}
 use Rattle.summary.specs.Seeing.{WritersHold}
 
 -- a margin as a number of ticks
-abbrev pub ticks_of : Option Ticks → Option ℕ
-ticks_of None = None
-ticks_of (Some ticks) = Some ticks.0
+abbrev pub margin_ticks : Option Ticks → Option ℕ
+margin_ticks None = None
+margin_ticks (Some ticks) = Some ticks.0
 
 -- the margin that is declared of a member's watchdog, none where there is no such member
 abbrev pub declared_margin : Option WatchOf → Option Ticks
@@ -44,7 +44,7 @@ declared_margin (Some watchdog) = watchdog.margin
 
 -- the margin of the member of this number, in ticks
 abbrev pub margin_of : List WatchOf → ℕ → Option ℕ
-margin_of members m = ticks_of (declared_margin (slice_get members m))
+margin_of members m = margin_ticks (declared_margin (slice_get members m))
 
 -- a watchdog that is declared is on and works
 abbrev pub is_working : Option WatchOf → Bool
@@ -137,8 +137,8 @@ pub record IsSummaryOf (members : List WatchOf) (first : Settings) (logs : Logs)
   pub lost : IsToldFirst (WritersHold logs) book closing.lost
 
 -- the summary keeps what this book makes of it
-pub record StandsFor (members : List WatchOf) (first : Settings) (logs : Logs) (book : List Event) (facts : WatchFacts) : Type 0 where
-  pub margins : (m : ℕ) → ticks_of (margin_at facts.margins m) ≡ margin_of members m
+pub record WatchStandsFor (members : List WatchOf) (first : Settings) (logs : Logs) (book : List Event) (facts : WatchFacts) : Type 0 where
+  pub margins : (m : ℕ) → margin_ticks (margin_at facts.margins m) ≡ margin_of members m
   pub places : length facts.closing.writers ≡ SERVERS
   pub closing : IsSummaryOf members first logs book facts.closing
 

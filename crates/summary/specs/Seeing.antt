@@ -29,13 +29,13 @@ IsSpanSince clock None lateness = lateness ≡ 0
 IsSpanSince clock (Some sent) lateness = lateness ≡ clock - sent
 
 -- this member acknowledged at this moment the failsafe request of that number, in its sender's run
-abbrev pub HasTaken : Moments → ℕ → ℕ → ℕ → ℕ → Type 0
-HasTaken moments from sequence by moment = IsTaken moments.taken (record { by = by; from = from; run = moments.runs from; sequence = sequence; moment = moment })
+abbrev pub TookHold : Moments → ℕ → ℕ → ℕ → ℕ → Type 0
+TookHold moments from sequence by moment = IsTaken moments.taken (record { by = by; from = from; run = moments.runs from; sequence = sequence; moment = moment })
 
 -- so many ticks have passed since the earliest of these members acknowledged the request, none where none of them did
 pub record IsSpanOfHolds (moments : Moments) (from : ℕ) (members : MemberSet) (sequence lateness : ℕ) : Type 0 where
-  pub most : (by moment : ℕ) → set_members members by ≡ true → HasTaken moments from sequence by moment → moments.clock - moment ≤ lateness
-  pub one : (lateness ≡ 0) ⊎ ((by : ℕ) × (moment : ℕ) × (set_members members by ≡ true) × HasTaken moments from sequence by moment × (lateness ≡ moments.clock - moment))
+  pub most : (by moment : ℕ) → set_members members by ≡ true → TookHold moments from sequence by moment → moments.clock - moment ≤ lateness
+  pub one : (lateness ≡ 0) ⊎ ((by : ℕ) × (moment : ℕ) × (set_members members by ≡ true) × TookHold moments from sequence by moment × (lateness ≡ moments.clock - moment))
 
 -- so many ticks have passed since what lets this member's watchdog be fed
 abbrev pub IsLatenessOn : Moments → ℕ → Basis → ℕ → Type 0
@@ -53,14 +53,14 @@ abbrev pub IsLateness : Moments → EventKind → ℕ → Type 0
 IsLateness moments (kinds.Watchdog happening) lateness = IsLatenessBy moments happening lateness
 IsLateness moments _ lateness = lateness ≡ 0
 
--- a log that is there, and none where there is no such server
-abbrev pub log_if : Option (Option (List Entry)) → Option (List Entry)
-log_if None = None
-log_if (Some log) = log
+-- the entries of a log, none where there is no such server or it has no log
+abbrev pub entries_found : Option (Option (List Entry)) → List Entry
+entries_found None = []
+entries_found (Some log) = entries_of log
 
--- the entries of the log of the server of this number, none where it has no log
+-- the entries of the log of the server of this number
 abbrev pub entries_at : Logs → ℕ → List Entry
-entries_at known server = entries_of (log_if (slice_get known server))
+entries_at known server = entries_found (slice_get known server)
 
 -- at the end of this book, over servers that began with these logs, this server lacks an acknowledged commit
 abbrev pub LacksOne : Logs → List Event → ℕ → Type 0

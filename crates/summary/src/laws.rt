@@ -8,7 +8,7 @@ ghost use Rattle.summary.specs.declared.answers.Closing.{Closing};
 ghost use Rattle.summary.specs.declared.answers.Seen.{Seen};
 ghost use Rattle.summary.specs.declared.answers.TheConstants.{MEMBERS};
 ghost use Rattle.summary.specs.declared.answers.WatchOf.{WatchOf};
-ghost use Rattle.summary.specs.Claims.{ArePremisesMet, IsGuarded, IsSummaryOf, StandsFor};
+ghost use Rattle.summary.specs.Claims.{ArePremisesMet, IsGuarded, IsSummaryOf, WatchStandsFor};
 ghost use Rattle.summary.specs.Heads.{watch_of};
 ghost use Rattle.summary.specs.Noting.{WatchFacts, noted};
 ghost use Rattle.summary.specs.Seeing.{AreSeen, IsSeen, Sighting, events_in, noted_over};
@@ -16,11 +16,11 @@ ghost use Rattle.summary.specs.Seeing.{AreSeen, IsSeen, Sighting, events_in, not
 /// Each answer of the summary is so of the book whose events were noted, where what was seen beside each was right.
 pub fn summary_tells_the_book()
     // Before the first event it stands for the book without one.
-    ensures first { (members : List WatchOf) (first : Settings) (logs : Logs) → length members ≤ MEMBERS → StandsFor members first logs [] (watch_of members first.config) }
+    ensures first { (members : List WatchOf) (first : Settings) (logs : Logs) → length members ≤ MEMBERS → WatchStandsFor members first logs [] (watch_of members first.config) }
     // Noting an event keeps that, for who keeps no list of them.
     ensures each { (members : List WatchOf) (first : Settings) (logs : Logs) (book : List Event) (facts : WatchFacts) (event : Event) (seen : Seen)
-        → StandsFor members first logs book facts → IsSeen logs book facts.closing.lost event seen
-        → StandsFor members first logs (book ++ event ∷ []) (noted facts event.kind seen) }
+        → WatchStandsFor members first logs book facts → IsSeen logs book facts.closing.lost event seen
+        → WatchStandsFor members first logs (book ++ event ∷ []) (noted facts event.kind seen) }
     // So it is after all of them.
     ensures all { (members : List WatchOf) (first : Settings) (logs : Logs) (sightings : List Sighting)
         → length members ≤ MEMBERS → AreSeen logs [] (watch_of members first.config) sightings
