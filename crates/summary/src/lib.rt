@@ -7,6 +7,8 @@ mod head;
 mod lacking;
 mod laws;
 mod noting;
+mod sighting;
+mod summary;
 mod watch;
 mod writers;
 
@@ -15,4 +17,5 @@ pub use answers::{
 };
 pub use lacking::{has_serial, lacks};
 pub use laws::{premises_guard_writers, summary_tells_the_book};
+pub use summary::Summary;
 pub use watch::Watch;
