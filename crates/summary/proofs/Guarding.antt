@@ -47,7 +47,7 @@ front-before xs more ys is =
     let f = sym (now-append 0 xs more) ∙ ap (now_over 0) is in
     omega (arith, e, f)
 
-guarded-at : (members : List WatchOf) (first : Settings) (book : List Event) (told : Premises) (two : FirstMoment) → IsToldOfPremises members first book told → IsToldFirst HasOneWriter book two
+pub guarded-at : (members : List WatchOf) (first : Settings) (book : List Event) (told : Premises) (two : FirstMoment) → IsToldOfPremises members first book told → IsToldFirst HasOneWriter book two
     → ((front rest : List Event) → front ++ rest ≡ book → ArePremisesMet members first front → HasOneWriter front) → IsGuarded told two
 guarded-at members first book premises.Met firsts.Never all one guards = refl
 guarded-at members first book premises.Met (firsts.At moment) all b guards = absurd (b.broken (guards b.front b.rest b.whole (all.each b.front b.rest b.whole)))

@@ -7,3 +7,5 @@ pub mod Modes
 pub mod Losing
 pub mod Standing
 pub mod Guarding
+pub mod Measuring
+pub mod Steps

@@ -98,7 +98,7 @@ stands-more members first logs book facts event seen stands right =
     }
 
 -- all of them
-stands-over : (members : List WatchOf) (first : Settings) (logs : Logs) (book : List Event) (facts : WatchFacts) (sightings : List Sighting) → WatchStandsFor members first logs book facts → AreSeen logs book facts sightings → WatchStandsFor members first logs (book ++ events_in sightings) (noted_over facts sightings)
+pub stands-over : (members : List WatchOf) (first : Settings) (logs : Logs) (book : List Event) (facts : WatchFacts) (sightings : List Sighting) → WatchStandsFor members first logs book facts → AreSeen logs book facts sightings → WatchStandsFor members first logs (book ++ events_in sightings) (noted_over facts sightings)
 stands-over members first logs book facts [] stands right = subst (λ (l : List Event). WatchStandsFor members first logs l facts) (sym (none-more book)) stands
 stands-over members first logs book facts (s ∷ ss) stands right =
     subst (λ (l : List Event). WatchStandsFor members first logs l (noted_over (noted facts s.event.kind s.seen) ss)) (assoc book (s.event ∷ []) (events_in ss))

@@ -5,3 +5,5 @@ pub mod Lacking
 pub mod Moments
 pub mod Seeing
 pub mod Claims
+pub mod Sights
+pub mod Telling
