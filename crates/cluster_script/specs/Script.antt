@@ -45,8 +45,8 @@ abbrev pub member_of_entry : Name × MemberOptions → MemberText
 member_of_entry entry = record { name = entry.0; options = entry.1 }
 
 -- the members of a table, in order
-abbrev pub members_of : List (Name × MemberOptions) → List MemberText
-members_of entries = map member_of_entry entries
+abbrev pub members_in : List (Name × MemberOptions) → List MemberText
+members_in entries = map member_of_entry entries
 
 -- a script: its head, and the lines of its body
 pub record ScriptText : Type 0 where

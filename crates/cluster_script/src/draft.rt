@@ -2,7 +2,7 @@
 ghost use Rattle.std.specs.Prelude.{ℕ, ◌≡◌, ◌<◌, ◌≤◌, ◌+◌, ◌++◌, ◌∷◌, ◌^◌, List, [], length, map, Option, None, Some, Ok, IfOk, OnOk, OnErr, IfErr, IfSome};
 ghost use Rattle.std.specs.Option.{option_copied};
 ghost use Rattle.indexmap.specs.IndexMap.{keys};
-ghost use Rattle.cluster_script.specs.Script.{ScriptText, IsScript, base_or_default, member_names, members_of};
+ghost use Rattle.cluster_script.specs.Script.{ScriptText, IsScript, base_or_default, member_names, members_in};
 ghost use Rattle.cluster_script.specs.Reading.{Gives, IsNew, addition_of, addition_in, base_after, members_after, body_after, after_counted, after_line, after_lines, at_line, finished};
 
 use crate::addition::Addition;
@@ -34,13 +34,13 @@ pub struct Draft {
 impl Model for Draft {
     ghost use Rattle.std.specs.Prelude.{Option};
     ghost use Rattle.cluster_script.specs.Draft.{DraftText, IsDraft, draft_of};
-    ghost use Rattle.cluster_script.specs.Script.{members_of};
+    ghost use Rattle.cluster_script.specs.Script.{members_in};
 
     ghost Value = { Option DraftText };
 
-    ghost view = { λ d. draft_of d.cluster d.base (members_of d.members.entries) d.body.items };
+    ghost view = { λ d. draft_of d.cluster d.base (members_in d.members.entries) d.body.items };
 
-    ghost invariant = { λ d. IsDraft d.cluster d.base (members_of d.members.entries) d.body.items };
+    ghost invariant = { λ d. IsDraft d.cluster d.base (members_in d.members.entries) d.body.items };
 }
 
 /// What a line of this first word adds, from the words behind it. The one place where first words are told apart, but for
@@ -54,7 +54,7 @@ fn addition_of(
 ) -> Result<Addition, Fault>
     requires { length (keys members.now) ≤ 16 }
     ensures value { result ≡ addition_of base (keys members.now) body.now keyword (option_copied rest.entry) }
-    ensures new { IfOk result (IsNew (members_of members.now.entries)) }
+    ensures new { IfOk result (IsNew (members_in members.now.entries)) }
 {
     match keyword {
         Keyword::Cluster => Err(second_cluster(rest)),
@@ -74,9 +74,9 @@ fn addition_in(
     body: &[Line],
     line: &[u8],
 ) -> Result<Addition, Fault>
-    requires { length (members_of members.now.entries) ≤ 16 }
-    ensures value { result ≡ addition_in base (member_names (members_of members.now.entries)) body.now line.now }
-    ensures new { IfOk result (IsNew (members_of members.now.entries)) }
+    requires { length (members_in members.now.entries) ≤ 16 }
+    ensures value { result ≡ addition_in base (member_names (members_in members.now.entries)) body.now line.now }
+    ensures new { IfOk result (IsNew (members_in members.now.entries)) }
 {
     let (word, rest) = cut_word(line);
     match keyword_of(word) {
@@ -91,12 +91,12 @@ fn apply(
     body: &mut Vec<Line>,
     added: Addition,
 ) -> Result<(), ScriptFault>
-    requires { IsNew (members_of members.old.entries) added }
+    requires { IsNew (members_in members.old.entries) added }
     ensures base { OnOk result (base.new ≡ base_after base.old added) }
-    ensures members { OnOk result (members_of members.new.entries ≡ members_after (members_of members.old.entries) added) }
+    ensures members { OnOk result (members_in members.new.entries ≡ members_after (members_in members.old.entries) added) }
     ensures body { OnOk result (body.new.items ≡ body_after body.old.items added) }
     ensures memory { IfErr result (λ e. e ≡ ScriptFault.Memory) }
-    ensures same { OnErr result ((base.new ≡ base.old) × (members_of members.new.entries ≡ members_of members.old.entries) × (body.new.items ≡ body.old.items)) }
+    ensures same { OnErr result ((base.new ≡ base.old) × (members_in members.new.entries ≡ members_in members.old.entries) × (body.new.items ≡ body.old.items)) }
 {
     match added {
         Addition::Member(name, options) => {

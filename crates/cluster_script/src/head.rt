@@ -30,23 +30,23 @@ pub struct Head {
 }
 
 impl Model for Head {
-    ghost use Rattle.cluster_script.specs.Script.{HeadText, IsHead, members_of};
+    ghost use Rattle.cluster_script.specs.Script.{HeadText, IsHead, members_in};
 
     ghost Value = { HeadText };
 
-    ghost view = { λ h. record { cluster = h.cluster; base = h.base; members = members_of h.members.entries } };
+    ghost view = { λ h. record { cluster = h.cluster; base = h.base; members = members_in h.members.entries } };
 
-    ghost invariant = { λ h. IsHead (record { cluster = h.cluster; base = h.base; members = members_of h.members.entries }) };
+    ghost invariant = { λ h. IsHead (record { cluster = h.cluster; base = h.base; members = members_in h.members.entries }) };
 }
 
 impl Head {
     ghost use Rattle.std.specs.Prelude.{ℕ, ◌≡◌, ◌≤◌, ◌<◌, ◌^◌, ◌↔◌, length, option_map, slice_get, IsNone};
-    ghost use Rattle.cluster_script.specs.Script.{HeadText, IsHead, members_of, names_of};
+    ghost use Rattle.cluster_script.specs.Script.{HeadText, IsHead, members_in, names_of};
 
     /// The head of this cluster with this base and these members.
     pub(crate) fn new(cluster: Name, base: u64, members: IndexMap<Name, MemberOptions>) -> Head
-        requires { IsHead (record { cluster = cluster; base = base; members = members_of members.entries }) }
-        ensures { result ≡ record { cluster = cluster; base = base; members = members_of members.entries } }
+        requires { IsHead (record { cluster = cluster; base = base; members = members_in members.entries }) }
+        ensures { result ≡ record { cluster = cluster; base = base; members = members_in members.entries } }
     {
         Head {
             cluster,

@@ -2,15 +2,15 @@ use Rattle.std.proofs.Common.{◌≡◌, ◌<◌, ◌∙◌, ap, subst, None, le
 use Rattle.pat_base.proofs.Names.{same_fields-Decides}
 use Rattle.cluster_script.specs.Members.{place_of}
 use Rattle.cluster_script.specs.Reading.{IsNew}
-use Rattle.cluster_script.specs.Script.{member_names, members_of}
+use Rattle.cluster_script.specs.Script.{member_names, members_in}
 use Rattle.cluster_script.specs.declared.addition.Addition.{Addition}
 use Rattle.cluster_script.proofs.MemberLaws.{members-insert_entry}
 use Rattle.cluster_script.proofs.draft.apply.Goals as goal
 
 pub returns-in_ok-insert-in-Member-clause-members : goal.returns-in_ok-insert-in-Member-clause-members
 returns-in_ok-insert-in-Member-clause-members c =
-    let is_new : (length (members_of c.args.members.now.entries) < 16) × (place_of (member_names (members_of c.args.members.now.entries)) c.in-Member.name ≡ None) =
-    subst (λ (a : Addition). IsNew (members_of c.args.members.now.entries) a) c.in-Member.is c.requires
+    let is_new : (length (members_in c.args.members.now.entries) < 16) × (place_of (member_names (members_in c.args.members.now.entries)) c.in-Member.name ≡ None) =
+    subst (λ (a : Addition). IsNew (members_in c.args.members.now.entries) a) c.in-Member.is c.requires
     in
-    rw c.in-Member.is (ap (λ es. members_of es) c.in_ok-insert-in-Member.ensures.entries
+    rw c.in-Member.is (ap (λ es. members_in es) c.in_ok-insert-in-Member.ensures.entries
     ∙ members-insert_entry _ c.in-Member.name c.in-Member.options (λ m. same_fields-Decides c.in-Member.name m) c.args.members.now.entries is_new.1)
