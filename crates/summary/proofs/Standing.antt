@@ -34,7 +34,7 @@ count-kind : (count : ℕ) (kind : EventKind) → count_after count kind ≡ cou
 count-kind count (kinds.Replication (replications.Acknowledged server commit)) = refl
 count-kind count _ = omega arith
 
-count-more : (count : ℕ) (book : List Event) (event : Event) → count ≡ length (acknowledged_in book) → count_after count event.kind ≡ length (acknowledged_in (book ++ event ∷ []))
+pub count-more : (count : ℕ) (book : List Event) (event : Event) → count ≡ length (acknowledged_in book) → count_after count event.kind ≡ length (acknowledged_in (book ++ event ∷ []))
 count-more count book event is =
     let e = count-kind count event.kind in
     let f = ap length (acknowledged-more book (event ∷ [])) in

@@ -18,6 +18,6 @@ pub use answers::{
 };
 pub use lacking::{has_serial, lacks};
 pub use laws::{premises_guard_writers, summary_tells_the_book};
-pub use sight_laws::{measured_sights_guard_writers, sights_are_right};
+pub use sight_laws::{measured_sights_suffice, sights_are_right};
 pub use summary::Summary;
 pub use watch::Watch;
