@@ -14,5 +14,5 @@ pub use answers::{
     Breach, Closing, FirstMoment, MEMBERS, Premises, SERVERS, Seen, Synchronous, WatchOf,
 };
 pub use lacking::{has_serial, lacks};
-pub use laws::{premises_guard_writers, summary_tells_the_book};
+pub use laws::{commits_are_looked_up, premises_guard_commits, premises_guard_writers, summary_tells_the_book};
 pub use watch::Watch;
