@@ -1,6 +1,7 @@
 //! The summary tells what the book says, in its own words.
-ghost use Rattle.std.specs.Prelude.{ℕ, ◌≡◌, ◌≤◌, ◌++◌, List, [], ◌∷◌, length};
+ghost use Rattle.std.specs.Prelude.{ℕ, ◌≡◌, ◌≤◌, ◌++◌, ◌↔◌, true, List, [], ◌∷◌, length, Contains};
 ghost use Rattle.lease_store.specs.Settings.{Settings};
+ghost use Rattle.wal_model.specs.declared.entry.Entry.{Entry};
 ghost use Rattle.event_book.specs.Logs.{Logs};
 ghost use Rattle.event_book.specs.Writers.{HasOneWriter};
 ghost use Rattle.event_book.specs.declared.event.Event.{Event};
@@ -8,10 +9,11 @@ ghost use Rattle.summary.specs.declared.answers.Closing.{Closing};
 ghost use Rattle.summary.specs.declared.answers.Seen.{Seen};
 ghost use Rattle.summary.specs.declared.answers.TheConstants.{MEMBERS};
 ghost use Rattle.summary.specs.declared.answers.WatchOf.{WatchOf};
-ghost use Rattle.summary.specs.Claims.{ArePremisesMet, IsGuarded, IsSummaryOf, WatchStandsFor};
+ghost use Rattle.summary.specs.Claims.{AreCommitsGuarded, ArePremisesMet, IsGuarded, IsSummaryOf, KeepMode, WatchStandsFor};
 ghost use Rattle.summary.specs.Heads.{watch_of};
+ghost use Rattle.summary.specs.Lacking.{HasEntryWith, has_serial, lacks_in};
 ghost use Rattle.summary.specs.Noting.{WatchFacts, noted};
-ghost use Rattle.summary.specs.Seeing.{AreSeen, IsSeen, Sighting, events_in, noted_over};
+ghost use Rattle.summary.specs.Seeing.{AreSeen, IsSeen, Sighting, WritersHold, events_in, noted_over};
 
 /// Each answer of the summary is so of the book whose events were noted, where what was seen beside each was right.
 pub fn summary_tells_the_book()
@@ -34,4 +36,19 @@ pub fn premises_guard_writers()
         → IsSummaryOf members first logs book closing
         → ((front rest : List Event) → front ++ rest ≡ book → ArePremisesMet members first front → HasOneWriter front)
         → IsGuarded closing.premises closing.two_writers }
+{}
+
+/// Where each front of a book that meets the premises, with synchronous mode on, holds its commits, its summary says so of a cluster that
+/// begins with the mode on: with both none was ever lost, and else none was before the first of them was broken.
+pub fn premises_guard_commits()
+    ensures { (members : List WatchOf) (first : Settings) (logs : Logs) (book : List Event) (closing : Closing)
+        → IsSummaryOf members first logs book closing → first.config.synchronous_mode ≡ true
+        → ((front rest : List Event) → front ++ rest ≡ book → ArePremisesMet members first front → KeepMode true front → WritersHold logs front)
+        → AreCommitsGuarded closing.premises closing.synchronous closing.lost }
+{}
+
+/// A commit is looked up by its serial: a log has it that has an entry of that serial, and lacks some that has no entry of one.
+pub fn commits_are_looked_up()
+    ensures has { (log : List Entry) (serial : ℕ) → has_serial log serial ≡ true ↔ HasEntryWith log serial }
+    ensures lacks { (log : List Entry) (serials : List ℕ) → lacks_in log serials ≡ true ↔ ((serial : ℕ) × Contains serials serial × (HasEntryWith log serial → ⊥)) }
 {}

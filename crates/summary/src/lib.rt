@@ -17,7 +17,7 @@ pub use answers::{
     Breach, Closing, FirstMoment, MEMBERS, Premises, SERVERS, Seen, Synchronous, WatchOf,
 };
 pub use lacking::{has_serial, lacks};
-pub use laws::{premises_guard_writers, summary_tells_the_book};
+pub use laws::{commits_are_looked_up, premises_guard_commits, premises_guard_writers, summary_tells_the_book};
 pub use sight_laws::{measured_sights_suffice, sights_are_right};
 pub use summary::Summary;
 pub use watch::Watch;
