@@ -7,3 +7,4 @@ pub mod Modes
 pub mod Losing
 pub mod Standing
 pub mod Guarding
+pub mod Keeping

@@ -5,3 +5,4 @@ pub mod Lacking
 pub mod Moments
 pub mod Seeing
 pub mod Claims
+pub mod Losses
