@@ -7,5 +7,6 @@ pub mod Modes
 pub mod Losing
 pub mod Standing
 pub mod Guarding
+pub mod Keeping
 pub mod Measuring
 pub mod Steps

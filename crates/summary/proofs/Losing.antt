@@ -18,7 +18,7 @@ use Rattle.summary.specs.Seeing.{entries_at, LacksOne, WriterLacks, WritersHold,
 use Rattle.summary.proofs.Fronts.{told-tested}
 
 -- a log that lacks none has each
-has-each : (log : List Entry) (serials : List ℕ) → lacks_in log serials ≡ false → All (λ serial. has_serial log serial ≡ true) serials
+pub has-each : (log : List Entry) (serials : List ℕ) → lacks_in log serials ≡ false → All (λ serial. has_serial log serial ≡ true) serials
 has-each log [] none = All-nil (λ serial. has_serial log serial ≡ true)
 has-each log (serial ∷ serials) none = go (has_serial log serial) refl none (has-each log serials)
   where
@@ -27,7 +27,7 @@ has-each log (serial ∷ serials) none = go (has_serial log serial) refl none (h
     go false is rest others = absurd (both (sym rest))
 
 -- a log that lacks one hasn't each
-lacks-some : (log : List Entry) (serials : List ℕ) → lacks_in log serials ≡ true → ((serial : ℕ) → Contains serials serial → has_serial log serial ≡ true) → ⊥
+pub lacks-some : (log : List Entry) (serials : List ℕ) → lacks_in log serials ≡ true → ((serial : ℕ) → Contains serials serial → has_serial log serial ≡ true) → ⊥
 lacks-some log [] some each = both some
 lacks-some log (serial ∷ serials) some each =
     lacks-some log serials (ap (λ b. not b || lacks_in log serials) (sym (each serial (Contains-append_left (serial ∷ []) serials serial (Contains-push [] serial)))) ∙ some)
@@ -38,11 +38,11 @@ lacks-or-has logs book server true is none commit there = absurd (none is)
 lacks-or-has logs book server false is none commit there =
     All-contains (λ s. has_serial (entries_at (logs_over logs book) server) s ≡ true) (acknowledged_in book) commit (has-each (entries_at (logs_over logs book) server) (acknowledged_in book) is) there
 
-hold-if-none : (logs : Logs) (book : List Event) → (WriterLacks logs book → ⊥) → WritersHold logs book
+pub hold-if-none : (logs : Logs) (book : List Event) → (WriterLacks logs book → ⊥) → WritersHold logs book
 hold-if-none logs book none server writes commit there =
     lacks-or-has logs book server (lacks_in (entries_at (logs_over logs book) server) (acknowledged_in book)) refl (λ lacks. none (server, writes, lacks)) commit there
 
-none-if-hold : (logs : Logs) (book : List Event) → WritersHold logs book → WriterLacks logs book → ⊥
+pub none-if-hold : (logs : Logs) (book : List Event) → WritersHold logs book → WriterLacks logs book → ⊥
 none-if-hold logs book hold lacks = lacks-some (entries_at (logs_over logs book) lacks.0) (acknowledged_in book) lacks.2 (hold lacks.0 lacks.1)
 
 pub lost-more : (logs : Logs) (book : List Event) (event : Event) (lost : FirstMoment) (seen : Seen) (now : Ticks) → IsSeen logs book lost event seen → now.0 ≡ now_over 0 (book ++ event ∷ []) → IsToldFirst (WritersHold logs) book lost → IsToldFirst (WritersHold logs) (book ++ event ∷ []) (first_if lost seen.lacking now)

@@ -26,7 +26,7 @@ use Rattle.summary.proofs.Modes.{mode-more, mode-first}
 use Rattle.summary.proofs.Writing.{writers-more, long-more, over-more, two-more}
 
 -- commits are counted
-acknowledged-more : (xs ys : List Event) → acknowledged_in (xs ++ ys) ≡ acknowledged_in xs ++ acknowledged_in ys
+pub acknowledged-more : (xs ys : List Event) → acknowledged_in (xs ++ ys) ≡ acknowledged_in xs ++ acknowledged_in ys
 acknowledged-more [] ys = refl
 acknowledged-more (x ∷ xs) ys = ap (λ l. acknowledged_of x.kind ++ l) (acknowledged-more xs ys) ∙ sym (append_assoc (acknowledged_of x.kind) (acknowledged_in xs) (acknowledged_in ys))
 

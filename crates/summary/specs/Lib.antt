@@ -5,5 +5,6 @@ pub mod Lacking
 pub mod Moments
 pub mod Seeing
 pub mod Claims
+pub mod Losses
 pub mod Sights
 pub mod Telling

@@ -1,10 +1,14 @@
 //! The summary tells what the book says, in its own words.
-ghost use Rattle.std.specs.Prelude.{ℕ, ◌≡◌, ◌≤◌, ◌++◌, ◌↔◌, true, List, [], ◌∷◌, length, Contains};
+ghost use Rattle.std.specs.Prelude.{ℕ, ◌≡◌, ◌≤◌, ◌++◌, ◌↔◌, true, false, List, [], ◌∷◌, length, Contains};
 ghost use Rattle.lease_store.specs.Settings.{Settings};
 ghost use Rattle.wal_model.specs.declared.entry.Entry.{Entry};
 ghost use Rattle.event_book.specs.Logs.{Logs};
 ghost use Rattle.event_book.specs.Writers.{HasOneWriter};
 ghost use Rattle.event_book.specs.declared.event.Event.{Event};
+ghost use Rattle.event_book.specs.declared.event.EventKind.TheVariants.{Server, Replication};
+ghost use Rattle.event_book.specs.declared.event.ReplicationEvent.TheVariants.{Acknowledged};
+ghost use Rattle.event_book.specs.declared.event.ServerEvent.TheVariants.{Began};
+ghost use Rattle.event_book.specs.declared.member.ServerOf.{ServerOf};
 ghost use Rattle.summary.specs.declared.answers.Closing.{Closing};
 ghost use Rattle.summary.specs.declared.answers.Seen.{Seen};
 ghost use Rattle.summary.specs.declared.answers.TheConstants.{MEMBERS};
@@ -13,7 +17,8 @@ ghost use Rattle.summary.specs.Claims.{AreCommitsGuarded, ArePremisesMet, IsGuar
 ghost use Rattle.summary.specs.Heads.{watch_of};
 ghost use Rattle.summary.specs.Lacking.{HasEntryWith, has_serial, lacks_in};
 ghost use Rattle.summary.specs.Noting.{WatchFacts, noted};
-ghost use Rattle.summary.specs.Seeing.{AreSeen, IsSeen, Sighting, WritersHold, events_in, noted_over};
+ghost use Rattle.summary.specs.Losses.{WriterLacksOf, may_lose};
+ghost use Rattle.summary.specs.Seeing.{AreSeen, IsSeen, LacksOne, Sighting, WriterLacks, WritersHold, events_in, noted_over};
 
 /// Each answer of the summary is so of the book whose events were noted, where what was seen beside each was right.
 pub fn summary_tells_the_book()
@@ -51,4 +56,14 @@ pub fn premises_guard_commits()
 pub fn commits_are_looked_up()
     ensures has { (log : List Entry) (serial : ℕ) → has_serial log serial ≡ true ↔ HasEntryWith log serial }
     ensures lacks { (log : List Entry) (serials : List ℕ) → lacks_in log serials ≡ true ↔ ((serial : ℕ) × Contains serials serial × (HasEntryWith log serial → ⊥)) }
+{}
+
+/// Which events may lose a commit where none was lost before, for who keeps track of it: where a server begins, its own log decides;
+/// where a commit is acknowledged, the logs of those that accept writes do; where a log only grows, and in all else, none is lost.
+pub fn few_events_lose()
+    ensures others { (logs : Logs) (book : List Event) (event : Event) → may_lose event.kind ≡ false → WritersHold logs book → WriterLacks logs (book ++ event ∷ []) → ⊥ }
+    ensures began { (logs : Logs) (book : List Event) (event : Event) (server : ServerOf) (timeline : ℕ) → event.kind ≡ Server (Began server timeline)
+        → WritersHold logs book → WriterLacks logs (book ++ event ∷ []) ↔ LacksOne logs book server.id.number }
+    ensures acknowledged { (logs : Logs) (book : List Event) (event : Event) (server : ServerOf) (commit : ℕ) → event.kind ≡ Replication (Acknowledged server commit)
+        → WritersHold logs book → WriterLacks logs (book ++ event ∷ []) ↔ WriterLacksOf logs book commit }
 {}
