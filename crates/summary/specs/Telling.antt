@@ -66,7 +66,7 @@ EachTellsLosses logs book [] = Unit {0}
 EachTellsLosses logs book (step ∷ steps) = TellLosses logs book step × EachTellsLosses logs (book ++ step) steps
 
 -- each answer but that of lost commits is so of this book, over the declared members and the first configuration
-pub record IsSummaryButLosses (members : List WatchOf) (first : Settings) (book : List Event) (closing : Closing) : Type 0 where
+pub record IsSummaryButForLosses (members : List WatchOf) (first : Settings) (book : List Event) (closing : Closing) : Type 0 where
   pub end : closing.end.0 ≡ now_over 0 book
   pub premises : IsToldOfPremises members first book closing.premises
   pub synchronous : IsToldOfMode first book closing.synchronous
@@ -75,7 +75,7 @@ pub record IsSummaryButLosses (members : List WatchOf) (first : Settings) (book 
   pub acknowledged : closing.acknowledged ≡ length (acknowledged_in book)
 
 -- the summary keeps what this book makes of it, but for lost commits
-pub record WatchesButLosses (members : List WatchOf) (first : Settings) (book : List Event) (facts : WatchFacts) : Type 0 where
+pub record WatchStandsButForLosses (members : List WatchOf) (first : Settings) (book : List Event) (facts : WatchFacts) : Type 0 where
   pub margins : (m : ℕ) → margin_ticks (margin_at facts.margins m) ≡ margin_of members m
   pub places : length facts.closing.writers ≡ SERVERS
-  pub closing : IsSummaryButLosses members first book facts.closing
+  pub closing : IsSummaryButForLosses members first book facts.closing
