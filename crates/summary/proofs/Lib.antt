@@ -8,3 +8,4 @@ pub mod Losing
 pub mod Standing
 pub mod Guarding
 pub mod Keeping
+pub mod Spans

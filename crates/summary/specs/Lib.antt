@@ -6,3 +6,4 @@ pub mod Moments
 pub mod Seeing
 pub mod Claims
 pub mod Losses
+pub mod Lateness
