@@ -5,10 +5,12 @@ ghost use Rattle.wal_model.specs.declared.entry.Entry.{Entry};
 ghost use Rattle.event_book.specs.Logs.{Logs};
 ghost use Rattle.event_book.specs.Writers.{HasOneWriter};
 ghost use Rattle.event_book.specs.declared.event.Event.{Event};
+ghost use Rattle.event_book.specs.declared.event.EventKind.{EventKind};
 ghost use Rattle.event_book.specs.declared.event.EventKind.TheVariants.{Server, Replication};
 ghost use Rattle.event_book.specs.declared.event.ReplicationEvent.TheVariants.{Acknowledged};
 ghost use Rattle.event_book.specs.declared.event.ServerEvent.TheVariants.{Began};
 ghost use Rattle.event_book.specs.declared.member.ServerOf.{ServerOf};
+ghost use Rattle.lease_law.specs.Premises.{Moments};
 ghost use Rattle.summary.specs.declared.answers.Closing.{Closing};
 ghost use Rattle.summary.specs.declared.answers.Seen.{Seen};
 ghost use Rattle.summary.specs.declared.answers.TheConstants.{MEMBERS};
@@ -17,8 +19,9 @@ ghost use Rattle.summary.specs.Claims.{AreCommitsGuarded, ArePremisesMet, IsGuar
 ghost use Rattle.summary.specs.Heads.{watch_of};
 ghost use Rattle.summary.specs.Lacking.{HasEntryWith, has_serial, lacks_in};
 ghost use Rattle.summary.specs.Noting.{WatchFacts, noted};
+ghost use Rattle.summary.specs.Lateness.{lateness_of};
 ghost use Rattle.summary.specs.Losses.{WriterLacksOf, may_lose};
-ghost use Rattle.summary.specs.Seeing.{AreSeen, IsSeen, LacksOne, Sighting, WriterLacks, WritersHold, events_in, noted_over};
+ghost use Rattle.summary.specs.Seeing.{AreSeen, IsLateness, IsSeen, LacksOne, Sighting, WriterLacks, WritersHold, events_in, noted_over};
 
 /// Each answer of the summary is so of the book whose events were noted, where what was seen beside each was right.
 pub fn summary_tells_the_book()
@@ -66,4 +69,9 @@ pub fn few_events_lose()
         → WritersHold logs book → WriterLacks logs (book ++ event ∷ []) ↔ LacksOne logs book server.id.number }
     ensures acknowledged { (logs : Logs) (book : List Event) (event : Event) (server : ServerOf) (commit : ℕ) → event.kind ≡ Replication (Acknowledged server commit)
         → WritersHold logs book → WriterLacks logs (book ++ event ∷ []) ↔ WriterLacksOf logs book commit }
+{}
+
+/// There is one right lateness of each event, which the moments before it give.
+pub fn lateness_is_determined()
+    ensures { (moments : Moments) (kind : EventKind) (lateness : ℕ) → IsLateness moments kind lateness ↔ lateness ≡ lateness_of moments kind }
 {}
