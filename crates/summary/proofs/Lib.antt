@@ -7,3 +7,7 @@ pub mod Modes
 pub mod Losing
 pub mod Standing
 pub mod Guarding
+pub mod Keeping
+pub mod Spans
+pub mod Measuring
+pub mod Steps

@@ -5,3 +5,7 @@ pub mod Lacking
 pub mod Moments
 pub mod Seeing
 pub mod Claims
+pub mod Losses
+pub mod Lateness
+pub mod Sights
+pub mod Telling
