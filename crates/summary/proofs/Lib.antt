@@ -9,3 +9,4 @@ pub mod Standing
 pub mod Guarding
 pub mod Keeping
 pub mod Spans
+pub mod Listing

@@ -7,3 +7,4 @@ pub mod Seeing
 pub mod Claims
 pub mod Losses
 pub mod Lateness
+pub mod Listed
