@@ -11,3 +11,4 @@ pub mod Keeping
 pub mod Spans
 pub mod Measuring
 pub mod Steps
+pub mod Listing

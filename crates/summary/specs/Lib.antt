@@ -9,3 +9,4 @@ pub mod Losses
 pub mod Lateness
 pub mod Sights
 pub mod Telling
+pub mod Listed

@@ -1,5 +1,6 @@
 //! The summary tells what the book says, in its own words.
-ghost use Rattle.std.specs.Prelude.{ℕ, ◌≡◌, ◌≤◌, ◌++◌, ◌↔◌, true, false, List, [], ◌∷◌, length, Contains};
+ghost use Rattle.std.specs.Prelude.{ℕ, ◌≡◌, ◌≤◌, ◌++◌, ◌↔◌, true, false, List, [], ◌∷◌, length, replicate, Contains, Option, None};
+ghost use Rattle.pat_base.specs.declared.name.Name.{Name};
 ghost use Rattle.lease_store.specs.Settings.{Settings};
 ghost use Rattle.wal_model.specs.declared.entry.Entry.{Entry};
 ghost use Rattle.event_book.specs.Logs.{Logs};
@@ -13,13 +14,14 @@ ghost use Rattle.event_book.specs.declared.member.ServerOf.{ServerOf};
 ghost use Rattle.lease_law.specs.Premises.{Moments};
 ghost use Rattle.summary.specs.declared.answers.Closing.{Closing};
 ghost use Rattle.summary.specs.declared.answers.Seen.{Seen};
-ghost use Rattle.summary.specs.declared.answers.TheConstants.{MEMBERS};
+ghost use Rattle.summary.specs.declared.answers.TheConstants.{MEMBERS, SERVERS};
 ghost use Rattle.summary.specs.declared.answers.WatchOf.{WatchOf};
 ghost use Rattle.summary.specs.Claims.{AreCommitsGuarded, ArePremisesMet, IsGuarded, IsSummaryOf, KeepMode, WatchStandsFor};
 ghost use Rattle.summary.specs.Heads.{watch_of};
 ghost use Rattle.summary.specs.Lacking.{HasEntryWith, has_serial, lacks_in};
-ghost use Rattle.summary.specs.Noting.{WatchFacts, noted};
+ghost use Rattle.summary.specs.Noting.{WatchFacts, noted, writers_after};
 ghost use Rattle.summary.specs.Lateness.{lateness_of};
+ghost use Rattle.summary.specs.Listed.{AreListed, AreNamed, NamesServer};
 ghost use Rattle.summary.specs.Losses.{WriterLacksOf, may_lose};
 ghost use Rattle.summary.specs.Seeing.{AreSeen, IsLateness, IsSeen, LacksOne, Sighting, WriterLacks, WritersHold, events_in, noted_over};
 
@@ -74,4 +76,12 @@ pub fn few_events_lose()
 /// There is one right lateness of each event, which the moments before it give.
 pub fn lateness_is_determined()
     ensures { (moments : Moments) (kind : EventKind) (lateness : ℕ) → IsLateness moments kind lateness ↔ lateness ≡ lateness_of moments kind }
+{}
+
+/// The names of the writers are listed in byte order; and each is the server's own, where the events in which servers begin have their
+/// names.
+pub fn writers_are_listed()
+    ensures listed { (writers : List (Option Name)) → AreListed writers }
+    ensures first { (names : ℕ → Name) → AreNamed names (replicate SERVERS None) }
+    ensures each { (names : ℕ → Name) (writers : List (Option Name)) (kind : EventKind) → NamesServer names kind → AreNamed names writers → AreNamed names (writers_after writers kind) }
 {}

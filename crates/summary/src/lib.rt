@@ -19,7 +19,7 @@ pub use answers::{
 pub use lacking::{has_serial, lacks, may_lose};
 pub use laws::{
     commits_are_looked_up, few_events_lose, lateness_is_determined, premises_guard_commits,
-    premises_guard_writers, summary_tells_the_book,
+    premises_guard_writers, summary_tells_the_book, writers_are_listed,
 };
 pub use sight_laws::{measured_sights_suffice, sights_are_right};
 pub use summary::Summary;
