@@ -78,7 +78,7 @@ ended-waits : (why : Why) (held : ℕ) (o : Outcome) → (has_ended why held o).
 ended-waits HandOver held o = refl
 ended-waits Lost held o = refl
 
-before-waits : (now : Ticks) (o : Outcome) → (before now o).knows.waited ≡ o.knows.waited
+pub before-waits : (now : Ticks) (o : Outcome) → (before now o).knows.waited ≡ o.knows.waited
 before-waits now o = before-by (λ (x : Outcome). x.knows.waited ≡ o.knows.waited) now o (record {
   kept = λ _. refl;
   leader = λ _ _ _. refl;
