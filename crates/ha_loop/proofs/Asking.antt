@@ -1,14 +1,12 @@
 -- What an input asks is what its agent waits for after it.
-use Rattle.std.proofs.Common.{◌≡◌, ◌⊎◌, ℕ, ◌+◌, ◌≤◌, ◌<◌, ◌==◌, ◌*◌, Bool, true, false, if◌then◌else◌, List, [], ◌∷◌, Option, Some, None, All, Contains, refl, sym, subst, ap, ◌∙◌, arith, inl, inr}
+use Rattle.std.proofs.Common.{◌≡◌, ◌⊎◌, ℕ, ◌+◌, ◌≤◌, ◌<◌, true, false, List, [], Some, None, All, Contains, refl, sym, subst, ap, ◌∙◌, arith, inl, inr}
 use Rattle.std.proofs.lemmas.List.Elements.{All-push, All-weaker, All-nil}
 use Rattle.pat_base.specs.declared.member_id.MemberId.{MemberId}
 use Rattle.pat_base.specs.declared.ticks.Ticks.{Ticks}
 use Rattle.lease_store.specs.declared.granted.Granted.{Granted}
 use Rattle.lease_store.specs.declared.txn.Txn.{Txn}
-use Rattle.lease_store.specs.declared.txn.Txn.TheVariants as txns
 use Rattle.wal_model.specs.declared.entry.HistoryPoint.{HistoryPoint}
 use Rattle.cluster_config.specs.Snapshots.{SnapshotFacts}
-use Rattle.event_book.specs.declared.message.Body.{Body}
 use Rattle.event_book.specs.declared.message.Body.TheVariants as bodies
 use Rattle.event_book.specs.declared.reason.Reason.TheVariants.{StartTooLong, WatchdogNotArmed}
 use Rattle.lease_law.specs.Past.{query_of, lease_span as span_asked}
@@ -16,7 +14,6 @@ use Rattle.lease_law.proofs.Tools.{some-is, none-some}
 use Rattle.ha_loop.specs.declared.heard.Heard.{Heard}
 use Rattle.ha_loop.specs.declared.heard.Heard.TheVariants.{Wake, Got, Granted as HeardGranted, Mismatch}
 use Rattle.ha_loop.specs.declared.knowledge.Knowledge.{Knowledge}
-use Rattle.ha_loop.specs.declared.knowledge.Question.{Question}
 use Rattle.ha_loop.specs.declared.knowledge.Waited.{Waited}
 use Rattle.ha_loop.specs.declared.machine.Machine.{Machine}
 use Rattle.ha_loop.specs.declared.output.Output.{Output}
@@ -36,7 +33,7 @@ use Rattle.ha_loop.proofs.Granting.{Told}
 use Rattle.ha_loop.proofs.Knowing.{IsAlone, alone-of, before-onward}
 use Rattle.ha_loop.proofs.LawfulSteps.{before-waits}
 use Rattle.ha_loop.proofs.Living.{no-way}
-use Rattle.ha_loop.proofs.Rows.{if-cases, before-by, overdue-by, turn-by, wake-by, got-by, refused-by, follow-by, free-by, granted-by}
+use Rattle.ha_loop.proofs.Rows.{if-cases, overdue-by, turn-by, wake-by, got-by, refused-by, follow-by, free-by, granted-by}
 use Rattle.ha_loop.proofs.Sending.{IsSilent, MayPut, AllMay, Fronts, before-fronts, got-none, before-may, wake-may, got-may, refused-may, granted-may}
 use Rattle.ha_loop.proofs.Sending.Fronts.{Silent, Released}
 use Rattle.ha_loop.proofs.Fitting.{before-fits}
@@ -70,7 +67,7 @@ asked-now : (now : Ticks) (o after : Outcome) (outs : List Output) (asked : Wait
     → span_asked (query_of txn) ≡ asked.ttl.0 → o.knows.sequence < asked.sequence → Holds now o after
 asked-now now o after outs asked txn silent is waits sent span later waited waits-now asks = let same : asked ≡ waited = some-is asked waited (sym waits ∙ waits-now) in
     let all : All (SpansAs asked.sequence asked.ttl.0) after.outputs = subst (λ (l : List Output). All (SpansAs asked.sequence asked.ttl.0) l) (sym is)
-        (All-push (SpansAs asked.sequence asked.ttl.0) outs (outputs.Send targets.Store asked.sequence (bodies.Request txn)) (All-weaker IsSilent (SpansAs asked.sequence asked.ttl.0) (silent-spans asked.sequence asked.ttl.0) outs silent) (λ _. span)) in
+    (All-push (SpansAs asked.sequence asked.ttl.0) outs (outputs.Send targets.Store asked.sequence (bodies.Request txn)) (All-weaker IsSilent (SpansAs asked.sequence asked.ttl.0) (silent-spans asked.sequence asked.ttl.0) outs silent) (λ _. span)) in
     inr (subst (λ (w : Waited). IsAskedNow now o after w) same (record {
       later = later;
       sent = sent;
