@@ -1,5 +1,5 @@
 -- What cuts and joins say of links.
-use Rattle.std.proofs.Common.{ℕ, ◌≡◌, ◌≢◌, ◌+◌, ◌*◌, ◌<◌, ◌==◌, ◌&&◌, ◌||◌, not, min, max, Bool, true, false, List, [], ◌∷◌, zero, suc, length, get_or, set, refl, ◌∙◌, ap, arith}
+use Rattle.std.proofs.Common.{ℕ, ◌≡◌, ◌≢◌, ◌+◌, ◌*◌, ◌<◌, ◌==◌, ◌&&◌, ◌||◌, not, min, max, Bool, true, false, [], ◌∷◌, zero, suc, length, get_or, set, refl, ◌∙◌, ap, arith}
 use Rattle.std.proofs.lemmas.Bool.Decides.{nat_tests}
 use Rattle.std.proofs.lemmas.Grind.{get_or-set_at}
 use Rattle.std.proofs.lemmas.List.{get_or-replicate, get_or-set_other, length-set, length-replicate}
@@ -9,7 +9,7 @@ use Rattle.event_book.specs.declared.event.LinkEvent.TheVariants as links
 use Rattle.event_book.specs.declared.link.Link.{Link}
 use Rattle.event_book.specs.declared.link.LinkEnd.{LinkEnd}
 use Rattle.event_book.specs.declared.link.LinkEnd.TheVariants as link_ends
-use Rattle.event_book.specs.Links.{CutLinks, cuts_after, end_count, end_number, is_cut, is_same_link, link_place, none_cut, place_count}
+use Rattle.event_book.specs.Links.{CutLinks, cuts_after, end_number, is_cut, is_same_link, link_place, none_cut, place_count}
 
 end-within : (end : LinkEnd) → end_number end < 17
 end-within link_ends.Store = omega arith

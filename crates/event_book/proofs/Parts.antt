@@ -1,11 +1,11 @@
 -- Parts of servers that events of some concerns leave as they were.
-use Rattle.std.proofs.Common.{ℕ, ◌≡◌, ◌==◌, nat_le, true, false, List, map, slice_get, Option, Some, None, refl}
+use Rattle.std.proofs.Common.{ℕ, ◌≡◌, ◌==◌, ◌&&◌, not, nat_le, Bool, cond, true, false, List, map, slice_get, Option, Some, None, refl}
 use Rattle.pat_base.specs.declared.server_state.State.{State}
 use Rattle.pat_base.specs.declared.server_state.State.TheVariants as states
 use Rattle.pat_base.specs.declared.ticks.Ticks.{Ticks}
 use Rattle.pat_base.specs.ServerState.{live}
 use Rattle.pg_model.specs.Facts.{ServerFacts, is_down}
-use Rattle.pg_model.specs.Running.{completed, crashed, delayed, moment_after, replica_started, started, stopped}
+use Rattle.pg_model.specs.Running.{completed, crashed, delayed, is_primary, moment_after, replica_started, started, stopped, stopping}
 use Rattle.pg_model.specs.Replication.{following}
 use Rattle.pg_model.specs.Servers.{ticked_unless_live}
 use Rattle.event_book.specs.declared.event.LogEvent.{LogEvent}
@@ -16,7 +16,7 @@ use Rattle.event_book.specs.declared.event.ServerEvent.{ServerEvent}
 use Rattle.event_book.specs.declared.event.ServerEvent.TheVariants as servers
 use Rattle.event_book.specs.declared.event.WatchdogEvent.{WatchdogEvent}
 use Rattle.event_book.specs.declared.event.WatchdogEvent.TheVariants as watchdogs
-use Rattle.event_book.specs.Servers.{starts_as_replica, servers_by, received_by, copied_by, servers_by_log, servers_by_replication, servers_by_watchdog}
+use Rattle.event_book.specs.Servers.{stops_quietly, stops, starts_as_replica, servers_by, received_by, copied_by, servers_by_log, servers_by_replication, servers_by_watchdog}
 use Rattle.event_book.specs.Writers.{BeginsServer}
 use Rattle.event_book.proofs.Changed.{kept-one, kept-each, same-if}
 
@@ -24,15 +24,30 @@ use Rattle.event_book.proofs.Changed.{kept-one, kept-each, same-if}
 -- follows another one
 module _ {B : Type 0} (f : ServerFacts → B)
     (reads : (s t : ServerFacts) → s.log ≡ t.log → s.required ≡ t.required → s.confirmed ≡ t.confirmed → f s ≡ f t) where
-  completed-kept : (now : Ticks) (state : State) (s : ServerFacts) → f (completed now state s) ≡ f s
-  completed-kept now (states.Starting true at) s = same-if f (nat_le at.0 now.0) (started true s) s (f s) (reads _ _ refl refl refl) refl
+  completed-kept : (now : Ticks) (state : State) (s : ServerFacts) → f (cond (live state) s (completed now state s)) ≡ f s
+  completed-kept now (states.Starting true at) s = refl
   completed-kept now (states.Starting false at) s = same-if f (nat_le at.0 now.0) (started false s) s (f s) (reads _ _ refl refl refl) refl
-  completed-kept now (states.Stopping primary at) s = same-if f (nat_le at.0 now.0) (stopped s) s (f s) (reads _ _ refl refl refl) refl
+  completed-kept now (states.Stopping true at) s = refl
+  completed-kept now (states.Stopping false at) s = same-if f (nat_le at.0 now.0) (stopped s) s (f s) (reads _ _ refl refl refl) refl
   completed-kept now _ s = refl
 
   pub ticked-kept : (now : Ticks) (known : List ServerFacts) → map f (map (ticked_unless_live now) known) ≡ map f known
-  ticked-kept now known =
-      kept-each f (ticked_unless_live now) (λ s. same-if f (live s.state) s (completed now s.state s) (f s) refl (completed-kept now s.state s)) known
+  ticked-kept now known = kept-each f (ticked_unless_live now) (λ s. completed-kept now s.state s) known
+
+  stops-kept : (now : ℕ) (s : ServerFacts) → f (stops now s) ≡ f s
+  stops-kept now s =
+      let at : Ticks = record { 0 = now } in
+      let waits : ServerFacts = record s { state = states.Stopping (is_primary s.state) (moment_after at s.stop_delay) } in
+      same-if f (stops_quietly s) (stopping at s) s (f s)
+      (same-if f (s.stop_delay.0 == 0) (stopped s) waits (f s) (reads (stopped s) s refl refl refl) (reads waits s refl refl refl))
+      refl
+
+  -- where a start takes time nobody accepts writes yet
+  primary-kept : (now : ℕ) (s : ServerFacts) (down at_once : Bool)
+      → f (cond (down && not at_once) (cond at_once (started true s) (record s { state = states.Starting true (moment_after (record { 0 = now }) s.start_delay) })) s) ≡ f s
+  primary-kept now s true true = refl
+  primary-kept now s true false = reads (record s { state = states.Starting true (moment_after (record { 0 = now }) s.start_delay) }) s refl refl refl
+  primary-kept now s false at_once = refl
 
   replica-kept : (now : ℕ) (s : ServerFacts) → f (starts_as_replica now s) ≡ f s
   replica-kept now s =
@@ -48,6 +63,8 @@ module _ {B : Type 0} (f : ServerFacts → B)
   others-kept now known (servers.Began server timeline) none = absurd none
   others-kept now known (servers.Ended server) none = kept-one f known _ _ (λ s. reads (stopped s) s refl refl refl)
   others-kept now known (servers.Crashed server) none = kept-one f known _ _ (λ s. reads (crashed s) s refl refl refl)
+  others-kept now known (servers.Stops server) none = kept-one f known _ _ (stops-kept now)
+  others-kept now known (servers.StartsAsPrimary server) none = kept-one f known _ _ (λ s. primary-kept now s (is_down s.state) (s.start_delay.0 == 0))
   others-kept now known (servers.StartsAsReplica server) none = kept-one f known _ _ (replica-kept now)
   others-kept now known (servers.Follows server upstream) none = kept-one f known _ _ (λ s. reads (following upstream.id s) s refl refl refl)
   others-kept now known (servers.Diverged server upstream at) none = kept-one f known _ _ (λ s. reads (record s { diverged = true }) s refl refl refl)

@@ -1,5 +1,5 @@
 -- What a book leaves of the servers, by what the book alone says. Of each part, a lemma '-of' says it of one event, and '-told' of a book.
-use Rattle.std.proofs.Common.{ℕ, ◌≡◌, ◌≢◌, ◌<◌, ◌==◌, ◌++◌, nat_le, Bool, true, false, cond, List, [], ◌∷◌, length, get_or, map, slice_get, Option, Some, None, option_map, refl, ◌∙◌, ap, sym, subst, append_assoc, append-nil, arith}
+use Rattle.std.proofs.Common.{ℕ, ◌≡◌, ◌≢◌, ◌<◌, ◌==◌, ◌&&◌, ◌||◌, not, ◌++◌, nat_le, Bool, true, false, cond, List, [], ◌∷◌, length, get_or, map, slice_get, Option, Some, None, option_map, refl, ◌∙◌, ap, sym, subst, append_assoc, append-nil, arith}
 use Rattle.std.proofs.lemmas.Option.{none-some, slice_get-get_or, slice_get-map, unwrap_or-slice_get}
 use Rattle.std.proofs.lemmas.Bool.Decides.{nat_tests}
 use Rattle.std.proofs.lemmas.Grind.{get_or-set_at}
@@ -11,8 +11,8 @@ use Rattle.pat_base.specs.declared.server_state.State.TheVariants as states
 use Rattle.pat_base.specs.declared.ticks.Ticks.{Ticks}
 use Rattle.pat_base.specs.Changes.{changed_at, changed_by}
 use Rattle.pat_base.specs.ServerState.{writes, live}
-use Rattle.pg_model.specs.Facts.{ServerFacts, is_down, none_confirmed}
-use Rattle.pg_model.specs.Running.{completed, crashed_state, moment_after, replica_started, started, stopped}
+use Rattle.pg_model.specs.Facts.{ServerFacts, is_down, is_up, none_confirmed}
+use Rattle.pg_model.specs.Running.{completed, crashed_state, is_primary, moment_after, replica_started, started, stopped}
 use Rattle.pg_model.specs.Servers.{ticked_unless_live}
 use Rattle.event_book.specs.declared.event.Event.{Event}
 use Rattle.event_book.specs.declared.event.EventKind.{EventKind}
@@ -247,6 +247,26 @@ writes-down now states.Stopped s is = writes-starts (record { 0 = now }) s ∙ s
 writes-down now states.Crashed s is = writes-starts (record { 0 = now }) s ∙ sym (ap writes is)
 writes-down now _ s is = refl
 
+-- a shutdown that ends no writing at once
+writes-stops : (now : Ticks) (state : State) (s : ServerFacts) (at_once : Bool) → s.state ≡ state
+    → writes (cond (is_up state && (not (is_primary state) || not at_once)) (cond at_once (stopped s) (record s { state = states.Stopping (is_primary s.state) (moment_after now s.stop_delay) })) s).state ≡ writes s.state
+writes-stops now states.Primary s true is = refl
+writes-stops now states.Primary s false is = ap is_primary is ∙ sym (ap writes is)
+writes-stops now (states.Starting as_primary at) s true is = sym (ap writes is)
+writes-stops now (states.Starting as_primary at) s false is = ap is_primary is ∙ sym (ap writes is)
+writes-stops now states.Replica s true is = sym (ap writes is)
+writes-stops now states.Replica s false is = ap is_primary is ∙ sym (ap writes is)
+writes-stops now _ s at_once is = refl
+
+-- a start as a primary that takes time
+writes-slow : (now : Ticks) (state : State) (s : ServerFacts) (at_once : Bool) → s.state ≡ state
+    → writes (cond (is_down state && not at_once) (cond at_once (started true s) (record s { state = states.Starting true (moment_after now s.start_delay) })) s).state ≡ writes s.state
+writes-slow now states.Stopped s true is = refl
+writes-slow now states.Stopped s false is = sym (ap writes is)
+writes-slow now states.Crashed s true is = refl
+writes-slow now states.Crashed s false is = sym (ap writes is)
+writes-slow now _ s at_once is = refl
+
 writes-begun : (state : State) (s : ServerFacts) → writes (begun_in state s).state ≡ true
 writes-begun states.Replica s = refl
 writes-begun _ s = refl
@@ -260,6 +280,8 @@ writes-by-server : (now : ℕ) (known : List ServerFacts) (happening : ServerEve
 writes-by-server now known (servers.Began server timeline) n small = writes-put known _ n _ true small (λ s. writes-begun s.state s)
 writes-by-server now known (servers.Ended server) n small = writes-put known _ n _ false small (λ s. refl)
 writes-by-server now known (servers.Crashed server) n small = writes-put known _ n _ false small (λ s. writes-crashed s.state)
+writes-by-server now known (servers.Stops server) n small = writes-one known _ n _ (λ s. writes-stops (record { 0 = now }) s.state s (s.stop_delay.0 == 0) refl)
+writes-by-server now known (servers.StartsAsPrimary server) n small = writes-one known _ n _ (λ s. writes-slow (record { 0 = now }) s.state s (s.start_delay.0 == 0) refl)
 writes-by-server now known (servers.StartsAsReplica server) n small = writes-one known _ n _ (λ s. writes-down now s.state s refl)
 writes-by-server now known (servers.Follows server upstream) n small = writes-one known _ n _ (λ s. refl)
 writes-by-server now known (servers.Diverged server upstream at) n small = writes-one known _ n _ (λ s. refl)

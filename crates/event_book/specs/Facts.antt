@@ -1,6 +1,7 @@
 -- What a book of events leaves.
-use Rattle.std.specs.Prelude.{ℕ, Bool, false, List, [], ◌∷◌, length, replicate}
+use Rattle.std.specs.Prelude.{ℕ, Bool, false, List, [], ◌∷◌, Option, None, length, replicate}
 use Rattle.pat_base.specs.declared.name.Name.{Name}
+use Rattle.pat_base.specs.declared.ticks.Ticks.{Ticks}
 use Rattle.lease_store.specs.Defaults.{default_settings}
 use Rattle.lease_store.specs.Keys.{Keys, first_keys}
 use Rattle.pg_model.specs.Facts.{ServerFacts, fresh}
@@ -17,10 +18,12 @@ use Rattle.event_book.specs.Keys.{keys_after}
 use Rattle.event_book.specs.Links.{CutLinks, cuts_after, none_cut}
 use Rattle.event_book.specs.Members.{members_from}
 use Rattle.event_book.specs.Servers.{servers_after}
+use Rattle.event_book.specs.Watchdogs.{deadlines_after, holds_after}
 
 -- what a book determines over the declared members: the clock, the keys, which agents run, which links are cut, the messages
--- in flight, the number of the message that was sent last, the servers and which of them are frozen, the number of the last
--- commit, and the commits that were acknowledged
+-- in flight, the number of the message that was sent last, the servers and which of them are frozen, when each armed watchdog
+-- resets its machine, until when each member promised not to take the leader key, the number of the last commit, and the
+-- commits that were acknowledged
 pub record Facts : Type 0 where
   pub clock : ℕ
   pub keys : Keys
@@ -31,6 +34,8 @@ pub record Facts : Type 0 where
   pub sent : ℕ
   pub servers : List ServerFacts
   pub frozen : List Bool
+  pub deadlines : List (Option Ticks)
+  pub holds : List (Option Ticks)
   pub commits : ℕ
   pub acknowledged : List ℕ
 
@@ -46,6 +51,8 @@ facts_after facts kind = record {
   sent = sent_after facts.sent kind;
   servers = servers_after (now_after facts.clock kind) facts.servers kind;
   frozen = frozen_after facts.frozen kind;
+  deadlines = deadlines_after facts.deadlines kind;
+  holds = holds_after facts.holds kind;
   commits = commits_after facts.commits kind;
   acknowledged = acknowledged_after facts.acknowledged kind;
 }
@@ -67,6 +74,8 @@ start_of names base = record {
   sent = 0;
   servers = replicate (length names) (fresh base);
   frozen = replicate (length names) false;
+  deadlines = replicate (length names) None;
+  holds = replicate (length names) None;
   commits = 0;
   acknowledged = [];
 }

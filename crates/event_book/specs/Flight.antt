@@ -3,6 +3,7 @@ use Rattle.std.specs.Prelude.{ℕ, Bool, List, [], Option, Some, None}
 use Rattle.std.specs.Ordering.{nat_cmp}
 use Rattle.std.specs.BTreeMap.{insert_entry, is_at}
 use Rattle.std.specs.Map.{remove_entry, lookup}
+use Rattle.pat_base.specs.declared.ticks.Ticks.{Ticks}
 use Rattle.lease_store.specs.Answers.{present_pairs}
 use Rattle.lease_store.specs.declared.granted.Granted.{Granted}
 use Rattle.lease_store.specs.declared.key.Key.{Key}
@@ -18,9 +19,11 @@ use Rattle.event_book.specs.declared.message.Body.{Body}
 use Rattle.event_book.specs.declared.message.Body.TheVariants as bodies
 use Rattle.event_book.specs.declared.message.Message.{Message}
 
--- a message on its way, with what an answer of the store carries beside its words: what the store held, and the grant
+-- a message on its way, with the moment of its sending, and with what an answer of the store carries beside its words: what the
+-- store held, and the grant
 pub record InFlightFacts : Type 0 where
   pub message : Message
+  pub sent : Ticks
   pub snapshot : List (Key × KeyEntry)
   pub grant : Option Granted
 
@@ -48,6 +51,7 @@ grant_for _ to revision = None
 abbrev pub launched : ℕ → Keys → Message → InFlightFacts
 launched now known message = record {
   message = message;
+  sent = record { 0 = now };
   snapshot = snapshot_for message.body (present_pairs now known.pairs);
   grant = grant_for message.body message.to known.revision;
 }

@@ -20,5 +20,6 @@ pub mod ServerText
 pub mod StoreText
 pub mod Text
 pub mod Traced
+pub mod Watchdogs
 pub mod Writers
 pub use Rattle.pat_base.specs.MemberId

@@ -1,11 +1,11 @@
 -- The servers of a book, by the number of their member.
-use Rattle.std.specs.Prelude.{ℕ, if◌then◌else◌, true, List, Option, Some, None, map, take, drop, slice_get}
+use Rattle.std.specs.Prelude.{ℕ, ◌==◌, ◌&&◌, ◌||◌, not, if◌then◌else◌, Bool, true, List, Option, Some, None, map, take, drop, slice_get}
 use Rattle.pat_base.specs.declared.server_state.State.{State}
 use Rattle.pat_base.specs.declared.server_state.State.TheVariants as states
 use Rattle.pat_base.specs.Changes.{changed_by}
-use Rattle.pg_model.specs.Facts.{ServerFacts, none_confirmed, entries_of, is_down}
+use Rattle.pg_model.specs.Facts.{ServerFacts, entries_of, is_down, is_up}
 use Rattle.pg_model.specs.Replication.{appended, confirming, following, received_from}
-use Rattle.pg_model.specs.Running.{crashed, delayed, promoted, replica_started, started, stopped}
+use Rattle.pg_model.specs.Running.{crashed, delayed, is_primary, primary_started, promoted, replica_started, started, stopped, stopping}
 use Rattle.pg_model.specs.Servers.{ticked_unless_live, requiring}
 use Rattle.event_book.specs.declared.event.EventKind.{EventKind}
 use Rattle.event_book.specs.declared.event.EventKind.TheVariants as kinds
@@ -18,21 +18,43 @@ use Rattle.event_book.specs.declared.event.ServerEvent.TheVariants as servers
 use Rattle.event_book.specs.declared.event.WatchdogEvent.{WatchdogEvent}
 use Rattle.event_book.specs.declared.event.WatchdogEvent.TheVariants as watchdogs
 
--- it accepts writes from now on: a replica by its promotion, and else one that started as a primary again; what was
--- confirmed before counts no more
+-- it accepts writes from now on: a replica by its promotion, and else by the end of its start as a primary; what was confirmed
+-- before counts no more
 abbrev pub begun_in : State → ServerFacts → ServerFacts
 begun_in states.Replica s = promoted s
-begun_in _ s = started true (record s { confirmed = none_confirmed })
+begun_in _ s = started true s
 
 -- it starts as a replica of none, where it is down
 abbrev pub starts_as_replica : ℕ → ServerFacts → ServerFacts
 starts_as_replica now s = if is_down s.state then replica_started (record { 0 = now }) None s else s
+
+-- a stop of it takes time
+abbrev pub stops_slowly : ServerFacts → Bool
+stops_slowly s = not (s.stop_delay.0 == 0)
+
+-- a start of it takes time
+abbrev pub starts_slowly : ServerFacts → Bool
+starts_slowly s = not (s.start_delay.0 == 0)
+
+-- a shutdown of it ends no writing at once: it runs or starts, and accepts no writes, or accepts them until the end of the stop
+abbrev pub stops_quietly : ServerFacts → Bool
+stops_quietly s = is_up s.state && (not (is_primary s.state) || stops_slowly s)
+
+-- its shutdown begins, where that ends no writing at once: such an end has an event of its own
+abbrev pub stops : ℕ → ServerFacts → ServerFacts
+stops now s = if stops_quietly s then stopping (record { 0 = now }) s else s
+
+-- its start as a primary begins, where it is down and its start takes time: that it accepts writes has an event of its own
+abbrev pub starts_as_primary : ℕ → ServerFacts → ServerFacts
+starts_as_primary now s = if is_down s.state && starts_slowly s then primary_started (record { 0 = now }) s else s
 
 -- the servers after what happens to one at this moment
 abbrev pub servers_by : ℕ → List ServerFacts → ServerEvent → List ServerFacts
 servers_by now known (servers.Began server timeline) = changed_by known server.id.number (λ s. begun_in s.state s)
 servers_by now known (servers.Ended server) = changed_by known server.id.number stopped
 servers_by now known (servers.Crashed server) = changed_by known server.id.number crashed
+servers_by now known (servers.Stops server) = changed_by known server.id.number (stops now)
+servers_by now known (servers.StartsAsPrimary server) = changed_by known server.id.number (starts_as_primary now)
 servers_by now known (servers.StartsAsReplica server) = changed_by known server.id.number (starts_as_replica now)
 servers_by now known (servers.Follows server upstream) = changed_by known server.id.number (following upstream.id)
 servers_by now known (servers.Diverged server upstream at) = changed_by known server.id.number (λ s. record s { diverged = true })

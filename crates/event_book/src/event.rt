@@ -121,6 +121,15 @@ pub enum ServerEvent {
     Promoted {
         server: ServerOf,
     },
+    /// Its shutdown has begun, or is complete at once where it accepts no writes. That it accepts writes no longer is
+    /// `Ended`.
+    Stops {
+        server: ServerOf,
+    },
+    /// Its start as a primary has begun, and takes time. That it accepts writes is `Began`.
+    StartsAsPrimary {
+        server: ServerOf,
+    },
     /// It starts as a replica.
     StartsAsReplica {
         server: ServerOf,

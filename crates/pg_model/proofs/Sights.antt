@@ -7,7 +7,7 @@ use Rattle.pat_base.specs.declared.server_state.State.{State}
 use Rattle.pat_base.specs.declared.server_state.State.TheVariants as states
 use Rattle.pat_base.specs.ServerState.{live}
 use Rattle.wal_model.specs.declared.entry.Entry.{Entry}
-use Rattle.pg_model.specs.Facts.{ServerFacts, none_confirmed}
+use Rattle.pg_model.specs.Facts.{ServerFacts}
 use Rattle.pg_model.specs.Running.{moment_after, started, stopped, starting, replica_started, primary_started, is_primary, stopping, completed, ticked}
 use Rattle.pg_model.specs.Replication.{may_acknowledge, acknowledged}
 use Rattle.pg_model.specs.Servers.{without_spare, ticked_unless_live, after_entry}
@@ -63,14 +63,10 @@ pub log_position-ticked : (now : Ticks) (s : ServerFacts) → log_position_of (t
 log_position-ticked now s = log_position-completed now s.state s
 
 pub without_spare-primary_started : (now : Ticks) (s : ServerFacts) → without_spare (primary_started now s) ≡ primary_started now (without_spare s)
-without_spare-primary_started now s =
-    let restarted : ServerFacts = record s { confirmed = none_confirmed } in
-    without_spare-cond (s.start_delay.0 == 0) (started true restarted) (record restarted { state = states.Starting true (moment_after now s.start_delay) })
+without_spare-primary_started now s = without_spare-cond (s.start_delay.0 == 0) (started true s) (record s { state = states.Starting true (moment_after now s.start_delay) })
 
 pub log_position-primary_started : (now : Ticks) (s : ServerFacts) → log_position_of (primary_started now s) ≡ log_position_of s
-log_position-primary_started now s =
-    let restarted : ServerFacts = record s { confirmed = none_confirmed } in
-    log_position-cond (s.start_delay.0 == 0) (started true restarted) (record restarted { state = states.Starting true (moment_after now s.start_delay) }) _ refl refl
+log_position-primary_started now s = log_position-cond (s.start_delay.0 == 0) (started true s) (record s { state = states.Starting true (moment_after now s.start_delay) }) _ refl refl
 
 pub without_spare-stopping : (now : Ticks) (s : ServerFacts) → without_spare (stopping now s) ≡ stopping now (without_spare s)
 without_spare-stopping now s = without_spare-cond (s.stop_delay.0 == 0) (stopped s) (record s { state = states.Stopping (is_primary s.state) (moment_after now s.stop_delay) })

@@ -28,10 +28,10 @@ promoted s = record s {
   confirmed = none_confirmed;
 }
 
--- its start is complete: it runs as a replica, or accepts writes
+-- its start is complete: it runs as a replica, or accepts writes, and then what was confirmed to it before counts no more
 abbrev pub started : Bool → ServerFacts → ServerFacts
 started false s = record s { state = states.Replica }
-started true s = record s { state = states.Primary; was_primary = true }
+started true s = record s { state = states.Primary; was_primary = true; confirmed = none_confirmed }
 
 -- it starts: at once where starts take no time, and else it is ready after the delay
 abbrev pub starting : Bool → Ticks → ServerFacts → ServerFacts
@@ -43,7 +43,7 @@ replica_started now upstream s = starting false now (record s { upstream = upstr
 
 -- it starts as a primary again, on its timeline
 abbrev pub primary_started : Ticks → ServerFacts → ServerFacts
-primary_started now s = starting true now (record s { confirmed = none_confirmed })
+primary_started now s = starting true now s
 
 -- its stop is complete, and no commit waits any more
 abbrev pub stopped : ServerFacts → ServerFacts

@@ -1,10 +1,9 @@
 -- What an agent sees of its server, and what its orders make of that.
-use Rattle.std.specs.Prelude.{◌+◌, ◌==◌, ◌&&◌, if◌then◌else◌, Bool, true, false, List, Option, Some, None}
+use Rattle.std.specs.Prelude.{◌+◌, ◌==◌, ◌&&◌, if◌then◌else◌, Bool, true, false, List, Option, Some}
 use Rattle.std.specs.Option.{option_map}
 use Rattle.pat_base.specs.declared.lsn.Lsn.{Lsn}
 use Rattle.pat_base.specs.declared.ticks.Ticks.{Ticks}
 use Rattle.pat_base.specs.declared.server_id.ServerId.{ServerId}
-use Rattle.pat_base.specs.declared.server_state.State.{State}
 use Rattle.pat_base.specs.declared.server_state.State.TheVariants as states
 use Rattle.pat_base.specs.Lsn.{lsn_at}
 use Rattle.wal_model.specs.declared.entry.Entry.{Entry}

@@ -297,7 +297,7 @@ impl Server {
         Ok(())
     }
 
-    /// Starts as a primary again, on its timeline: it accepts writes at once, or after its start delay, and what was
+    /// Starts as a primary again, on its timeline: it accepts writes at once, or after its start delay, and then what was
     /// confirmed to it before is forgotten. Refused exactly unless it is stopped or crashed and its last run was a
     /// primary, and then it stays as it was. The moment is at most 2^62 ticks.
     pub fn start_primary(&mut self, now: Ticks) -> Result<(), InState>
@@ -310,7 +310,6 @@ impl Server {
         if !is_down(self.state) || !self.was_primary {
             return Err(InState(self.state));
         }
-        self.confirmed = [None; MEMBERS];
         self.start(true, now);
         Ok(())
     }
@@ -331,7 +330,7 @@ impl Server {
         }
     }
 
-    /// Runs from now on, as a replica or as a primary.
+    /// Runs from now on, as a replica, or as a primary to which nobody has confirmed a position.
     fn complete_start(&mut self, as_primary: bool)
         requires { IsTrue (has_data self.old.state) }
         ensures { self.new ≡ started as_primary self.old }
@@ -339,6 +338,7 @@ impl Server {
         if as_primary {
             self.state = State::Primary;
             self.was_primary = true;
+            self.confirmed = [None; MEMBERS];
         } else {
             self.state = State::Replica;
         }
