@@ -1,5 +1,5 @@
 -- What an agent does, of which the rows are made: messages, orders to its server, and its watchdog.
-use Rattle.std.specs.Prelude.{ℕ, ◌+◌, ◌*◌, nat_lt, if◌then◌else◌, not, Bool, false, Option, Some, None}
+use Rattle.std.specs.Prelude.{ℕ, ◌+◌, ◌*◌, nat_lt, if◌then◌else◌, not, Bool, false, List, Option, Some, None}
 use Rattle.pat_base.specs.declared.member_id.MemberId.{MemberId}
 use Rattle.pat_base.specs.declared.server_id.ServerId.{ServerId}
 use Rattle.pat_base.specs.declared.ticks.Ticks.{Ticks}
@@ -16,11 +16,12 @@ use Rattle.leader_key.specs.Watchdog.{WatchdogFacts, fed, is_armable, timeout_of
 use Rattle.ha_loop.specs.declared.knowledge.Knowledge.{Knowledge}
 use Rattle.ha_loop.specs.declared.knowledge.Question.{Question}
 use Rattle.ha_loop.specs.declared.machine.Machine.{Machine}
+use Rattle.ha_loop.specs.declared.output.Output.{Output}
 use Rattle.ha_loop.specs.declared.output.Output.TheVariants as outputs
 use Rattle.ha_loop.specs.declared.output.Target.TheVariants as targets
 use Rattle.ha_loop.specs.Agents.{Outcome}
 use Rattle.ha_loop.specs.Info.{info_of}
-use Rattle.ha_loop.specs.Outputs.{OutputsFacts, listed}
+use Rattle.ha_loop.specs.Outputs.{listed}
 
 -- so many ticks after a moment, of which a second has ten
 abbrev pub seconds_after : Ticks → ℕ → Ticks
@@ -85,7 +86,7 @@ abbrev pub without_deadline : Machine → Machine
 without_deadline machine = record machine { watchdog = record machine.watchdog { deadline = None } }
 
 -- a deadline that is removed is told
-abbrev pub disarmed : Option Ticks → OutputsFacts → OutputsFacts
+abbrev pub disarmed : Option Ticks → List Output → List Output
 disarmed None out = out
 disarmed (Some deadline) out = listed outputs.Disarmed out
 
@@ -107,12 +108,12 @@ is_refusing Required works = not works
 is_refusing _ works = false
 
 -- a first deadline is told, if there is one
-abbrev pub armed : Option Ticks → OutputsFacts → OutputsFacts
+abbrev pub armed : Option Ticks → List Output → List Output
 armed None out = out
 armed (Some until) out = listed (outputs.Armed until) out
 
 -- a new deadline is told, if there is one
-abbrev pub fed_until : Option Ticks → OutputsFacts → OutputsFacts
+abbrev pub fed_until : Option Ticks → List Output → List Output
 fed_until None out = out
 fed_until (Some until) out = listed (outputs.Fed until) out
 

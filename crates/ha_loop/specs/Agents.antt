@@ -1,5 +1,5 @@
 -- Where an agent stands.
-use Rattle.std.specs.Prelude.{ℕ, ◌≤◌, ◌<◌, ◌^◌, false, None}
+use Rattle.std.specs.Prelude.{ℕ, ◌≤◌, ◌<◌, ◌^◌, false, List, None}
 use Rattle.std.specs.Option.{ForSome}
 use Rattle.pat_base.specs.declared.ticks.Ticks.{Ticks}
 use Rattle.leader_key.specs.Lease.{lease_revision, armed_revision, writer_revision}
@@ -10,11 +10,11 @@ use Rattle.cluster_config.specs.declared.view.RoleWord.TheVariants as words
 use Rattle.pg_model.specs.declared.status.ServerStatus.{ServerStatus}
 use Rattle.ha_loop.specs.declared.knowledge.Knowledge.{Knowledge}
 use Rattle.ha_loop.specs.declared.machine.Machine.{Machine}
+use Rattle.ha_loop.specs.declared.output.Output.{Output}
 use Rattle.ha_loop.specs.declared.role.Role.{Role}
 use Rattle.ha_loop.specs.declared.role.Role.TheVariants as roles
 use Rattle.ha_loop.specs.declared.role.Why.{Why}
 use Rattle.ha_loop.specs.declared.who.Who.{Who}
-use Rattle.ha_loop.specs.Outputs.{OutputsFacts}
 
 -- a role: in place of its values the revisions of the leader key that they were granted with
 pub data RoleFacts : Type 0 where
@@ -90,8 +90,8 @@ pub record Outcome : Type 0 where
   pub role : RoleFacts
   pub knows : Knowledge
   pub machine : Machine
-  pub outputs : OutputsFacts
+  pub outputs : List Output
 
 -- the outcome of these parts
-abbrev pub made : RoleFacts → Knowledge → Machine → OutputsFacts → Outcome
+abbrev pub made : RoleFacts → Knowledge → Machine → List Output → Outcome
 made role knows machine outputs = record { role = role; knows = knows; machine = machine; outputs = outputs }

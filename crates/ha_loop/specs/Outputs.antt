@@ -1,5 +1,5 @@
 -- Lists of outputs.
-use Rattle.std.specs.Prelude.{ℕ, ◌-◌, ◌++◌, List, [], ◌∷◌}
+use Rattle.std.specs.Prelude.{ℕ, ◌++◌, List, [], ◌∷◌}
 use Rattle.ha_loop.specs.declared.output.Output.{Output}
 
 -- the outputs in order, and for how many more there is room
@@ -12,5 +12,5 @@ abbrev pub most_outputs : ℕ
 most_outputs = 40
 
 -- one more stands behind the others
-abbrev pub listed : Output → OutputsFacts → OutputsFacts
-listed output out = record { outputs = out.outputs ++ output ∷ []; spare = out.spare - 1 }
+abbrev pub listed : Output → List Output → List Output
+listed output outputs = outputs ++ output ∷ []

@@ -28,7 +28,8 @@ pub(crate) fn send(knows: &mut Knowledge, out: &mut Outputs, body: Body)
     requires numbers { knows.old.sequence < 2 ^ 60 }
     requires room { 1 ≤ out.old.spare }
     ensures knows { knows.new ≡ counted knows.old }
-    ensures out { out.new ≡ listed (outputs.Send targets.Store (knows.old.sequence + 1) body) out.old }
+    ensures out { out.new.outputs ≡ listed (outputs.Send targets.Store (knows.old.sequence + 1) body) out.old.outputs }
+    ensures room { out.old.spare ≤ out.new.spare + 1 }
 {
     knows.sequence += 1;
     out.put(Output::Send {
@@ -52,7 +53,8 @@ pub(crate) fn ask(
     requires room { 1 ≤ out.old.spare }
     ensures knows { knows.new ≡ waiting now question until (counted knows.old) }
     ensures sound { IsSound knows.new }
-    ensures out { out.new ≡ listed (outputs.Send targets.Store (knows.old.sequence + 1) body) out.old }
+    ensures out { out.new.outputs ≡ listed (outputs.Send targets.Store (knows.old.sequence + 1) body) out.old.outputs }
+    ensures room { out.old.spare ≤ out.new.spare + 1 }
 {
     send(knows, out, body);
     knows.waited = Some(Waited {
@@ -69,7 +71,8 @@ pub(crate) fn touch(knows: &mut Knowledge, machine: &Machine, out: &mut Outputs)
     requires numbers { knows.old.sequence < 2 ^ 60 }
     requires room { 1 ≤ out.old.spare }
     ensures knows { knows.new ≡ counted knows.old }
-    ensures out { out.new ≡ listed (outputs.Send targets.Store (knows.old.sequence + 1) (bodies.Request (txns.Touch (info_of knows.old.who machine.now.server) (lease_span knows.old.settings)))) out.old }
+    ensures out { out.new.outputs ≡ listed (outputs.Send targets.Store (knows.old.sequence + 1) (bodies.Request (txns.Touch (info_of knows.old.who machine.now.server) (lease_span knows.old.settings)))) out.old.outputs }
+    ensures room { out.old.spare ≤ out.new.spare + 1 }
 {
     let touch = Txn::Touch {
         info: info_of(&knows.who, &machine.server),
@@ -83,7 +86,8 @@ pub(crate) fn release(lease: Lease, knows: &mut Knowledge, out: &mut Outputs)
     requires numbers { knows.old.sequence < 2 ^ 60 }
     requires room { 1 ≤ out.old.spare }
     ensures knows { knows.new ≡ counted knows.old }
-    ensures out { out.new ≡ listed (outputs.Send targets.Store (knows.old.sequence + 1) (bodies.Request (txns.Release (lease_revision lease)))) out.old }
+    ensures out { out.new.outputs ≡ listed (outputs.Send targets.Store (knows.old.sequence + 1) (bodies.Request (txns.Release (lease_revision lease)))) out.old.outputs }
+    ensures room { out.old.spare ≤ out.new.spare + 1 }
 {
     send(knows, out, Body::Request(lease.release()));
 }
@@ -94,7 +98,8 @@ pub(crate) fn end_server(machine: &mut Machine, out: &mut Outputs, now: Ticks, r
     requires server { IsWithin machine.old.server }
     requires room { 1 ≤ out.old.spare }
     ensures machine { machine.new ≡ record machine.old { server = status_stopping now machine.old.server } }
-    ensures out { out.new ≡ listed (outputs.Stop reason) out.old }
+    ensures out { out.new.outputs ≡ listed (outputs.Stop reason) out.old.outputs }
+    ensures room { out.old.spare ≤ out.new.spare + 1 }
 {
     machine.server.stop(now);
     out.put(Output::Stop { reason });
@@ -113,7 +118,8 @@ pub(crate) fn lose(
     requires room { 1 ≤ out.old.spare }
     ensures role { role_of result ≡ Ending (writer_revision writer) whys.Lost }
     ensures machine { machine.new ≡ record machine.old { server = status_stopping now machine.old.server } }
-    ensures out { out.new ≡ listed (outputs.Stop reason) out.old }
+    ensures out { out.new.outputs ≡ listed (outputs.Stop reason) out.old.outputs }
+    ensures room { out.old.spare ≤ out.new.spare + 1 }
 {
     end_server(machine, out, now, reason);
     Role::Ending(writer, Why::Lost)
@@ -123,7 +129,7 @@ pub(crate) fn lose(
 pub(crate) fn disarm(machine: &mut Machine, out: &mut Outputs)
     requires { 1 ≤ out.old.spare }
     ensures machine { machine.new ≡ without_deadline machine.old }
-    ensures out { out.new ≡ disarmed machine.old.watchdog.deadline out.old }
+    ensures out { out.new.outputs ≡ disarmed machine.old.watchdog.deadline out.old.outputs }
     ensures room { out.old.spare ≤ out.new.spare + 1 }
 {
     note_disarmed(out, machine.watchdog.deadline());
@@ -136,7 +142,7 @@ pub(crate) fn end_writer(writer: Writer, machine: &mut Machine, out: &mut Output
     requires room { 1 ≤ out.old.spare }
     ensures revision { lease_revision result ≡ writer_revision writer }
     ensures machine { machine.new ≡ without_deadline machine.old }
-    ensures out { out.new ≡ disarmed machine.old.watchdog.deadline out.old }
+    ensures out { out.new.outputs ≡ disarmed machine.old.watchdog.deadline out.old.outputs }
     ensures room { out.old.spare ≤ out.new.spare + 1 }
 {
     note_disarmed(out, machine.watchdog.deadline());
@@ -149,7 +155,7 @@ pub(crate) fn undo(armed: Armed, machine: &mut Machine, out: &mut Outputs) -> Le
     requires { 1 ≤ out.old.spare }
     ensures revision { lease_revision result ≡ armed_revision armed }
     ensures machine { machine.new ≡ without_deadline machine.old }
-    ensures out { out.new ≡ disarmed machine.old.watchdog.deadline out.old }
+    ensures out { out.new.outputs ≡ disarmed machine.old.watchdog.deadline out.old.outputs }
     ensures room { out.old.spare ≤ out.new.spare + 1 }
 {
     note_disarmed(out, machine.watchdog.deadline());
@@ -158,7 +164,7 @@ pub(crate) fn undo(armed: Armed, machine: &mut Machine, out: &mut Outputs) -> Le
 
 fn note_disarmed(out: &mut Outputs, deadline: Option<Ticks>)
     requires { 1 ≤ out.old.spare }
-    ensures out { out.new ≡ disarmed deadline out.old }
+    ensures out { out.new.outputs ≡ disarmed deadline out.old.outputs }
     ensures room { out.old.spare ≤ out.new.spare + 1 }
 {
     if deadline.is_some() {
@@ -179,7 +185,7 @@ pub(crate) fn arm(
     requires room { 1 ≤ out.old.spare }
     ensures refused { is_err result ≡ is_refusing machine.old.watchdog.mode machine.old.watchdog.works }
     ensures armed { IfOk result (λ value. (armed_revision value ≡ lease_revision lease) × (machine.new ≡ with_feed now ttl machine.old)) }
-    ensures noted { IfOk result (λ _. out.new ≡ armed (deadline_after now ttl machine.old.watchdog) out.old) }
+    ensures noted { IfOk result (λ _. out.new.outputs ≡ armed (deadline_after now ttl machine.old.watchdog) out.old.outputs) }
     ensures kept { IfErr result (λ back. (back ≡ lease) × (machine.new ≡ machine.old) × (out.new ≡ out.old)) }
     ensures room { out.old.spare ≤ out.new.spare + 1 }
 {
@@ -207,7 +213,7 @@ pub(crate) fn feed(
     requires room { 1 ≤ out.old.spare }
     ensures revision { writer_revision result ≡ grant.revision }
     ensures machine { machine.new ≡ with_feed now ttl machine.old }
-    ensures out { out.new ≡ fed_until (deadline_after now ttl machine.old.watchdog) out.old }
+    ensures out { out.new.outputs ≡ fed_until (deadline_after now ttl machine.old.watchdog) out.old.outputs }
     ensures room { out.old.spare ≤ out.new.spare + 1 }
 {
     let writer = writer.renewed(grant, &mut machine.watchdog, now, ttl);
@@ -218,7 +224,7 @@ pub(crate) fn feed(
 /// Tells the watchdog's new deadline, if it got one.
 fn note_fed(out: &mut Outputs, deadline: Option<Ticks>)
     requires { 1 ≤ out.old.spare }
-    ensures out { out.new ≡ fed_until deadline out.old }
+    ensures out { out.new.outputs ≡ fed_until deadline out.old.outputs }
     ensures room { out.old.spare ≤ out.new.spare + 1 }
 {
     if let Some(until) = deadline {
@@ -229,7 +235,7 @@ fn note_fed(out: &mut Outputs, deadline: Option<Ticks>)
 /// Tells the watchdog's first deadline, if it got one.
 fn note_armed(out: &mut Outputs, deadline: Option<Ticks>)
     requires { 1 ≤ out.old.spare }
-    ensures out { out.new ≡ armed deadline out.old }
+    ensures out { out.new.outputs ≡ armed deadline out.old.outputs }
     ensures room { out.old.spare ≤ out.new.spare + 1 }
 {
     if let Some(until) = deadline {

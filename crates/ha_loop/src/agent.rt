@@ -76,7 +76,7 @@ impl Agent {
         requires server { IsWithin machine.old.server }
         requires numbers { self.knows.sequence + most_outputs ≤ most_messages }
         requires room { most_outputs ≤ out.old.spare }
-        ensures outcome { made result.role result.knows machine.new out.new ≡ step now history.now.points heard (made self.role self.knows machine.old out.old) }
+        ensures outcome { made result.role result.knows machine.new out.new.outputs ≡ step now history.now.points heard (made self.role self.knows machine.old out.old.outputs) }
         ensures numbers { result.knows.sequence ≤ self.knows.sequence + most_outputs }
         ensures room { out.old.spare ≤ out.new.spare + most_outputs }
     {
@@ -95,7 +95,7 @@ impl Agent {
     ) -> Agent
         requires numbers { self.knows.sequence + most_outputs ≤ most_messages }
         requires room { most_outputs ≤ out.old.spare }
-        ensures outcome { made result.role result.knows machine.new out.new ≡ act now (made self.role self.knows machine.old out.old) }
+        ensures outcome { made result.role result.knows machine.new out.new.outputs ≡ act now (made self.role self.knows machine.old out.old.outputs) }
         ensures numbers { result.knows.sequence ≤ self.knows.sequence + most_outputs }
         ensures room { out.old.spare ≤ out.new.spare + most_outputs }
     {
@@ -195,7 +195,7 @@ fn hear(
     requires server { IsWithin machine.old.server }
     requires numbers { knows.old.sequence + most_outputs ≤ most_messages }
     requires room { most_outputs ≤ out.old.spare }
-    ensures outcome { made (role_of result) knows.new machine.new out.new ≡ step now history.now.points heard (made (role_of role) knows.old machine.old out.old) }
+    ensures outcome { made (role_of result) knows.new machine.new out.new.outputs ≡ step now history.now.points heard (made (role_of role) knows.old machine.old out.old.outputs) }
     ensures sound { IsSound knows.new }
     ensures numbers { knows.new.sequence ≤ knows.old.sequence + most_outputs }
     ensures room { out.old.spare ≤ out.new.spare + most_outputs }

@@ -23,7 +23,7 @@ pub(crate) fn before(
     requires sound { IsSound knows.old }
     requires numbers { knows.old.sequence < 2 ^ 60 }
     requires room { 2 ≤ out.old.spare }
-    ensures outcome { made (role_of result) knows.new machine.new out.new ≡ before now (made (role_of role) knows.old machine.old out.old) }
+    ensures outcome { made (role_of result) knows.new machine.new out.new.outputs ≡ before now (made (role_of role) knows.old machine.old out.old.outputs) }
     ensures server { machine.new.server ≡ machine.old.server }
     ensures sound { IsSound knows.new }
     ensures numbers { knows.new.sequence ≤ knows.old.sequence + 1 }
@@ -52,7 +52,7 @@ fn leader_finds_ended(
     requires sound { IsSound knows.old }
     requires ended { live machine.old.server.state ≡ false }
     requires room { 1 ≤ out.old.spare }
-    ensures outcome { made (role_of result) knows.new machine.new out.new ≡ leader_finds_ended now (writer_revision writer) (made (Leader (writer_revision writer)) knows.old machine.old out.old) }
+    ensures outcome { made (role_of result) knows.new machine.new out.new.outputs ≡ leader_finds_ended now (writer_revision writer) (made (Leader (writer_revision writer)) knows.old machine.old out.old.outputs) }
     ensures server { machine.new.server ≡ machine.old.server }
     ensures sound { IsSound knows.new }
     ensures numbers { knows.new.sequence ≡ knows.old.sequence }
@@ -83,7 +83,7 @@ fn has_ended(
     requires ended { live machine.old.server.state ≡ false }
     requires numbers { knows.old.sequence < 2 ^ 60 }
     requires room { 2 ≤ out.old.spare }
-    ensures outcome { made (role_of result) knows.new machine.new out.new ≡ has_ended why (writer_revision writer) (made (Ending (writer_revision writer) why) knows.old machine.old out.old) }
+    ensures outcome { made (role_of result) knows.new machine.new out.new.outputs ≡ has_ended why (writer_revision writer) (made (Ending (writer_revision writer) why) knows.old machine.old out.old.outputs) }
     ensures server { machine.new.server ≡ machine.old.server }
     ensures sound { IsSound knows.new }
     ensures numbers { knows.new.sequence ≤ knows.old.sequence + 1 }
@@ -110,7 +110,7 @@ fn ready_finds_live(armed: Armed, machine: &mut Machine, out: &mut Outputs) -> R
     requires { 1 ≤ out.old.spare }
     ensures role { role_of result ≡ Stray }
     ensures machine { machine.new ≡ without_deadline machine.old }
-    ensures out { out.new ≡ disarmed machine.old.watchdog.deadline out.old }
+    ensures out { out.new.outputs ≡ disarmed machine.old.watchdog.deadline out.old.outputs }
     ensures room { out.old.spare ≤ out.new.spare + 1 }
 {
     undo(armed, machine, out).lost();
@@ -122,7 +122,7 @@ fn stray_finds_ended(machine: &mut Machine, out: &mut Outputs) -> Role
     requires { 1 ≤ out.old.spare }
     ensures role { role_of result ≡ Follower }
     ensures machine { machine.new ≡ without_deadline machine.old }
-    ensures out { out.new ≡ disarmed machine.old.watchdog.deadline out.old }
+    ensures out { out.new.outputs ≡ disarmed machine.old.watchdog.deadline out.old.outputs }
     ensures room { out.old.spare ≤ out.new.spare + 1 }
 {
     disarm(machine, out);

@@ -36,7 +36,7 @@ pub(crate) fn granted(
     requires server { IsWithin machine.old.server }
     requires numbers { knows.old.sequence < 2 ^ 60 }
     requires room { 3 ≤ out.old.spare }
-    ensures outcome { made (role_of result) knows.new machine.new out.new ≡ granted now sequence grant snapshot (made (role_of role) knows.old machine.old out.old) }
+    ensures outcome { made (role_of result) knows.new machine.new out.new.outputs ≡ granted now sequence grant snapshot (made (role_of role) knows.old machine.old out.old.outputs) }
     ensures sound { IsSound knows.new }
     ensures numbers { knows.new.sequence ≤ knows.old.sequence + 1 }
     ensures room { out.old.spare ≤ out.new.spare + 3 }
@@ -112,7 +112,7 @@ fn lease_granted(
     requires server { IsWithin machine.old.server }
     requires numbers { knows.old.sequence < 2 ^ 60 }
     requires room { 3 ≤ out.old.spare }
-    ensures outcome { made (role_of result) knows.new machine.new out.new ≡ lease_granted now ttl grant.revision (role_of role) (made (role_of role) knows.old machine.old out.old) }
+    ensures outcome { made (role_of result) knows.new machine.new out.new.outputs ≡ lease_granted now ttl grant.revision (role_of role) (made (role_of role) knows.old machine.old out.old.outputs) }
     ensures sound { IsSound knows.new }
     ensures numbers { knows.new.sequence ≤ knows.old.sequence + 1 }
     ensures room { out.old.spare ≤ out.new.spare + 3 }
@@ -142,7 +142,7 @@ pub(crate) fn refused(
     requires sound { IsSound knows.old }
     requires server { IsWithin machine.old.server }
     requires room { 1 ≤ out.old.spare }
-    ensures outcome { made (role_of result) knows.new machine.new out.new ≡ refused now sequence (made (role_of role) knows.old machine.old out.old) }
+    ensures outcome { made (role_of result) knows.new machine.new out.new.outputs ≡ refused now sequence (made (role_of role) knows.old machine.old out.old.outputs) }
     ensures sound { IsSound knows.new }
     ensures numbers { knows.new.sequence ≡ knows.old.sequence }
     ensures room { out.old.spare ≤ out.new.spare + 1 }
@@ -169,7 +169,7 @@ fn refused_as(
     requires sound { IsSound knows.old }
     requires server { IsWithin machine.old.server }
     requires room { 1 ≤ out.old.spare }
-    ensures outcome { made (role_of result) knows.new machine.new out.new ≡ refused_as now question (waiting_no_more (made (role_of role) knows.old machine.old out.old)) }
+    ensures outcome { made (role_of result) knows.new machine.new out.new.outputs ≡ refused_as now question (waiting_no_more (made (role_of role) knows.old machine.old out.old.outputs)) }
     ensures sound { IsSound knows.new }
     ensures numbers { knows.new.sequence ≡ knows.old.sequence }
     ensures room { out.old.spare ≤ out.new.spare + 1 }
@@ -200,7 +200,7 @@ fn renewal_refused(role: Role, machine: &mut Machine, out: &mut Outputs, now: Ti
     requires moment { now.0 ≤ latest }
     requires server { IsWithin machine.old.server }
     requires room { 1 ≤ out.old.spare }
-    ensures outcome { (knows : Knowledge) → made (role_of result) knows machine.new out.new ≡ renewal_refused now (role_of role) (made (role_of role) knows machine.old out.old) }
+    ensures outcome { (knows : Knowledge) → made (role_of result) knows machine.new out.new.outputs ≡ renewal_refused now (role_of role) (made (role_of role) knows machine.old out.old.outputs) }
     ensures room { out.old.spare ≤ out.new.spare + 1 }
 {
     match role {

@@ -1,5 +1,5 @@
 //! Lists of outputs, with room taken before.
-ghost use Rattle.std.specs.Prelude.{◌≡◌, ◌≤◌, ◌++◌, [], OnOk, OnErr, option_to_list, IsNone, ◌↔◌};
+ghost use Rattle.std.specs.Prelude.{◌≡◌, ◌≤◌, ◌+◌, ◌++◌, [], OnOk, OnErr, option_to_list, IsNone, ◌↔◌};
 ghost use Rattle.std.specs.VecDeque.{deque_len, deque_capacity};
 ghost use Rattle.ha_loop.specs.Outputs.{OutputsFacts, listed};
 
@@ -62,7 +62,8 @@ impl Outputs {
     /// One more, behind the others.
     pub(crate) fn put(&mut self, output: Output)
         requires { 1 ≤ self.old.spare }
-        ensures { self.new ≡ listed output self.old }
+        ensures outputs { self.new.outputs ≡ listed output self.old.outputs }
+        ensures room { self.old.spare ≤ self.new.spare + 1 }
     {
         self.outputs.push_back_reserved(output);
     }

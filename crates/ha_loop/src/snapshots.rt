@@ -43,7 +43,7 @@ pub(crate) fn got(
     requires server { IsWithin machine.old.server }
     requires numbers { knows.old.sequence < 2 ^ 60 }
     requires room { 2 ≤ out.old.spare }
-    ensures outcome { made (role_of result) knows.new machine.new out.new ≡ got now history.now.points sequence snapshot (made (role_of role) knows.old machine.old out.old) }
+    ensures outcome { made (role_of result) knows.new machine.new out.new.outputs ≡ got now history.now.points sequence snapshot (made (role_of role) knows.old machine.old out.old.outputs) }
     ensures sound { IsSound knows.new }
     ensures numbers { knows.new.sequence ≤ knows.old.sequence + 1 }
     ensures room { out.old.spare ≤ out.new.spare + 2 }
@@ -125,7 +125,7 @@ fn led(
     requires server { IsWithin machine.old.server }
     requires numbers { knows.old.sequence < 2 ^ 60 }
     requires room { 2 ≤ out.old.spare }
-    ensures outcome { made (role_of result) knows.new machine.new out.new ≡ led now history.now.points leader (made (role_of role) knows.old machine.old out.old) }
+    ensures outcome { made (role_of result) knows.new machine.new out.new.outputs ≡ led now history.now.points leader (made (role_of role) knows.old machine.old out.old.outputs) }
     ensures sound { IsSound knows.new }
     ensures numbers { knows.new.sequence ≤ knows.old.sequence + 1 }
     ensures room { out.old.spare ≤ out.new.spare + 2 }
@@ -154,7 +154,7 @@ fn own_key(
     requires sound { IsSound knows.old }
     requires numbers { knows.old.sequence < 2 ^ 60 }
     requires room { 1 ≤ out.old.spare }
-    ensures outcome { made (role_of role.now) knows.new machine.now out.new ≡ own_key now history.now.points revision (role_of role.now) (made (role_of role.now) knows.old machine.now out.old) }
+    ensures outcome { made (role_of role.now) knows.new machine.now out.new.outputs ≡ own_key now history.now.points revision (role_of role.now) (made (role_of role.now) knows.old machine.now out.old.outputs) }
     ensures sound { IsSound knows.new }
     ensures numbers { knows.new.sequence ≤ knows.old.sequence + 1 }
     ensures room { out.old.spare ≤ out.new.spare + 1 }
@@ -181,7 +181,7 @@ fn finds_own_key(
     requires sound { IsSound knows.old }
     requires numbers { knows.old.sequence < 2 ^ 60 }
     requires room { 1 ≤ out.old.spare }
-    ensures outcome { made Follower knows.new machine.now out.new ≡ finds_own_key now history.now.points revision (made Follower knows.old machine.now out.old) }
+    ensures outcome { made Follower knows.new machine.now out.new.outputs ≡ finds_own_key now history.now.points revision (made Follower knows.old machine.now out.old.outputs) }
     ensures sound { IsSound knows.new }
     ensures numbers { knows.new.sequence ≤ knows.old.sequence + 1 }
     ensures room { out.old.spare ≤ out.new.spare + 1 }
@@ -207,7 +207,7 @@ fn others_key(
     requires server { IsWithin machine.old.server }
     requires numbers { knows.old.sequence < 2 ^ 60 }
     requires room { 2 ≤ out.old.spare }
-    ensures outcome { made (role_of result) knows.new machine.new out.new ≡ others_key now leader (role_of role) (made (role_of role) knows.old machine.old out.old) }
+    ensures outcome { made (role_of result) knows.new machine.new out.new.outputs ≡ others_key now leader (role_of role) (made (role_of role) knows.old machine.old out.old.outputs) }
     ensures sound { IsSound knows.new }
     ensures numbers { knows.new.sequence ≤ knows.old.sequence + 1 }
     ensures room { out.old.spare ≤ out.new.spare + 2 }
@@ -240,7 +240,7 @@ fn follows(
     requires server { IsWithin machine.old.server }
     requires numbers { knows.old.sequence < 2 ^ 60 }
     requires room { 2 ≤ out.old.spare }
-    ensures outcome { made (role_of result) knows.new machine.new out.new ≡ follows now leader (made Follower knows.old machine.old out.old) }
+    ensures outcome { made (role_of result) knows.new machine.new out.new.outputs ≡ follows now leader (made Follower knows.old machine.old out.old.outputs) }
     ensures sound { IsSound knows.new }
     ensures numbers { knows.new.sequence ≤ knows.old.sequence + 1 }
     ensures room { out.old.spare ≤ out.new.spare + 2 }
@@ -263,7 +263,7 @@ fn no_key(
     requires server { IsWithin machine.old.server }
     requires numbers { knows.old.sequence < 2 ^ 60 }
     requires room { 2 ≤ out.old.spare }
-    ensures outcome { made (role_of result) knows.new machine.new out.new ≡ no_key now (role_of role) (made (role_of role) knows.old machine.old out.old) }
+    ensures outcome { made (role_of result) knows.new machine.new out.new.outputs ≡ no_key now (role_of role) (made (role_of role) knows.old machine.old out.old.outputs) }
     ensures sound { IsSound knows.new }
     ensures numbers { knows.new.sequence ≤ knows.old.sequence + 1 }
     ensures room { out.old.spare ≤ out.new.spare + 2 }
@@ -290,7 +290,7 @@ fn finds_free(knows: &mut Knowledge, machine: &mut Machine, out: &mut Outputs, n
     requires server { IsWithin machine.old.server }
     requires numbers { knows.old.sequence < 2 ^ 60 }
     requires room { 2 ≤ out.old.spare }
-    ensures outcome { made (role_of result) knows.new machine.new out.new ≡ finds_free now (made Follower knows.old machine.old out.old) }
+    ensures outcome { made (role_of result) knows.new machine.new out.new.outputs ≡ finds_free now (made Follower knows.old machine.old out.old.outputs) }
     ensures sound { IsSound knows.new }
     ensures numbers { knows.new.sequence ≤ knows.old.sequence + 1 }
     ensures room { out.old.spare ≤ out.new.spare + 2 }
@@ -313,8 +313,9 @@ fn create(knows: &mut Knowledge, machine: &Machine, out: &mut Outputs, now: Tick
     requires numbers { knows.old.sequence < 2 ^ 60 }
     requires room { 1 ≤ out.old.spare }
     ensures knows { knows.new ≡ waiting now questions.Creating (seconds_after now knows.old.settings.retry_timeout) (counted knows.old) }
-    ensures out { out.new ≡ listed (outputs.Send targets.Store (knows.old.sequence + 1) (bodies.Request (txns.Create (info_of knows.old.who machine.now.server) (lease_span knows.old.settings) None None))) out.old }
+    ensures out { out.new.outputs ≡ listed (outputs.Send targets.Store (knows.old.sequence + 1) (bodies.Request (txns.Create (info_of knows.old.who machine.now.server) (lease_span knows.old.settings) None None))) out.old.outputs }
     ensures sound { IsSound knows.new }
+    ensures room { out.old.spare ≤ out.new.spare + 1 }
 {
     let create = Txn::Create {
         info: info_of(&knows.who, &machine.server),

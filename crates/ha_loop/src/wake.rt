@@ -32,7 +32,7 @@ pub(crate) fn wake(
     requires server { IsWithin machine.old.server }
     requires numbers { knows.old.sequence + 2 ≤ 2 ^ 60 }
     requires room { 4 ≤ out.old.spare }
-    ensures outcome { made (role_of result) knows.new machine.new out.new ≡ woken now (made (role_of role) knows.old machine.old out.old) }
+    ensures outcome { made (role_of result) knows.new machine.new out.new.outputs ≡ woken now (made (role_of role) knows.old machine.old out.old.outputs) }
     ensures sound { IsSound knows.new }
     ensures numbers { knows.new.sequence ≤ knows.old.sequence + 2 }
     ensures room { out.old.spare ≤ out.new.spare + 4 }
@@ -91,7 +91,7 @@ fn overdue(
     requires sound { IsSound knows.old }
     requires server { IsWithin machine.old.server }
     requires room { 1 ≤ out.old.spare }
-    ensures outcome { made (role_of result) knows.new machine.new out.new ≡ overdue now (made (role_of role) knows.old machine.old out.old) }
+    ensures outcome { made (role_of result) knows.new machine.new out.new.outputs ≡ overdue now (made (role_of role) knows.old machine.old out.old.outputs) }
     ensures sound { IsSound knows.new }
     ensures numbers { knows.new.sequence ≡ knows.old.sequence }
     ensures room { out.old.spare ≤ out.new.spare + 1 }
@@ -118,7 +118,7 @@ fn unanswered(
     requires sound { IsSound knows.old }
     requires server { IsWithin machine.old.server }
     requires room { 1 ≤ out.old.spare }
-    ensures outcome { made (role_of result) knows.new machine.new out.new ≡ unanswered now question (made (role_of role) knows.old machine.old out.old) }
+    ensures outcome { made (role_of result) knows.new machine.new out.new.outputs ≡ unanswered now question (made (role_of role) knows.old machine.old out.old.outputs) }
     ensures sound { IsSound knows.new }
     ensures numbers { knows.new.sequence ≡ knows.old.sequence }
     ensures room { out.old.spare ≤ out.new.spare + 1 }
@@ -145,7 +145,7 @@ fn out_of_reach(
     requires sound { IsSound knows.old }
     requires server { IsWithin machine.old.server }
     requires room { 1 ≤ out.old.spare }
-    ensures outcome { made (role_of result) knows.new machine.new out.new ≡ out_of_reach now (made (role_of role) knows.old machine.old out.old) }
+    ensures outcome { made (role_of result) knows.new machine.new out.new.outputs ≡ out_of_reach now (made (role_of role) knows.old machine.old out.old.outputs) }
     ensures sound { IsSound knows.new }
     ensures numbers { knows.new.sequence ≡ knows.old.sequence }
     ensures room { out.old.spare ≤ out.new.spare + 1 }
@@ -167,7 +167,7 @@ fn turned(role: &Role, knows: &mut Knowledge, machine: &Machine, out: &mut Outpu
     requires sound { IsSound knows.old }
     requires numbers { knows.old.sequence < 2 ^ 60 }
     requires room { 1 ≤ out.old.spare }
-    ensures outcome { made (role_of role.now) knows.new machine.now out.new ≡ turned now (made (role_of role.now) knows.old machine.now out.old) }
+    ensures outcome { made (role_of role.now) knows.new machine.now out.new.outputs ≡ turned now (made (role_of role.now) knows.old machine.now out.old.outputs) }
     ensures sound { IsSound knows.new }
     ensures numbers { knows.new.sequence ≤ knows.old.sequence + 1 }
     ensures room { out.old.spare ≤ out.new.spare + 1 }
@@ -183,7 +183,7 @@ fn turn_begins(role: &Role, knows: &mut Knowledge, machine: &Machine, out: &mut 
     requires sound { IsSound knows.old }
     requires numbers { knows.old.sequence < 2 ^ 60 }
     requires room { 1 ≤ out.old.spare }
-    ensures outcome { made (role_of role.now) knows.new machine.now out.new ≡ turn_begins now (made (role_of role.now) knows.old machine.now out.old) }
+    ensures outcome { made (role_of role.now) knows.new machine.now out.new.outputs ≡ turn_begins now (made (role_of role.now) knows.old machine.now out.old.outputs) }
     ensures sound { IsSound knows.new }
     ensures numbers { knows.new.sequence ≤ knows.old.sequence + 1 }
     ensures room { out.old.spare ≤ out.new.spare + 1 }
@@ -210,8 +210,9 @@ fn read(knows: &mut Knowledge, out: &mut Outputs, now: Ticks)
     requires numbers { knows.old.sequence < 2 ^ 60 }
     requires room { 1 ≤ out.old.spare }
     ensures knows { knows.new ≡ waiting now Question.Reading (seconds_after now knows.old.settings.retry_timeout) (counted knows.old) }
-    ensures out { out.new ≡ listed (outputs.Send targets.Store (knows.old.sequence + 1) bodies.Read) out.old }
+    ensures out { out.new.outputs ≡ listed (outputs.Send targets.Store (knows.old.sequence + 1) bodies.Read) out.old.outputs }
     ensures sound { IsSound knows.new }
+    ensures room { out.old.spare ≤ out.new.spare + 1 }
 {
     let until = now + knows.settings.retry_timeout_ticks();
     ask(knows, out, now, Question::Reading, until, Body::Read);

@@ -30,7 +30,7 @@ pub(super) fn leader_renewed(
     requires leased { grant.leased ≡ true }
     requires server { IsWithin machine.old.server }
     requires room { 2 ≤ out.old.spare }
-    ensures outcome { made (role_of result) knows.now machine.new out.new ≡ leader_renewed now ttl grant.revision (made (Leader (writer_revision writer)) knows.now machine.old out.old) }
+    ensures outcome { made (role_of result) knows.now machine.new out.new.outputs ≡ leader_renewed now ttl grant.revision (made (Leader (writer_revision writer)) knows.now machine.old out.old.outputs) }
     ensures room { out.old.spare ≤ out.new.spare + 2 }
 {
     let writer = feed(writer, machine, out, now, ttl, grant);
@@ -48,7 +48,7 @@ fn judge_start(
     requires moment { now.0 ≤ latest }
     requires server { IsWithin machine.old.server }
     requires room { 1 ≤ out.old.spare }
-    ensures outcome { made (role_of result) knows.now machine.new out.new ≡ judges_start now (writer_revision writer) (made (Leader (writer_revision writer)) knows.now machine.old out.old) }
+    ensures outcome { made (role_of result) knows.now machine.new out.new.outputs ≡ judges_start now (writer_revision writer) (made (Leader (writer_revision writer)) knows.now machine.old out.old.outputs) }
     ensures room { out.old.spare ≤ out.new.spare + 1 }
 {
     if is_start_too_long(now, knows, machine.server.state) {
@@ -96,7 +96,7 @@ pub(super) fn stray_renewed(
     requires sound { IsSound knows.old }
     requires server { IsWithin machine.old.server }
     requires room { 1 ≤ out.old.spare }
-    ensures outcome { made (role_of result) knows.new machine.new out.new ≡ stray_renewed now ttl (lease_revision lease) (made Stray knows.old machine.old out.old) }
+    ensures outcome { made (role_of result) knows.new machine.new out.new.outputs ≡ stray_renewed now ttl (lease_revision lease) (made Stray knows.old machine.old out.old.outputs) }
     ensures sound { IsSound knows.new }
     ensures numbers { knows.new.sequence ≡ knows.old.sequence }
     ensures room { out.old.spare ≤ out.new.spare + 1 }
@@ -129,7 +129,7 @@ pub(super) fn take_key(
     requires server { IsWithin machine.old.server }
     requires numbers { knows.old.sequence < 2 ^ 60 }
     requires room { 3 ≤ out.old.spare }
-    ensures outcome { made (role_of result) knows.new machine.new out.new ≡ takes_key now ttl (lease_revision lease) (made Follower knows.old machine.old out.old) }
+    ensures outcome { made (role_of result) knows.new machine.new out.new.outputs ≡ takes_key now ttl (lease_revision lease) (made Follower knows.old machine.old out.old.outputs) }
     ensures sound { IsSound knows.new }
     ensures numbers { knows.new.sequence ≤ knows.old.sequence + 1 }
     ensures room { out.old.spare ≤ out.new.spare + 3 }
@@ -166,7 +166,7 @@ fn begin(
     requires sound { IsSound knows.old }
     requires server { IsWithin machine.old.server }
     requires room { 2 ≤ out.old.spare }
-    ensures outcome { made (role_of result) knows.new machine.new out.new ≡ begins now (armed_revision armed) (made Follower knows.old machine.old out.old) }
+    ensures outcome { made (role_of result) knows.new machine.new out.new.outputs ≡ begins now (armed_revision armed) (made Follower knows.old machine.old out.old.outputs) }
     ensures sound { IsSound knows.new }
     ensures numbers { knows.new.sequence ≡ knows.old.sequence }
     ensures room { out.old.spare ≤ out.new.spare + 2 }

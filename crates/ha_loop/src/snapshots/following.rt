@@ -17,7 +17,7 @@ pub(super) fn follow_row(machine: &mut Machine, out: &mut Outputs, now: Ticks, l
     requires moment { now.0 ≤ latest }
     requires server { IsWithin machine.old.server }
     requires room { 1 ≤ out.old.spare }
-    ensures outcome { (knows : Knowledge) → made Follower knows machine.new out.new ≡ follow_row now leader machine.old.server.state (made Follower knows machine.old out.old) }
+    ensures outcome { (knows : Knowledge) → made Follower knows machine.new out.new.outputs ≡ follow_row now leader machine.old.server.state (made Follower knows machine.old out.old.outputs) }
     ensures room { out.old.spare ≤ out.new.spare + 1 }
 {
     match machine.server.state {
@@ -37,7 +37,7 @@ pub(super) fn start_behind(
     requires moment { now.0 ≤ latest }
     requires server { IsWithin machine.old.server }
     requires room { 1 ≤ out.old.spare }
-    ensures outcome { (knows : Knowledge) → made Follower knows machine.new out.new ≡ starts_behind now leader (made Follower knows machine.old out.old) }
+    ensures outcome { (knows : Knowledge) → made Follower knows machine.new out.new.outputs ≡ starts_behind now leader (made Follower knows machine.old out.old.outputs) }
     ensures room { out.old.spare ≤ out.new.spare + 1 }
 {
     if !machine.server.diverged {
@@ -64,7 +64,7 @@ fn server_of(member: MemberId) -> ServerId
 /// A replica of another server, or of none, follows this member's.
 fn follow_anew(machine: &mut Machine, out: &mut Outputs, leader: MemberId)
     requires { 1 ≤ out.old.spare }
-    ensures outcome { (knows : Knowledge) → made Follower knows machine.new out.new ≡ follows_anew leader (made Follower knows machine.old out.old) }
+    ensures outcome { (knows : Knowledge) → made Follower knows machine.new out.new.outputs ≡ follows_anew leader (made Follower knows machine.old out.old.outputs) }
     ensures room { out.old.spare ≤ out.new.spare + 1 }
 {
     if !is_upstream(leader, machine.server.upstream) {

@@ -33,8 +33,9 @@ pub(super) fn renew(
     requires numbers { knows.old.sequence < 2 ^ 60 }
     requires room { 1 ≤ out.old.spare }
     ensures knows { knows.new ≡ waiting now questions.Renewing (seconds_after (turn_start now knows.old.last_turn) knows.old.settings.retry_timeout) (counted knows.old) }
-    ensures out { out.new ≡ listed (outputs.Send targets.Store (knows.old.sequence + 1) (bodies.Request (renewal now history.now.points revision knows.old machine.now.server))) out.old }
+    ensures out { out.new.outputs ≡ listed (outputs.Send targets.Store (knows.old.sequence + 1) (bodies.Request (renewal now history.now.points revision knows.old machine.now.server))) out.old.outputs }
     ensures sound { IsSound knows.new }
+    ensures room { out.old.spare ≤ out.new.spare + 1 }
 {
     let renewal = renewal(now, history, revision, knows, &machine.server);
     let until = turn_start(now, knows) + knows.settings.retry_timeout_ticks();
