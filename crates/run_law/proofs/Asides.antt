@@ -1,0 +1,162 @@
+-- An event at which no agent acts keeps a book's past and its cluster matched.
+use Rattle.std.proofs.Common.{ℕ, ◌≡◌, ◌<◌, ◌==◌, ◌++◌, Bool, true, false, cond, List, [], ◌∷◌, length, slice_get, Option, Some, None, option_map, refl, ◌∙◌, ap, sym, subst}
+use Rattle.pat_base.specs.Changes.{changed_by}
+use Rattle.event_book.specs.declared.agent_process.AgentProcess.{AgentProcess}
+use Rattle.event_book.specs.declared.event.AgentEvent.{AgentEvent}
+use Rattle.event_book.specs.declared.event.AgentEvent.TheVariants as agents
+use Rattle.event_book.specs.declared.event.Event.{Event}
+use Rattle.event_book.specs.declared.event.EventKind.{EventKind}
+use Rattle.event_book.specs.declared.event.EventKind.TheVariants as kinds
+use Rattle.event_book.specs.declared.event.MessageEvent.TheVariants as messages
+use Rattle.event_book.specs.declared.event.ServerEvent.TheVariants as servers
+use Rattle.event_book.specs.declared.event.StoreEvent.TheVariants as stores
+use Rattle.event_book.specs.declared.event.WatchdogEvent.TheVariants as watchdogs
+use Rattle.event_book.specs.Agents.{agents_after, ended_process, running_in}
+use Rattle.event_book.specs.Writers.{BeginsKind}
+use Rattle.ha_loop.specs.Agents.{AgentFacts}
+use Rattle.cluster_model.specs.Cluster.{agent_facts_after, cluster_after, cluster_over}
+use Rattle.cluster_model.specs.Heads.{HeadText}
+use Rattle.cluster_model.specs.State.{Cluster}
+use Rattle.lease_law.specs.Claims.{BeginsBehind}
+use Rattle.lease_law.specs.Past.{Past, past_after, past_over, past_of, first_past}
+use Rattle.lease_law.specs.Premises.{AllAre, IsHandsOffKind}
+use Rattle.lease_law.specs.Stores.{IsSpanned}
+use Rattle.lease_law.proofs.SameStore.{same-by}
+use Rattle.lease_law.proofs.Showing.{past-append}
+use Rattle.lease_law.proofs.Tools.{eq-from}
+use Rattle.lease_law.proofs.Unpaused.{pauses-by}
+use Rattle.run_law.specs.Asides.{IsAside}
+use Rattle.run_law.specs.Bridged.{KnowsItself, KnowThemselves, IsMatched}
+use Rattle.run_law.specs.Declaring.{member_count}
+use Rattle.run_law.specs.Machines.{IsOfMembers}
+use Rattle.run_law.proofs.Machines.{machines-by, sized-by}
+use Rattle.run_law.proofs.Places.{get-changed, length-changed, there}
+use Rattle.run_law.proofs.Waiting.{waiting-aside}
+
+-- what such an event is beside
+aside-members : (count : ℕ) (kind : EventKind) → IsAside count kind → IsOfMembers count kind
+aside-members count (kinds.Watchdog (watchdogs.Armed member until answer)) is = absurd is
+aside-members count (kinds.Watchdog (watchdogs.Fed member until basis)) is = absurd is
+aside-members count (kinds.Watchdog (watchdogs.HoldTaken member until from run sequence)) is = absurd is
+aside-members count (kinds.Server (servers.Began server timeline)) is = absurd is
+aside-members count (kinds.Agent (agents.Started agent run)) is = is
+aside-members count _ is = tt
+
+aside-spanned : (count : ℕ) (kind : EventKind) → IsAside count kind → IsSpanned kind
+aside-spanned count (kinds.Store (stores.Granted number by txn standbys)) is = absurd is
+aside-spanned count _ is = tt
+
+pub aside-hands_off : (count : ℕ) (kind : EventKind) → IsAside count kind → IsHandsOffKind kind
+aside-hands_off count (kinds.Store (stores.Granted number by txn standbys)) is = absurd is
+aside-hands_off count (kinds.Server (servers.Promoted server)) is = absurd is
+aside-hands_off count _ is = tt
+
+aside-begins : (count : ℕ) (P : ℕ → Type 0) (kind : EventKind) → IsAside count kind → BeginsKind P kind
+aside-begins count P (kinds.Server (servers.Began server timeline)) is = absurd is
+aside-begins count P _ is = tt
+
+-- nobody begins at such events
+pub asides-begin : (count : ℕ) (P : List Event → ℕ → Type 0) (before events : List Event) → AllAre (IsAside count) events → BeginsBehind P before events
+asides-begin count P before [] all = tt
+asides-begin count P before (event ∷ events) all = (aside-begins count (P before) event.kind all.0, asides-begin count P (before ++ event ∷ []) events all.1)
+
+aside-sized : (count : ℕ) (cluster : Cluster) (kind : EventKind) → IsAside count kind → length (agent_facts_after cluster kind) ≡ length cluster.agents
+aside-sized count cluster (kinds.Message (messages.Sent number message)) is = absurd is
+aside-sized count cluster (kinds.Message (messages.Delivered number)) is = absurd is
+aside-sized count cluster (kinds.Watchdog (watchdogs.Reset member)) is = length-changed cluster.agents _ _
+aside-sized count cluster (kinds.Agent (agents.Woken agent)) is = absurd is
+aside-sized count cluster (kinds.Agent (agents.Killed agent)) is = length-changed cluster.agents _ _
+aside-sized count cluster (kinds.Agent (agents.Started agent run)) is = length-changed cluster.agents _ _
+aside-sized count cluster _ is = refl
+
+-- an agent and its process change together
+knows-at : (processes : List AgentProcess) (agents : List (Option AgentFacts)) (k m : ℕ) (change : AgentProcess → AgentProcess) (becomes : Option AgentFacts → Option AgentFacts) (agent : AgentFacts) (same : Bool) → (m == k) ≡ same
+    → (m ≡ k → option_map becomes (slice_get agents m) ≡ Some (Some agent) → KnowsItself m (option_map change (slice_get processes m)) agent)
+    → (slice_get agents m ≡ Some (Some agent) → KnowsItself m (slice_get processes m) agent)
+    → cond same (option_map becomes (slice_get agents m)) (slice_get agents m) ≡ Some (Some agent)
+    → KnowsItself m (cond same (option_map change (slice_get processes m)) (slice_get processes m)) agent
+knows-at processes agents k m change becomes agent true e here before is = here (eq-from m k e) is
+knows-at processes agents k m change becomes agent false e here before is = before is
+
+knows-changed : (processes : List AgentProcess) (agents : List (Option AgentFacts)) (k : ℕ) (change : AgentProcess → AgentProcess) (becomes : Option AgentFacts → Option AgentFacts)
+    → ((m : ℕ) (agent : AgentFacts) → m ≡ k → option_map becomes (slice_get agents m) ≡ Some (Some agent) → KnowsItself m (option_map change (slice_get processes m)) agent)
+    → KnowThemselves processes agents → KnowThemselves (changed_by processes k change) (changed_by agents k becomes)
+knows-changed processes agents k change becomes here before m agent is =
+    subst (λ (o : Option AgentProcess). KnowsItself m o agent) (sym (get-changed processes k m change))
+    (knows-at processes agents k m change becomes agent (m == k) refl (here m agent) (before m agent) (sym (get-changed agents k m becomes) ∙ is))
+
+none-there : {A : Type 0} (found : Option (Option A)) (agent : A) → option_map (λ (agent : Option A). let none : Option A = None in none) found ≡ Some (Some agent) → ⊥
+none-there None agent e = cc
+none-there (Some found) agent e = cc
+
+the-started : {A : Type 0} (found : Option (Option A)) (started agent : A) → option_map (λ (agent : Option A). Some started) found ≡ Some (Some agent) → started ≡ agent
+the-started None started agent e = cc
+the-started (Some found) started agent e = cc
+
+-- a process is suspended, or goes on
+suspended-knows : (m : ℕ) (to same : Bool) (process : Option AgentProcess) (agent : AgentFacts) → KnowsItself m process agent
+    → KnowsItself m (cond same (option_map (λ (process : AgentProcess). let changed : AgentProcess = record process { suspended = to } in changed) process) process) agent
+suspended-knows m to true process agent old = record {
+  found = let changed : AgentProcess = record old.found { suspended = to } in changed;
+  is = ap (option_map (λ (process : AgentProcess). let changed : AgentProcess = record process { suspended = to } in changed)) old.is;
+  running = old.running;
+  run = old.run;
+  me = old.me;
+}
+suspended-knows m to false process agent old = old
+
+knows-suspended : (to : Bool) (processes : List AgentProcess) (agents : List (Option AgentFacts)) (k : ℕ)
+    → KnowThemselves processes agents → KnowThemselves (changed_by processes k (λ process. record process { suspended = to })) agents
+knows-suspended to processes agents k before m agent is =
+    subst (λ (o : Option AgentProcess). KnowsItself m o agent) (sym (get-changed processes k m _)) (suspended-knows m to (m == k) (slice_get processes m) agent (before m agent is))
+
+aside-knows : (count : ℕ) (cluster : Cluster) (kind : EventKind) → length cluster.book.agents ≡ count → IsAside count kind
+    → KnowThemselves cluster.book.agents cluster.agents → KnowThemselves (agents_after cluster.book.agents kind) (agent_facts_after cluster kind)
+aside-knows count cluster (kinds.Message (messages.Sent number message)) sized is old = absurd is
+aside-knows count cluster (kinds.Message (messages.Delivered number)) sized is old = absurd is
+aside-knows count cluster (kinds.Watchdog (watchdogs.Reset member)) sized is old =
+    knows-changed cluster.book.agents cluster.agents member.id.number _ _ (λ m agent here none. absurd (none-there (slice_get cluster.agents m) agent none)) old
+aside-knows count cluster (kinds.Agent (agents.Woken agent)) sized is old = absurd is
+aside-knows count cluster (kinds.Agent (agents.Killed member)) sized is old =
+    knows-changed cluster.book.agents cluster.agents member.id.number _ _ (λ m agent here none. absurd (none-there (slice_get cluster.agents m) agent none)) old
+aside-knows count cluster (kinds.Agent (agents.Started member run)) sized is old =
+    knows-changed cluster.book.agents cluster.agents member.id.number _ _ (λ m agent here started.
+    let one = the-started (slice_get cluster.agents m) _ agent started in
+    let process = there cluster.book.agents m (subst (λ (n : ℕ). n < length cluster.book.agents) (sym here) (subst (λ (n : ℕ). member.id.number < n) (sym sized) is)) in
+    record {
+      found = running_in run;
+      is = ap (option_map (λ (process : AgentProcess). running_in run)) process.1;
+      running = refl;
+      run = ap (λ (a : AgentFacts). a.knows.run) (sym one);
+      me = ap (λ (a : AgentFacts). a.knows.who.me.number) (sym one) ∙ sym here;
+    }) old
+aside-knows count cluster (kinds.Agent (agents.Suspended member)) sized is old = knows-suspended true cluster.book.agents cluster.agents member.id.number old
+aside-knows count cluster (kinds.Agent (agents.Resumed member)) sized is old = knows-suspended false cluster.book.agents cluster.agents member.id.number old
+aside-knows count cluster _ sized is old = old
+
+-- one such event
+pub aside-matched : (head : HeadText) (past : Past) (cluster : Cluster) (kind : EventKind) → IsAside (member_count head) kind
+    → IsMatched head past cluster → IsMatched head (past_after past kind) (cluster_after cluster kind)
+aside-matched head past cluster kind is old = record {
+  members = old.members;
+  options = old.options;
+  sized = sized-by (member_count head) cluster.book kind old.sized;
+  agents_sized = aside-sized (member_count head) cluster kind is ∙ old.agents_sized;
+  store = same-by past cluster.book kind (aside-spanned (member_count head) kind is) old.store;
+  machines = machines-by (member_count head) past cluster.book kind old.sized (aside-members (member_count head) kind is) old.machines;
+  unpaused = pauses-by cluster.book kind (aside-hands_off (member_count head) kind is) old.unpaused;
+  agents = aside-knows (member_count head) cluster kind old.sized.agents is old.agents;
+  waiting = waiting-aside head past cluster kind is old;
+}
+
+-- a list of them
+asides-matched : (head : HeadText) (past : Past) (cluster : Cluster) (events : List Event) → AllAre (IsAside (member_count head)) events
+    → IsMatched head past cluster → IsMatched head (past_over past events) (cluster_over cluster events)
+asides-matched head past cluster [] all old = old
+asides-matched head past cluster (event ∷ events) all old = asides-matched head (past_after past event.kind) (cluster_after cluster event.kind) events all.1 (aside-matched head past cluster event.kind all.0 old)
+
+-- the same behind a book
+pub matched-behind : (head : HeadText) (book : List Event) (cluster : Cluster) (events : List Event) → AllAre (IsAside (member_count head)) events
+    → IsMatched head (past_of book) cluster → IsMatched head (past_of (book ++ events)) (cluster_over cluster events)
+matched-behind head book cluster events all old =
+    subst (λ (past : Past). IsMatched head past (cluster_over cluster events)) (sym (past-append first_past book events)) (asides-matched head (past_of book) cluster events all old)

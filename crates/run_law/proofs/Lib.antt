@@ -1,0 +1,5 @@
+pub mod Places
+pub mod Machines
+pub mod Composing
+pub mod Waiting
+pub mod Asides
