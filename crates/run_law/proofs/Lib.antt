@@ -3,3 +3,5 @@ pub mod Machines
 pub mod Composing
 pub mod Waiting
 pub mod Asides
+pub mod Actions
+pub mod Quiet

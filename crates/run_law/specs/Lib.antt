@@ -6,3 +6,4 @@ pub mod Waiting
 pub mod Bridged
 pub mod Kept
 pub mod Asides
+pub mod LocalActions
