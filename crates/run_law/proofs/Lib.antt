@@ -5,3 +5,5 @@ pub mod Waiting
 pub mod Asides
 pub mod Actions
 pub mod Quiet
+pub mod Ending
+pub mod Promoting

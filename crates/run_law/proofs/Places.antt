@@ -47,3 +47,17 @@ get-changed xs k m change = get-found xs k m change (slice_get xs k) (m == k) re
 -- there is an item at each place within a list
 pub there : {A : Type 0} (xs : List A) (m : ℕ) → m < length xs → (x : A) × (slice_get xs m ≡ Some x)
 there xs m small = elim (slice_get_cases xs m).1 [ inl found ↦ (found.0, found.2) | inr past ↦ absurd (omega (arith, small, past.0)) ]
+
+eq-self : (k : ℕ) → (k == k) ≡ true
+eq-self k = grind (arith, nat_tests)
+
+eq-other : (m k : ℕ) → m ≢ k → (m == k) ≡ false
+eq-other m k other = grind (arith, nat_tests)
+
+-- at the place that changes
+pub get-here : {A : Type 0} (xs : List A) (k : ℕ) (change : A → A) → slice_get (changed_by xs k change) k ≡ option_map change (slice_get xs k)
+get-here xs k change = get-changed xs k k change ∙ ap (λ b. cond b (option_map change (slice_get xs k)) (slice_get xs k)) (eq-self k)
+
+-- and elsewhere
+pub get-elsewhere : {A : Type 0} (xs : List A) (k m : ℕ) (change : A → A) → m ≢ k → slice_get (changed_by xs k change) m ≡ slice_get xs m
+get-elsewhere xs k m change other = get-changed xs k m change ∙ ap (λ b. cond b (option_map change (slice_get xs m)) (slice_get xs m)) (eq-other m k other)
