@@ -7,3 +7,5 @@ pub mod Actions
 pub mod Quiet
 pub mod Ending
 pub mod Promoting
+pub mod Starting
+pub mod Streams
