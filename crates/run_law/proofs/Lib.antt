@@ -9,3 +9,5 @@ pub mod Ending
 pub mod Promoting
 pub mod Starting
 pub mod Streams
+pub mod Members
+pub mod Commands

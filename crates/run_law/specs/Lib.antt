@@ -1,5 +1,6 @@
 pub mod AgentSeen
 pub mod Declaring
+pub mod Members
 pub mod Machines
 pub mod Seen
 pub mod Waiting
@@ -7,3 +8,4 @@ pub mod Bridged
 pub mod Kept
 pub mod Asides
 pub mod LocalActions
+pub mod Inputs
