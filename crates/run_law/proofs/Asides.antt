@@ -60,7 +60,7 @@ pub asides-begin : (count : ℕ) (P : List Event → ℕ → Type 0) (before eve
 asides-begin count P before [] all = tt
 asides-begin count P before (event ∷ events) all = (aside-begins count (P before) event.kind all.0, asides-begin count P (before ++ event ∷ []) events all.1)
 
-aside-sized : (count : ℕ) (cluster : Cluster) (kind : EventKind) → IsAside count kind → length (agent_facts_after cluster kind) ≡ length cluster.agents
+pub aside-sized : (count : ℕ) (cluster : Cluster) (kind : EventKind) → IsAside count kind → length (agent_facts_after cluster kind) ≡ length cluster.agents
 aside-sized count cluster (kinds.Message (messages.Sent number message)) is = absurd is
 aside-sized count cluster (kinds.Message (messages.Delivered number)) is = absurd is
 aside-sized count cluster (kinds.Watchdog (watchdogs.Reset member)) is = length-changed cluster.agents _ _

@@ -11,3 +11,5 @@ pub mod Starting
 pub mod Streams
 pub mod Members
 pub mod Commands
+pub mod TickMachines
+pub mod Ticks
