@@ -13,3 +13,5 @@ pub mod Members
 pub mod Commands
 pub mod TickMachines
 pub mod Ticks
+pub mod Steps
+pub mod First
