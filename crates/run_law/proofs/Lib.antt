@@ -15,3 +15,4 @@ pub mod TickMachines
 pub mod Ticks
 pub mod Steps
 pub mod First
+pub mod EveryRun
