@@ -1,5 +1,5 @@
 -- What happens in a step.
-use Rattle.std.specs.Prelude.{ℕ, ◌+◌, ◌-◌, ◌^◌, if◌then◌else◌, List, [], ◌∷◌, Option, Some, None, option_and_then, option_map, slice_get, zero, suc}
+use Rattle.std.specs.Prelude.{ℕ, ◌+◌, ◌-◌, ◌^◌, if◌then◌else◌, true, false, List, [], ◌∷◌, Option, Some, None, option_and_then, option_map, slice_get, zero, suc}
 use Rattle.std.specs.Map.{keys_of}
 use Rattle.pat_base.specs.declared.member_id.MemberId.{MemberId}
 use Rattle.pg_model.specs.declared.answers.Streamed.{Streamed}

@@ -49,6 +49,14 @@ impl Agent {
         if !machine.server.state.live() {
             machine.watchdog.disarm();
         }
+        Agent::begin(who, now, run)
+    }
+
+    /// An agent in its run of this number. Its first turn is due in the tick after this moment.
+    pub fn begin(who: Who, now: Ticks, run: u64) -> Agent
+        requires { now.0 ≤ latest }
+        ensures { result ≡ record { role = Follower; knows = fresh_knowledge who (record { 0 = now.0 + 1 }) run } }
+    {
         Agent {
             role: Role::Follower,
             knows: fresh_knowledge(who, Ticks(now.0 + 1), run),

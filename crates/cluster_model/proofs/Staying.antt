@@ -1,5 +1,6 @@
 -- Events of other concerns.
-use Rattle.std.proofs.Common.{ℕ, ◌≡◌, ◌≢◌, Bool, List, refl}
+use Rattle.std.proofs.Common.{ℕ, ◌≡◌, ◌≢◌, Bool, List, Option, refl}
+use Rattle.pat_base.specs.declared.ticks.Ticks.{Ticks}
 use Rattle.lease_store.specs.Keys.{Keys}
 use Rattle.pg_model.specs.Facts.{ServerFacts}
 use Rattle.event_book.specs.declared.agent_process.AgentProcess.{AgentProcess}
@@ -13,9 +14,10 @@ use Rattle.event_book.specs.Frozen.{frozen_after}
 use Rattle.event_book.specs.Keys.{keys_after}
 use Rattle.event_book.specs.Links.{CutLinks, cuts_after}
 use Rattle.event_book.specs.Servers.{servers_after}
-use Rattle.pat_world.specs.declared.agent_state.AgentState.{AgentState}
-use Rattle.pat_world.specs.Cluster.{agent_states_after}
-use Rattle.pat_world.specs.Concerns.{concern_of, Time, Messages, Store, Watchdogs, Servers, Logs, Replication, Agents, Links}
+use Rattle.event_book.specs.Watchdogs.{deadlines_after, holds_after}
+use Rattle.cluster_model.specs.Cluster.{agent_facts_after}
+use Rattle.cluster_model.specs.State.{Cluster}
+use Rattle.cluster_model.specs.Concerns.{concern_of, Time, Messages, Store, Watchdogs, Servers, Logs, Replication, Agents, Links}
 
 pub clock-stays : (now : ℕ) (kind : EventKind) → concern_of kind ≢ Time → now_after now kind ≡ now
 clock-stays now kinds.Tick other = absurd (other refl)
@@ -26,14 +28,24 @@ store-stays now known kinds.Tick time store = absurd (time refl)
 store-stays now known (kinds.Store happening) time store = absurd (store refl)
 store-stays now known _ time store = refl
 
-pub agents-stay : (states : List AgentProcess) (kind : EventKind) → concern_of kind ≢ Agents → agents_after states kind ≡ states
-agents-stay states (kinds.Agent happening) other = absurd (other refl)
-agents-stay states _ other = refl
+pub processes-stay : (states : List AgentProcess) (kind : EventKind) → concern_of kind ≢ Agents → concern_of kind ≢ Watchdogs → agents_after states kind ≡ states
+processes-stay states (kinds.Agent happening) agents watchdogs = absurd (agents refl)
+processes-stay states (kinds.Watchdog happening) agents watchdogs = absurd (watchdogs refl)
+processes-stay states _ agents watchdogs = refl
 
-pub agent_states-stay : (now : ℕ) (flight : Flight) (agent_states : List AgentState) (kind : EventKind) → concern_of kind ≢ Messages → concern_of kind ≢ Agents → agent_states_after now flight agent_states kind ≡ agent_states
-agent_states-stay now flight agent_states (kinds.Message happening) messages agents = absurd (messages refl)
-agent_states-stay now flight agent_states (kinds.Agent happening) messages agents = absurd (agents refl)
-agent_states-stay now flight agent_states _ messages agents = refl
+pub agents-stay : (cluster : Cluster) (kind : EventKind) → concern_of kind ≢ Messages → concern_of kind ≢ Agents → concern_of kind ≢ Watchdogs → agent_facts_after cluster kind ≡ cluster.agents
+agents-stay cluster (kinds.Message happening) messages agents watchdogs = absurd (messages refl)
+agents-stay cluster (kinds.Agent happening) messages agents watchdogs = absurd (agents refl)
+agents-stay cluster (kinds.Watchdog happening) messages agents watchdogs = absurd (watchdogs refl)
+agents-stay cluster _ messages agents watchdogs = refl
+
+pub deadlines-stay : (deadlines : List (Option Ticks)) (kind : EventKind) → concern_of kind ≢ Watchdogs → deadlines_after deadlines kind ≡ deadlines
+deadlines-stay deadlines (kinds.Watchdog happening) other = absurd (other refl)
+deadlines-stay deadlines _ other = refl
+
+pub holds-stay : (holds : List (Option Ticks)) (kind : EventKind) → concern_of kind ≢ Watchdogs → holds_after holds kind ≡ holds
+holds-stay holds (kinds.Watchdog happening) other = absurd (other refl)
+holds-stay holds _ other = refl
 
 pub links-stay : (cuts : CutLinks) (kind : EventKind) → concern_of kind ≢ Links → cuts_after cuts kind ≡ cuts
 links-stay cuts (kinds.Link happening) other = absurd (other refl)
