@@ -8,7 +8,7 @@ use Rattle.pg_model.specs.Facts.{ServerFacts}
 use Rattle.event_book.specs.declared.event.Event.{Event}
 use Rattle.event_book.specs.Writers.{HasOneWriter, writes_in, writes_now, writes_over, Begins}
 use Rattle.cluster_model.specs.Cluster.{cluster_over}
-use Rattle.cluster_model.specs.Heads.{HeadText}
+use Rattle.cluster_script.specs.Script.{HeadText}
 use Rattle.cluster_model.specs.State.{Cluster}
 use Rattle.lease_law.specs.Actions.{Action, Tick, Deliver, Lose, Input, Start, Kill, Crash, Note, act, IsLawfulAction, state_after}
 use Rattle.lease_law.specs.Books.{IsShown}

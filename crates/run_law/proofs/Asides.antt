@@ -12,10 +12,11 @@ use Rattle.event_book.specs.declared.event.ServerEvent.TheVariants as servers
 use Rattle.event_book.specs.declared.event.StoreEvent.TheVariants as stores
 use Rattle.event_book.specs.declared.event.WatchdogEvent.TheVariants as watchdogs
 use Rattle.event_book.specs.Agents.{agents_after, ended_process, running_in}
+use Rattle.event_book.specs.Facts.{Facts}
 use Rattle.event_book.specs.Writers.{BeginsKind}
 use Rattle.ha_loop.specs.Agents.{AgentFacts}
 use Rattle.cluster_model.specs.Cluster.{agent_facts_after, cluster_after, cluster_over}
-use Rattle.cluster_model.specs.Heads.{HeadText}
+use Rattle.cluster_script.specs.Script.{HeadText}
 use Rattle.cluster_model.specs.State.{Cluster}
 use Rattle.lease_law.specs.Claims.{BeginsBehind}
 use Rattle.lease_law.specs.Past.{Past, past_after, past_over, past_of, first_past}
@@ -25,16 +26,18 @@ use Rattle.lease_law.proofs.SameStore.{same-by}
 use Rattle.lease_law.proofs.Showing.{past-append}
 use Rattle.lease_law.proofs.Tools.{eq-from}
 use Rattle.lease_law.proofs.Unpaused.{pauses-by}
+use Rattle.bridge_law.specs.Flights.{IsCausal}
+use Rattle.bridge_law.proofs.Flights.{flight-by}
 use Rattle.run_law.specs.Asides.{IsAside}
 use Rattle.run_law.specs.Bridged.{KnowsItself, KnowThemselves, IsMatched}
 use Rattle.run_law.specs.Declaring.{member_count}
-use Rattle.run_law.specs.Machines.{IsOfMembers}
+use Rattle.run_law.specs.Machines.{IsWithinMembers}
 use Rattle.run_law.proofs.Machines.{machines-by, sized-by}
 use Rattle.run_law.proofs.Places.{get-changed, length-changed, there}
 use Rattle.run_law.proofs.Waiting.{waiting-aside}
 
 -- what such an event is beside
-aside-members : (count : ℕ) (kind : EventKind) → IsAside count kind → IsOfMembers count kind
+aside-members : (count : ℕ) (kind : EventKind) → IsAside count kind → IsWithinMembers count kind
 aside-members count (kinds.Watchdog (watchdogs.Armed member until answer)) is = absurd is
 aside-members count (kinds.Watchdog (watchdogs.Fed member until basis)) is = absurd is
 aside-members count (kinds.Watchdog (watchdogs.HoldTaken member until from run sequence)) is = absurd is
@@ -45,6 +48,10 @@ aside-members count _ is = tt
 aside-spanned : (count : ℕ) (kind : EventKind) → IsAside count kind → IsSpanned kind
 aside-spanned count (kinds.Store (stores.Granted number by txn standbys)) is = absurd is
 aside-spanned count _ is = tt
+
+aside-causal : (count : ℕ) (past : Past) (facts : Facts) (kind : EventKind) → IsAside count kind → IsCausal past facts kind
+aside-causal count past facts (kinds.Message (messages.Sent number message)) is = absurd is
+aside-causal count past facts _ is = tt
 
 pub aside-hands_off : (count : ℕ) (kind : EventKind) → IsAside count kind → IsHandsOffKind kind
 aside-hands_off count (kinds.Store (stores.Granted number by txn standbys)) is = absurd is
@@ -143,6 +150,7 @@ aside-matched head past cluster kind is old = record {
   sized = sized-by (member_count head) cluster.book kind old.sized;
   agents_sized = aside-sized (member_count head) cluster kind is ∙ old.agents_sized;
   store = same-by past cluster.book kind (aside-spanned (member_count head) kind is) old.store;
+  flight = flight-by past cluster.book kind (aside-causal (member_count head) past cluster.book kind is) old.store old.flight;
   machines = machines-by (member_count head) past cluster.book kind old.sized (aside-members (member_count head) kind is) old.machines;
   unpaused = pauses-by cluster.book kind (aside-hands_off (member_count head) kind is) old.unpaused;
   agents = aside-knows (member_count head) cluster kind old.sized.agents is old.agents;

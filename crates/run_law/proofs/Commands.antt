@@ -24,7 +24,7 @@ use Rattle.cluster_script.specs.declared.line.SlowedCall.{SlowedCall}
 use Rattle.cluster_script.specs.declared.line.SlowedCall.TheVariants as slowed_calls
 use Rattle.cluster_script.specs.declared.ranges.Delay.{Delay}
 use Rattle.cluster_model.specs.Commands.{cut_of, hold_of, join_of, kill_of, kinds_of, link_of, resume_of}
-use Rattle.cluster_model.specs.Heads.{HeadText, names_of}
+use Rattle.cluster_script.specs.Script.{HeadText, names_of}
 use Rattle.cluster_model.specs.Messages.{lose_events}
 use Rattle.cluster_model.specs.Next.{command_kind, declared, process_kind, promote_events, restart_events}
 use Rattle.cluster_model.specs.Parts.{event_of, events_of, for_some}

@@ -18,7 +18,7 @@ use Rattle.event_book.specs.Agents.{ended_process}
 use Rattle.event_book.specs.Functions.{put_at}
 use Rattle.ha_loop.specs.Agents.{AgentFacts}
 use Rattle.cluster_model.specs.Cluster.{cluster_after, cluster_over}
-use Rattle.cluster_model.specs.Heads.{HeadText}
+use Rattle.cluster_script.specs.Script.{HeadText}
 use Rattle.cluster_model.specs.Parts.{event_of}
 use Rattle.cluster_model.specs.State.{Cluster}
 use Rattle.lease_law.specs.Actions.{Kill, Crash, Lose}

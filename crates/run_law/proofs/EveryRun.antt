@@ -5,7 +5,7 @@ use Rattle.lease_store.specs.Defaults.{default_settings}
 use Rattle.cluster_script.specs.declared.line.Step.{Step}
 use Rattle.event_book.specs.declared.event.Event.{Event}
 use Rattle.event_book.specs.Writers.{HasOneWriter}
-use Rattle.cluster_model.specs.Heads.{HeadText, IsHead, names_of}
+use Rattle.cluster_script.specs.Script.{HeadText, IsHead, names_of}
 use Rattle.cluster_model.specs.Next.{run_events}
 use Rattle.cluster_model.specs.Starting.{cluster_of}
 use Rattle.lease_law.specs.Premises.{IsTimely, IsHandsOff}

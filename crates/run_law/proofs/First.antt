@@ -12,7 +12,7 @@ use Rattle.event_book.specs.declared.member.Member.{Member}
 use Rattle.event_book.specs.Agents.{first_agents, running_in}
 use Rattle.event_book.specs.Writers.{writes_in, writes_now}
 use Rattle.ha_loop.specs.Agents.{AgentFacts}
-use Rattle.cluster_model.specs.Heads.{HeadText, names_of}
+use Rattle.cluster_script.specs.Script.{HeadText, names_of}
 use Rattle.cluster_model.specs.Starting.{cluster_of, first_agent}
 use Rattle.cluster_model.specs.State.{Cluster}
 use Rattle.lease_law.specs.Books.{first_volatile_states}
@@ -23,9 +23,10 @@ use Rattle.lease_law.proofs.SameStore.{same-first}
 use Rattle.lease_law.proofs.Starting.{good-start}
 use Rattle.lease_law.proofs.Tools.{none-some, some-is}
 use Rattle.lease_law.proofs.Unpaused.{pauses-first}
+use Rattle.bridge_law.proofs.Flights.{flight-first}
 use Rattle.run_law.specs.Bridged.{Bridged, IsMatched, KnowsItself, KnowThemselves}
 use Rattle.run_law.specs.Declaring.{declared_members, declared_of, member_count}
-use Rattle.run_law.specs.Machines.{IsSameMachines, IsSized, deadline_in, deadline_now, hold_in, hold_now, live_in, live_now, run_in, run_now}
+use Rattle.run_law.specs.Machines.{IsSameEverywhere, IsSized, deadline_in, deadline_now, hold_in, hold_now, live_in, live_now, run_in, run_now}
 use Rattle.run_law.specs.Seen.{agent_now, volatile_of}
 use Rattle.run_law.proofs.Members.{counted, numbered}
 use Rattle.run_law.proofs.Waiting.{waiting-first}
@@ -54,7 +55,7 @@ first-process zero m small = absurd (omega (arith, small))
 first-process (suc count) zero small = refl
 first-process (suc count) (suc m) small = first-process count m (less-before m count small)
 
-first-machines : (head : HeadText) → IsSameMachines first_past (cluster_of head).book
+first-machines : (head : HeadText) → IsSameEverywhere first_past (cluster_of head).book
 first-machines head = record {
   deadline = λ m. sym (seen-replicate (let none : Option Ticks = None in none) deadline_now None refl refl (member_count head) m);
   hold = λ m. sym (seen-replicate (let none : Option Ticks = None in none) hold_now 0 refl refl (member_count head) m);
@@ -111,6 +112,7 @@ bridged-first head few = record {
     };
     agents_sized = length-map (declared_members head) (first_agent head.cluster (declared_members head)) ∙ counted head few;
     store = same-first (names_of head) head.base;
+    flight = flight-first (names_of head) head.base;
     machines = first-machines head;
     unpaused = pauses-first (names_of head) head.base;
     agents = first-knows head few;

@@ -27,7 +27,7 @@ use Rattle.event_book.specs.Writers.{writes_in, writes_now, writes_after, writes
 use Rattle.event_book.proofs.Told.{count-of, writes-of, writes-same}
 use Rattle.lease_law.specs.Past.{Past, past_after, deadline_after, deadline_by, by_failsafe_after, by_failsafe_by, is_acknowledged, hold_after, hold_by, runs_after}
 use Rattle.lease_law.proofs.Tools.{put-all}
-use Rattle.run_law.specs.Machines.{live_in, deadline_now, deadline_in, hold_now, hold_in, run_now, run_in, IsSameMachines, IsSized, IsByGrant, IsOfMembers}
+use Rattle.run_law.specs.Machines.{live_in, deadline_now, deadline_in, hold_now, hold_in, run_now, run_in, IsSameEverywhere, IsSized, IsByGrant, IsWithinMembers}
 use Rattle.run_law.proofs.Places.{get-changed, length-changed, there}
 
 -- what is put at a place is what is seen of the changed item there
@@ -65,7 +65,7 @@ no-deadline : (found : Option (Option Ticks)) → deadline_now (option_map (λ b
 no-deadline None = refl
 no-deadline (Some found) = refl
 
-deadline-watched : (before : ℕ → Option ℕ) (deadlines : List (Option Ticks)) (happening : WatchdogEvent) → IsOfMembers (length deadlines) (kinds.Watchdog happening)
+deadline-watched : (before : ℕ → Option ℕ) (deadlines : List (Option Ticks)) (happening : WatchdogEvent) → IsWithinMembers (length deadlines) (kinds.Watchdog happening)
     → ((m : ℕ) → before m ≡ deadline_in deadlines m) → (m : ℕ) → deadline_by before happening m ≡ deadline_in (deadlines_by deadlines happening) m
 deadline-watched before deadlines (watchdogs.Armed member until answer) is same m =
     seen-put deadline_now before deadlines member.id.number m _ (Some until.0) (seen-there deadline_now deadlines member.id.number _ (Some until.0) is (λ found. refl)) (same m)
@@ -75,7 +75,7 @@ deadline-watched before deadlines (watchdogs.Disarmed member) is same m = seen-p
 deadline-watched before deadlines (watchdogs.Reset member) is same m = seen-put deadline_now before deadlines member.id.number m _ None (no-deadline (slice_get deadlines member.id.number)) (same m)
 deadline-watched before deadlines (watchdogs.HoldTaken member until from run sequence) is same m = same m
 
-pub deadline-of : (before : ℕ → Option ℕ) (deadlines : List (Option Ticks)) (kind : EventKind) → IsOfMembers (length deadlines) kind
+pub deadline-of : (before : ℕ → Option ℕ) (deadlines : List (Option Ticks)) (kind : EventKind) → IsWithinMembers (length deadlines) kind
     → ((m : ℕ) → before m ≡ deadline_in deadlines m) → (m : ℕ) → deadline_after before kind m ≡ deadline_in (deadlines_after deadlines kind) m
 deadline-of before deadlines (kinds.Watchdog happening) is same m = deadline-watched before deadlines happening is same m
 deadline-of before deadlines _ is same m = same m
@@ -87,7 +87,7 @@ later-hold : (hold until : ℕ) (found : Option Ticks) → hold ≡ hold_now (So
 later-hold hold until None is moment at = at ∙ from-none until ∙ sym (ap (λ h. max h until) is)
 later-hold hold until (Some held) is moment at = ap (λ u. max held.0 u) at ∙ sym (ap (λ h. max h until) is)
 
-hold-watched : (before : ℕ → ℕ) (holds : List (Option Ticks)) (happening : WatchdogEvent) → IsOfMembers (length holds) (kinds.Watchdog happening)
+hold-watched : (before : ℕ → ℕ) (holds : List (Option Ticks)) (happening : WatchdogEvent) → IsWithinMembers (length holds) (kinds.Watchdog happening)
     → ((m : ℕ) → before m ≡ hold_in holds m) → (m : ℕ) → hold_by before happening m ≡ hold_in (holds_by holds happening) m
 hold-watched before holds (watchdogs.HoldTaken member until from run sequence) is same m =
     let found = there holds member.id.number is in
@@ -96,7 +96,7 @@ hold-watched before holds (watchdogs.HoldTaken member until from run sequence) i
     (same m)
 hold-watched before holds _ is same m = same m
 
-pub hold-of : (before : ℕ → ℕ) (holds : List (Option Ticks)) (kind : EventKind) → IsOfMembers (length holds) kind
+pub hold-of : (before : ℕ → ℕ) (holds : List (Option Ticks)) (kind : EventKind) → IsWithinMembers (length holds) kind
     → ((m : ℕ) → before m ≡ hold_in holds m) → (m : ℕ) → hold_after before kind m ≡ hold_in (holds_after holds kind) m
 hold-of before holds (kinds.Watchdog happening) is same m = hold-watched before holds happening is same m
 hold-of before holds _ is same m = same m
@@ -109,7 +109,7 @@ suspended-run : (to : Bool) (found : Option AgentProcess) → run_now (option_ma
 suspended-run to None = refl
 suspended-run to (Some process) = refl
 
-runs-by : (before : ℕ → ℕ) (processes : List AgentProcess) (happening : AgentEvent) → IsOfMembers (length processes) (kinds.Agent happening)
+runs-by : (before : ℕ → ℕ) (processes : List AgentProcess) (happening : AgentEvent) → IsWithinMembers (length processes) (kinds.Agent happening)
     → ((m : ℕ) → before m ≡ run_in processes m) → (m : ℕ) → runs_after before (kinds.Agent happening) m ≡ run_in (agents_by processes happening) m
 runs-by before processes (agents.Started agent run) is same m =
     seen-put run_now before processes agent.id.number m _ run (seen-there run_now processes agent.id.number _ run is (λ found. refl)) (same m)
@@ -122,7 +122,7 @@ runs-watched : (processes : List AgentProcess) (happening : WatchdogEvent) (m : 
 runs-watched processes (watchdogs.Reset member) m = sym (seen-kept run_now processes member.id.number m _ ended-run)
 runs-watched processes _ m = refl
 
-pub runs-of : (before : ℕ → ℕ) (processes : List AgentProcess) (kind : EventKind) → IsOfMembers (length processes) kind
+pub runs-of : (before : ℕ → ℕ) (processes : List AgentProcess) (kind : EventKind) → IsWithinMembers (length processes) kind
     → ((m : ℕ) → before m ≡ run_in processes m) → (m : ℕ) → runs_after before kind m ≡ run_in (agents_after processes kind) m
 runs-of before processes (kinds.Agent happening) is same m = runs-by before processes happening is same m
 runs-of before processes (kinds.Watchdog happening) is same m = same m ∙ runs-watched processes happening m
@@ -135,13 +135,13 @@ by-grant (bases.Acknowledgements members sequence) is = absurd is
 put-false : (before : ℕ → Bool) (k : ℕ) (value : Bool) → value ≡ false → ((m : ℕ) → before m ≡ false) → (m : ℕ) → put_at before k value m ≡ false
 put-false before k value is all = put-all before k value (λ m b. b ≡ false) is (λ m other. all m)
 
-by_grant-watched : (count : ℕ) (before : ℕ → Bool) (happening : WatchdogEvent) → IsOfMembers count (kinds.Watchdog happening)
+by_grant-watched : (count : ℕ) (before : ℕ → Bool) (happening : WatchdogEvent) → IsWithinMembers count (kinds.Watchdog happening)
     → ((m : ℕ) → before m ≡ false) → (m : ℕ) → by_failsafe_by before happening m ≡ false
 by_grant-watched count before (watchdogs.Armed member until answer) is all m = put-false before member.id.number false refl all m
 by_grant-watched count before (watchdogs.Fed member until basis) is all m = put-false before member.id.number (is_acknowledged basis) (by-grant basis is.1) all m
 by_grant-watched count before _ is all m = all m
 
-pub by_grant-of : (count : ℕ) (before : ℕ → Bool) (kind : EventKind) → IsOfMembers count kind → ((m : ℕ) → before m ≡ false) → (m : ℕ) → by_failsafe_after before kind m ≡ false
+pub by_grant-of : (count : ℕ) (before : ℕ → Bool) (kind : EventKind) → IsWithinMembers count kind → ((m : ℕ) → before m ≡ false) → (m : ℕ) → by_failsafe_after before kind m ≡ false
 by_grant-of count before (kinds.Watchdog happening) is all m = by_grant-watched count before happening is all m
 by_grant-of count before _ is all m = all m
 
@@ -164,11 +164,11 @@ no-writes before _ n aside none = none
 below-not : (k n count : ℕ) → k < count → count ≤ n → k ≢ n
 below-not k n count small past = omega (arith, small, past)
 
-aside-server : (count n : ℕ) (happening : ServerEvent) → count ≤ n → IsOfMembers count (kinds.Server happening) → BeginsServer (λ server. server ≢ n) happening
+aside-server : (count n : ℕ) (happening : ServerEvent) → count ≤ n → IsWithinMembers count (kinds.Server happening) → BeginsServer (λ server. server ≢ n) happening
 aside-server count n (servers.Began server timeline) past is = below-not server.id.number n count is past
 aside-server count n _ past is = tt
 
-aside-past : (count n : ℕ) (kind : EventKind) → count ≤ n → IsOfMembers count kind → BeginsKind (λ server. server ≢ n) kind
+aside-past : (count n : ℕ) (kind : EventKind) → count ≤ n → IsWithinMembers count kind → BeginsKind (λ server. server ≢ n) kind
 aside-past count n (kinds.Server happening) past is = aside-server count n happening past is
 aside-past count n _ past is = tt
 
@@ -178,7 +178,7 @@ writes-past known n past = ap writes_now (slice_get_past known n past)
 writes-kind : (before after : ℕ → Bool) (kind : EventKind) (n : ℕ) → before n ≡ after n → writes_after before kind n ≡ writes_after after kind n
 writes-kind before after kind n same = let event : Event = record { tick = record { 0 = 0 }; kind = kind } in writes-same before after (event ∷ []) n same
 
-pub writes-in : (before : ℕ → Bool) (now : ℕ) (known : List ServerFacts) (kind : EventKind) → IsOfMembers (length known) kind
+pub writes-in : (before : ℕ → Bool) (now : ℕ) (known : List ServerFacts) (kind : EventKind) → IsWithinMembers (length known) kind
     → ((n : ℕ) → before n ≡ writes_in known n) → (n : ℕ) → writes_after before kind n ≡ writes_in (servers_after now known kind) n
 writes-in before now known kind is same n = elim (slice_get_cases known n).1 [
   | inl found ↦ writes-kind before (writes_in known) kind n (same n) ∙ sym (writes-of now known kind n found.1)
@@ -228,12 +228,12 @@ sized-by count facts kind old = record {
   holds = sized-holds facts.holds kind ∙ old.holds;
 }
 
-pub machines-by : (count : ℕ) (past : Past) (facts : Facts) (kind : EventKind) → IsSized count facts → IsOfMembers count kind
-    → IsSameMachines past facts → IsSameMachines (past_after past kind) (facts_after facts kind)
+pub machines-by : (count : ℕ) (past : Past) (facts : Facts) (kind : EventKind) → IsSized count facts → IsWithinMembers count kind
+    → IsSameEverywhere past facts → IsSameEverywhere (past_after past kind) (facts_after facts kind)
 machines-by count past facts kind sized is old = record {
-  deadline = deadline-of past.deadline facts.deadlines kind (subst (λ (n : ℕ). IsOfMembers n kind) (sym sized.deadlines) is) old.deadline;
-  hold = hold-of past.hold facts.holds kind (subst (λ (n : ℕ). IsOfMembers n kind) (sym sized.holds) is) old.hold;
-  runs = runs-of past.runs facts.agents kind (subst (λ (n : ℕ). IsOfMembers n kind) (sym sized.agents) is) old.runs;
+  deadline = deadline-of past.deadline facts.deadlines kind (subst (λ (n : ℕ). IsWithinMembers n kind) (sym sized.deadlines) is) old.deadline;
+  hold = hold-of past.hold facts.holds kind (subst (λ (n : ℕ). IsWithinMembers n kind) (sym sized.holds) is) old.hold;
+  runs = runs-of past.runs facts.agents kind (subst (λ (n : ℕ). IsWithinMembers n kind) (sym sized.agents) is) old.runs;
   by_grant = by_grant-of count past.by_failsafe kind is old.by_grant;
-  writes = writes-in past.writes (now_after facts.clock kind) facts.servers kind (subst (λ (n : ℕ). IsOfMembers n kind) (sym sized.servers) is) old.writes;
+  writes = writes-in past.writes (now_after facts.clock kind) facts.servers kind (subst (λ (n : ℕ). IsWithinMembers n kind) (sym sized.servers) is) old.writes;
 }

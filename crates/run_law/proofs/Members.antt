@@ -7,7 +7,7 @@ use Rattle.pat_base.specs.declared.name.Name.{Name}
 use Rattle.event_book.specs.declared.member.Member.{Member}
 use Rattle.event_book.specs.Members.{members_from, put_first}
 use Rattle.pat_base.specs.MemberId.{member_by, member_of}
-use Rattle.cluster_model.specs.Heads.{HeadText, names_of}
+use Rattle.cluster_script.specs.Script.{HeadText, names_of}
 use Rattle.lease_law.proofs.Tools.{none-some, some-is}
 use Rattle.run_law.specs.Declaring.{declared_members, member_count}
 use Rattle.run_law.specs.Members.{IsDeclared, is_listed}

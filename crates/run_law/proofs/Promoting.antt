@@ -4,7 +4,7 @@ use Rattle.event_book.specs.declared.event.Event.{Event}
 use Rattle.event_book.specs.declared.event.EventKind.{EventKind}
 use Rattle.event_book.specs.Writers.{HasOneWriter}
 use Rattle.cluster_model.specs.Cluster.{cluster_over}
-use Rattle.cluster_model.specs.Heads.{HeadText}
+use Rattle.cluster_script.specs.Script.{HeadText}
 use Rattle.cluster_model.specs.State.{Cluster}
 use Rattle.lease_law.specs.Actions.{Note}
 use Rattle.lease_law.specs.Premises.{AreHandsOff, IsHandsOffKind}

@@ -15,7 +15,7 @@ use Rattle.cluster_model.specs.declared.delivery.Delivery.{Delivery}
 use Rattle.cluster_model.specs.declared.delivery.Delivery.TheVariants as deliveries
 use Rattle.cluster_model.specs.Cluster.{cluster_over}
 use Rattle.cluster_model.specs.Deliveries.{delivery_of}
-use Rattle.cluster_model.specs.Heads.{HeadText, names_of}
+use Rattle.cluster_script.specs.Script.{HeadText, names_of}
 use Rattle.cluster_model.specs.Inputs.{is_to_wake, moment_of, standing_of}
 use Rattle.cluster_model.specs.Limits.{most_rounds}
 use Rattle.cluster_model.specs.Messages.{deliver_events, deliver_events_by, message_events, message_events_by, wake_events, wake_events_if, wake_events_of}

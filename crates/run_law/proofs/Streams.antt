@@ -16,7 +16,7 @@ use Rattle.event_book.specs.Members.{server_of}
 use Rattle.cluster_model.specs.Acknowledging.{acknowledge_kinds, acknowledgement, ready_commits}
 use Rattle.cluster_model.specs.Cluster.{cluster_after}
 use Rattle.cluster_model.specs.Commands.{kinds_of}
-use Rattle.cluster_model.specs.Heads.{HeadText}
+use Rattle.cluster_script.specs.Script.{HeadText}
 use Rattle.cluster_model.specs.Next.{acknowledge_events, all_entries, confirm_events, receive_events, receive_events_at_most, receive_events_of}
 use Rattle.cluster_model.specs.Parts.{event_of, events_of, events_then, for_some}
 use Rattle.cluster_model.specs.State.{Cluster}

@@ -15,7 +15,7 @@ use Rattle.event_book.specs.Members.{server_of}
 use Rattle.pg_model.specs.Facts.{ServerFacts}
 use Rattle.cluster_model.specs.Cluster.{cluster_after, cluster_over}
 use Rattle.cluster_model.specs.Commands.{kinds_of}
-use Rattle.cluster_model.specs.Heads.{HeadText, names_of}
+use Rattle.cluster_script.specs.Script.{HeadText, names_of}
 use Rattle.cluster_model.specs.Orders.{declared_member}
 use Rattle.cluster_model.specs.Parts.{each, event_of, events_of}
 use Rattle.cluster_model.specs.State.{Cluster}

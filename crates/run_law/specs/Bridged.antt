@@ -1,6 +1,7 @@
 -- What a run's book and cluster keep between two actions.
 use Rattle.std.specs.Prelude.{ℕ, ◌≡◌, Bool, true, List, Option, Some, length, slice_get}
-use Rattle.cluster_model.specs.Heads.{HeadText}
+use Rattle.cluster_script.specs.Script.{HeadText}
+use Rattle.bridge_law.specs.Flights.{IsSameFlight}
 use Rattle.event_book.specs.declared.agent_process.AgentProcess.{AgentProcess}
 use Rattle.event_book.specs.declared.event.Event.{Event}
 use Rattle.ha_loop.specs.Agents.{AgentFacts}
@@ -11,7 +12,7 @@ use Rattle.lease_law.specs.Past.{Past, past_of, state_of}
 use Rattle.lease_law.specs.Pauses.{NobodyPauses}
 use Rattle.lease_law.specs.Stores.{IsSameStore}
 use Rattle.run_law.specs.Declaring.{declared_of, declared_members, member_count}
-use Rattle.run_law.specs.Machines.{IsSameMachines, IsSized}
+use Rattle.run_law.specs.Machines.{IsSameEverywhere, IsSized}
 use Rattle.run_law.specs.Seen.{volatile_of}
 use Rattle.run_law.specs.Waiting.{AgentsAreSound}
 
@@ -34,7 +35,8 @@ pub record IsMatched (head : HeadText) (past : Past) (cluster : Cluster) : Type 
   pub sized : IsSized (member_count head) cluster.book
   pub agents_sized : length cluster.agents ≡ member_count head
   pub store : IsSameStore past cluster.book
-  pub machines : IsSameMachines past cluster.book
+  pub flight : IsSameFlight past cluster.book
+  pub machines : IsSameEverywhere past cluster.book
   pub unpaused : NobodyPauses cluster.book
   pub agents : KnowThemselves cluster.book.agents cluster.agents
   pub waiting : AgentsAreSound past cluster

@@ -1,7 +1,7 @@
 -- What a head declares, as the law of one writer reads it.
 use Rattle.std.specs.Prelude.{ℕ, ◌*◌, ◌&&◌, Bool, true, false, List, Option, Some, None, length, map, slice_get}
 use Rattle.pat_base.specs.declared.name.Name.{Name}
-use Rattle.cluster_model.specs.Heads.{HeadText, MemberText, MemberOptions, names_of}
+use Rattle.cluster_script.specs.Script.{HeadText, MemberText, names_of}
 use Rattle.event_book.specs.declared.member.Member.{Member}
 use Rattle.event_book.specs.Members.{members_from}
 use Rattle.leader_key.specs.Watchdog.{is_armable}

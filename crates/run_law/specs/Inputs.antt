@@ -6,7 +6,7 @@ use Rattle.event_book.specs.declared.event.Event.{Event}
 use Rattle.event_book.specs.declared.member.Member.{Member}
 use Rattle.event_book.specs.Flight.{InFlightFacts, in_flight}
 use Rattle.cluster_model.specs.Deliveries.{delivery_of}
-use Rattle.cluster_model.specs.Heads.{HeadText}
+use Rattle.cluster_script.specs.Script.{HeadText}
 use Rattle.cluster_model.specs.Inputs.{is_to_wake, moment_of, standing_of}
 use Rattle.cluster_model.specs.Messages.{arrival_events, wake_events_of}
 use Rattle.cluster_model.specs.State.{Cluster}

@@ -1,7 +1,7 @@
 -- Events that keep the law of one writer.
 use Rattle.std.specs.Prelude.{◌≡◌, ◌++◌, List}
 use Rattle.lease_store.specs.Defaults.{default_settings}
-use Rattle.cluster_model.specs.Heads.{HeadText}
+use Rattle.cluster_script.specs.Script.{HeadText}
 use Rattle.event_book.specs.declared.event.Event.{Event}
 use Rattle.event_book.specs.Writers.{HasOneWriter}
 use Rattle.cluster_model.specs.Cluster.{cluster_over}

@@ -53,7 +53,7 @@ run_in processes m = run_now (slice_get processes m)
 
 -- a book's past has of each machine what the book leaves, and each deadline is by a grant; which servers accept writes by the book is
 -- as their states say
-pub record IsSameMachines (past : Past) (facts : Facts) : Type 0 where
+pub record IsSameEverywhere (past : Past) (facts : Facts) : Type 0 where
   pub deadline : (m : ℕ) → past.deadline m ≡ deadline_in facts.deadlines m
   pub hold : (m : ℕ) → past.hold m ≡ hold_in facts.holds m
   pub runs : (m : ℕ) → past.runs m ≡ run_in facts.agents m
@@ -74,10 +74,10 @@ IsByGrant (bases.Acknowledgements members sequence) = ⊥
 
 -- whose watchdog this event feeds, who takes a hold, whose server begins and whose agent starts is one of so many members; and feeds are by
 -- grants
-abbrev pub IsOfMembers : ℕ → EventKind → Type 0
-IsOfMembers count (kinds.Watchdog (watchdogs.Armed member until answer)) = member.id.number < count
-IsOfMembers count (kinds.Watchdog (watchdogs.Fed member until basis)) = (member.id.number < count) × IsByGrant basis
-IsOfMembers count (kinds.Watchdog (watchdogs.HoldTaken member until from run sequence)) = member.id.number < count
-IsOfMembers count (kinds.Server (servers.Began server timeline)) = server.id.number < count
-IsOfMembers count (kinds.Agent (agents.Started agent run)) = agent.id.number < count
-IsOfMembers count _ = Unit {0}
+abbrev pub IsWithinMembers : ℕ → EventKind → Type 0
+IsWithinMembers count (kinds.Watchdog (watchdogs.Armed member until answer)) = member.id.number < count
+IsWithinMembers count (kinds.Watchdog (watchdogs.Fed member until basis)) = (member.id.number < count) × IsByGrant basis
+IsWithinMembers count (kinds.Watchdog (watchdogs.HoldTaken member until from run sequence)) = member.id.number < count
+IsWithinMembers count (kinds.Server (servers.Began server timeline)) = server.id.number < count
+IsWithinMembers count (kinds.Agent (agents.Started agent run)) = agent.id.number < count
+IsWithinMembers count _ = Unit {0}

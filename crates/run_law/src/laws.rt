@@ -1,7 +1,7 @@
 //! Laws of every run.
 ghost use Rattle.std.specs.Prelude.{◌≡◌, ◌++◌, List};
 ghost use Rattle.lease_store.specs.Defaults.{default_settings};
-ghost use Rattle.cluster_model.specs.Heads.{HeadText, IsHead};
+ghost use Rattle.cluster_script.specs.Script.{HeadText, IsHead};
 ghost use Rattle.cluster_script.specs.declared.line.Step.{Step};
 ghost use Rattle.event_book.specs.declared.event.Event.{Event};
 ghost use Rattle.event_book.specs.Writers.{HasOneWriter};
