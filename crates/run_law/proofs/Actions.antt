@@ -28,7 +28,7 @@ use Rattle.run_law.specs.Declaring.{declared_of, member_count}
 use Rattle.run_law.specs.Kept.{MeetsPremises, IsKept, TellsAction}
 use Rattle.run_law.specs.LocalActions.{machines_by_action}
 use Rattle.run_law.specs.Machines.{live_in, live_now}
-use Rattle.run_law.specs.Seen.{volatile_of, machine_seen}
+use Rattle.run_law.specs.Volatile.{volatile_of, machine_in}
 use Rattle.run_law.proofs.Asides.{asides-begin, matched-behind}
 
 begins-front : (P : List Event → ℕ → Type 0) (before front rest : List Event) → BeginsBehind P before (front ++ rest) → BeginsBehind P before front
@@ -84,7 +84,7 @@ machine-same : (live : Bool) (agent : Option Agent) (d d' : Option ℕ) (b b' : 
 machine-same live agent d d' b b' h h' r r' p q s t = cc
 
 -- the law's machines are those that are seen of the cluster
-pub machine-is : (head : HeadText) (past : Past) (cluster : Cluster) → IsMatched head past cluster → (m : ℕ) → machine_of past (volatile_of cluster m) m ≡ machine_seen cluster m
+pub machine-is : (head : HeadText) (past : Past) (cluster : Cluster) → IsMatched head past cluster → (m : ℕ) → machine_of past (volatile_of cluster m) m ≡ machine_in cluster m
 machine-is head past cluster matched m =
     machine-same _ _ _ _ _ _ _ _ _ _ (matched.machines.deadline m) (matched.machines.by_grant m) (matched.machines.hold m) (matched.machines.runs m)
 
@@ -109,13 +109,13 @@ local-shows s _ events is = tt
 -- events that change machines alone, as an action does, keep the law
 pub local-kept : (head : HeadText) (book : List Event) (cluster : Cluster) (events : List Event) (action : Action) → Bridged head book cluster
     → IsLocalAction action → AllAre (IsAside (member_count head)) events → AllAre IsLocal events
-    → ((m : ℕ) → machine_seen (cluster_over cluster events) m ≡ machines_by_action action (machine_seen cluster) m)
+    → ((m : ℕ) → machine_in (cluster_over cluster events) m ≡ machines_by_action action (machine_in cluster) m)
     → IsKept head book cluster events
 local-kept head book cluster events action good local asides all machines =
     let later : Cluster = cluster_over cluster events in
     let s : Lease = Behind head book cluster in
     let matched = matched-behind head book cluster events asides good.matched in
-    let seen : s.members ≡ machine_seen cluster = fun_ext (machine-is head (past_of book) cluster good.matched) in
+    let seen : s.members ≡ machine_in cluster = fun_ext (machine-is head (past_of book) cluster good.matched) in
     action-kept head book cluster events action good (asides-begin (member_count head) (MayBeginBehind s action) [] events asides) (λ meets. record {
       lawful = local-lawful s action local;
       shows = local-shows s action events local;

@@ -14,7 +14,7 @@ use Rattle.lease_law.proofs.Runs.{assoc, cuts, no-cons, none-more, one-front-of}
 use Rattle.run_law.specs.Bridged.{Bridged}
 use Rattle.run_law.specs.Declaring.{declared_of, works_of}
 use Rattle.run_law.specs.Kept.{MeetsPremises, IsKept, Keeps}
-use Rattle.run_law.specs.Seen.{volatile_of}
+use Rattle.run_law.specs.Volatile.{volatile_of}
 
 pub premises-front : (head : HeadText) (front rest : List Event) → MeetsPremises head (front ++ rest) → MeetsPremises head front
 premises-front head front rest meets = record {

@@ -31,7 +31,7 @@ use Rattle.run_law.specs.Bridged.{Bridged}
 use Rattle.run_law.specs.Declaring.{declared_of, member_count}
 use Rattle.run_law.specs.Kept.{IsKept}
 use Rattle.run_law.specs.Machines.{live_in, live_now, run_in, run_now}
-use Rattle.run_law.specs.Seen.{agent_now, machine_seen, volatile_of}
+use Rattle.run_law.specs.Volatile.{agent_now, machine_in, volatile_of}
 use Rattle.run_law.proofs.Actions.{action-kept, local-kept}
 use Rattle.run_law.proofs.Asides.{asides-begin, matched-behind}
 use Rattle.run_law.proofs.Machines.{seen-kept}
@@ -55,11 +55,11 @@ pub agent-without : (agents : List (Option AgentFacts)) (k : ℕ) → k < length
 agent-without agents k small = let found = there agents k small in ap (λ (o : Option (Option AgentFacts)). agent_now (option_map (λ (agent : Option AgentFacts). let none : Option AgentFacts = None in none) o)) found.1
 
 killed-machine : (cluster : Cluster) (member : Member) → member.id.number < length cluster.agents → (m : ℕ)
-    → machine_seen (cluster_after cluster (kinds.Agent (agents.Killed member))) m ≡ put_at (machine_seen cluster) member.id.number (kill_machine (machine_seen cluster member.id.number)) m
+    → machine_in (cluster_after cluster (kinds.Agent (agents.Killed member))) m ≡ put_at (machine_in cluster) member.id.number (kill_machine (machine_in cluster member.id.number)) m
 killed-machine cluster member small =
     let k : ℕ = member.id.number in
     let runs : (m : ℕ) → run_in _ m ≡ run_in cluster.book.agents m = λ m. seen-kept run_now cluster.book.agents k m _ ended-run in
-    machines-put (machine_seen cluster) (machine_seen (cluster_after cluster (kinds.Agent (agents.Killed member)))) k (kill_machine (machine_seen cluster k))
+    machines-put (machine_in cluster) (machine_in (cluster_after cluster (kinds.Agent (agents.Killed member)))) k (kill_machine (machine_in cluster k))
     (machine-parts _ _ _ _ _ _ _ _ _ refl (ap agent_now (get-here cluster.agents k _) ∙ agent-without cluster.agents k small) (runs k))
     (λ m other. machine-parts _ _ _ _ _ _ _ _ _ refl (ap agent_now (get-elsewhere cluster.agents k m _ other)) (runs m))
 
@@ -78,10 +78,10 @@ crashed-now None = refl
 crashed-now (Some s) = crashed-dead s.state
 
 crashed-machine : (cluster : Cluster) (server : ServerOf) (m : ℕ)
-    → machine_seen (cluster_after cluster (kinds.Server (servers.Crashed server))) m ≡ put_at (machine_seen cluster) server.id.number (crash_machine (machine_seen cluster server.id.number)) m
+    → machine_in (cluster_after cluster (kinds.Server (servers.Crashed server))) m ≡ put_at (machine_in cluster) server.id.number (crash_machine (machine_in cluster server.id.number)) m
 crashed-machine cluster server =
     let k : ℕ = server.id.number in
-    machines-put (machine_seen cluster) (machine_seen (cluster_after cluster (kinds.Server (servers.Crashed server)))) k (crash_machine (machine_seen cluster k))
+    machines-put (machine_in cluster) (machine_in (cluster_after cluster (kinds.Server (servers.Crashed server)))) k (crash_machine (machine_in cluster k))
     (machine-parts _ _ _ _ _ _ _ _ _ (ap live_now (get-here cluster.book.servers k _) ∙ crashed-now (slice_get cluster.book.servers k)) refl refl)
     (λ m other. machine-parts _ _ _ _ _ _ _ _ _ (ap live_now (get-elsewhere cluster.book.servers k m _ other)) refl refl)
 

@@ -13,6 +13,7 @@ use Rattle.event_book.specs.Agents.{first_agents, running_in}
 use Rattle.event_book.specs.Writers.{writes_in, writes_now}
 use Rattle.ha_loop.specs.Agents.{AgentFacts}
 use Rattle.cluster_script.specs.Script.{HeadText, names_of}
+use Rattle.cluster_model.specs.Machines.{who_of}
 use Rattle.cluster_model.specs.Starting.{cluster_of, first_agent}
 use Rattle.cluster_model.specs.State.{Cluster}
 use Rattle.lease_law.specs.Books.{first_volatile_states}
@@ -27,7 +28,8 @@ use Rattle.bridge_law.proofs.Flights.{flight-first}
 use Rattle.run_law.specs.Bridged.{Bridged, IsMatched, KnowsItself, KnowThemselves}
 use Rattle.run_law.specs.Declaring.{declared_members, declared_of, member_count}
 use Rattle.run_law.specs.Machines.{IsSameEverywhere, IsSized, deadline_in, deadline_now, hold_in, hold_now, live_in, live_now, run_in, run_now}
-use Rattle.run_law.specs.Seen.{agent_now, volatile_of}
+use Rattle.run_law.specs.Volatile.{agent_now, volatile_of}
+use Rattle.run_law.proofs.Fresh.{fresh-seen}
 use Rattle.run_law.proofs.Members.{counted, numbered}
 use Rattle.run_law.proofs.Waiting.{waiting-first}
 
@@ -67,7 +69,7 @@ first-machines head = record {
 -- what is seen of an agent at the beginning
 agent-first : (scope : Name) (members : List Member) (found : Option Member) → agent_now (option_map (first_agent scope members) found) ≡ Some (fresh_agent 1)
 agent-first scope members None = refl
-agent-first scope members (Some member) = refl
+agent-first scope members (Some member) = ap Some (fresh-seen (who_of scope members member) member.id.number 1)
 
 volatile-same : (a b : Bool) (x y : Option Agent) → a ≡ b → x ≡ y → ◌≡◌ {A = VolatileState} (record { live = a; agent = x }) (record { live = b; agent = y })
 volatile-same a b x y p q = cc

@@ -1,6 +1,7 @@
 pub mod Places
 pub mod Machines
 pub mod Composing
+pub mod Fresh
 pub mod Waiting
 pub mod Asides
 pub mod Actions

@@ -12,7 +12,7 @@ use Rattle.lease_law.proofs.Runs.{head-is, none-more, one-front-of}
 use Rattle.run_law.specs.Bridged.{Bridged}
 use Rattle.run_law.specs.Declaring.{declared_of}
 use Rattle.run_law.specs.Kept.{MeetsPremises, IsKept}
-use Rattle.run_law.specs.Seen.{volatile_of}
+use Rattle.run_law.specs.Volatile.{volatile_of}
 
 hands-off-back : (book rest : List Event) → AreHandsOff (book ++ rest) → AreHandsOff rest
 hands-off-back [] rest is = is

@@ -27,7 +27,7 @@ use Rattle.run_law.specs.Bridged.{Bridged}
 use Rattle.run_law.specs.Declaring.{member_count}
 use Rattle.run_law.specs.Kept.{IsKept}
 use Rattle.run_law.specs.Machines.{live_in, live_now, run_in, run_now}
-use Rattle.run_law.specs.Seen.{machine_seen}
+use Rattle.run_law.specs.Volatile.{machine_in}
 use Rattle.run_law.proofs.Actions.{local-kept}
 use Rattle.run_law.proofs.Composing.{kept-none, kept-then}
 use Rattle.run_law.proofs.Machines.{seen-kept}
@@ -73,7 +73,7 @@ suspended-run : (to : Bool) (found : Option AgentProcess) → run_now (option_ma
 suspended-run to None = refl
 suspended-run to (Some process) = refl
 
-pub quiet-machine : (cluster : Cluster) (kind : EventKind) → IsQuiet kind → (m : ℕ) → machine_seen (cluster_after cluster kind) m ≡ machine_seen cluster m
+pub quiet-machine : (cluster : Cluster) (kind : EventKind) → IsQuiet kind → (m : ℕ) → machine_in (cluster_after cluster kind) m ≡ machine_in cluster m
 quiet-machine cluster (kinds.Store happening) is m = refl
 quiet-machine cluster (kinds.Server happening) is m = machine-live _ _ _ _ _ _ _ _ (quiet-server cluster.book.clock cluster.book.servers happening m is) refl
 quiet-machine cluster (kinds.Log happening) is m =

@@ -19,7 +19,7 @@ use Rattle.event_book.specs.Functions.{put_at}
 use Rattle.ha_loop.specs.Agents.{AgentFacts}
 use Rattle.cluster_model.specs.Cluster.{cluster_after, cluster_over}
 use Rattle.cluster_model.specs.Commands.{disarm_of, disarm_if, kinds_of}
-use Rattle.cluster_model.specs.Machines.{machine_from, machine_of}
+use Rattle.cluster_model.specs.Machines.{machine_from, machine_of, who_of}
 use Rattle.cluster_model.specs.Next.{restart_events, restart_events_of}
 use Rattle.cluster_model.specs.Parts.{event_of, events_of, events_then}
 use Rattle.cluster_model.specs.Starting.{options_of}
@@ -33,10 +33,11 @@ use Rattle.run_law.specs.Bridged.{Bridged}
 use Rattle.run_law.specs.Declaring.{member_count}
 use Rattle.run_law.specs.Kept.{IsKept}
 use Rattle.run_law.specs.Machines.{deadline_in, deadline_now, live_in, live_now, run_in, run_now}
-use Rattle.run_law.specs.Seen.{agent_now, machine_seen}
+use Rattle.run_law.specs.Volatile.{agent_now, machine_in}
 use Rattle.run_law.proofs.Actions.{local-kept}
 use Rattle.run_law.proofs.Composing.{kept-for_some, kept-none, kept-then}
 use Rattle.run_law.proofs.Ending.{machines-put}
+use Rattle.run_law.proofs.Fresh.{fresh-seen}
 use Rattle.run_law.proofs.Places.{get-here, get-elsewhere, there}
 use Rattle.run_law.proofs.Quiet.{kept-quiet}
 
@@ -64,22 +65,22 @@ started-machine : (cluster : Cluster) (member : Member) (found : Option EventKin
     → IsStartOf member (live_in cluster.book.servers member.id.number) (deadline_in cluster.book.deadlines member.id.number) found → (m : ℕ)
     → let run : ℕ = run_in cluster.book.agents member.id.number + 1 in
     let started : Cluster = cluster_after cluster (kinds.Agent (agents.Started member run)) in
-    machine_seen (cluster_over cluster (event_of cluster (kinds.Agent (agents.Started member run)) ++ events_of started (kinds_of found))) m
-    ≡ put_at (machine_seen cluster) member.id.number (start_machine (machine_seen cluster member.id.number)) m
+    machine_in (cluster_over cluster (event_of cluster (kinds.Agent (agents.Started member run)) ++ events_of started (kinds_of found))) m
+    ≡ put_at (machine_in cluster) member.id.number (start_machine (machine_in cluster member.id.number)) m
 started-machine cluster member None few small is =
     let k : ℕ = member.id.number in
     let run : ℕ = run_in cluster.book.agents k + 1 in
-    machines-put (machine_seen cluster) (machine_seen (cluster_after cluster (kinds.Agent (agents.Started member run)))) k (start_machine (machine_seen cluster k))
-    (machine-parts _ _ _ _ _ _ _ _ _ (sym is) (ap agent_now (get-here cluster.agents k _) ∙ fresh-there cluster.agents k run _ few refl) (ap run_now (get-here cluster.book.agents k _) ∙ started-run cluster.book.agents k run small))
+    machines-put (machine_in cluster) (machine_in (cluster_after cluster (kinds.Agent (agents.Started member run)))) k (start_machine (machine_in cluster k))
+    (machine-parts _ _ _ _ _ _ _ _ _ (sym is) (ap agent_now (get-here cluster.agents k _) ∙ fresh-there cluster.agents k run _ few (ap Some (fresh-seen (who_of cluster.scope cluster.book.members member) cluster.book.clock run))) (ap run_now (get-here cluster.book.agents k _) ∙ started-run cluster.book.agents k run small))
     (λ m other. machine-parts _ _ _ _ _ _ _ _ _ refl (ap agent_now (get-elsewhere cluster.agents k m _ other)) (ap run_now (get-elsewhere cluster.book.agents k m _ other)))
 started-machine cluster member (Some kind) few small is =
     let k : ℕ = member.id.number in
     let run : ℕ = run_in cluster.book.agents k + 1 in
     let started : Cluster = cluster_after cluster (kinds.Agent (agents.Started member run)) in
-    subst (λ (z : EventKind). (m : ℕ) → machine_seen (cluster_after started z) m ≡ put_at (machine_seen cluster) k (start_machine (machine_seen cluster k)) m) (sym is.0)
-    (machines-put (machine_seen cluster) (machine_seen (cluster_after started (kinds.Watchdog (watchdogs.Disarmed member)))) k (start_machine (machine_seen cluster k))
+    subst (λ (z : EventKind). (m : ℕ) → machine_in (cluster_after started z) m ≡ put_at (machine_in cluster) k (start_machine (machine_in cluster k)) m) (sym is.0)
+    (machines-put (machine_in cluster) (machine_in (cluster_after started (kinds.Watchdog (watchdogs.Disarmed member)))) k (start_machine (machine_in cluster k))
     (machine-parts _ _ _ _ _ _ _ _ _ (ap deadline_now (get-here cluster.book.deadlines k _) ∙ no-deadline (slice_get cluster.book.deadlines k) ∙ sym is.1)
-    (ap agent_now (get-here cluster.agents k _) ∙ fresh-there cluster.agents k run _ few refl) (ap run_now (get-here cluster.book.agents k _) ∙ started-run cluster.book.agents k run small))
+    (ap agent_now (get-here cluster.agents k _) ∙ fresh-there cluster.agents k run _ few (ap Some (fresh-seen (who_of cluster.scope cluster.book.members member) cluster.book.clock run))) (ap run_now (get-here cluster.book.agents k _) ∙ started-run cluster.book.agents k run small))
     (λ m other. machine-parts _ _ _ _ _ _ _ _ _ (ap deadline_now (get-elsewhere cluster.book.deadlines k m _ other))
     (ap agent_now (get-elsewhere cluster.agents k m _ other)) (ap run_now (get-elsewhere cluster.book.agents k m _ other))))
 

@@ -28,7 +28,7 @@ use Rattle.lease_law.proofs.Tools.{eq-from, ne-from}
 use Rattle.run_law.specs.Asides.{IsQuiet}
 use Rattle.run_law.specs.Machines.{deadline_in, deadline_now, live_in, live_now, run_now}
 use Rattle.run_law.specs.Members.{is_listed}
-use Rattle.run_law.specs.Seen.{agent_now, machine_seen}
+use Rattle.run_law.specs.Volatile.{agent_now, machine_in}
 use Rattle.run_law.proofs.Composing.{Each, over-append}
 use Rattle.run_law.proofs.Ending.{agent-without, crashed-now, machines-put}
 use Rattle.run_law.proofs.Machines.{seen-kept}
@@ -47,7 +47,7 @@ ticked-live now (states.Stopping true at) s is = refl
 ticked-live now (states.Stopping false at) s is = same-if (λ s. live s.state) (nat_le at.0 now.0) (stopped s) s (live s.state) (sym (ap live is)) refl
 ticked-live now _ s is = refl
 
-pub ticked-machine : (cluster : Cluster) (m : ℕ) → machine_seen (cluster_after cluster kinds.Tick) m ≡ machine_seen cluster m
+pub ticked-machine : (cluster : Cluster) (m : ℕ) → machine_in (cluster_after cluster kinds.Tick) m ≡ machine_in cluster m
 ticked-machine cluster m =
     let now : Ticks = record { 0 = cluster.book.clock + 1 } in
     machine-parts _ _ _ _ _ _ _ _ _ _
@@ -71,7 +71,7 @@ no-deadline (Some found) = refl
 abbrev after-reset : Cluster → Member → Bool → Cluster
 after-reset cluster x due = cluster_over cluster (events_of cluster (kinds_of (cond due (Some (kinds.Watchdog (watchdogs.Reset x))) None)))
 
-reset-machine : (cluster : Cluster) (x : Member) → x.id.number < length cluster.agents → machine_seen (after-reset cluster x true) x.id.number ≡ tick_machine true false (machine_seen cluster x.id.number)
+reset-machine : (cluster : Cluster) (x : Member) → x.id.number < length cluster.agents → machine_in (after-reset cluster x true) x.id.number ≡ tick_machine true false (machine_in cluster x.id.number)
 reset-machine cluster x small =
     let k : ℕ = x.id.number in
     machine-parts _ _ _ _ _ _ _ _ _ _
@@ -80,7 +80,7 @@ reset-machine cluster x small =
     (ap deadline_now (get-here cluster.book.deadlines k _) ∙ no-deadline (slice_get cluster.book.deadlines k))
     (seen-kept run_now cluster.book.agents k k _ ended-run)
 
-reset-elsewhere : (cluster : Cluster) (x : Member) (m : ℕ) → m ≢ x.id.number → machine_seen (after-reset cluster x true) m ≡ machine_seen cluster m
+reset-elsewhere : (cluster : Cluster) (x : Member) (m : ℕ) → m ≢ x.id.number → machine_in (after-reset cluster x true) m ≡ machine_in cluster m
 reset-elsewhere cluster x m other =
     let k : ℕ = x.id.number in
     machine-parts _ _ _ _ _ _ _ _ _ _
@@ -92,19 +92,19 @@ abbrev due_seen : Cluster → ℕ → Bool
 due_seen cluster m = is_due cluster.book.clock (deadline_in cluster.book.deadlines m)
 
 reset-at : (cluster : Cluster) (x : Member) (m : ℕ) (due same : Bool) → x.id.number < length cluster.agents → due_seen cluster x.id.number ≡ due → (m == x.id.number) ≡ same
-    → machine_seen (after-reset cluster x due) m ≡ tick_machine (same && due_seen cluster m) false (machine_seen cluster m)
+    → machine_in (after-reset cluster x due) m ≡ tick_machine (same && due_seen cluster m) false (machine_in cluster m)
 reset-at cluster x m true true small is e =
-    subst (λ (n : ℕ). machine_seen (after-reset cluster x true) n ≡ tick_machine (due_seen cluster n) false (machine_seen cluster n)) (sym (eq-from m x.id.number e))
-    (reset-machine cluster x small ∙ ap (λ b. tick_machine b false (machine_seen cluster x.id.number)) (sym is))
+    subst (λ (n : ℕ). machine_in (after-reset cluster x true) n ≡ tick_machine (due_seen cluster n) false (machine_in cluster n)) (sym (eq-from m x.id.number e))
+    (reset-machine cluster x small ∙ ap (λ b. tick_machine b false (machine_in cluster x.id.number)) (sym is))
 reset-at cluster x m true false small is e = reset-elsewhere cluster x m (ne-from m x.id.number e)
 reset-at cluster x m false true small is e =
-    ap (λ b. tick_machine b false (machine_seen cluster m)) (sym (ap (λ (n : ℕ). due_seen cluster n) (eq-from m x.id.number e) ∙ is))
+    ap (λ b. tick_machine b false (machine_in cluster m)) (sym (ap (λ (n : ℕ). due_seen cluster n) (eq-from m x.id.number e) ∙ is))
 reset-at cluster x m false false small is e = refl
 
 reset-one : (cluster : Cluster) (x : Member) (m : ℕ) → x.id.number < length cluster.agents
-    → machine_seen (cluster_over cluster (reset_events cluster x)) m ≡ tick_machine ((m == x.id.number) && due_seen cluster m) false (machine_seen cluster m)
+    → machine_in (cluster_over cluster (reset_events cluster x)) m ≡ tick_machine ((m == x.id.number) && due_seen cluster m) false (machine_in cluster m)
 reset-one cluster x m small =
-    ap (λ (o : Option EventKind). machine_seen (cluster_over cluster (events_of cluster (kinds_of o))) m) (reset-found cluster.book.clock x (slice_get cluster.book.deadlines x.id.number))
+    ap (λ (o : Option EventKind). machine_in (cluster_over cluster (events_of cluster (kinds_of o))) m) (reset-found cluster.book.clock x (slice_get cluster.book.deadlines x.id.number))
     ∙ reset-at cluster x m (due_seen cluster x.id.number) (m == x.id.number) small refl refl
 
 -- what a reset leaves of the clock and of how many agents there are
@@ -130,23 +130,23 @@ twice-reset now machine true false false is = refl
 twice-reset now machine true true false is = ap (λ b. tick_machine b false machine) is
 
 pub resets : (xs : List Member) (cluster : Cluster) → Each (λ (x : Member). x.id.number < length cluster.agents) xs → (m : ℕ)
-    → machine_seen (cluster_over cluster (each reset_events cluster xs)) m ≡ tick_machine (is_listed m xs && due_seen cluster m) false (machine_seen cluster m)
+    → machine_in (cluster_over cluster (each reset_events cluster xs)) m ≡ tick_machine (is_listed m xs && due_seen cluster m) false (machine_in cluster m)
 resets [] cluster small m = refl
 resets (x ∷ xs) cluster small m =
     let later : Cluster = cluster_over cluster (reset_events cluster x) in
     let moment = reset-moment cluster x (slice_get cluster.book.deadlines x.id.number) cluster.book.clock in
     let one = reset-one cluster x m small.0 in
-    ap (λ (c : Cluster). machine_seen c m) (over-append cluster (reset_events cluster x) (each reset_events later xs))
+    ap (λ (c : Cluster). machine_in c m) (over-append cluster (reset_events cluster x) (each reset_events later xs))
     ∙ resets xs later (still xs small.1 (length later.agents) moment.count) m
-    ∙ ap (λ (now : ℕ). tick_machine (is_listed m xs && is_due now (machine_seen later m).deadline) false (machine_seen later m)) moment.clock
+    ∙ ap (λ (now : ℕ). tick_machine (is_listed m xs && is_due now (machine_in later m).deadline) false (machine_in later m)) moment.clock
     ∙ ap (λ (machine : Machine). tick_machine (is_listed m xs && is_due cluster.book.clock machine.deadline) false machine) one
-    ∙ twice-reset cluster.book.clock (machine_seen cluster m) (m == x.id.number) (is_listed m xs) (due_seen cluster m) refl
+    ∙ twice-reset cluster.book.clock (machine_in cluster m) (m == x.id.number) (is_listed m xs) (due_seen cluster m) refl
   where
     still : (xs : List Member) → Each (λ (x : Member). x.id.number < length cluster.agents) xs → (count : ℕ) → count ≡ length cluster.agents → Each (λ (x : Member). x.id.number < count) xs
     still xs small count same = subst (λ (n : ℕ). Each (λ (x : Member). x.id.number < n) xs) (sym same) small
 
 -- ---- what expires
-pub quiet-machines : (kinds : List EventKind) → AllKinds IsQuiet kinds → (cluster : Cluster) (m : ℕ) → machine_seen (cluster_over cluster (events_of cluster kinds)) m ≡ machine_seen cluster m
+pub quiet-machines : (kinds : List EventKind) → AllKinds IsQuiet kinds → (cluster : Cluster) (m : ℕ) → machine_in (cluster_over cluster (events_of cluster kinds)) m ≡ machine_in cluster m
 quiet-machines [] all cluster m = refl
 quiet-machines (kind ∷ more) all cluster m = quiet-machines more all.1 (cluster_after cluster kind) m ∙ quiet-machine cluster kind all.0 m
 
@@ -188,7 +188,7 @@ stopped-stops now (Some s) = refl
 
 -- what the end of a server leaves of one machine, and of whether its stop is complete
 record EndsAs (cluster later : Cluster) (m : ℕ) (same : Bool) : Type 0 where
-  machine : machine_seen later m ≡ tick_machine false (same && stops_seen cluster m) (machine_seen cluster m)
+  machine : machine_in later m ≡ tick_machine false (same && stops_seen cluster m) (machine_in cluster m)
   stops : stops_seen later m ≡ cond (same && stops_seen cluster m) false (stops_seen cluster m)
 
 end-at : (cluster : Cluster) (x : Member) (m : ℕ) (ends same : Bool) → stops_seen cluster x.id.number ≡ ends → (m == x.id.number) ≡ same → EndsAs cluster (after-end cluster x ends) m same
@@ -196,7 +196,7 @@ end-at cluster x m true true is e =
     let k : ℕ = x.id.number in
     subst (λ (n : ℕ). EndsAs cluster (after-end cluster x true) n true) (sym (eq-from m k e)) (record {
       machine = machine-parts _ _ _ _ _ _ _ _ _ _ (ap live_now (get-here cluster.book.servers k _) ∙ stopped-now (slice_get cluster.book.servers k)) refl refl refl
-          ∙ ap (λ b. tick_machine false b (machine_seen cluster k)) (sym is);
+          ∙ ap (λ b. tick_machine false b (machine_in cluster k)) (sym is);
       stops = ap (stops_now cluster.book.clock) (get-here cluster.book.servers k _) ∙ stopped-stops cluster.book.clock (slice_get cluster.book.servers k)
           ∙ ap (λ b. cond b false (stops_seen cluster k)) (sym is);
     })
@@ -210,7 +210,7 @@ end-at cluster x m true false is e =
 end-at cluster x m false true is e =
     let none : stops_seen cluster m ≡ false = ap (λ (n : ℕ). stops_seen cluster n) (eq-from m x.id.number e) ∙ is in
     record {
-      machine = ap (λ b. tick_machine false b (machine_seen cluster m)) (sym none);
+      machine = ap (λ b. tick_machine false b (machine_in cluster m)) (sym none);
       stops = none ∙ sym (ap (λ b. cond b false b) none);
     }
 end-at cluster x m false false is e = record { machine = refl; stops = refl }
@@ -229,13 +229,13 @@ twice-ended machine true false false = refl
 twice-ended machine true true false = refl
 
 pub ends : (xs : List Member) (cluster : Cluster) (m : ℕ)
-    → machine_seen (cluster_over cluster (each completion_events cluster xs)) m ≡ tick_machine false (is_listed m xs && stops_seen cluster m) (machine_seen cluster m)
+    → machine_in (cluster_over cluster (each completion_events cluster xs)) m ≡ tick_machine false (is_listed m xs && stops_seen cluster m) (machine_in cluster m)
 ends [] cluster m = refl
 ends (x ∷ xs) cluster m =
     let later : Cluster = cluster_over cluster (completion_events cluster x) in
     let one = end-one cluster x m in
-    ap (λ (c : Cluster). machine_seen c m) (over-append cluster (completion_events cluster x) (each completion_events later xs))
+    ap (λ (c : Cluster). machine_in c m) (over-append cluster (completion_events cluster x) (each completion_events later xs))
     ∙ ends xs later m
-    ∙ ap (λ b. tick_machine false (is_listed m xs && b) (machine_seen later m)) one.stops
+    ∙ ap (λ b. tick_machine false (is_listed m xs && b) (machine_in later m)) one.stops
     ∙ ap (λ (machine : Machine). tick_machine false (is_listed m xs && cond ((m == x.id.number) && stops_seen cluster m) false (stops_seen cluster m)) machine) one.machine
-    ∙ twice-ended (machine_seen cluster m) (m == x.id.number) (is_listed m xs) (stops_seen cluster m)
+    ∙ twice-ended (machine_in cluster m) (m == x.id.number) (is_listed m xs) (stops_seen cluster m)

@@ -1,6 +1,8 @@
 -- What the law of one writer sees of an agent.
 use Rattle.std.specs.Prelude.{ℕ, ◌==◌, Bool, true, false, Option, Some, None}
 use Rattle.std.specs.Int.{bit_at}
+use Rattle.ha_loop.specs.declared.knowledge.Knowledge.{Knowledge}
+use Rattle.lease_law.specs.Past.{set_members}
 use Rattle.ha_loop.specs.Agents.{AgentFacts, RoleFacts, Follower, Holder, Ready, Leader, Ending, Stray}
 use Rattle.lease_law.specs.States.{Agent}
 
@@ -13,17 +15,17 @@ lease_seen (Ending revision why) = Some revision
 lease_seen _ = None
 
 -- stub: what the law of one writer sees of an agent
-abbrev pub agent_seen : AgentFacts → Agent
-agent_seen agent = record {
-  run = agent.knows.run;
-  last = agent.knows.sequence;
+abbrev pub agent_seen : RoleFacts → Knowledge → Agent
+agent_seen role knows = record {
+  run = knows.run;
+  last = knows.sequence;
   waits = None;
-  lease = lease_seen agent.role;
+  lease = lease_seen role;
   ready = false;
   leads = false;
   leader = None;
   failsafe = None;
-  known = λ p. false;
-  informed = agent.knows.informed;
+  known = set_members knows.known;
+  informed = knows.informed;
   failsafe_check = None;
 }

@@ -13,7 +13,7 @@ use Rattle.lease_law.specs.Pauses.{NobodyPauses}
 use Rattle.lease_law.specs.Stores.{IsSameStore}
 use Rattle.run_law.specs.Declaring.{declared_of, declared_members, member_count}
 use Rattle.run_law.specs.Machines.{IsSameEverywhere, IsSized}
-use Rattle.run_law.specs.Seen.{volatile_of}
+use Rattle.run_law.specs.Volatile.{volatile_of}
 use Rattle.run_law.specs.Waiting.{AgentsAreSound}
 
 -- the agent of the member of this number knows that number, and the run of its process, which runs

@@ -12,7 +12,7 @@ use Rattle.lease_law.specs.Books.{IsShown}
 use Rattle.lease_law.specs.Claims.{ShowsIt}
 use Rattle.lease_law.specs.Past.{past_of, state_of}
 use Rattle.run_law.specs.Bridged.{Bridged, IsMatched}
-use Rattle.run_law.specs.Seen.{volatile_of}
+use Rattle.run_law.specs.Volatile.{volatile_of}
 use Rattle.run_law.specs.Declaring.{declared_of, works_of}
 
 -- the premises of the law: feeds keep the margin, and nobody pauses or promotes by hand

@@ -2,7 +2,7 @@ pub mod AgentSeen
 pub mod Declaring
 pub mod Members
 pub mod Machines
-pub mod Seen
+pub mod Volatile
 pub mod Waiting
 pub mod Bridged
 pub mod Kept

@@ -10,15 +10,15 @@ use Rattle.run_law.specs.Machines.{live_in, deadline_in, hold_in, run_in}
 -- the agent of a member, if one runs; past the members all is as before the first event
 abbrev pub agent_now : Option (Option AgentFacts) → Option Agent
 agent_now None = Some (fresh_agent 1)
-agent_now (Some agent) = option_map agent_seen agent
+agent_now (Some agent) = option_map (λ (agent : AgentFacts). agent_seen agent.role agent.knows) agent
 
 -- what no event says of a member, by a cluster: whether its server is live, and its agent
 abbrev pub volatile_of : Cluster → ℕ → VolatileState
 volatile_of cluster m = record { live = live_in cluster.book.servers m; agent = agent_now (slice_get cluster.agents m) }
 
 -- the machine of a member, by a cluster whose deadlines are all by grants
-abbrev pub machine_seen : Cluster → ℕ → Machine
-machine_seen cluster m = record {
+abbrev pub machine_in : Cluster → ℕ → Machine
+machine_in cluster m = record {
   live = live_in cluster.book.servers m;
   deadline = deadline_in cluster.book.deadlines m;
   by_failsafe = false;
