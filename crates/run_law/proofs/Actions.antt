@@ -1,39 +1,36 @@
 -- Events that are an action of the law keep the law.
-use Rattle.std.proofs.Common.{ℕ, ◌≡◌, ◌++◌, Bool, true, false, List, [], ◌∷◌, slice_get, Option, Some, None, refl, ◌∙◌, ap, sym, subst}
+use Rattle.std.proofs.Common.{ℕ, ◌≡◌, ◌++◌, Bool, true, List, [], slice_get, Option, Some, None, refl, ◌∙◌, ap, sym, subst}
 use Rattle.std.proofs.Math.Path.{fun_ext}
 use Rattle.pat_base.specs.declared.server_state.State.{State}
 use Rattle.pat_base.specs.declared.server_state.State.TheVariants as states
 use Rattle.pat_base.specs.ServerState.{live, writes}
 use Rattle.pg_model.specs.Facts.{ServerFacts}
 use Rattle.event_book.specs.declared.event.Event.{Event}
-use Rattle.event_book.specs.Writers.{HasOneWriter, writes_in, writes_now, writes_over, Begins}
+use Rattle.event_book.specs.Writers.{writes_in, writes_now, writes_over}
 use Rattle.cluster_model.specs.Cluster.{cluster_over}
 use Rattle.cluster_script.specs.Script.{HeadText}
 use Rattle.cluster_model.specs.State.{Cluster}
-use Rattle.lease_law.specs.Actions.{Action, Tick, Deliver, Lose, Input, Start, Kill, Crash, Note, act, IsLawfulAction, state_after}
-use Rattle.lease_law.specs.Books.{IsShown}
-use Rattle.lease_law.specs.Claims.{BeginsBehind, MayBeginBehind, ShowsIt, IsLawfulTransition}
-use Rattle.lease_law.specs.Past.{Past, past_of, past_over, first_past, machine_of, state_of}
+use Rattle.lease_law.specs.Actions.{Action, Tick, Deliver, Lose, Input, Start, Kill, Crash, Note, act, IsLawfulAction}
+use Rattle.lease_law.specs.Claims.{BeginsBehind, MayBeginBehind, ShowsIt}
+use Rattle.lease_law.specs.Past.{Past, past_of, first_past, machine_of, state_of}
 use Rattle.lease_law.specs.Premises.{AllAre}
 use Rattle.lease_law.specs.Showing.{IsLocal, IsLocalAction}
-use Rattle.lease_law.specs.States.{Agent, Machine, State as Lease}
+use Rattle.lease_law.specs.States.{Machine, State as Lease}
 use Rattle.lease_law.proofs.LocalActions.{local-shown}
 use Rattle.lease_law.proofs.Runs.{one-front-of, transition-kept, writes-past}
 use Rattle.lease_law.proofs.Showing.{past-append}
 use Rattle.lease_law.proofs.Tools.{both}
 use Rattle.lease_law.proofs.Timely.{transition-allowed, front-timely}
+use Rattle.bridge_law.proofs.Groups.{begins-front}
 use Rattle.run_law.specs.Asides.{IsAside}
 use Rattle.run_law.specs.Bridged.{Bridged, IsMatched}
 use Rattle.run_law.specs.Declaring.{declared_of, member_count}
 use Rattle.run_law.specs.Kept.{MeetsPremises, IsKept, TellsAction}
 use Rattle.run_law.specs.LocalActions.{machines_by_action}
-use Rattle.run_law.specs.Machines.{live_in, live_now}
+use Rattle.run_law.specs.Machines.{live_now}
 use Rattle.run_law.specs.Volatile.{volatile_of, machine_in}
 use Rattle.run_law.proofs.Asides.{asides-begin, matched-behind}
-
-begins-front : (P : List Event → ℕ → Type 0) (before front rest : List Event) → BeginsBehind P before (front ++ rest) → BeginsBehind P before front
-begins-front P before [] rest is = tt
-begins-front P before (event ∷ front) rest is = (is.0, begins-front P (before ++ event ∷ []) front rest is.1)
+use Rattle.run_law.proofs.SameMachine.{machine-same}
 
 writing-lives : (state : State) → writes state ≡ true → live state ≡ true
 writing-lives states.Primary is = is
@@ -55,7 +52,7 @@ lives-behind : (head : HeadText) (book : List Event) (cluster : Cluster) (events
 lives-behind head book cluster events action tells n is =
     let later : Cluster = cluster_over cluster events in
     let told : writes_in later.book.servers n ≡ writes_over (past_of book).writes events n =
-        sym (tells.matched.machines.writes n) ∙ ap (λ (past : Past). past.writes n) (past-append first_past book events) ∙ ap (λ (w : ℕ → Bool). w n) (writes-past (past_of book) events) in
+    sym (tells.matched.machines.writes n) ∙ ap (λ (past : Past). past.writes n) (past-append first_past book events) ∙ ap (λ (w : ℕ → Bool). w n) (writes-past (past_of book) events) in
     sym (ap (λ (s : Lease). (s.members n).live) tells.shown) ∙ writer-lives (slice_get later.book.servers n) (told ∙ is)
 
 -- events that are an action, in which only who may begin begins, keep the law
@@ -79,14 +76,10 @@ action-kept head book cluster events action good begins tells = record {
       };
 }
 
-machine-same : (live : Bool) (agent : Option Agent) (d d' : Option ℕ) (b b' : Bool) (h h' r r' : ℕ) → d ≡ d' → b ≡ b' → h ≡ h' → r ≡ r' →
-    ◌≡◌ {A = Machine} (record { live = live; deadline = d; by_failsafe = b; hold = h; agent = agent; runs = r }) (record { live = live; deadline = d'; by_failsafe = b'; hold = h'; agent = agent; runs = r' })
-machine-same live agent d d' b b' h h' r r' p q s t = cc
-
 -- the law's machines are those that are seen of the cluster
 pub machine-is : (head : HeadText) (past : Past) (cluster : Cluster) → IsMatched head past cluster → (m : ℕ) → machine_of past (volatile_of cluster m) m ≡ machine_in cluster m
 machine-is head past cluster matched m =
-    machine-same _ _ _ _ _ _ _ _ _ _ (matched.machines.deadline m) (matched.machines.by_grant m) (matched.machines.hold m) (matched.machines.runs m)
+    machine-same _ _ _ _ _ _ _ _ _ _ _ _ refl (matched.machines.deadline m) (matched.machines.by_grant m) (matched.machines.hold m) refl (matched.machines.runs m)
 
 acted-is : (s : Lease) (action : Action) → IsLocalAction action → (act s action).members ≡ machines_by_action action s.members
 acted-is s (Start k) is = refl

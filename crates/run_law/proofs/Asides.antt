@@ -2,7 +2,6 @@
 use Rattle.std.proofs.Common.{ℕ, ◌≡◌, ◌<◌, ◌==◌, ◌++◌, Bool, true, false, cond, List, [], ◌∷◌, length, slice_get, Option, Some, None, option_map, refl, ◌∙◌, ap, sym, subst}
 use Rattle.pat_base.specs.Changes.{changed_by}
 use Rattle.event_book.specs.declared.agent_process.AgentProcess.{AgentProcess}
-use Rattle.event_book.specs.declared.event.AgentEvent.{AgentEvent}
 use Rattle.event_book.specs.declared.event.AgentEvent.TheVariants as agents
 use Rattle.event_book.specs.declared.event.Event.{Event}
 use Rattle.event_book.specs.declared.event.EventKind.{EventKind}
@@ -11,7 +10,7 @@ use Rattle.event_book.specs.declared.event.MessageEvent.TheVariants as messages
 use Rattle.event_book.specs.declared.event.ServerEvent.TheVariants as servers
 use Rattle.event_book.specs.declared.event.StoreEvent.TheVariants as stores
 use Rattle.event_book.specs.declared.event.WatchdogEvent.TheVariants as watchdogs
-use Rattle.event_book.specs.Agents.{agents_after, ended_process, running_in}
+use Rattle.event_book.specs.Agents.{agents_after, running_in}
 use Rattle.event_book.specs.Facts.{Facts}
 use Rattle.event_book.specs.Writers.{BeginsKind}
 use Rattle.ha_loop.specs.Agents.{AgentFacts}

@@ -1,8 +1,6 @@
 -- Commands of a script keep the law, but for those by which agents act and messages come.
-use Rattle.std.proofs.Common.{ℕ, ◌≡◌, ◌<◌, ◌==◌, ◌++◌, Bool, true, false, cond, List, [], ◌∷◌, length, slice_get, Option, Some, None, option_and_then, option_map, refl, ◌∙◌, ap, sym, ◌≤◌}
+use Rattle.std.proofs.Common.{ℕ, ◌≡◌, ◌<◌, ◌==◌, Bool, true, false, cond, List, [], length, slice_get, Option, Some, None, option_and_then, option_map, refl, ◌∙◌, ap, sym, ◌≤◌}
 use Rattle.pat_base.specs.declared.member_id.MemberId.{MemberId}
-use Rattle.pat_base.specs.declared.server_state.State.{State}
-use Rattle.pat_base.specs.declared.server_state.State.TheVariants as states
 use Rattle.wal_model.specs.declared.entry.Entry.{Entry}
 use Rattle.pg_model.specs.Facts.{ServerFacts}
 use Rattle.pg_model.specs.Servers.{entry_for}
@@ -15,7 +13,7 @@ use Rattle.event_book.specs.declared.event.Note.TheVariants as notes
 use Rattle.event_book.specs.declared.event.ServerEvent.TheVariants as servers
 use Rattle.event_book.specs.declared.link.Link.{Link}
 use Rattle.event_book.specs.declared.member.Member.{Member}
-use Rattle.event_book.specs.Flight.{InFlightFacts, in_flight}
+use Rattle.event_book.specs.Flight.{InFlightFacts}
 use Rattle.event_book.specs.Links.{CutLinks, is_cut}
 use Rattle.event_book.specs.Members.{server_of}
 use Rattle.cluster_script.specs.declared.line.Command.{Command}
@@ -33,13 +31,13 @@ use Rattle.cluster_model.specs.State.{Cluster}
 use Rattle.run_law.specs.Asides.{IsQuiet}
 use Rattle.run_law.specs.Bridged.{Bridged}
 use Rattle.run_law.specs.Declaring.{member_count}
-use Rattle.run_law.specs.Kept.{IsKept, Keeps}
+use Rattle.run_law.specs.Kept.{IsKept}
 use Rattle.run_law.specs.Members.{IsDeclared}
 use Rattle.run_law.proofs.Composing.{kept-for_some, kept-none, kept-then}
 use Rattle.run_law.proofs.Ending.{kept-crash, kept-kill, kept-loss}
 use Rattle.run_law.proofs.Members.{declared-at, declared-within}
 use Rattle.run_law.proofs.Promoting.{kept-breach}
-use Rattle.run_law.proofs.Quiet.{kept-quiet, kept-quietly}
+use Rattle.run_law.proofs.Quiet.{kept-quiet}
 use Rattle.run_law.proofs.Starting.{kept-restart}
 use Rattle.run_law.proofs.Streams.{IsQuietIf, kept-quiet-if}
 

@@ -1,5 +1,5 @@
 -- Parts of a step that keep the law keep it one after another.
-use Rattle.std.proofs.Common.{ℕ, ◌≡◌, ◌++◌, Bool, true, false, cond, List, [], ◌∷◌, Option, Some, None, refl, ◌∙◌, ap, sym, subst, inl, inr}
+use Rattle.std.proofs.Common.{◌≡◌, ◌++◌, Bool, true, false, cond, List, [], ◌∷◌, Option, Some, None, refl, ◌∙◌, ap, sym, subst, inl, inr}
 use Rattle.lease_store.specs.Defaults.{default_settings}
 use Rattle.cluster_script.specs.Script.{HeadText}
 use Rattle.event_book.specs.declared.event.Event.{Event}
@@ -8,7 +8,6 @@ use Rattle.cluster_model.specs.Cluster.{cluster_after, cluster_over}
 use Rattle.cluster_model.specs.Parts.{each, events_then, for_some}
 use Rattle.cluster_model.specs.State.{Cluster}
 use Rattle.lease_law.specs.Actions.{Note}
-use Rattle.lease_law.specs.Past.{past_of}
 use Rattle.lease_law.proofs.Falling.{timely-front, hands-off-front}
 use Rattle.lease_law.proofs.Runs.{assoc, cuts, no-cons, none-more, one-front-of}
 use Rattle.run_law.specs.Bridged.{Bridged}

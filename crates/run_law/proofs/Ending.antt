@@ -1,54 +1,38 @@
 -- Kills, crashes and losses keep the law.
-use Rattle.std.proofs.Common.{ℕ, ◌≡◌, ◌≢◌, ◌<◌, ◌++◌, Bool, true, false, List, [], ◌∷◌, length, slice_get, Option, Some, None, option_map, refl, ◌∙◌, ap, sym, subst}
+use Rattle.std.proofs.Common.{ℕ, ◌≡◌, ◌<◌, false, List, [], length, slice_get, Option, Some, None, option_map, refl, ◌∙◌, ap, sym, subst}
 use Rattle.pat_base.specs.declared.server_state.State.{State}
 use Rattle.pat_base.specs.declared.server_state.State.TheVariants as states
 use Rattle.pat_base.specs.ServerState.{live}
 use Rattle.pg_model.specs.Facts.{ServerFacts}
 use Rattle.pg_model.specs.Running.{crashed, crashed_state}
-use Rattle.event_book.specs.declared.agent_process.AgentProcess.{AgentProcess}
 use Rattle.event_book.specs.declared.event.AgentEvent.TheVariants as agents
 use Rattle.event_book.specs.declared.event.Event.{Event}
-use Rattle.event_book.specs.declared.event.EventKind.{EventKind}
 use Rattle.event_book.specs.declared.event.EventKind.TheVariants as kinds
 use Rattle.event_book.specs.declared.event.MessageEvent.TheVariants as messages
 use Rattle.event_book.specs.declared.event.ServerEvent.TheVariants as servers
 use Rattle.event_book.specs.declared.member.Member.{Member}
 use Rattle.event_book.specs.declared.member.ServerOf.{ServerOf}
-use Rattle.event_book.specs.Agents.{ended_process}
 use Rattle.event_book.specs.Functions.{put_at}
 use Rattle.ha_loop.specs.Agents.{AgentFacts}
-use Rattle.cluster_model.specs.Cluster.{cluster_after, cluster_over}
+use Rattle.cluster_model.specs.Cluster.{cluster_after}
 use Rattle.cluster_script.specs.Script.{HeadText}
 use Rattle.cluster_model.specs.Parts.{event_of}
 use Rattle.cluster_model.specs.State.{Cluster}
 use Rattle.lease_law.specs.Actions.{Kill, Crash, Lose}
 use Rattle.lease_law.specs.Claims.{MayBeginBehind}
 use Rattle.lease_law.specs.Past.{past_of, state_of}
-use Rattle.lease_law.specs.States.{Agent, Machine, crash_machine, kill_machine}
+use Rattle.lease_law.specs.States.{crash_machine, kill_machine}
 use Rattle.lease_law.proofs.LocalActions.{loss-shown}
-use Rattle.lease_law.proofs.Tools.{put-all}
 use Rattle.run_law.specs.Bridged.{Bridged}
 use Rattle.run_law.specs.Declaring.{declared_of, member_count}
 use Rattle.run_law.specs.Kept.{IsKept}
-use Rattle.run_law.specs.Machines.{live_in, live_now, run_in, run_now}
+use Rattle.run_law.specs.Machines.{live_now, run_in, run_now}
 use Rattle.run_law.specs.Volatile.{agent_now, machine_in, volatile_of}
 use Rattle.run_law.proofs.Actions.{action-kept, local-kept}
 use Rattle.run_law.proofs.Asides.{asides-begin, matched-behind}
-use Rattle.run_law.proofs.Machines.{seen-kept}
+use Rattle.run_law.proofs.Machines.{ended-run, seen-kept}
+use Rattle.run_law.proofs.SameMachine.{machine-same, machines-put}
 use Rattle.run_law.proofs.Places.{get-here, get-elsewhere, there}
-
--- machines that differ in who is live, their agents or their runs
-machine-parts : (live live' : Bool) (agent agent' : Option Agent) (d : Option ℕ) (b : Bool) (h r r' : ℕ) → live ≡ live' → agent ≡ agent' → r ≡ r' →
-    ◌≡◌ {A = Machine} (record { live = live; deadline = d; by_failsafe = b; hold = h; agent = agent; runs = r }) (record { live = live'; deadline = d; by_failsafe = b; hold = h; agent = agent'; runs = r' })
-machine-parts live live' agent agent' d b h r r' p a q = cc
-
--- a machine changes at one place
-pub machines-put : (before after : ℕ → Machine) (k : ℕ) (machine : Machine) → after k ≡ machine → ((m : ℕ) → m ≢ k → after m ≡ before m) → (m : ℕ) → after m ≡ put_at before k machine m
-machines-put before after k machine here elsewhere m = put-all before k machine (λ n b. after n ≡ b) here (λ n other. elsewhere n other) m
-
-ended-run : (found : Option AgentProcess) → run_now (option_map ended_process found) ≡ run_now found
-ended-run None = refl
-ended-run (Some process) = refl
 
 -- without its agent a member has none
 pub agent-without : (agents : List (Option AgentFacts)) (k : ℕ) → k < length agents → agent_now (option_map (λ (agent : Option AgentFacts). let none : Option AgentFacts = None in none) (slice_get agents k)) ≡ None
@@ -60,8 +44,8 @@ killed-machine cluster member small =
     let k : ℕ = member.id.number in
     let runs : (m : ℕ) → run_in _ m ≡ run_in cluster.book.agents m = λ m. seen-kept run_now cluster.book.agents k m _ ended-run in
     machines-put (machine_in cluster) (machine_in (cluster_after cluster (kinds.Agent (agents.Killed member)))) k (kill_machine (machine_in cluster k))
-    (machine-parts _ _ _ _ _ _ _ _ _ refl (ap agent_now (get-here cluster.agents k _) ∙ agent-without cluster.agents k small) (runs k))
-    (λ m other. machine-parts _ _ _ _ _ _ _ _ _ refl (ap agent_now (get-elsewhere cluster.agents k m _ other)) (runs m))
+    (machine-same _ _ _ _ _ _ _ _ _ _ _ _ refl refl refl refl (ap agent_now (get-here cluster.agents k _) ∙ agent-without cluster.agents k small) (runs k))
+    (λ m other. machine-same _ _ _ _ _ _ _ _ _ _ _ _ refl refl refl refl (ap agent_now (get-elsewhere cluster.agents k m _ other)) (runs m))
 
 pub kept-kill : (head : HeadText) (book : List Event) (cluster : Cluster) (member : Member) → member.id.number < member_count head → Bridged head book cluster
     → IsKept head book cluster (event_of cluster (kinds.Agent (agents.Killed member)))
@@ -82,8 +66,8 @@ crashed-machine : (cluster : Cluster) (server : ServerOf) (m : ℕ)
 crashed-machine cluster server =
     let k : ℕ = server.id.number in
     machines-put (machine_in cluster) (machine_in (cluster_after cluster (kinds.Server (servers.Crashed server)))) k (crash_machine (machine_in cluster k))
-    (machine-parts _ _ _ _ _ _ _ _ _ (ap live_now (get-here cluster.book.servers k _) ∙ crashed-now (slice_get cluster.book.servers k)) refl refl)
-    (λ m other. machine-parts _ _ _ _ _ _ _ _ _ (ap live_now (get-elsewhere cluster.book.servers k m _ other)) refl refl)
+    (machine-same _ _ _ _ _ _ _ _ _ _ _ _ (ap live_now (get-here cluster.book.servers k _) ∙ crashed-now (slice_get cluster.book.servers k)) refl refl refl refl refl)
+    (λ m other. machine-same _ _ _ _ _ _ _ _ _ _ _ _ (ap live_now (get-elsewhere cluster.book.servers k m _ other)) refl refl refl refl refl)
 
 pub kept-crash : (head : HeadText) (book : List Event) (cluster : Cluster) (server : ServerOf) → Bridged head book cluster
     → IsKept head book cluster (event_of cluster (kinds.Server (servers.Crashed server)))

@@ -1,5 +1,5 @@
 -- At most one server accepts writes, at every moment of every run up to which the premises are met.
-use Rattle.std.proofs.Common.{◌≡◌, ◌≤◌, ◌++◌, List, [], length, ◌∙◌, subst, sym}
+use Rattle.std.proofs.Common.{◌≡◌, ◌≤◌, ◌++◌, List, [], length}
 use Rattle.std.proofs.Math.ListN.{length-map}
 use Rattle.lease_store.specs.Defaults.{default_settings}
 use Rattle.cluster_script.specs.declared.line.Step.{Step}

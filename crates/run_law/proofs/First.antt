@@ -1,21 +1,19 @@
 -- Before the first event book and cluster are bridged.
-use Rattle.std.proofs.Common.{ℕ, ◌≡◌, ◌<◌, ◌≤◌, ◌+◌, Bool, true, false, List, [], ◌∷◌, length, map, replicate, slice_get, Option, Some, None, option_map, zero, suc, refl, ◌∙◌, ap, sym, subst, arith, inl, inr}
+use Rattle.std.proofs.Common.{ℕ, ◌≡◌, ◌<◌, ◌≤◌, Bool, false, List, [], length, replicate, slice_get, Option, Some, None, option_map, zero, suc, refl, ◌∙◌, ap, sym, subst, arith}
 use Rattle.std.proofs.Math.ListN.{length-map}
 use Rattle.std.proofs.Math.Path.{fun_ext}
 use Rattle.std.proofs.lemmas.List.{length-replicate}
 use Rattle.std.proofs.lemmas.Option.{slice_get-map, slice_get_within}
 use Rattle.pat_base.specs.declared.name.Name.{Name}
 use Rattle.pat_base.specs.declared.ticks.Ticks.{Ticks}
-use Rattle.pg_model.specs.Facts.{ServerFacts, fresh}
-use Rattle.event_book.specs.declared.agent_process.AgentProcess.{AgentProcess}
+use Rattle.pg_model.specs.Facts.{fresh}
 use Rattle.event_book.specs.declared.member.Member.{Member}
 use Rattle.event_book.specs.Agents.{first_agents, running_in}
-use Rattle.event_book.specs.Writers.{writes_in, writes_now}
+use Rattle.event_book.specs.Writers.{writes_now}
 use Rattle.ha_loop.specs.Agents.{AgentFacts}
 use Rattle.cluster_script.specs.Script.{HeadText, names_of}
 use Rattle.cluster_model.specs.Machines.{who_of}
 use Rattle.cluster_model.specs.Starting.{cluster_of, first_agent}
-use Rattle.cluster_model.specs.State.{Cluster}
 use Rattle.lease_law.specs.Books.{first_volatile_states}
 use Rattle.lease_law.specs.Carried.{IsCarried}
 use Rattle.lease_law.specs.Past.{VolatileState, first_past, past_of, state_of}
@@ -25,9 +23,9 @@ use Rattle.lease_law.proofs.Starting.{good-start}
 use Rattle.lease_law.proofs.Tools.{none-some, some-is}
 use Rattle.lease_law.proofs.Unpaused.{pauses-first}
 use Rattle.bridge_law.proofs.Flights.{flight-first}
-use Rattle.run_law.specs.Bridged.{Bridged, IsMatched, KnowsItself, KnowThemselves}
+use Rattle.run_law.specs.Bridged.{Bridged, KnowsItself, KnowThemselves}
 use Rattle.run_law.specs.Declaring.{declared_members, declared_of, member_count}
-use Rattle.run_law.specs.Machines.{IsSameEverywhere, IsSized, deadline_in, deadline_now, hold_in, hold_now, live_in, live_now, run_in, run_now}
+use Rattle.run_law.specs.Machines.{IsSameEverywhere, deadline_now, hold_now, live_now, run_in}
 use Rattle.run_law.specs.Volatile.{agent_now, volatile_of}
 use Rattle.run_law.proofs.Fresh.{fresh-seen}
 use Rattle.run_law.proofs.Members.{counted, numbered}

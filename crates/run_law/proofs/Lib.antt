@@ -1,5 +1,6 @@
 pub mod Places
 pub mod Machines
+pub mod SameMachine
 pub mod Composing
 pub mod Fresh
 pub mod Waiting

@@ -16,7 +16,7 @@ use Rattle.event_book.specs.declared.event.ServerEvent.{ServerEvent}
 use Rattle.event_book.specs.declared.event.ServerEvent.TheVariants as servers
 use Rattle.event_book.specs.declared.event.WatchdogEvent.{WatchdogEvent}
 use Rattle.event_book.specs.declared.event.WatchdogEvent.TheVariants as watchdogs
-use Rattle.event_book.specs.Agents.{agents_after, agents_by, agents_by_watchdog, ended_process, running_in}
+use Rattle.event_book.specs.Agents.{agents_after, agents_by, agents_by_watchdog, ended_process}
 use Rattle.event_book.specs.Clock.{now_after}
 use Rattle.event_book.specs.Facts.{Facts, facts_after}
 use Rattle.event_book.specs.declared.event.Event.{Event}
@@ -27,7 +27,7 @@ use Rattle.event_book.specs.Writers.{writes_in, writes_now, writes_after, writes
 use Rattle.event_book.proofs.Told.{count-of, writes-of, writes-same}
 use Rattle.lease_law.specs.Past.{Past, past_after, deadline_after, deadline_by, by_failsafe_after, by_failsafe_by, is_acknowledged, hold_after, hold_by, runs_after}
 use Rattle.lease_law.proofs.Tools.{put-all}
-use Rattle.run_law.specs.Machines.{live_in, deadline_now, deadline_in, hold_now, hold_in, run_now, run_in, IsSameEverywhere, IsSized, IsByGrant, IsWithinMembers}
+use Rattle.run_law.specs.Machines.{deadline_now, deadline_in, hold_now, hold_in, run_now, run_in, IsSameEverywhere, IsSized, IsByGrant, IsWithinMembers}
 use Rattle.run_law.proofs.Places.{get-changed, length-changed, there}
 
 -- what is put at a place is what is seen of the changed item there
@@ -61,7 +61,7 @@ seen-there : {A B : Type 0} (see : Option A → B) (xs : List A) (k : ℕ) (chan
     → see (option_map change (slice_get xs k)) ≡ x
 seen-there see xs k change x small is = let found = there xs k small in ap (λ (o : Option _). see (option_map change o)) found.1 ∙ is found.0
 
-no-deadline : (found : Option (Option Ticks)) → deadline_now (option_map (λ before. None) found) ≡ None
+pub no-deadline : (found : Option (Option Ticks)) → deadline_now (option_map (λ (before : Option Ticks). let none : Option Ticks = None in none) found) ≡ None
 no-deadline None = refl
 no-deadline (Some found) = refl
 
@@ -101,11 +101,11 @@ pub hold-of : (before : ℕ → ℕ) (holds : List (Option Ticks)) (kind : Event
 hold-of before holds (kinds.Watchdog happening) is same m = hold-watched before holds happening is same m
 hold-of before holds _ is same m = same m
 
-ended-run : (found : Option AgentProcess) → run_now (option_map ended_process found) ≡ run_now found
+pub ended-run : (found : Option AgentProcess) → run_now (option_map ended_process found) ≡ run_now found
 ended-run None = refl
 ended-run (Some process) = refl
 
-suspended-run : (to : Bool) (found : Option AgentProcess) → run_now (option_map (λ (process : AgentProcess). let changed : AgentProcess = record process { suspended = to } in changed) found) ≡ run_now found
+pub suspended-run : (to : Bool) (found : Option AgentProcess) → run_now (option_map (λ (process : AgentProcess). let changed : AgentProcess = record process { suspended = to } in changed) found) ≡ run_now found
 suspended-run to None = refl
 suspended-run to (Some process) = refl
 

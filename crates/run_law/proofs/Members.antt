@@ -1,18 +1,17 @@
 -- Declared members stand at their numbers.
-use Rattle.std.proofs.Common.{ℕ, ◌≡◌, ◌<◌, ◌≤◌, ◌+◌, ◌==◌, ◌||◌, nat_lt, zero, suc, Bool, true, false, List, [], ◌∷◌, length, slice_get, Option, Some, None, refl, ◌∙◌, ap, sym, subst, arith, inl, inr}
+use Rattle.std.proofs.Common.{ℕ, ◌≡◌, ◌<◌, ◌≤◌, ◌+◌, ◌==◌, ◌||◌, nat_lt, zero, suc, Bool, true, false, List, [], ◌∷◌, length, slice_get, Some, refl, ◌∙◌, ap, sym, subst, arith}
 use Rattle.std.proofs.lemmas.Option.{slice_get_within}
 use Rattle.std.proofs.lemmas.Bool.Decides.{nat_tests}
-use Rattle.pat_base.specs.declared.member_id.MemberId.{MemberId}
 use Rattle.pat_base.specs.declared.name.Name.{Name}
 use Rattle.event_book.specs.declared.member.Member.{Member}
 use Rattle.event_book.specs.Members.{members_from, put_first}
-use Rattle.pat_base.specs.MemberId.{member_by, member_of}
+use Rattle.pat_base.specs.MemberId.{member_by}
 use Rattle.cluster_script.specs.Script.{HeadText, names_of}
-use Rattle.lease_law.proofs.Tools.{none-some, some-is}
+use Rattle.lease_law.proofs.Tools.{some-is}
 use Rattle.run_law.specs.Declaring.{declared_members, member_count}
 use Rattle.run_law.specs.Members.{IsDeclared, is_listed}
 use Rattle.run_law.proofs.Composing.{Each}
-use Rattle.run_law.proofs.Places.{there}
+use Rattle.run_law.proofs.Places.{eq-self, there}
 
 not-small : (n : ℕ) → nat_lt n 16 ≡ false → n < 16 → ⊥
 not-small n is small = grind (arith, nat_tests)
@@ -91,9 +90,6 @@ each-at P (m ∷ members) all = (all 0 m refl, each-at P members (λ i n is. all
 pub each-declared : (head : HeadText) → length (names_of head) ≤ 16 → (P : Member → Type 0) → ((m : Member) → IsDeclared head m → P m) → Each P (declared_members head)
 each-declared head few P all = each-at P (declared_members head) (λ i m is. all m (declared-at head few i m is))
 
-eq-self : (k m : ℕ) → k ≡ m → (m == k) ≡ true
-eq-self k m e = grind (arith, nat_tests)
-
 or-second : (a b : Bool) → b ≡ true → (a || b) ≡ true
 or-second true b e = refl
 or-second false b e = e
@@ -101,7 +97,7 @@ or-second false b e = e
 listed-at : (m : ℕ) (members : List Member) (i : ℕ) (member : Member) → slice_get members i ≡ Some member → member.id.number ≡ m → is_listed m members ≡ true
 listed-at m [] i member is number = absurd (none-at i member is)
 listed-at m (first ∷ members) zero member is number =
-    ap (λ b. b || is_listed m members) (eq-self first.id.number m (ap (λ (z : Member). z.id.number) (some-is first member is) ∙ number))
+    ap (λ b. b || is_listed m members) (ap (λ n. m == n) (ap (λ (z : Member). z.id.number) (some-is first member is) ∙ number) ∙ eq-self m)
 listed-at m (first ∷ members) (suc i) member is number = or-second (m == first.id.number) (is_listed m members) (listed-at m members i member is number)
 
 -- each number below that is listed

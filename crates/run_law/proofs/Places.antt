@@ -1,6 +1,6 @@
 -- Lists by members of which one item changes.
-use Rattle.std.proofs.Common.{ℕ, ◌≡◌, ◌≢◌, ◌<◌, ◌≤◌, ◌==◌, Bool, true, false, cond, List, [], ◌∷◌, length, get_or, slice_get, slice_set, Option, Some, None, option_map, refl, ◌∙◌, ap, sym, subst, arith, inl, inr}
-use Rattle.std.proofs.lemmas.Option.{none-some, slice_get-get_or, slice_get_cases, slice_get_within, slice_get_past}
+use Rattle.std.proofs.Common.{ℕ, ◌≡◌, ◌≢◌, ◌<◌, ◌==◌, Bool, true, false, cond, List, length, slice_get, slice_set, Option, Some, None, option_map, refl, ◌∙◌, ap, sym, arith, inl, inr}
+use Rattle.std.proofs.lemmas.Option.{slice_get-get_or, slice_get_cases, slice_get_within, slice_get_past}
 use Rattle.std.proofs.lemmas.Bool.Decides.{nat_tests}
 use Rattle.std.proofs.lemmas.List.{get_or-set_same, get_or-set_other}
 use Rattle.std.proofs.Math.ListN.{length-set}
@@ -48,7 +48,7 @@ get-changed xs k m change = get-found xs k m change (slice_get xs k) (m == k) re
 pub there : {A : Type 0} (xs : List A) (m : ℕ) → m < length xs → (x : A) × (slice_get xs m ≡ Some x)
 there xs m small = elim (slice_get_cases xs m).1 [ inl found ↦ (found.0, found.2) | inr past ↦ absurd (omega (arith, small, past.0)) ]
 
-eq-self : (k : ℕ) → (k == k) ≡ true
+pub eq-self : (k : ℕ) → (k == k) ≡ true
 eq-self k = grind (arith, nat_tests)
 
 eq-other : (m k : ℕ) → m ≢ k → (m == k) ≡ false

@@ -1,14 +1,12 @@
 -- Behind an operator's promotion nothing is owed.
-use Rattle.std.proofs.Common.{◌≡◌, ◌++◌, List, [], ◌∷◌, refl, ap, sym, subst}
+use Rattle.std.proofs.Common.{◌≡◌, ◌++◌, List, [], ◌∷◌, subst}
 use Rattle.event_book.specs.declared.event.Event.{Event}
-use Rattle.event_book.specs.declared.event.EventKind.{EventKind}
 use Rattle.event_book.specs.Writers.{HasOneWriter}
-use Rattle.cluster_model.specs.Cluster.{cluster_over}
 use Rattle.cluster_script.specs.Script.{HeadText}
 use Rattle.cluster_model.specs.State.{Cluster}
 use Rattle.lease_law.specs.Actions.{Note}
 use Rattle.lease_law.specs.Premises.{AreHandsOff, IsHandsOffKind}
-use Rattle.lease_law.proofs.Runs.{head-is, none-more, one-front-of}
+use Rattle.lease_law.proofs.Runs.{head-is, one-front-of}
 use Rattle.run_law.specs.Bridged.{Bridged}
 use Rattle.run_law.specs.Declaring.{declared_of}
 use Rattle.run_law.specs.Kept.{MeetsPremises, IsKept}

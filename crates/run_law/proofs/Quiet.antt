@@ -1,10 +1,9 @@
 -- Events that change nothing of what the law reads keep it.
-use Rattle.std.proofs.Common.{ℕ, ◌≡◌, ◌==◌, ◌++◌, Bool, true, false, cond, List, [], ◌∷◌, map, slice_get, Option, Some, None, option_map, refl, ◌∙◌, ap, sym, subst}
+use Rattle.std.proofs.Common.{ℕ, ◌≡◌, ◌++◌, Bool, true, false, List, [], ◌∷◌, map, slice_get, Option, Some, None, option_map, refl, ◌∙◌, ap, sym}
 use Rattle.std.proofs.lemmas.Option.{slice_get-map}
 use Rattle.pat_base.specs.Changes.{changed_by}
 use Rattle.pat_base.specs.ServerState.{live}
 use Rattle.pg_model.specs.Facts.{ServerFacts}
-use Rattle.event_book.specs.declared.agent_process.AgentProcess.{AgentProcess}
 use Rattle.event_book.specs.declared.event.AgentEvent.TheVariants as agents
 use Rattle.event_book.specs.declared.event.Event.{Event}
 use Rattle.event_book.specs.declared.event.EventKind.{EventKind}
@@ -14,23 +13,22 @@ use Rattle.event_book.specs.declared.event.ServerEvent.TheVariants as servers
 use Rattle.event_book.specs.declared.event.StoreEvent.TheVariants as stores
 use Rattle.event_book.specs.Servers.{servers_by}
 use Rattle.event_book.proofs.Parts.{logged-kept, replicated-kept}
-use Rattle.cluster_model.specs.Cluster.{cluster_after, cluster_over}
+use Rattle.cluster_model.specs.Cluster.{cluster_after}
 use Rattle.cluster_script.specs.Script.{HeadText}
 use Rattle.cluster_model.specs.Parts.{event_of, events_of}
 use Rattle.cluster_model.specs.State.{Cluster}
 use Rattle.lease_law.specs.Actions.{Note}
-use Rattle.lease_law.specs.Premises.{AllAre}
 use Rattle.lease_law.specs.Showing.{IsLocal}
-use Rattle.lease_law.specs.States.{Agent, Machine}
 use Rattle.run_law.specs.Asides.{IsAside, IsQuiet}
 use Rattle.run_law.specs.Bridged.{Bridged}
 use Rattle.run_law.specs.Declaring.{member_count}
 use Rattle.run_law.specs.Kept.{IsKept}
-use Rattle.run_law.specs.Machines.{live_in, live_now, run_in, run_now}
+use Rattle.run_law.specs.Machines.{live_in, live_now, run_now}
 use Rattle.run_law.specs.Volatile.{machine_in}
 use Rattle.run_law.proofs.Actions.{local-kept}
 use Rattle.run_law.proofs.Composing.{kept-none, kept-then}
-use Rattle.run_law.proofs.Machines.{seen-kept}
+use Rattle.run_law.proofs.Machines.{seen-kept, suspended-run}
+use Rattle.run_law.proofs.SameMachine.{machine-same}
 
 -- whether a server is live, by what a list says of it
 abbrev said : Option Bool → Bool
@@ -64,24 +62,15 @@ quiet-server now known (servers.Frozen server) m is = refl
 quiet-server now known (servers.Thawed server) m is = refl
 quiet-server now known _ m is = absurd is
 
--- machines that differ in who is live, or in their runs
-machine-live : (live live' : Bool) (agent : Option Agent) (d : Option ℕ) (b : Bool) (h r r' : ℕ) → live ≡ live' → r ≡ r' →
-    ◌≡◌ {A = Machine} (record { live = live; deadline = d; by_failsafe = b; hold = h; agent = agent; runs = r }) (record { live = live'; deadline = d; by_failsafe = b; hold = h; agent = agent; runs = r' })
-machine-live live live' agent d b h r r' p q = cc
-
-suspended-run : (to : Bool) (found : Option AgentProcess) → run_now (option_map (λ (process : AgentProcess). let changed : AgentProcess = record process { suspended = to } in changed) found) ≡ run_now found
-suspended-run to None = refl
-suspended-run to (Some process) = refl
-
 pub quiet-machine : (cluster : Cluster) (kind : EventKind) → IsQuiet kind → (m : ℕ) → machine_in (cluster_after cluster kind) m ≡ machine_in cluster m
 quiet-machine cluster (kinds.Store happening) is m = refl
-quiet-machine cluster (kinds.Server happening) is m = machine-live _ _ _ _ _ _ _ _ (quiet-server cluster.book.clock cluster.book.servers happening m is) refl
+quiet-machine cluster (kinds.Server happening) is m = machine-same _ _ _ _ _ _ _ _ _ _ _ _ (quiet-server cluster.book.clock cluster.book.servers happening m is) refl refl refl refl refl
 quiet-machine cluster (kinds.Log happening) is m =
-    machine-live _ _ _ _ _ _ _ _ (live-kept cluster.book.servers _ m (logged-kept (λ s. live s.state) (λ s t state required confirmed. ap live state) cluster.book.servers happening)) refl
+    machine-same _ _ _ _ _ _ _ _ _ _ _ _ (live-kept cluster.book.servers _ m (logged-kept (λ s. live s.state) (λ s t state required confirmed. ap live state) cluster.book.servers happening)) refl refl refl refl refl
 quiet-machine cluster (kinds.Replication happening) is m =
-    machine-live _ _ _ _ _ _ _ _ (live-kept cluster.book.servers _ m (replicated-kept (λ s. live s.state) (λ s t state log. ap live state) cluster.book.servers happening)) refl
-quiet-machine cluster (kinds.Agent (agents.Suspended agent)) is m = machine-live _ _ _ _ _ _ _ _ refl (seen-kept run_now cluster.book.agents agent.id.number m _ (suspended-run true))
-quiet-machine cluster (kinds.Agent (agents.Resumed agent)) is m = machine-live _ _ _ _ _ _ _ _ refl (seen-kept run_now cluster.book.agents agent.id.number m _ (suspended-run false))
+    machine-same _ _ _ _ _ _ _ _ _ _ _ _ (live-kept cluster.book.servers _ m (replicated-kept (λ s. live s.state) (λ s t state log. ap live state) cluster.book.servers happening)) refl refl refl refl refl
+quiet-machine cluster (kinds.Agent (agents.Suspended agent)) is m = machine-same _ _ _ _ _ _ _ _ _ _ _ _ refl refl refl refl refl (seen-kept run_now cluster.book.agents agent.id.number m _ (suspended-run true))
+quiet-machine cluster (kinds.Agent (agents.Resumed agent)) is m = machine-same _ _ _ _ _ _ _ _ _ _ _ _ refl refl refl refl refl (seen-kept run_now cluster.book.agents agent.id.number m _ (suspended-run false))
 quiet-machine cluster (kinds.Agent (agents.Operated agent action)) is m = refl
 quiet-machine cluster (kinds.Agent (agents.Passed agent)) is m = refl
 quiet-machine cluster (kinds.Link happening) is m = refl

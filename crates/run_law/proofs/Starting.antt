@@ -1,10 +1,10 @@
 -- The start of an agent keeps the law.
-use Rattle.std.proofs.Common.{ℕ, ◌≡◌, ◌≢◌, ◌<◌, ◌+◌, ◌++◌, Bool, cond, true, false, List, [], ◌∷◌, length, map, slice_get, Option, Some, None, option_map, refl, ◌∙◌, ap, sym, subst}
+use Rattle.std.proofs.Common.{ℕ, ◌≡◌, ◌<◌, ◌+◌, ◌++◌, Bool, cond, true, false, List, [], length, slice_get, Option, Some, None, option_map, refl, ◌∙◌, ap, sym, subst}
 use Rattle.std.proofs.Math.ListN.{length-map}
 use Rattle.pat_base.specs.declared.ticks.Ticks.{Ticks}
 use Rattle.pat_base.specs.ServerState.{live}
 use Rattle.pg_model.specs.Facts.{ServerFacts}
-use Rattle.cluster_script.specs.Script.{HeadText, names_of}
+use Rattle.cluster_script.specs.Script.{HeadText}
 use Rattle.cluster_script.specs.declared.head.MemberOptions.{MemberOptions}
 use Rattle.event_book.specs.declared.agent_process.AgentProcess.{AgentProcess}
 use Rattle.event_book.specs.declared.event.AgentEvent.TheVariants as agents
@@ -27,7 +27,7 @@ use Rattle.cluster_model.specs.State.{Cluster}
 use Rattle.lease_law.specs.Actions.{Start}
 use Rattle.lease_law.specs.Premises.{AllAre}
 use Rattle.lease_law.specs.Showing.{IsLocal}
-use Rattle.lease_law.specs.States.{Agent, Machine, deadline_if, fresh_agent, start_machine}
+use Rattle.lease_law.specs.States.{deadline_if, fresh_agent, start_machine}
 use Rattle.run_law.specs.Asides.{IsAside}
 use Rattle.run_law.specs.Bridged.{Bridged}
 use Rattle.run_law.specs.Declaring.{member_count}
@@ -36,7 +36,8 @@ use Rattle.run_law.specs.Machines.{deadline_in, deadline_now, live_in, live_now,
 use Rattle.run_law.specs.Volatile.{agent_now, machine_in}
 use Rattle.run_law.proofs.Actions.{local-kept}
 use Rattle.run_law.proofs.Composing.{kept-for_some, kept-none, kept-then}
-use Rattle.run_law.proofs.Ending.{machines-put}
+use Rattle.run_law.proofs.Machines.{no-deadline}
+use Rattle.run_law.proofs.SameMachine.{machine-same, machines-put}
 use Rattle.run_law.proofs.Fresh.{fresh-seen}
 use Rattle.run_law.proofs.Places.{get-here, get-elsewhere, there}
 use Rattle.run_law.proofs.Quiet.{kept-quiet}
@@ -46,20 +47,12 @@ abbrev IsStartOf : Member → Bool → Option ℕ → Option EventKind → Type 
 IsStartOf member live deadline None = deadline_if live deadline ≡ deadline
 IsStartOf member live deadline (Some kind) = (kind ≡ kinds.Watchdog (watchdogs.Disarmed member)) × (deadline_if live deadline ≡ None)
 
-machine-parts : (live : Bool) (agent agent' : Option Agent) (d d' : Option ℕ) (b : Bool) (h r r' : ℕ) → d ≡ d' → agent ≡ agent' → r ≡ r' →
-    ◌≡◌ {A = Machine} (record { live = live; deadline = d; by_failsafe = b; hold = h; agent = agent; runs = r }) (record { live = live; deadline = d'; by_failsafe = b; hold = h; agent = agent'; runs = r' })
-machine-parts live agent agent' d d' b h r r' p a q = cc
-
 fresh-there : (agents : List (Option AgentFacts)) (k run : ℕ) (agent : AgentFacts) → k < length agents → agent_now (Some (Some agent)) ≡ Some (fresh_agent run)
     → agent_now (option_map (λ (before : Option AgentFacts). Some agent) (slice_get agents k)) ≡ Some (fresh_agent run)
 fresh-there agents k run agent small fresh = let found = there agents k small in ap (λ (o : Option (Option AgentFacts)). agent_now (option_map (λ (before : Option AgentFacts). Some agent) o)) found.1 ∙ fresh
 
 started-run : (processes : List AgentProcess) (k run : ℕ) → k < length processes → run_now (option_map (λ (process : AgentProcess). running_in run) (slice_get processes k)) ≡ run
 started-run processes k run small = let found = there processes k small in ap (λ (o : Option AgentProcess). run_now (option_map (λ (process : AgentProcess). running_in run) o)) found.1
-
-no-deadline : (found : Option (Option Ticks)) → deadline_now (option_map (λ (before : Option Ticks). let none : Option Ticks = None in none) found) ≡ None
-no-deadline None = refl
-no-deadline (Some found) = refl
 
 started-machine : (cluster : Cluster) (member : Member) (found : Option EventKind) → member.id.number < length cluster.agents → member.id.number < length cluster.book.agents
     → IsStartOf member (live_in cluster.book.servers member.id.number) (deadline_in cluster.book.deadlines member.id.number) found → (m : ℕ)
@@ -71,17 +64,17 @@ started-machine cluster member None few small is =
     let k : ℕ = member.id.number in
     let run : ℕ = run_in cluster.book.agents k + 1 in
     machines-put (machine_in cluster) (machine_in (cluster_after cluster (kinds.Agent (agents.Started member run)))) k (start_machine (machine_in cluster k))
-    (machine-parts _ _ _ _ _ _ _ _ _ (sym is) (ap agent_now (get-here cluster.agents k _) ∙ fresh-there cluster.agents k run _ few (ap Some (fresh-seen (who_of cluster.scope cluster.book.members member) cluster.book.clock run))) (ap run_now (get-here cluster.book.agents k _) ∙ started-run cluster.book.agents k run small))
-    (λ m other. machine-parts _ _ _ _ _ _ _ _ _ refl (ap agent_now (get-elsewhere cluster.agents k m _ other)) (ap run_now (get-elsewhere cluster.book.agents k m _ other)))
+    (machine-same _ _ _ _ _ _ _ _ _ _ _ _ refl (sym is) refl refl (ap agent_now (get-here cluster.agents k _) ∙ fresh-there cluster.agents k run _ few (ap Some (fresh-seen (who_of cluster.scope cluster.book.members member) cluster.book.clock run))) (ap run_now (get-here cluster.book.agents k _) ∙ started-run cluster.book.agents k run small))
+    (λ m other. machine-same _ _ _ _ _ _ _ _ _ _ _ _ refl refl refl refl (ap agent_now (get-elsewhere cluster.agents k m _ other)) (ap run_now (get-elsewhere cluster.book.agents k m _ other)))
 started-machine cluster member (Some kind) few small is =
     let k : ℕ = member.id.number in
     let run : ℕ = run_in cluster.book.agents k + 1 in
     let started : Cluster = cluster_after cluster (kinds.Agent (agents.Started member run)) in
     subst (λ (z : EventKind). (m : ℕ) → machine_in (cluster_after started z) m ≡ put_at (machine_in cluster) k (start_machine (machine_in cluster k)) m) (sym is.0)
     (machines-put (machine_in cluster) (machine_in (cluster_after started (kinds.Watchdog (watchdogs.Disarmed member)))) k (start_machine (machine_in cluster k))
-    (machine-parts _ _ _ _ _ _ _ _ _ (ap deadline_now (get-here cluster.book.deadlines k _) ∙ no-deadline (slice_get cluster.book.deadlines k) ∙ sym is.1)
+    (machine-same _ _ _ _ _ _ _ _ _ _ _ _ refl (ap deadline_now (get-here cluster.book.deadlines k _) ∙ no-deadline (slice_get cluster.book.deadlines k) ∙ sym is.1) refl refl
     (ap agent_now (get-here cluster.agents k _) ∙ fresh-there cluster.agents k run _ few (ap Some (fresh-seen (who_of cluster.scope cluster.book.members member) cluster.book.clock run))) (ap run_now (get-here cluster.book.agents k _) ∙ started-run cluster.book.agents k run small))
-    (λ m other. machine-parts _ _ _ _ _ _ _ _ _ (ap deadline_now (get-elsewhere cluster.book.deadlines k m _ other))
+    (λ m other. machine-same _ _ _ _ _ _ _ _ _ _ _ _ refl (ap deadline_now (get-elsewhere cluster.book.deadlines k m _ other)) refl refl
     (ap agent_now (get-elsewhere cluster.agents k m _ other)) (ap run_now (get-elsewhere cluster.book.agents k m _ other))))
 
 disarms-if : (member : Member) (is_live : Bool) (deadline : Option Ticks) → IsStartOf member is_live (deadline_now (Some deadline)) (cond is_live None (disarm_if member deadline))
@@ -147,7 +140,7 @@ kept-start head book cluster member run small next good =
 restart-by : (head : HeadText) (book : List Event) (cluster : Cluster) (member : Member) (process : AgentProcess) (running : Bool) → process.running ≡ running → member.id.number < member_count head
     → slice_get cluster.book.agents member.id.number ≡ Some process → Bridged head book cluster
     → IsKept head book cluster (events_then cluster (event_of cluster (cond running (kinds.Note (AlreadyRunning member)) (kinds.Agent (agents.Started member (process.run + 1)))))
-      (λ later. cond running [] (events_of later (kinds_of (disarm_of member (machine_of cluster member))))))
+    (λ later. cond running [] (events_of later (kinds_of (disarm_of member (machine_of cluster member))))))
 restart-by head book cluster member process true runs small is good =
     kept-then head book cluster (event_of cluster (kinds.Note (AlreadyRunning member))) [] (kept-quiet head book cluster (kinds.Note (AlreadyRunning member)) tt good) (λ later. kept-none head _ _ later)
 restart-by head book cluster member process false runs small is good =

@@ -1,7 +1,6 @@
 -- What is received, confirmed and acknowledged keeps the law.
-use Rattle.std.proofs.Common.{ℕ, ◌≡◌, ◌++◌, Bool, true, false, cond, List, [], ◌∷◌, map, slice_get, Option, Some, None, refl}
+use Rattle.std.proofs.Common.{ℕ, ◌++◌, List, [], ◌∷◌, map, slice_get, Option, Some, None}
 use Rattle.pat_base.specs.declared.lsn.Lsn.{Lsn}
-use Rattle.pat_base.specs.ServerState.{writes}
 use Rattle.pg_model.specs.declared.answers.Streamed.{Streamed}
 use Rattle.pg_model.specs.declared.answers.Streamed.TheVariants as streams
 use Rattle.pg_model.specs.Facts.{ServerFacts}
@@ -18,9 +17,9 @@ use Rattle.cluster_model.specs.Cluster.{cluster_after}
 use Rattle.cluster_model.specs.Commands.{kinds_of}
 use Rattle.cluster_script.specs.Script.{HeadText}
 use Rattle.cluster_model.specs.Next.{acknowledge_events, all_entries, confirm_events, receive_events, receive_events_at_most, receive_events_of}
-use Rattle.cluster_model.specs.Parts.{event_of, events_of, events_then, for_some}
+use Rattle.cluster_model.specs.Parts.{event_of, events_of}
 use Rattle.cluster_model.specs.State.{Cluster}
-use Rattle.cluster_model.specs.Streaming.{confirm_of, source_of, unconfirmed_end}
+use Rattle.cluster_model.specs.Streaming.{confirm_of, source_of}
 use Rattle.run_law.specs.Asides.{IsQuiet}
 use Rattle.run_law.specs.Bridged.{Bridged}
 use Rattle.run_law.specs.Kept.{IsKept, Keeps}

@@ -1,5 +1,5 @@
 -- What a tick makes of machines: those whose watchdogs are due are reset, and servers end whose stops are complete.
-use Rattle.std.proofs.Common.{ℕ, ◌≡◌, ◌≢◌, ◌<◌, ◌+◌, ◌==◌, ◌&&◌, ◌||◌, nat_le, ◌++◌, Bool, true, false, cond, List, [], ◌∷◌, length, map, slice_get, Option, Some, None, option_and_then, option_map, refl, ◌∙◌, ap, sym, subst}
+use Rattle.std.proofs.Common.{ℕ, ◌≡◌, ◌≢◌, ◌<◌, ◌+◌, ◌==◌, ◌&&◌, ◌||◌, nat_le, Bool, true, false, cond, List, [], ◌∷◌, length, slice_get, Option, Some, None, option_and_then, option_map, refl, ◌∙◌, ap, sym, subst}
 use Rattle.pat_base.specs.declared.server_state.State.{State}
 use Rattle.pat_base.specs.declared.server_state.State.TheVariants as states
 use Rattle.pat_base.specs.declared.ticks.Ticks.{Ticks}
@@ -7,37 +7,30 @@ use Rattle.pat_base.specs.ServerState.{live}
 use Rattle.pg_model.specs.Facts.{ServerFacts}
 use Rattle.pg_model.specs.Running.{completed, started, stopped}
 use Rattle.pg_model.specs.Servers.{ticked_unless_live}
-use Rattle.event_book.specs.declared.agent_process.AgentProcess.{AgentProcess}
-use Rattle.event_book.specs.declared.event.Event.{Event}
 use Rattle.event_book.specs.declared.event.EventKind.{EventKind}
 use Rattle.event_book.specs.declared.event.EventKind.TheVariants as kinds
 use Rattle.event_book.specs.declared.event.ServerEvent.TheVariants as servers
 use Rattle.event_book.specs.declared.event.WatchdogEvent.TheVariants as watchdogs
 use Rattle.event_book.specs.declared.member.Member.{Member}
-use Rattle.event_book.specs.Agents.{ended_process}
 use Rattle.event_book.specs.Members.{server_of}
 use Rattle.event_book.proofs.Changed.{kept-each, same-if}
-use Rattle.ha_loop.specs.Agents.{AgentFacts}
 use Rattle.cluster_model.specs.Cluster.{cluster_after, cluster_over}
 use Rattle.cluster_model.specs.Commands.{kinds_of}
 use Rattle.cluster_model.specs.Parts.{each, events_of}
 use Rattle.cluster_model.specs.State.{Cluster}
 use Rattle.cluster_model.specs.Ticking.{completion_by, completion_events, completion_of, reset_events, reset_of}
-use Rattle.lease_law.specs.States.{Agent, Machine, is_due, tick_machine}
+use Rattle.lease_law.specs.States.{Machine, is_due, tick_machine}
 use Rattle.lease_law.proofs.Tools.{eq-from, ne-from}
 use Rattle.run_law.specs.Asides.{IsQuiet}
-use Rattle.run_law.specs.Machines.{deadline_in, deadline_now, live_in, live_now, run_now}
+use Rattle.run_law.specs.Machines.{deadline_in, deadline_now, live_now, run_now}
 use Rattle.run_law.specs.Members.{is_listed}
 use Rattle.run_law.specs.Volatile.{agent_now, machine_in}
 use Rattle.run_law.proofs.Composing.{Each, over-append}
-use Rattle.run_law.proofs.Ending.{agent-without, crashed-now, machines-put}
-use Rattle.run_law.proofs.Machines.{seen-kept}
+use Rattle.run_law.proofs.Ending.{agent-without, crashed-now}
+use Rattle.run_law.proofs.Machines.{ended-run, no-deadline, seen-kept}
+use Rattle.run_law.proofs.SameMachine.{machine-same}
 use Rattle.run_law.proofs.Places.{get-here, get-elsewhere, length-changed}
 use Rattle.run_law.proofs.Quiet.{AllKinds, live-kept, quiet-machine}
-
-machine-parts : (live live' : Bool) (agent agent' : Option Agent) (d d' : Option ℕ) (b : Bool) (h r r' : ℕ) → live ≡ live' → agent ≡ agent' → d ≡ d' → r ≡ r' →
-    ◌≡◌ {A = Machine} (record { live = live; deadline = d; by_failsafe = b; hold = h; agent = agent; runs = r }) (record { live = live'; deadline = d'; by_failsafe = b; hold = h; agent = agent'; runs = r' })
-machine-parts live live' agent agent' d d' b h r r' p a e q = cc
 
 -- ---- the clock grows
 ticked-live : (now : Ticks) (state : State) (s : ServerFacts) → s.state ≡ state → live (cond (live state) s (completed now state s)).state ≡ live s.state
@@ -50,22 +43,14 @@ ticked-live now _ s is = refl
 pub ticked-machine : (cluster : Cluster) (m : ℕ) → machine_in (cluster_after cluster kinds.Tick) m ≡ machine_in cluster m
 ticked-machine cluster m =
     let now : Ticks = record { 0 = cluster.book.clock + 1 } in
-    machine-parts _ _ _ _ _ _ _ _ _ _
-    (live-kept cluster.book.servers _ m (kept-each (λ s. live s.state) (ticked_unless_live now) (λ s. ticked-live now s.state s refl) cluster.book.servers)) refl refl refl
+    machine-same _ _ _ _ _ _ _ _ _ _ _ _
+    (live-kept cluster.book.servers _ m (kept-each (λ s. live s.state) (ticked_unless_live now) (λ s. ticked-live now s.state s refl) cluster.book.servers)) refl refl refl refl refl
 
 -- ---- machines are reset
 reset-found : (now : ℕ) (x : Member) (found : Option (Option Ticks)) → option_and_then (reset_of now x) found ≡ cond (is_due now (deadline_now found)) (Some (kinds.Watchdog (watchdogs.Reset x))) None
 reset-found now x None = refl
 reset-found now x (Some None) = refl
 reset-found now x (Some (Some deadline)) = refl
-
-ended-run : (found : Option AgentProcess) → run_now (option_map ended_process found) ≡ run_now found
-ended-run None = refl
-ended-run (Some process) = refl
-
-no-deadline : (found : Option (Option Ticks)) → deadline_now (option_map (λ (before : Option Ticks). let none : Option Ticks = None in none) found) ≡ None
-no-deadline None = refl
-no-deadline (Some found) = refl
 
 -- the cluster behind the reset of this member's machine, if it is due
 abbrev after-reset : Cluster → Member → Bool → Cluster
@@ -74,18 +59,19 @@ after-reset cluster x due = cluster_over cluster (events_of cluster (kinds_of (c
 reset-machine : (cluster : Cluster) (x : Member) → x.id.number < length cluster.agents → machine_in (after-reset cluster x true) x.id.number ≡ tick_machine true false (machine_in cluster x.id.number)
 reset-machine cluster x small =
     let k : ℕ = x.id.number in
-    machine-parts _ _ _ _ _ _ _ _ _ _
+    machine-same _ _ _ _ _ _ _ _ _ _ _ _
     (ap live_now (get-here cluster.book.servers k _) ∙ crashed-now (slice_get cluster.book.servers k))
-    (ap agent_now (get-here cluster.agents k _) ∙ agent-without cluster.agents k small)
     (ap deadline_now (get-here cluster.book.deadlines k _) ∙ no-deadline (slice_get cluster.book.deadlines k))
+    refl refl
+    (ap agent_now (get-here cluster.agents k _) ∙ agent-without cluster.agents k small)
     (seen-kept run_now cluster.book.agents k k _ ended-run)
 
 reset-elsewhere : (cluster : Cluster) (x : Member) (m : ℕ) → m ≢ x.id.number → machine_in (after-reset cluster x true) m ≡ machine_in cluster m
 reset-elsewhere cluster x m other =
     let k : ℕ = x.id.number in
-    machine-parts _ _ _ _ _ _ _ _ _ _
-    (ap live_now (get-elsewhere cluster.book.servers k m _ other)) (ap agent_now (get-elsewhere cluster.agents k m _ other))
-    (ap deadline_now (get-elsewhere cluster.book.deadlines k m _ other)) (seen-kept run_now cluster.book.agents k m _ ended-run)
+    machine-same _ _ _ _ _ _ _ _ _ _ _ _
+    (ap live_now (get-elsewhere cluster.book.servers k m _ other)) (ap deadline_now (get-elsewhere cluster.book.deadlines k m _ other)) refl refl
+    (ap agent_now (get-elsewhere cluster.agents k m _ other)) (seen-kept run_now cluster.book.agents k m _ ended-run)
 
 -- whether the watchdog of a machine is due
 abbrev due_seen : Cluster → ℕ → Bool
@@ -195,7 +181,7 @@ end-at : (cluster : Cluster) (x : Member) (m : ℕ) (ends same : Bool) → stops
 end-at cluster x m true true is e =
     let k : ℕ = x.id.number in
     subst (λ (n : ℕ). EndsAs cluster (after-end cluster x true) n true) (sym (eq-from m k e)) (record {
-      machine = machine-parts _ _ _ _ _ _ _ _ _ _ (ap live_now (get-here cluster.book.servers k _) ∙ stopped-now (slice_get cluster.book.servers k)) refl refl refl
+      machine = machine-same _ _ _ _ _ _ _ _ _ _ _ _ (ap live_now (get-here cluster.book.servers k _) ∙ stopped-now (slice_get cluster.book.servers k)) refl refl refl refl refl
           ∙ ap (λ b. tick_machine false b (machine_in cluster k)) (sym is);
       stops = ap (stops_now cluster.book.clock) (get-here cluster.book.servers k _) ∙ stopped-stops cluster.book.clock (slice_get cluster.book.servers k)
           ∙ ap (λ b. cond b false (stops_seen cluster k)) (sym is);
@@ -204,7 +190,7 @@ end-at cluster x m true false is e =
     let k : ℕ = x.id.number in
     let other : m ≢ k = ne-from m k e in
     record {
-      machine = machine-parts _ _ _ _ _ _ _ _ _ _ (ap live_now (get-elsewhere cluster.book.servers k m _ other)) refl refl refl;
+      machine = machine-same _ _ _ _ _ _ _ _ _ _ _ _ (ap live_now (get-elsewhere cluster.book.servers k m _ other)) refl refl refl refl refl;
       stops = ap (stops_now cluster.book.clock) (get-elsewhere cluster.book.servers k m _ other);
     }
 end-at cluster x m false true is e =

@@ -17,7 +17,7 @@ use Rattle.cluster_model.specs.Cluster.{cluster_after, cluster_over}
 use Rattle.cluster_model.specs.Commands.{kinds_of}
 use Rattle.cluster_script.specs.Script.{HeadText, names_of}
 use Rattle.cluster_model.specs.Orders.{declared_member}
-use Rattle.cluster_model.specs.Parts.{each, event_of, events_of}
+use Rattle.cluster_model.specs.Parts.{each, events_of}
 use Rattle.cluster_model.specs.State.{Cluster}
 use Rattle.cluster_model.specs.Ticking.{completion_by, completion_events, completion_of, expiries_of, expiry_of, leader_expiry, next_expiries, reset_events, reset_of, tick_events}
 use Rattle.leader_key.specs.Watchdog.{is_due_at}
@@ -32,11 +32,10 @@ use Rattle.lease_law.specs.Showing.{IsLocal}
 use Rattle.lease_law.specs.States.{Machine, is_due, tick_machine}
 use Rattle.lease_law.proofs.LocalActions.{tick-shown}
 use Rattle.run_law.specs.Asides.{IsAside, IsQuiet}
-use Rattle.run_law.specs.Bridged.{Bridged}
 use Rattle.run_law.specs.Declaring.{declared_members, declared_of, member_count}
-use Rattle.run_law.specs.Kept.{IsKept, Keeps}
+use Rattle.run_law.specs.Kept.{Keeps}
 use Rattle.run_law.specs.Machines.{deadline_in, deadline_now}
-use Rattle.run_law.specs.Members.{IsDeclared, is_listed}
+use Rattle.run_law.specs.Members.{is_listed}
 use Rattle.run_law.specs.Volatile.{machine_in, volatile_of}
 use Rattle.run_law.proofs.Actions.{action-kept, machine-is}
 use Rattle.run_law.proofs.Asides.{asides-begin, matched-behind}
@@ -151,16 +150,16 @@ ended-machine false ends machine = refl
 
 tick-machines : (cluster : Cluster) (m : ℕ) → Each (λ (x : Member). x.id.number < length cluster.agents) cluster.book.members
     → machine_in (cluster_over (Ticked cluster) (Rest cluster)) m
-      ≡ tick_machine (is_listed m cluster.book.members && is_due (cluster.book.clock + 1) (deadline_in cluster.book.deadlines m)) (Stops cluster m) (machine_in cluster m)
+    ≡ tick_machine (is_listed m cluster.book.members && is_due (cluster.book.clock + 1) (deadline_in cluster.book.deadlines m)) (Stops cluster m) (machine_in cluster m)
 tick-machines cluster m small =
     let due : Bool = is_listed m cluster.book.members && is_due (cluster.book.clock + 1) (deadline_in cluster.book.deadlines m) in
     ap (λ (c : Cluster). machine_in c m)
     (over-append (Ticked cluster) (Resets cluster) (Expiries cluster ++ Ends cluster) ∙ over-append (Reset cluster) (Expiries cluster) (Ends cluster))
     ∙ ends (Expired cluster).book.members (Expired cluster) m
     ∙ ap (λ (machine : Machine). tick_machine false (Stops cluster m) machine)
-      (quiet-machines (next_expiries cluster) (next-quiet cluster) (Reset cluster) m
-      ∙ resets (Ticked cluster).book.members (Ticked cluster) small m
-      ∙ ap (λ (machine : Machine). tick_machine due false machine) (ticked-machine cluster m))
+    (quiet-machines (next_expiries cluster) (next-quiet cluster) (Reset cluster) m
+    ∙ resets (Ticked cluster).book.members (Ticked cluster) small m
+    ∙ ap (λ (machine : Machine). tick_machine due false machine) (ticked-machine cluster m))
     ∙ ended-machine due (Stops cluster m) (machine_in cluster m)
 
 -- past the members nothing is due
@@ -195,7 +194,7 @@ keeps-tick head few book cluster good =
           machine-is head (past_of (book ++ events)) later matched m
           ∙ tick-machines cluster m (subst (λ (xs : List Member). Each (λ (x : Member). x.id.number < length cluster.agents) xs) (sym members) within)
           ∙ ap (λ b. tick_machine b (Stops cluster m) (machine_in cluster m))
-            (listed-due count m (cluster.book.clock + 1) cluster.book.deadlines (is_listed m cluster.book.members) good.matched.sized.deadlines (λ small. ap (λ xs. is_listed m xs) members ∙ listed head few m small))
+          (listed-due count m (cluster.book.clock + 1) cluster.book.deadlines (is_listed m cluster.book.members) good.matched.sized.deadlines (λ small. ap (λ xs. is_listed m xs) members ∙ listed head few m small))
           ∙ ap (λ (now : ℕ). tick_machine (is_due (now + 1) (deadline_in cluster.book.deadlines m)) (Stops cluster m) (machine_in cluster m)) (sym good.matched.store.clock)
           ∙ ap (λ (o : Option ℕ). tick_machine (is_due ((past_of book).clock + 1) o) (Stops cluster m) (machine_in cluster m)) (sym (good.matched.machines.deadline m))
           ∙ ap (λ (machine : Machine). tick_machine (is_due ((past_of book).clock + 1) ((past_of book).deadline m)) (Stops cluster m) machine) (sym (machine-is head (past_of book) cluster good.matched m)));

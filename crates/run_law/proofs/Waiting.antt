@@ -1,5 +1,4 @@
 -- What agents that wait know of their questions is kept by events at which none acts.
-use Rattle.std.proofs.Common.{ℕ}
 use Rattle.event_book.specs.declared.event.EventKind.{EventKind}
 use Rattle.cluster_model.specs.Cluster.{cluster_after}
 use Rattle.cluster_script.specs.Script.{HeadText}

@@ -1,9 +1,8 @@
 -- What the law of one writer sees of an agent.
-use Rattle.std.specs.Prelude.{ℕ, ◌==◌, Bool, true, false, Option, Some, None}
-use Rattle.std.specs.Int.{bit_at}
+use Rattle.std.specs.Prelude.{ℕ, false, Option, Some, None}
 use Rattle.ha_loop.specs.declared.knowledge.Knowledge.{Knowledge}
 use Rattle.lease_law.specs.Past.{set_members}
-use Rattle.ha_loop.specs.Agents.{AgentFacts, RoleFacts, Follower, Holder, Ready, Leader, Ending, Stray}
+use Rattle.ha_loop.specs.Agents.{RoleFacts, Holder, Ready, Leader, Ending}
 use Rattle.lease_law.specs.States.{Agent}
 
 -- the revision of the lease value that a role holds

@@ -1,6 +1,5 @@
 -- What a head declares, as the law of one writer reads it.
-use Rattle.std.specs.Prelude.{ℕ, ◌*◌, ◌&&◌, Bool, true, false, List, Option, Some, None, length, map, slice_get}
-use Rattle.pat_base.specs.declared.name.Name.{Name}
+use Rattle.std.specs.Prelude.{ℕ, ◌*◌, Bool, true, false, List, Option, Some, None, length, slice_get}
 use Rattle.cluster_script.specs.Script.{HeadText, MemberText, names_of}
 use Rattle.event_book.specs.declared.member.Member.{Member}
 use Rattle.event_book.specs.Members.{members_from}

@@ -1,5 +1,5 @@
 -- What agents and the key store owe the law: each input of an agent, and each message that comes, keeps it.
-use Rattle.std.specs.Prelude.{ℕ, ◌≡◌, true, List, Option, Some, slice_get}
+use Rattle.std.specs.Prelude.{ℕ, ◌≡◌, true, List, Some, slice_get}
 use Rattle.cluster_model.specs.declared.delivery.Delivery.TheVariants.{Open}
 use Rattle.event_book.specs.declared.agent_process.AgentProcess.{AgentProcess}
 use Rattle.event_book.specs.declared.event.Event.{Event}

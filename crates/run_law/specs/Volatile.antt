@@ -1,5 +1,5 @@
 -- What the law of one writer sees of a cluster.
-use Rattle.std.specs.Prelude.{ℕ, Bool, false, List, Option, Some, None, option_map, slice_get}
+use Rattle.std.specs.Prelude.{ℕ, false, Option, Some, None, option_map, slice_get}
 use Rattle.ha_loop.specs.Agents.{AgentFacts}
 use Rattle.cluster_model.specs.State.{Cluster}
 use Rattle.lease_law.specs.Past.{VolatileState}
