@@ -100,19 +100,29 @@ local-shows s (Input member input) events is = absurd is
 local-shows s _ events is = tt
 
 -- events that change machines alone, as an action does, keep the law
-pub local-kept : (head : HeadText) (book : List Event) (cluster : Cluster) (events : List Event) (action : Action) → Bridged head book cluster
-    → IsLocalAction action → AllAre (IsAside (member_count head)) events → AllAre IsLocal events
+pub machines-kept : (head : HeadText) (book : List Event) (cluster : Cluster) (events : List Event) (action : Action) → Bridged head book cluster
+    → IsLocalAction action → AllAre IsLocal events
+    → BeginsBehind (MayBeginBehind (Behind head book cluster) action) [] events
+    → IsMatched head (past_of (book ++ events)) (cluster_over cluster events)
     → ((m : ℕ) → machine_in (cluster_over cluster events) m ≡ machines_by_action action (machine_in cluster) m)
     → IsKept head book cluster events
-local-kept head book cluster events action good local asides all machines =
+machines-kept head book cluster events action good local all begins matched machines =
     let later : Cluster = cluster_over cluster events in
     let s : Lease = Behind head book cluster in
-    let matched = matched-behind head book cluster events asides good.matched in
     let seen : s.members ≡ machine_in cluster = fun_ext (machine-is head (past_of book) cluster good.matched) in
-    action-kept head book cluster events action good (asides-begin (member_count head) (MayBeginBehind s action) [] events asides) (λ meets. record {
+    action-kept head book cluster events action good begins (λ meets. record {
       lawful = local-lawful s action local;
       shows = local-shows s action events local;
       shown = local-shown (declared_of head) book (volatile_of cluster) (record { action = action; events = events; volatile_states = volatile_of later }) local all
           (λ m. machine-is head (past_of (book ++ events)) later matched m ∙ machines m ∙ ap (λ (ms : ℕ → Machine). machines_by_action action ms m) (sym seen) ∙ ap (λ (ms : ℕ → Machine). ms m) (sym (acted-is s action local)));
       matched = matched;
     })
+
+-- events at which no agent acts and which change machines alone, as an action does
+pub local-kept : (head : HeadText) (book : List Event) (cluster : Cluster) (events : List Event) (action : Action) → Bridged head book cluster
+    → IsLocalAction action → AllAre IsAside events → AllAre IsLocal events
+    → ((m : ℕ) → machine_in (cluster_over cluster events) m ≡ machines_by_action action (machine_in cluster) m)
+    → IsKept head book cluster events
+local-kept head book cluster events action good local asides all machines =
+    machines-kept head book cluster events action good local all (asides-begin (MayBeginBehind (Behind head book cluster) action) [] events asides)
+    (matched-behind head book cluster events asides good.matched) machines

@@ -78,7 +78,7 @@ pub kept-loss : (head : HeadText) (book : List Event) (cluster : Cluster) (numbe
     → IsKept head book cluster (event_of cluster (kinds.Message (messages.Lost number)))
 kept-loss head book cluster number good =
     let events : List Event = event_of cluster (kinds.Message (messages.Lost number)) in
-    action-kept head book cluster events (Lose number) good (asides-begin (member_count head) (MayBeginBehind (state_of (declared_of head) (past_of book) (volatile_of cluster)) (Lose number)) [] events (tt, tt)) (λ meets. record {
+    action-kept head book cluster events (Lose number) good (asides-begin (MayBeginBehind (state_of (declared_of head) (past_of book) (volatile_of cluster)) (Lose number)) [] events (tt, tt)) (λ meets. record {
       lawful = tt;
       shows = tt;
       shown = loss-shown (declared_of head) book (volatile_of cluster) (record { 0 = cluster.book.clock }) number;

@@ -77,25 +77,25 @@ quiet-machine cluster (kinds.Link happening) is m = refl
 quiet-machine cluster (kinds.Note note) is m = refl
 quiet-machine cluster _ is m = absurd is
 
-pub quiet-aside : (count : ℕ) (kind : EventKind) → IsQuiet kind → IsAside count kind
-quiet-aside count (kinds.Store (stores.Granted number by txn standbys)) is = absurd is
-quiet-aside count (kinds.Store (stores.Refused number by request key found)) is = tt
-quiet-aside count (kinds.Store (stores.LeaderExpired holder)) is = tt
-quiet-aside count (kinds.Store (stores.Expired key)) is = tt
-quiet-aside count (kinds.Server (servers.Follows server upstream)) is = tt
-quiet-aside count (kinds.Server (servers.Diverged server upstream at)) is = tt
-quiet-aside count (kinds.Server (servers.Frozen server)) is = tt
-quiet-aside count (kinds.Server (servers.Thawed server)) is = tt
-quiet-aside count (kinds.Server (servers.Slowed server stop start)) is = tt
-quiet-aside count (kinds.Log happening) is = tt
-quiet-aside count (kinds.Replication happening) is = tt
-quiet-aside count (kinds.Agent (agents.Suspended agent)) is = tt
-quiet-aside count (kinds.Agent (agents.Resumed agent)) is = tt
-quiet-aside count (kinds.Agent (agents.Operated agent action)) is = tt
-quiet-aside count (kinds.Agent (agents.Passed agent)) is = tt
-quiet-aside count (kinds.Link happening) is = tt
-quiet-aside count (kinds.Note note) is = tt
-quiet-aside count _ is = absurd is
+pub quiet-aside : (kind : EventKind) → IsQuiet kind → IsAside kind
+quiet-aside (kinds.Store (stores.Granted number by txn standbys)) is = absurd is
+quiet-aside (kinds.Store (stores.Refused number by request key found)) is = tt
+quiet-aside (kinds.Store (stores.LeaderExpired holder)) is = tt
+quiet-aside (kinds.Store (stores.Expired key)) is = tt
+quiet-aside (kinds.Server (servers.Follows server upstream)) is = tt
+quiet-aside (kinds.Server (servers.Diverged server upstream at)) is = tt
+quiet-aside (kinds.Server (servers.Frozen server)) is = tt
+quiet-aside (kinds.Server (servers.Thawed server)) is = tt
+quiet-aside (kinds.Server (servers.Slowed server stop start)) is = tt
+quiet-aside (kinds.Log happening) is = tt
+quiet-aside (kinds.Replication happening) is = tt
+quiet-aside (kinds.Agent (agents.Suspended agent)) is = tt
+quiet-aside (kinds.Agent (agents.Resumed agent)) is = tt
+quiet-aside (kinds.Agent (agents.Operated agent action)) is = tt
+quiet-aside (kinds.Agent (agents.Passed agent)) is = tt
+quiet-aside (kinds.Link happening) is = tt
+quiet-aside (kinds.Note note) is = tt
+quiet-aside _ is = absurd is
 
 pub quiet-local : (kind : EventKind) → IsQuiet kind → IsLocal kind
 quiet-local (kinds.Store (stores.Granted number by txn standbys)) is = absurd is
@@ -107,7 +107,7 @@ quiet-local _ is = tt
 -- one such event, as it happens
 pub kept-quiet : (head : HeadText) (book : List Event) (cluster : Cluster) (kind : EventKind) → IsQuiet kind → Bridged head book cluster → IsKept head book cluster (event_of cluster kind)
 kept-quiet head book cluster kind is good =
-    local-kept head book cluster (event_of cluster kind) Note good tt (quiet-aside (member_count head) kind is, tt) (quiet-local kind is, tt) (quiet-machine cluster kind is)
+    local-kept head book cluster (event_of cluster kind) Note good tt (quiet-aside kind is, tt) (quiet-local kind is, tt) (quiet-machine cluster kind is)
 
 -- what holds of each kind
 abbrev pub AllKinds : (EventKind → Type 0) → List EventKind → Type 0

@@ -1,5 +1,5 @@
 -- The start of an agent keeps the law.
-use Rattle.std.proofs.Common.{ℕ, ◌≡◌, ◌<◌, ◌+◌, ◌++◌, Bool, cond, true, false, List, [], length, slice_get, Option, Some, None, option_map, refl, ◌∙◌, ap, sym, subst}
+use Rattle.std.proofs.Common.{ℕ, ◌≡◌, ◌<◌, ◌+◌, ◌++◌, Bool, cond, true, false, List, [], length, slice_get, Option, Some, None, option_map, refl, ◌∙◌, ap, sym, subst, arith}
 use Rattle.std.proofs.Math.ListN.{length-map}
 use Rattle.pat_base.specs.declared.ticks.Ticks.{Ticks}
 use Rattle.pat_base.specs.ServerState.{live}
@@ -25,16 +25,20 @@ use Rattle.cluster_model.specs.Parts.{event_of, events_of, events_then}
 use Rattle.cluster_model.specs.Starting.{options_of}
 use Rattle.cluster_model.specs.State.{Cluster}
 use Rattle.lease_law.specs.Actions.{Start}
+use Rattle.lease_law.specs.Claims.{MayBeginBehind}
+use Rattle.lease_law.specs.Past.{Past, first_past, past_after, past_of, state_of}
 use Rattle.lease_law.specs.Premises.{AllAre}
 use Rattle.lease_law.specs.Showing.{IsLocal}
-use Rattle.lease_law.specs.States.{deadline_if, fresh_agent, start_machine}
+use Rattle.lease_law.specs.States.{State, deadline_if, fresh_agent, start_machine}
 use Rattle.run_law.specs.Asides.{IsAside}
-use Rattle.run_law.specs.Bridged.{Bridged}
-use Rattle.run_law.specs.Declaring.{member_count}
+use Rattle.run_law.specs.Bridged.{Bridged, IsMatched}
+use Rattle.run_law.specs.Declaring.{declared_of, member_count}
 use Rattle.run_law.specs.Kept.{IsKept}
 use Rattle.run_law.specs.Machines.{deadline_in, deadline_now, live_in, live_now, run_in, run_now}
-use Rattle.run_law.specs.Volatile.{agent_now, machine_in}
-use Rattle.run_law.proofs.Actions.{local-kept}
+use Rattle.lease_law.proofs.Showing.{past-append}
+use Rattle.run_law.proofs.Asides.{asides-begin, asides-matched, started-matched}
+use Rattle.run_law.specs.Volatile.{agent_now, machine_in, volatile_of}
+use Rattle.run_law.proofs.Actions.{machines-kept}
 use Rattle.run_law.proofs.Composing.{kept-for_some, kept-none, kept-then}
 use Rattle.run_law.proofs.Machines.{no-deadline}
 use Rattle.run_law.proofs.SameMachine.{machine-same, machines-put}
@@ -111,17 +115,17 @@ start-disarms head book cluster member small good =
     (is-there cluster.book.holds k (within (length cluster.book.holds) good.matched.sized.holds))
     (is-there cluster.book.servers k (within (length cluster.book.servers) good.matched.sized.servers))
 
-start-asides : (count : ℕ) (cluster : Cluster) (member : Member) (run : ℕ) (found : Option EventKind) (is_live : Bool) (deadline : Option ℕ) → member.id.number < count → IsStartOf member is_live deadline found
-    → let started : Cluster = cluster_after cluster (kinds.Agent (agents.Started member run)) in
-    AllAre (IsAside count) (event_of cluster (kinds.Agent (agents.Started member run)) ++ events_of started (kinds_of found))
-start-asides count cluster member run None is_live deadline small is = (small, tt)
-start-asides count cluster member run (Some kind) is_live deadline small is = (small, (subst (IsAside count) (sym is.0) tt, tt))
+disarm-asides : (started : Cluster) (member : Member) (found : Option EventKind) (is_live : Bool) (deadline : Option ℕ) → IsStartOf member is_live deadline found → AllAre IsAside (events_of started (kinds_of found))
+disarm-asides started member None is_live deadline is = tt
+disarm-asides started member (Some kind) is_live deadline is = (subst IsAside (sym is.0) tt, tt)
 
-start-local : (cluster : Cluster) (member : Member) (run : ℕ) (found : Option EventKind) (is_live : Bool) (deadline : Option ℕ) → IsStartOf member is_live deadline found
-    → let started : Cluster = cluster_after cluster (kinds.Agent (agents.Started member run)) in
-    AllAre IsLocal (event_of cluster (kinds.Agent (agents.Started member run)) ++ events_of started (kinds_of found))
-start-local cluster member run None is_live deadline is = (tt, tt)
-start-local cluster member run (Some kind) is_live deadline is = (tt, (subst IsLocal (sym is.0) tt, tt))
+disarm-local : (started : Cluster) (member : Member) (found : Option EventKind) (is_live : Bool) (deadline : Option ℕ) → IsStartOf member is_live deadline found → AllAre IsLocal (events_of started (kinds_of found))
+disarm-local started member None is_live deadline is = tt
+disarm-local started member (Some kind) is_live deadline is = (subst IsLocal (sym is.0) tt, tt)
+
+-- the run of a process has a next one
+next-later : (run : ℕ) → run < run + 1
+next-later run = omega arith
 
 kept-start : (head : HeadText) (book : List Event) (cluster : Cluster) (member : Member) (run : ℕ) → member.id.number < member_count head → run ≡ run_in cluster.book.agents member.id.number + 1 → Bridged head book cluster
     → let started : Cluster = cluster_after cluster (kinds.Agent (agents.Started member run)) in
@@ -131,9 +135,17 @@ kept-start head book cluster member run small next good =
     let found : Option EventKind = disarm_of member (machine_of cluster member) in
     let is = start-disarms head book cluster member small good in
     subst (λ (r : ℕ). IsKept head book cluster (event_of cluster (kinds.Agent (agents.Started member r)) ++ events_of (cluster_after cluster (kinds.Agent (agents.Started member r))) (kinds_of found))) (sym next)
-    (local-kept head book cluster _ (Start k) good tt
-    (start-asides (member_count head) cluster member _ found (live_in cluster.book.servers k) (deadline_in cluster.book.deadlines k) small is)
-    (start-local cluster member _ found (live_in cluster.book.servers k) (deadline_in cluster.book.deadlines k) is)
+    (let run : ℕ = run_in cluster.book.agents k + 1 in
+    let kind : EventKind = kinds.Agent (agents.Started member run) in
+    let started : Cluster = cluster_after cluster kind in
+    let rest : List Event = events_of started (kinds_of found) in
+    let asides : AllAre IsAside rest = disarm-asides started member found (live_in cluster.book.servers k) (deadline_in cluster.book.deadlines k) is in
+    let s : State = state_of (declared_of head) (past_of book) (volatile_of cluster) in
+    machines-kept head book cluster (event_of cluster kind ++ rest) (Start k) good tt
+    (tt, disarm-local started member found (live_in cluster.book.servers k) (deadline_in cluster.book.deadlines k) is)
+    (tt, asides-begin (MayBeginBehind s (Start k)) (event_of cluster kind) rest asides)
+    (subst (λ (past : Past). IsMatched head past (cluster_over started rest)) (sym (past-append first_past book (event_of cluster kind ++ rest)))
+    (asides-matched head (past_after (past_of book) kind) started rest asides (started-matched head (past_of book) cluster member run small (next-later (run_in cluster.book.agents k)) good.matched)))
     (started-machine cluster member found (subst (λ (n : ℕ). k < n) (sym good.matched.agents_sized) small) (subst (λ (n : ℕ). k < n) (sym good.matched.sized.agents) small) is))
 
 -- an agent that is to start, by its process

@@ -45,8 +45,8 @@ use Rattle.run_law.proofs.Quiet.{AllKinds, quiet-aside, quiet-local}
 use Rattle.run_law.proofs.TickMachines.{ends, quiet-machines, resets, stops_seen, ticked-machine}
 
 -- events of a tick beside the clock's
-abbrev IsBeside : ℕ → EventKind → Type 0
-IsBeside count kind = IsAside count kind × IsLocal kind
+abbrev IsBeside : EventKind → Type 0
+IsBeside kind = IsAside kind × IsLocal kind
 
 all-append : (P : EventKind → Type 0) (xs ys : List Event) → AllAre P xs → AllAre P ys → AllAre P (xs ++ ys)
 all-append P [] ys first second = second
@@ -56,26 +56,26 @@ all-each : {X : Type 0} (P : EventKind → Type 0) (part : Cluster → X → Lis
 all-each P part all cluster [] = tt
 all-each P part all cluster (x ∷ xs) = all-append P (part cluster x) (each part (cluster_over cluster (part cluster x)) xs) (all cluster x) (all-each P part all (cluster_over cluster (part cluster x)) xs)
 
-reset-beside : (count : ℕ) (cluster : Cluster) (now : ℕ) (x : Member) (found : Option (Option Ticks)) → AllAre (IsBeside count) (events_of cluster (kinds_of (option_and_then (reset_of now x) found)))
-reset-beside count cluster now x None = tt
-reset-beside count cluster now x (Some deadline) = reset-if (is_due_at now deadline)
+reset-beside : (cluster : Cluster) (now : ℕ) (x : Member) (found : Option (Option Ticks)) → AllAre IsBeside (events_of cluster (kinds_of (option_and_then (reset_of now x) found)))
+reset-beside cluster now x None = tt
+reset-beside cluster now x (Some deadline) = reset-if (is_due_at now deadline)
   where
-    reset-if : (due : Bool) → AllAre (IsBeside count) (events_of cluster (kinds_of (cond due (Some (kinds.Watchdog (watchdogs.Reset x))) None)))
+    reset-if : (due : Bool) → AllAre IsBeside (events_of cluster (kinds_of (cond due (Some (kinds.Watchdog (watchdogs.Reset x))) None)))
     reset-if true = ((tt, tt), tt)
     reset-if false = tt
 
-ended-if : (count : ℕ) (cluster : Cluster) (x : Member) (test : Bool) → AllAre (IsBeside count) (events_of cluster (kinds_of (cond test (Some (kinds.Server (servers.Ended (server_of x)))) None)))
-ended-if count cluster x true = ((tt, tt), tt)
-ended-if count cluster x false = tt
+ended-if : (cluster : Cluster) (x : Member) (test : Bool) → AllAre IsBeside (events_of cluster (kinds_of (cond test (Some (kinds.Server (servers.Ended (server_of x)))) None)))
+ended-if cluster x true = ((tt, tt), tt)
+ended-if cluster x false = tt
 
-completed-beside : (count : ℕ) (cluster : Cluster) (now : ℕ) (x : Member) (state : State) → AllAre (IsBeside count) (events_of cluster (kinds_of (completion_by now x state)))
-completed-beside count cluster now x (states.Stopping true at) = ended-if count cluster x (nat_le at.0 now)
-completed-beside count cluster now x (states.Stopping false at) = tt
-completed-beside count cluster now x _ = tt
+completed-beside : (cluster : Cluster) (now : ℕ) (x : Member) (state : State) → AllAre IsBeside (events_of cluster (kinds_of (completion_by now x state)))
+completed-beside cluster now x (states.Stopping true at) = ended-if cluster x (nat_le at.0 now)
+completed-beside cluster now x (states.Stopping false at) = tt
+completed-beside cluster now x _ = tt
 
-ends-beside : (count : ℕ) (cluster : Cluster) (now : ℕ) (x : Member) (found : Option ServerFacts) → AllAre (IsBeside count) (events_of cluster (kinds_of (option_and_then (completion_of now x) found)))
-ends-beside count cluster now x None = tt
-ends-beside count cluster now x (Some s) = completed-beside count cluster now x s.state
+ends-beside : (cluster : Cluster) (now : ℕ) (x : Member) (found : Option ServerFacts) → AllAre IsBeside (events_of cluster (kinds_of (option_and_then (completion_of now x) found)))
+ends-beside cluster now x None = tt
+ends-beside cluster now x (Some s) = completed-beside cluster now x s.state
 
 quiet-append : (xs ys : List EventKind) → AllKinds IsQuiet xs → AllKinds IsQuiet ys → AllKinds IsQuiet (xs ++ ys)
 quiet-append [] ys first second = second
@@ -96,9 +96,9 @@ expiries-quiet holder (key ∷ more) = quiet-append (expiry_of holder key) (expi
 next-quiet : (cluster : Cluster) → AllKinds IsQuiet (next_expiries cluster)
 next-quiet cluster = expiries-quiet (declared_member cluster.book.members (expired_holder cluster.book.keys (cluster.book.clock + 1))) (expired_keys cluster.book.keys (cluster.book.clock + 1))
 
-quiet-beside : (count : ℕ) (cluster : Cluster) (kinds : List EventKind) → AllKinds IsQuiet kinds → AllAre (IsBeside count) (events_of cluster kinds)
-quiet-beside count cluster [] all = tt
-quiet-beside count cluster (kind ∷ more) all = ((quiet-aside count kind all.0, quiet-local kind all.0), quiet-beside count (cluster_after cluster kind) more all.1)
+quiet-beside : (cluster : Cluster) (kinds : List EventKind) → AllKinds IsQuiet kinds → AllAre IsBeside (events_of cluster kinds)
+quiet-beside cluster [] all = tt
+quiet-beside cluster (kind ∷ more) all = ((quiet-aside kind all.0, quiet-local kind all.0), quiet-beside (cluster_after cluster kind) more all.1)
 
 -- ---- the parts of a tick
 abbrev Ticked : Cluster → Cluster
@@ -123,20 +123,20 @@ Ends cluster = each completion_events (Expired cluster) (Expired cluster).book.m
 abbrev Rest : Cluster → List Event
 Rest cluster = Resets cluster ++ (Expiries cluster ++ Ends cluster)
 
-rest-beside : (count : ℕ) (cluster : Cluster) → AllAre (IsBeside count) (Rest cluster)
-rest-beside count cluster =
-    all-append (IsBeside count) (Resets cluster) (Expiries cluster ++ Ends cluster)
-    (all-each (IsBeside count) reset_events (λ c x. reset-beside count c c.book.clock x (slice_get c.book.deadlines x.id.number)) (Ticked cluster) (Ticked cluster).book.members)
-    (all-append (IsBeside count) (Expiries cluster) (Ends cluster) (quiet-beside count (Reset cluster) (next_expiries cluster) (next-quiet cluster))
-    (all-each (IsBeside count) completion_events (λ c x. ends-beside count c c.book.clock x (slice_get c.book.servers x.id.number)) (Expired cluster) (Expired cluster).book.members))
+rest-beside : (cluster : Cluster) → AllAre IsBeside (Rest cluster)
+rest-beside cluster =
+    all-append IsBeside (Resets cluster) (Expiries cluster ++ Ends cluster)
+    (all-each IsBeside reset_events (λ c x. reset-beside c c.book.clock x (slice_get c.book.deadlines x.id.number)) (Ticked cluster) (Ticked cluster).book.members)
+    (all-append IsBeside (Expiries cluster) (Ends cluster) (quiet-beside (Reset cluster) (next_expiries cluster) (next-quiet cluster))
+    (all-each IsBeside completion_events (λ c x. ends-beside c c.book.clock x (slice_get c.book.servers x.id.number)) (Expired cluster) (Expired cluster).book.members))
 
-beside-aside : (count : ℕ) (events : List Event) → AllAre (IsBeside count) events → AllAre (IsAside count) events
-beside-aside count [] all = tt
-beside-aside count (event ∷ events) all = (all.0.0, beside-aside count events all.1)
+beside-aside : (events : List Event) → AllAre IsBeside events → AllAre IsAside events
+beside-aside [] all = tt
+beside-aside (event ∷ events) all = (all.0.0, beside-aside events all.1)
 
-beside-local : (count : ℕ) (events : List Event) → AllAre (IsBeside count) events → AllAre IsLocal events
-beside-local count [] all = tt
-beside-local count (event ∷ events) all = (all.0.1, beside-local count events all.1)
+beside-local : (events : List Event) → AllAre IsBeside events → AllAre IsLocal events
+beside-local [] all = tt
+beside-local (event ∷ events) all = (all.0.1, beside-local events all.1)
 
 -- ---- the machines behind a tick
 -- which stops are complete
@@ -178,23 +178,22 @@ listed-due count m now deadlines is sized listed = elim (slice_get_cases deadlin
 
 pub keeps-tick : (head : HeadText) → length (names_of head) ≤ 16 → Keeps head tick_events
 keeps-tick head few book cluster good =
-    let count : ℕ = member_count head in
     let tick : Ticks = record { 0 = cluster.book.clock + 1 } in
     let events : List Event = record { tick = tick; kind = kinds.Tick } ∷ Rest cluster in
     let later : Cluster = cluster_over cluster events in
-    let asides : AllAre (IsAside count) events = (tt, beside-aside count (Rest cluster) (rest-beside count cluster)) in
+    let asides : AllAre IsAside events = (tt, beside-aside (Rest cluster) (rest-beside cluster)) in
     let matched = matched-behind head book cluster events asides good.matched in
     let within = each-declared head few (λ (x : Member). x.id.number < length cluster.agents) (λ x is. subst (λ (n : ℕ). x.id.number < n) (sym good.matched.agents_sized) (declared-within head few x is)) in
     let members : cluster.book.members ≡ declared_members head = good.matched.members in
-    action-kept head book cluster events (Tick (Stops cluster)) good (asides-begin count (MayBeginBehind (state_of (declared_of head) (past_of book) (volatile_of cluster)) (Tick (Stops cluster))) [] events asides) (λ meets. record {
+    action-kept head book cluster events (Tick (Stops cluster)) good (asides-begin (MayBeginBehind (state_of (declared_of head) (past_of book) (volatile_of cluster)) (Tick (Stops cluster))) [] events asides) (λ meets. record {
       lawful = tt;
       shows = tt;
-      shown = tick-shown (declared_of head) book (volatile_of cluster) (volatile_of later) tick (Rest cluster) (Stops cluster) (beside-local count (Rest cluster) (rest-beside count cluster))
+      shown = tick-shown (declared_of head) book (volatile_of cluster) (volatile_of later) tick (Rest cluster) (Stops cluster) (beside-local (Rest cluster) (rest-beside cluster))
           (λ m.
           machine-is head (past_of (book ++ events)) later matched m
           ∙ tick-machines cluster m (subst (λ (xs : List Member). Each (λ (x : Member). x.id.number < length cluster.agents) xs) (sym members) within)
           ∙ ap (λ b. tick_machine b (Stops cluster m) (machine_in cluster m))
-          (listed-due count m (cluster.book.clock + 1) cluster.book.deadlines (is_listed m cluster.book.members) good.matched.sized.deadlines (λ small. ap (λ xs. is_listed m xs) members ∙ listed head few m small))
+          (listed-due (member_count head) m (cluster.book.clock + 1) cluster.book.deadlines (is_listed m cluster.book.members) good.matched.sized.deadlines (λ small. ap (λ xs. is_listed m xs) members ∙ listed head few m small))
           ∙ ap (λ (now : ℕ). tick_machine (is_due (now + 1) (deadline_in cluster.book.deadlines m)) (Stops cluster m) (machine_in cluster m)) (sym good.matched.store.clock)
           ∙ ap (λ (o : Option ℕ). tick_machine (is_due ((past_of book).clock + 1) o) (Stops cluster m) (machine_in cluster m)) (sym (good.matched.machines.deadline m))
           ∙ ap (λ (machine : Machine). tick_machine (is_due ((past_of book).clock + 1) ((past_of book).deadline m)) (Stops cluster m) machine) (sym (machine-is head (past_of book) cluster good.matched m)));

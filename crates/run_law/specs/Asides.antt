@@ -8,20 +8,19 @@ use Rattle.event_book.specs.declared.event.ServerEvent.TheVariants as servers
 use Rattle.event_book.specs.declared.event.StoreEvent.TheVariants as stores
 use Rattle.event_book.specs.declared.event.WatchdogEvent.TheVariants as watchdogs
 
--- an event beside the inputs of agents and the decisions of the key store, which no operator's promotion is; an agent that starts is one
--- of so many members'
-abbrev pub IsAside : ℕ → EventKind → Type 0
-IsAside count (kinds.Message (messages.Sent number message)) = ⊥
-IsAside count (kinds.Message (messages.Delivered number)) = ⊥
-IsAside count (kinds.Store (stores.Granted number by txn standbys)) = ⊥
-IsAside count (kinds.Watchdog (watchdogs.Armed member until answer)) = ⊥
-IsAside count (kinds.Watchdog (watchdogs.Fed member until basis)) = ⊥
-IsAside count (kinds.Watchdog (watchdogs.HoldTaken member until from run sequence)) = ⊥
-IsAside count (kinds.Server (servers.Began server timeline)) = ⊥
-IsAside count (kinds.Server (servers.Promoted server)) = ⊥
-IsAside count (kinds.Agent (agents.Woken agent)) = ⊥
-IsAside count (kinds.Agent (agents.Started agent run)) = agent.id.number < count
-IsAside count _ = Unit {0}
+-- an event beside the inputs and the starts of agents and the decisions of the key store, and no operator's promotion
+abbrev pub IsAside : EventKind → Type 0
+IsAside (kinds.Message (messages.Sent number message)) = ⊥
+IsAside (kinds.Message (messages.Delivered number)) = ⊥
+IsAside (kinds.Store (stores.Granted number by txn standbys)) = ⊥
+IsAside (kinds.Watchdog (watchdogs.Armed member until answer)) = ⊥
+IsAside (kinds.Watchdog (watchdogs.Fed member until basis)) = ⊥
+IsAside (kinds.Watchdog (watchdogs.HoldTaken member until from run sequence)) = ⊥
+IsAside (kinds.Server (servers.Began server timeline)) = ⊥
+IsAside (kinds.Server (servers.Promoted server)) = ⊥
+IsAside (kinds.Agent (agents.Woken agent)) = ⊥
+IsAside (kinds.Agent (agents.Started agent run)) = ⊥
+IsAside _ = Unit {0}
 
 -- an event that changes nothing of what the law of one writer reads
 abbrev pub IsQuiet : EventKind → Type 0
