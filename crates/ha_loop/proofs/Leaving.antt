@@ -20,24 +20,24 @@ use Rattle.ha_loop.proofs.Living.{no-way}
 use Rattle.ha_loop.proofs.Rows.{before-by, overdue-by, turn-by, wake-by, got-by, refused-by, follow-by, free-by}
 
 -- neither changes
-record Stays (o after : Outcome) : Type 0 where
-  watchdog : after.machine.watchdog ≡ o.machine.watchdog
-  hold : after.machine.hold ≡ o.machine.hold
+pub record Stays (o after : Outcome) : Type 0 where
+  pub watchdog : after.machine.watchdog ≡ o.machine.watchdog
+  pub hold : after.machine.hold ≡ o.machine.hold
 
 stays : {o : Outcome} → Stays o o
 stays = record { watchdog = refl; hold = refl }
 
 -- nobody acts whose server isn't live and who isn't about to begin
-rests-by : (o : Outcome) → live o.machine.server.state ≡ false → is_ready o.role ≡ false → Acts o → ⊥
+pub rests-by : (o : Outcome) → live o.machine.server.state ≡ false → is_ready o.role ≡ false → Acts o → ⊥
 rests-by o ended unready (inl lives) = no-way (sym ended ∙ lives)
 rests-by o ended unready (inr ready) = no-way (sym unready ∙ ready)
 
-acts-before : (o after : Outcome) → BringsNothing o after → Acts after → Acts o
+pub acts-before : (o after : Outcome) → BringsNothing o after → Acts after → Acts o
 acts-before o after brings (inl lives) = inl (brings.live lives)
 acts-before o after brings (inr ready) = inr (brings.ready ready)
 
 -- what comes behind leaves them as they are
-behind : (o middle after : Outcome) → LeavesMachine o middle → Stays middle after → BringsNothing middle after → LeavesMachine o after
+pub behind : (o middle after : Outcome) → LeavesMachine o middle → Stays middle after → BringsNothing middle after → LeavesMachine o after
 behind o middle after leaves stay brings = record {
   deadline = elim leaves.deadline [
     | Kept same ↦ Kept (stay.watchdog ∙ same)
@@ -69,7 +69,7 @@ overdue-stays : (now : Ticks) (o : Outcome) → Stays o (overdue now o)
 overdue-stays now o = overdue-by (Stays o) now o (record { kept = stays; quiet = record { watchdog = refl; hold = refl }; leader = λ held _. record { watchdog = refl; hold = refl }; stray = λ _. record { watchdog = refl; hold = refl } })
 
 turn-stays : (now : Ticks) (o : Outcome) → Stays o (turned now o)
-turn-stays now o = turn-by (Stays o) now o (record { kept = stays; quiet = record { watchdog = refl; hold = refl }; reads = record { watchdog = refl; hold = refl } })
+turn-stays now o = turn-by (Stays o) now o (record { kept = stays; quiet = record { watchdog = refl; hold = refl }; reads = λ _. record { watchdog = refl; hold = refl } })
 
 pub wake-leaves : (now : Ticks) (o : Outcome) → LeavesMachine o (woken now o)
 wake-leaves now o = wake-by (LeavesMachine o) now o (before-leaves now o)
@@ -94,7 +94,7 @@ got-stays now points sequence snapshot o = let read : Outcome = record o { knows
       other = record { watchdog = refl; hold = refl };
       leader = λ held _. record { watchdog = refl; hold = refl };
       stray = λ _. record { watchdog = refl; hold = refl };
-      renews = λ leader _ _. record { watchdog = refl; hold = refl };
+      renews = λ _ leader _ _. record { watchdog = refl; hold = refl };
       touches = record { watchdog = refl; hold = refl };
       follows = λ leader _ _. stays-read now snapshot o (follows now leader.holder read) (follow-stays now leader.holder read);
       free = λ _ _. stays-read now snapshot o (finds_free now read) (free-stays now read);

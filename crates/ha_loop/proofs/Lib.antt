@@ -5,3 +5,9 @@ pub mod Living
 pub mod Bringing
 pub mod Leaving
 pub mod Granting
+pub mod Orders
+pub mod Knowing
+pub mod Sending
+pub mod Lawful
+pub mod LawfulGrants
+pub mod LawfulSteps
