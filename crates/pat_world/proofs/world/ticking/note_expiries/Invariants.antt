@@ -1,6 +1,7 @@
 use Rattle.std.proofs.Common.{◌≡◌, ◌++◌, drop}
-use Rattle.pat_world.specs.Next.{events_at, expiries_of}
-use Rattle.pat_world.proofs.world.note_expiries.Given as goal
+use Rattle.cluster_model.specs.Parts.{events_at}
+use Rattle.cluster_model.specs.Ticking.{expiries_of}
+use Rattle.pat_world.proofs.world.ticking.note_expiries.Given as goal
 
 -- what is written down, and the expiries of the keys that are left, are all
 abbrev pub invariant-loop-key : goal.invariant-loop-key

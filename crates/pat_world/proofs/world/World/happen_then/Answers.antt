@@ -1,7 +1,7 @@
 use Rattle.std.proofs.Common.{[], ◌∷◌, arith}
 use Rattle.std.proofs.lemmas.Result.{on_ok_weaker}
 use Rattle.pat_world.proofs.Taking.{Emits-more}
-use Rattle.pat_world.proofs.world.World.happen_both.Goals as goal
+use Rattle.pat_world.proofs.world.World.happen_then.Goals as goal
 
 pub happen-requires-2-clause-room : goal.happen-requires-2-clause-room
 happen-requires-2-clause-room c = c.in_ok-happen.ensures.room 1 c.requires.room
