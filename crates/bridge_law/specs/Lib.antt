@@ -1,0 +1,5 @@
+pub mod Example
+pub mod Flights
+pub mod Groups
+pub mod Sending
+pub mod Waiting

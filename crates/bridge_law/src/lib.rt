@@ -1,0 +1,8 @@
+//! What the law of the lease reads of a book is what the book leaves.
+#![tactic(auto)]
+
+mod laws;
+
+pub use laws::{
+    beginnings_fall, deliveries, example, heard, inputs_send, same_book, same_flight, waiting,
+};
