@@ -94,7 +94,7 @@ pub turn-brings : (now : Ticks) (o : Outcome) → BringsNothing o (turned now o)
 turn-brings now o = turn-by (BringsNothing o) now o (record {
   kept = same-role o o refl (λ e. e);
   quiet = same-role o (record o { knows = turn_noted now o.knows }) refl (λ e. e);
-  reads = same-role o (reading now (record o { knows = turn_noted now o.knows })) refl (λ e. e);
+  reads = λ _. same-role o (reading now (record o { knows = turn_noted now o.knows })) refl (λ e. e);
 })
 
 pub wake-brings : (now : Ticks) (o : Outcome) → BringsNothing o (woken now o)
@@ -127,7 +127,7 @@ got-brings now points sequence snapshot o = let read : Outcome = record o { know
       other = same-role o read refl (λ e. e);
       leader = λ held is. keeps-lease o (leader_loses_key now held read) held is refl refl (stop-live now o.machine.server);
       stray = λ _. same-role o (stray_loses_key now read) refl (stop-live now o.machine.server);
-      renews = λ leader _ _. same-role o (renewing now points leader.revision read) refl (λ e. e);
+      renews = λ _ leader _ _. same-role o (renewing now points leader.revision read) refl (λ e. e);
       touches = same-role o (touching read) refl (λ e. e);
       follows = λ leader _ _. read-then now snapshot o (follows now leader.holder read) (follow-brings now leader.holder read);
       free = λ _ _. read-then now snapshot o (finds_free now read) (free-brings now read);

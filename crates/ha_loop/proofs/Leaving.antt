@@ -69,7 +69,7 @@ overdue-stays : (now : Ticks) (o : Outcome) → Stays o (overdue now o)
 overdue-stays now o = overdue-by (Stays o) now o (record { kept = stays; quiet = record { watchdog = refl; hold = refl }; leader = λ held _. record { watchdog = refl; hold = refl }; stray = λ _. record { watchdog = refl; hold = refl } })
 
 turn-stays : (now : Ticks) (o : Outcome) → Stays o (turned now o)
-turn-stays now o = turn-by (Stays o) now o (record { kept = stays; quiet = record { watchdog = refl; hold = refl }; reads = record { watchdog = refl; hold = refl } })
+turn-stays now o = turn-by (Stays o) now o (record { kept = stays; quiet = record { watchdog = refl; hold = refl }; reads = λ _. record { watchdog = refl; hold = refl } })
 
 pub wake-leaves : (now : Ticks) (o : Outcome) → LeavesMachine o (woken now o)
 wake-leaves now o = wake-by (LeavesMachine o) now o (before-leaves now o)
@@ -94,7 +94,7 @@ got-stays now points sequence snapshot o = let read : Outcome = record o { knows
       other = record { watchdog = refl; hold = refl };
       leader = λ held _. record { watchdog = refl; hold = refl };
       stray = λ _. record { watchdog = refl; hold = refl };
-      renews = λ leader _ _. record { watchdog = refl; hold = refl };
+      renews = λ _ leader _ _. record { watchdog = refl; hold = refl };
       touches = record { watchdog = refl; hold = refl };
       follows = λ leader _ _. stays-read now snapshot o (follows now leader.holder read) (follow-stays now leader.holder read);
       free = λ _ _. stays-read now snapshot o (finds_free now read) (free-stays now read);

@@ -5,3 +5,4 @@ pub mod Living
 pub mod Bringing
 pub mod Leaving
 pub mod Granting
+pub mod Orders

@@ -80,18 +80,18 @@ overdue-by P now o rows = overdue-for P now o.knows.waited o rows
 pub record TurnRows (P : Outcome → Type 0) (now : Ticks) (o : Outcome) : Type 0 where
   pub kept : P o
   pub quiet : P (record o { knows = turn_noted now o.knows })
-  pub reads : P (reading now (record o { knows = turn_noted now o.knows }))
+  pub reads : is_active o.role ≡ true → P (reading now (record o { knows = turn_noted now o.knows }))
 
-turn-as : (P : Outcome → Type 0) (now : Ticks) (role : RoleFacts) (o : Outcome) → TurnRows P now o → P (turn_as now role (record o { knows = turn_noted now o.knows }))
-turn-as P now (Ending r why) o rows = rows.quiet
-turn-as P now Stray o rows = if-cases P (is_stopping o.machine.server.state) (record o { knows = turn_noted now o.knows }) (reading now (record o { knows = turn_noted now o.knows })) (λ _. rows.quiet) (λ _. rows.reads)
-turn-as P now Follower o rows = rows.reads
-turn-as P now (Holder r) o rows = rows.reads
-turn-as P now (Ready r) o rows = rows.reads
-turn-as P now (Leader r) o rows = rows.reads
+turn-as : (P : Outcome → Type 0) (now : Ticks) (role : RoleFacts) (o : Outcome) → o.role ≡ role → TurnRows P now o → P (turn_as now role (record o { knows = turn_noted now o.knows }))
+turn-as P now (Ending r why) o is rows = rows.quiet
+turn-as P now Stray o is rows = if-cases P (is_stopping o.machine.server.state) (record o { knows = turn_noted now o.knows }) (reading now (record o { knows = turn_noted now o.knows })) (λ _. rows.quiet) (λ _. rows.reads (rw is refl))
+turn-as P now Follower o is rows = rows.reads (rw is refl)
+turn-as P now (Holder r) o is rows = rows.reads (rw is refl)
+turn-as P now (Ready r) o is rows = rows.reads (rw is refl)
+turn-as P now (Leader r) o is rows = rows.reads (rw is refl)
 
 pub turn-by : (P : Outcome → Type 0) (now : Ticks) (o : Outcome) → TurnRows P now o → P (turned now o)
-turn-by P now o rows = if-cases P (has_turn now o.knows) (turn_begins now o) o (λ _. turn-as P now o.role o rows) (λ _. rows.kept)
+turn-by P now o rows = if-cases P (has_turn now o.knows) (turn_begins now o) o (λ _. turn-as P now o.role o refl rows) (λ _. rows.kept)
 
 -- a wake: what comes before it alone, or with a deadline that has passed and a turn
 pub wake-by : (P : Outcome → Type 0) (now : Ticks) (o : Outcome) → P (before now o) → P (turned now (overdue now (before now o))) → P (woken now o)
@@ -104,7 +104,7 @@ pub record GotRows (P : Outcome → Type 0) (now : Ticks) (points : List History
   pub other : P (record o { knows = read_noted now snapshot o.knows })
   pub leader : (held : ℕ) → o.role ≡ Leader held → P (leader_loses_key now held (record o { knows = read_noted now snapshot o.knows }))
   pub stray : o.role ≡ Stray → P (stray_loses_key now (record o { knows = read_noted now snapshot o.knows }))
-  pub renews : (leader : LeaderEntry) → leader_in snapshot ≡ Some leader → leader.holder.number == o.knows.who.me.number ≡ true → P (renewing now points leader.revision (record o { knows = read_noted now snapshot o.knows }))
+  pub renews : is_active o.role ≡ true → (leader : LeaderEntry) → leader_in snapshot ≡ Some leader → leader.holder.number == o.knows.who.me.number ≡ true → P (renewing now points leader.revision (record o { knows = read_noted now snapshot o.knows }))
   pub touches : P (touching (record o { knows = read_noted now snapshot o.knows }))
   pub follows : (leader : LeaderEntry) → leader_in snapshot ≡ Some leader → may_create o.role ≡ true → P (follows now leader.holder (record o { knows = read_noted now snapshot o.knows }))
   pub free : leader_in snapshot ≡ None → may_create o.role ≡ true → P (finds_free now (record o { knows = read_noted now snapshot o.knows }))
@@ -125,27 +125,27 @@ got-others P now points snapshot leader (Holder held) o is some rows = rows.foll
 got-others P now points snapshot leader (Ready held) o is some rows = rows.other
 got-others P now points snapshot leader (Ending held why) o is some rows = rows.other
 
-own-found : (P : Outcome → Type 0) (now : Ticks) (points : List HistoryPoint) (snapshot : SnapshotFacts) (leader : LeaderEntry) (o : Outcome) → leader_in snapshot ≡ Some leader → leader.holder.number == o.knows.who.me.number ≡ true → GotRows P now points snapshot o → P (finds_own_key now points leader.revision (record o { knows = read_noted now snapshot o.knows }))
-own-found P now points snapshot leader o some mine rows = if-cases P (is_held now o.machine.hold) (touching (record o { knows = read_noted now snapshot o.knows })) (renewing now points leader.revision (record o { knows = read_noted now snapshot o.knows })) (λ _. rows.touches) (λ _. rows.renews leader some mine)
+own-found : (P : Outcome → Type 0) (now : Ticks) (points : List HistoryPoint) (snapshot : SnapshotFacts) (leader : LeaderEntry) (o : Outcome) → is_active o.role ≡ true → leader_in snapshot ≡ Some leader → leader.holder.number == o.knows.who.me.number ≡ true → GotRows P now points snapshot o → P (finds_own_key now points leader.revision (record o { knows = read_noted now snapshot o.knows }))
+own-found P now points snapshot leader o active some mine rows = if-cases P (is_held now o.machine.hold) (touching (record o { knows = read_noted now snapshot o.knows })) (renewing now points leader.revision (record o { knows = read_noted now snapshot o.knows })) (λ _. rows.touches) (λ _. rows.renews active leader some mine)
 
-got-own : (P : Outcome → Type 0) (now : Ticks) (points : List HistoryPoint) (snapshot : SnapshotFacts) (leader : LeaderEntry) (role : RoleFacts) (o : Outcome) → leader_in snapshot ≡ Some leader → leader.holder.number == o.knows.who.me.number ≡ true → GotRows P now points snapshot o → P (own_key now points leader.revision role (record o { knows = read_noted now snapshot o.knows }))
-got-own P now points snapshot leader (Leader held) o some mine rows = rows.renews leader some mine
-got-own P now points snapshot leader Stray o some mine rows = rows.renews leader some mine
-got-own P now points snapshot leader Follower o some mine rows = own-found P now points snapshot leader o some mine rows
-got-own P now points snapshot leader (Holder held) o some mine rows = own-found P now points snapshot leader o some mine rows
-got-own P now points snapshot leader (Ready held) o some mine rows = rows.other
-got-own P now points snapshot leader (Ending held why) o some mine rows = rows.other
+got-own : (P : Outcome → Type 0) (now : Ticks) (points : List HistoryPoint) (snapshot : SnapshotFacts) (leader : LeaderEntry) (role : RoleFacts) (o : Outcome) → is_active o.role ≡ true → leader_in snapshot ≡ Some leader → leader.holder.number == o.knows.who.me.number ≡ true → GotRows P now points snapshot o → P (own_key now points leader.revision role (record o { knows = read_noted now snapshot o.knows }))
+got-own P now points snapshot leader (Leader held) o active some mine rows = rows.renews active leader some mine
+got-own P now points snapshot leader Stray o active some mine rows = rows.renews active leader some mine
+got-own P now points snapshot leader Follower o active some mine rows = own-found P now points snapshot leader o active some mine rows
+got-own P now points snapshot leader (Holder held) o active some mine rows = own-found P now points snapshot leader o active some mine rows
+got-own P now points snapshot leader (Ready held) o active some mine rows = rows.other
+got-own P now points snapshot leader (Ending held why) o active some mine rows = rows.other
 
-got-led : (P : Outcome → Type 0) (now : Ticks) (points : List HistoryPoint) (snapshot : SnapshotFacts) (leader : Option LeaderEntry) (o : Outcome) → leader_in snapshot ≡ leader → GotRows P now points snapshot o → P (led now points leader (record o { knows = read_noted now snapshot o.knows }))
-got-led P now points snapshot None o is rows = got-none P now points snapshot o.role o refl is rows
-got-led P now points snapshot (Some leader) o is rows =
+got-led : (P : Outcome → Type 0) (now : Ticks) (points : List HistoryPoint) (snapshot : SnapshotFacts) (leader : Option LeaderEntry) (o : Outcome) → is_active o.role ≡ true → leader_in snapshot ≡ leader → GotRows P now points snapshot o → P (led now points leader (record o { knows = read_noted now snapshot o.knows }))
+got-led P now points snapshot None o active is rows = got-none P now points snapshot o.role o refl is rows
+got-led P now points snapshot (Some leader) o active is rows =
     if-cases P (leader.holder.number == o.knows.who.me.number) (own_key now points leader.revision o.role (record o { knows = read_noted now snapshot o.knows })) (others_key now leader.holder o.role (record o { knows = read_noted now snapshot o.knows }))
-    (λ mine. got-own P now points snapshot leader o.role o is mine rows) (λ _. got-others P now points snapshot leader o.role o refl is rows)
+    (λ mine. got-own P now points snapshot leader o.role o active is mine rows) (λ _. got-others P now points snapshot leader o.role o refl is rows)
 
 pub got-by : (P : Outcome → Type 0) (now : Ticks) (points : List HistoryPoint) (sequence : ℕ) (snapshot : SnapshotFacts) (o : Outcome) → GotRows P now points snapshot o → P (got now points sequence snapshot o)
 got-by P now points sequence snapshot o rows =
     if-cases P (awaits_read o.knows.waited sequence) (accepted now points snapshot o) o
-    (λ _. if-cases P (is_active o.role) (led now points (leader_in snapshot) (record o { knows = read_noted now snapshot o.knows })) (waiting_no_more o) (λ _. got-led P now points snapshot (leader_in snapshot) o refl rows) (λ _. rows.quiet))
+    (λ _. if-cases P (is_active o.role) (led now points (leader_in snapshot) (record o { knows = read_noted now snapshot o.knows })) (waiting_no_more o) (λ active. got-led P now points snapshot (leader_in snapshot) o active refl rows) (λ _. rows.quiet))
     (λ _. rows.kept)
 
 -- a request was refused
@@ -222,15 +222,15 @@ lease-granted P now ttl revision (Ready held) o is rows = rows.other
 lease-granted P now ttl revision (Ending held why) o is rows = rows.other
 
 granted-for : (P : Outcome → Type 0) (now : Ticks) (sequence : ℕ) (grant : Granted) (snapshot : SnapshotFacts) (waited : Option Waited) (o : Outcome) → o.knows.waited ≡ waited → P o → P (waiting_no_more o)
-    → ((asked : Waited) → o.knows.waited ≡ Some asked → GrantRows P now asked.ttl grant.revision (record o { knows = informed snapshot o.knows })) → P (granted_for now sequence grant snapshot waited o)
+    → ((asked : Waited) → o.knows.waited ≡ Some asked → is_decision asked sequence && is_lease_of o.knows.who.me grant ≡ true → GrantRows P now asked.ttl grant.revision (record o { knows = informed snapshot o.knows })) → P (granted_for now sequence grant snapshot waited o)
 granted-for P now sequence grant snapshot None o is kept quiet rows = kept
 granted-for P now sequence grant snapshot (Some waited) o is kept quiet rows =
     if-cases P (is_decision waited sequence && is_lease_of o.knows.who.me grant) (accepted_grant now waited grant.revision snapshot o) o
-    (λ _. if-cases P (belongs waited.question o.role) (lease_granted now waited.ttl grant.revision o.role (record o { knows = informed snapshot o.knows })) (waiting_no_more o)
-    (λ _. lease-granted P now waited.ttl grant.revision o.role (record o { knows = informed snapshot o.knows }) refl (rows waited is)) (λ _. quiet))
+    (λ decision. if-cases P (belongs waited.question o.role) (lease_granted now waited.ttl grant.revision o.role (record o { knows = informed snapshot o.knows })) (waiting_no_more o)
+    (λ _. lease-granted P now waited.ttl grant.revision o.role (record o { knows = informed snapshot o.knows }) refl (rows waited is decision)) (λ _. quiet))
     (λ _. kept)
 
 -- a request was granted
 pub granted-by : (P : Outcome → Type 0) (now : Ticks) (sequence : ℕ) (grant : Granted) (snapshot : SnapshotFacts) (o : Outcome) → P o → P (waiting_no_more o)
-    → ((asked : Waited) → o.knows.waited ≡ Some asked → GrantRows P now asked.ttl grant.revision (record o { knows = informed snapshot o.knows })) → P (granted now sequence grant snapshot o)
+    → ((asked : Waited) → o.knows.waited ≡ Some asked → is_decision asked sequence && is_lease_of o.knows.who.me grant ≡ true → GrantRows P now asked.ttl grant.revision (record o { knows = informed snapshot o.knows })) → P (granted now sequence grant snapshot o)
 granted-by P now sequence grant snapshot o kept quiet rows = granted-for P now sequence grant snapshot o.knows.waited o refl kept quiet rows

@@ -4,6 +4,7 @@ pub mod Before
 pub mod Decisions
 pub mod Fits
 pub mod Info
+pub mod Orders
 pub mod Outputs
 pub mod Powers
 pub mod Snapshots

@@ -2,10 +2,16 @@
 use Rattle.std.specs.Prelude.{ℕ, ◌≡◌, ◌⊎◌, Bool, true, false, Option, Some, None}
 use Rattle.pat_base.specs.ServerState.{live}
 use Rattle.pat_base.specs.declared.ticks.Ticks.{Ticks}
-use Rattle.leader_key.specs.Watchdog.{fed}
+use Rattle.lease_store.specs.declared.granted.Granted.{Granted}
+use Rattle.leader_key.specs.Watchdog.{fed, is_armable}
+use Rattle.cluster_config.specs.Snapshots.{SnapshotFacts, failsafe_in}
+use Rattle.ha_loop.specs.declared.knowledge.Knowledge.{Knowledge}
 use Rattle.ha_loop.specs.declared.knowledge.Waited.{Waited}
 use Rattle.ha_loop.specs.Acting.{is_held, is_refusing}
 use Rattle.ha_loop.specs.Agents.{RoleFacts, Holder, Ready, Leader, Ending, Outcome}
+use Rattle.ha_loop.specs.Decisions.{is_decision, is_lease_of}
+use Rattle.ha_loop.specs.Outputs.{is_feeding, has_one}
+use Rattle.ha_loop.specs.Snapshots.{known_with}
 
 -- the revision of the lease that an agent has
 abbrev pub lease_of : RoleFacts → Option ℕ
@@ -50,11 +56,21 @@ pub record LeavesMachine (o after : Outcome) : Type 0 where
   pub deadline : DeadlineMay o after
   pub hold : after.machine.hold ≡ o.machine.hold
 
--- what a granted request may bring an agent: nothing; or the lease of its revision, on which the watchdog is fed for the span that
--- was asked for, if this member needs one then with a device that works. Whose server wasn't live has no active hold
-pub data GrantMay (now : Ticks) (revision : ℕ) (o after : Outcome) : Type 0 where
-  Nothing : (brings : BringsNothing o after) → (same : after.machine.watchdog ≡ o.machine.watchdog) → GrantMay now revision o after
-  Leads : (waited : Waited) → (is : o.knows.waited ≡ Some waited) → (fed : after.machine.watchdog ≡ fed now.0 waited.ttl.0 o.machine.watchdog) → (lease : lease_of after.role ≡ Some revision) → (unready : is_ready after.role ≡ false)
+-- the answer of this number grants this member the lease of the leader key that it waits for
+pub record IsAwaitedLease (sequence : ℕ) (grant : Granted) (knows : Knowledge) : Type 0 where
+  pub waited : Waited
+  pub is : knows.waited ≡ Some waited
+  pub decision : is_decision waited sequence ≡ true
+  pub mine : is_lease_of knows.who.me grant ≡ true
+
+-- what a granted request may bring an agent: nothing; or the lease of its revision, where it is waited for: the watchdog is fed on
+-- it for the span that was asked for and an output tells that, if this member needs one then with a device that works, and the
+-- members of the snapshot's failsafe key are known. Whose server wasn't live has no active hold
+pub data GrantMay (now : Ticks) (sequence : ℕ) (grant : Granted) (snapshot : SnapshotFacts) (o after : Outcome) : Type 0 where
+  Nothing : (brings : BringsNothing o after) → (same : after.machine.watchdog ≡ o.machine.watchdog) → GrantMay now sequence grant snapshot o after
+  Leads : (awaited : IsAwaitedLease sequence grant o.knows) → (fed : after.machine.watchdog ≡ fed now.0 awaited.waited.ttl.0 o.machine.watchdog) → (lease : lease_of after.role ≡ Some grant.revision) → (unready : is_ready after.role ≡ false)
+      → (known : after.knows.known ≡ known_with o.knows.known (failsafe_in snapshot))
+      → (told : is_armable o.machine.watchdog.mode o.machine.watchdog.works ≡ true → has_one is_feeding after.outputs ≡ true)
       → (free : live after.machine.server.state ≡ true → (live o.machine.server.state ≡ true) ⊎ (is_held now o.machine.hold ≡ false))
       → (armed : live after.machine.server.state ≡ true → (live o.machine.server.state ≡ true) ⊎ (is_refusing o.machine.watchdog.mode o.machine.watchdog.works ≡ false))
-      → GrantMay now revision o after
+      → GrantMay now sequence grant snapshot o after

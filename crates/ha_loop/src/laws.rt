@@ -1,5 +1,5 @@
 //! Laws of the decision table.
-ghost use Rattle.std.specs.Prelude.{ℕ, List};
+ghost use Rattle.std.specs.Prelude.{ℕ, List, []};
 ghost use Rattle.pat_base.specs.declared.ticks.Ticks.{Ticks};
 ghost use Rattle.pat_base.specs.ServerState.{live};
 ghost use Rattle.lease_store.specs.declared.granted.Granted.{Granted};
@@ -7,10 +7,14 @@ ghost use Rattle.lease_store.specs.declared.key.Key.{Key};
 ghost use Rattle.lease_store.specs.declared.txn.Expected.{Expected};
 ghost use Rattle.wal_model.specs.declared.entry.HistoryPoint.{HistoryPoint};
 ghost use Rattle.cluster_config.specs.Snapshots.{SnapshotFacts};
+ghost use Rattle.ha_loop.specs.declared.heard.Heard.{Heard};
 ghost use Rattle.ha_loop.specs.declared.heard.Heard.TheVariants as heard;
-ghost use Rattle.ha_loop.specs.Agents.{Outcome};
+ghost use Rattle.ha_loop.specs.declared.knowledge.Knowledge.{Knowledge};
+ghost use Rattle.ha_loop.specs.declared.machine.Machine.{Machine};
+ghost use Rattle.ha_loop.specs.Agents.{RoleFacts, Outcome, made};
 ghost use Rattle.ha_loop.specs.Before.{before};
 ghost use Rattle.ha_loop.specs.Fits.{Fits};
+ghost use Rattle.ha_loop.specs.Orders.{IsCarriedOut};
 ghost use Rattle.ha_loop.specs.Powers.{BringsNothing, GrantMay, LeavesMachine};
 ghost use Rattle.ha_loop.specs.Table.{step, act};
 
@@ -38,8 +42,15 @@ pub fn only_a_grant_sets_deadlines()
     ensures action { (now : Ticks) (o : Outcome) → LeavesMachine o (act now o) }
 {}
 
-/// A grant gives at most the lease of its revision, with the watchdog fed on it for the span that was asked for. A server becomes
-/// live by it only where no hold is active, and where the watchdog was armed or isn't needed.
+/// A grant gives at most the lease of its revision, where that is waited for, with the watchdog fed on it for the span that was
+/// asked for. A server becomes live by it only where no hold is active, and where the watchdog was armed or isn't needed.
 pub fn a_grant_feeds_the_watchdog()
-    ensures { (now : Ticks) (points : List HistoryPoint) (sequence : ℕ) (grant : Granted) (snapshot : SnapshotFacts) (o : Outcome) → GrantMay now grant.revision (before now o) (step now points (heard.Granted sequence grant snapshot) o) }
+    ensures { (now : Ticks) (points : List HistoryPoint) (sequence : ℕ) (grant : Granted) (snapshot : SnapshotFacts) (o : Outcome) → GrantMay now sequence grant snapshot (before now o) (step now points (heard.Granted sequence grant snapshot) o) }
+{}
+
+/// The outputs of an input are all that becomes of its machine: the machine that it leaves is what they, carried out in their
+/// order, make of the machine before. None starts a server as a primary, takes a hold, or writes to another member.
+pub fn outputs_make_the_machine()
+    ensures step { (now : Ticks) (points : List HistoryPoint) (heard : Heard) (role : RoleFacts) (knows : Knowledge) (machine : Machine) → IsCarriedOut now machine (step now points heard (made role knows machine [])) }
+    ensures action { (now : Ticks) (role : RoleFacts) (knows : Knowledge) (machine : Machine) → IsCarriedOut now machine (act now (made role knows machine [])) }
 {}

@@ -1,0 +1,205 @@
+-- The machine that an input leaves is what its outputs make of the machine before.
+use Rattle.std.proofs.Common.{◌≡◌, ◌+◌, ◌++◌, ℕ, Bool, true, false, if◌then◌else◌, List, [], ◌∷◌, Option, Some, None, All, refl, sym, subst, ap, ◌∙◌}
+use Rattle.std.proofs.lemmas.List.Elements.{All-push, All-nil}
+use Rattle.pat_base.specs.declared.member_id.MemberId.{MemberId}
+use Rattle.pat_base.specs.declared.ticks.Ticks.{Ticks}
+use Rattle.lease_store.specs.declared.granted.Granted.{Granted}
+use Rattle.lease_store.specs.declared.txn.Txn.TheVariants as txns
+use Rattle.wal_model.specs.declared.entry.HistoryPoint.{HistoryPoint}
+use Rattle.cluster_config.specs.Snapshots.{SnapshotFacts}
+use Rattle.event_book.specs.declared.message.Body.{Body}
+use Rattle.event_book.specs.declared.message.Body.TheVariants as bodies
+use Rattle.event_book.specs.declared.reason.Reason.{Reason}
+use Rattle.event_book.specs.declared.reason.Reason.TheVariants.{StoreOutOfReach, LeaderKeyLost, StartTooLong, WatchdogNotArmed}
+use Rattle.leader_key.specs.Watchdog.{is_armable, timeout_of}
+use Rattle.ha_loop.specs.declared.heard.Heard.{Heard}
+use Rattle.ha_loop.specs.declared.heard.Heard.TheVariants.{Wake, Got, Granted as HeardGranted, Mismatch}
+use Rattle.ha_loop.specs.declared.knowledge.Knowledge.{Knowledge}
+use Rattle.ha_loop.specs.declared.machine.Machine.{Machine}
+use Rattle.ha_loop.specs.declared.output.Output.{Output}
+use Rattle.ha_loop.specs.declared.output.Output.TheVariants as outputs
+use Rattle.ha_loop.specs.declared.output.Target.TheVariants as targets
+use Rattle.ha_loop.specs.declared.role.Why.{Why}
+use Rattle.ha_loop.specs.declared.role.Why.TheVariants.{HandOver, Lost}
+use Rattle.ha_loop.specs.Acting.{arming, feeding, armed, fed_until, disarmed, without_deadline, disarming, sending, touching, ending_server, starting_replica, following_server, is_refusing}
+use Rattle.ha_loop.specs.Agents.{RoleFacts, Follower, Leader, Outcome, made}
+use Rattle.ha_loop.specs.Before.{has_ended, before}
+use Rattle.ha_loop.specs.Decisions.{is_start_too_long, leader_renewed, takes_over, stray_renewed, may_take, gives_back, begins, arms, takes_key, granted, refused}
+use Rattle.ha_loop.specs.Orders.{machine_after_output, machine_after_outputs, IsOfTable, IsCarriedOut}
+use Rattle.ha_loop.specs.Outputs.{listed}
+use Rattle.ha_loop.specs.Snapshots.{informed, follows, finds_free, read_noted, got}
+use Rattle.ha_loop.specs.Table.{step, act}
+use Rattle.ha_loop.specs.Wake.{overdue, turned, woken}
+use Rattle.ha_loop.proofs.Rows.{if-cases, before-by, overdue-by, turn-by, wake-by, got-by, refused-by, follow-by, free-by, granted-by}
+
+after-push : (now : Ticks) (machine : Machine) (outs : List Output) (output : Output) → machine_after_outputs now machine (outs ++ output ∷ []) ≡ machine_after_output now (machine_after_outputs now machine outs) output
+after-push now machine [] output = refl
+after-push now machine (one ∷ outs) output = after-push now (machine_after_output now machine one) outs output
+
+-- the same of a machine and the outputs so far
+record Reached (now : Ticks) (start machine : Machine) (outs : List Output) : Type 0 where
+  machine_is : machine ≡ machine_after_outputs now start outs
+  kinds : All IsOfTable outs
+
+one-more : (now : Ticks) (start machine : Machine) (outs : List Output) (output : Output) → IsOfTable output → Reached now start machine outs → Reached now start (machine_after_output now machine output) (outs ++ output ∷ [])
+one-more now start machine outs output of-table r = record {
+  machine_is = ap (λ (x : Machine). machine_after_output now x output) r.machine_is ∙ sym (after-push now start outs output);
+  kinds = All-push IsOfTable outs output r.kinds of-table;
+}
+
+disarms : (now : Ticks) (start machine : Machine) (outs : List Output) (deadline : Option Ticks) → machine.watchdog.deadline ≡ deadline → Reached now start machine outs → Reached now start (without_deadline machine) (disarmed deadline outs)
+disarms now start machine outs (Some deadline) is r = one-more now start machine outs outputs.Disarmed tt r
+disarms now start machine outs None is r = subst (λ (x : Machine). Reached now start x outs) (ap (λ (d : Option Ticks). record machine { watchdog = record machine.watchdog { deadline = d } }) is) r
+
+feeds : (now : Ticks) (start machine : Machine) (outs : List Output) (until : Ticks) (armable : Bool) → Reached now start machine outs
+    → Reached now start (record machine { watchdog = if armable then record machine.watchdog { deadline = Some until } else machine.watchdog }) (fed_until (if armable then Some until else None) outs)
+feeds now start machine outs until true r = one-more now start machine outs (outputs.Fed until) tt r
+feeds now start machine outs until false r = r
+
+arms-it : (now : Ticks) (start machine : Machine) (outs : List Output) (until : Ticks) (armable : Bool) → Reached now start machine outs
+    → Reached now start (record machine { watchdog = if armable then record machine.watchdog { deadline = Some until } else machine.watchdog }) (armed (if armable then Some until else None) outs)
+arms-it now start machine outs until true r = one-more now start machine outs (outputs.Armed until) tt r
+arms-it now start machine outs until false r = r
+
+abbrev Reaches : Ticks → Machine → Outcome → Type 0
+Reaches now start o = Reached now start o.machine o.outputs
+
+disarm-reaches : (now : Ticks) (start : Machine) (o : Outcome) → Reaches now start o → Reaches now start (disarming o)
+disarm-reaches now start o r = disarms now start o.machine o.outputs o.machine.watchdog.deadline refl r
+
+send-reaches : (now : Ticks) (start : Machine) (body : Body) (o : Outcome) → Reaches now start o → Reaches now start (sending body o)
+send-reaches now start body o r = one-more now start o.machine o.outputs (outputs.Send targets.Store (o.knows.sequence + 1) body) tt r
+
+touch-reaches : (now : Ticks) (start : Machine) (o : Outcome) → Reaches now start o → Reaches now start (touching o)
+touch-reaches now start o r = one-more now start o.machine o.outputs _ tt r
+
+end-reaches : (now : Ticks) (start : Machine) (reason : Reason) (o : Outcome) → Reaches now start o → Reaches now start (ending_server now reason o)
+end-reaches now start reason o r = one-more now start o.machine o.outputs (outputs.Stop reason) tt r
+
+start-reaches : (now : Ticks) (start : Machine) (leader : Option MemberId) (o : Outcome) → Reaches now start o → Reaches now start (starting_replica now leader o)
+start-reaches now start leader o r = one-more now start o.machine o.outputs (outputs.StartReplica leader) tt r
+
+follow-one-reaches : (now : Ticks) (start : Machine) (leader : MemberId) (o : Outcome) → Reaches now start o → Reaches now start (following_server leader o)
+follow-one-reaches now start leader o r = one-more now start o.machine o.outputs (outputs.Follow leader) tt r
+
+feed-reaches : (now ttl : Ticks) (start : Machine) (o : Outcome) → Reaches now start o → Reaches now start (feeding now ttl o)
+feed-reaches now ttl start o r = feeds now start o.machine o.outputs (record { 0 = now.0 + timeout_of o.machine.watchdog.margin ttl.0 }) (is_armable o.machine.watchdog.mode o.machine.watchdog.works) r
+
+arm-reaches : (now ttl : Ticks) (start : Machine) (o : Outcome) → Reaches now start o → Reaches now start (arming now ttl o)
+arm-reaches now ttl start o r = arms-it now start o.machine o.outputs (record { 0 = now.0 + timeout_of o.machine.watchdog.margin ttl.0 }) (is_armable o.machine.watchdog.mode o.machine.watchdog.works) r
+
+ended-reaches : (now : Ticks) (start : Machine) (why : Why) (held : ℕ) (o : Outcome) → Reaches now start o → Reaches now start (has_ended why held o)
+ended-reaches now start HandOver held o r = send-reaches now start _ (disarming o) (disarm-reaches now start o r)
+ended-reaches now start Lost held o r = disarm-reaches now start o r
+
+before-reaches : (now : Ticks) (start : Machine) (o : Outcome) → Reaches now start o → Reaches now start (before now o)
+before-reaches now start o r = before-by (Reaches now start) now o (record {
+  kept = λ _. r;
+  leader = λ held _ _. disarm-reaches now start o r;
+  ending = λ held why _ _. ended-reaches now start why held o r;
+  follower = λ _ _. r;
+  holder = λ held _ _. r;
+  ready = λ held _ _. disarm-reaches now start o r;
+  stray = λ _ _. disarm-reaches now start o r;
+})
+
+overdue-reaches : (now : Ticks) (start : Machine) (o : Outcome) → Reaches now start o → Reaches now start (overdue now o)
+overdue-reaches now start o r = overdue-by (Reaches now start) now o (record {
+  kept = r;
+  quiet = r;
+  leader = λ held _. end-reaches now start StoreOutOfReach o r;
+  stray = λ _. end-reaches now start StoreOutOfReach o r;
+})
+
+turn-reaches : (now : Ticks) (start : Machine) (o : Outcome) → Reaches now start o → Reaches now start (turned now o)
+turn-reaches now start o r = turn-by (Reaches now start) now o (record { kept = r; quiet = r; reads = λ _. one-more now start o.machine o.outputs _ tt r })
+
+wake-reaches : (now : Ticks) (start : Machine) (o : Outcome) → Reaches now start o → Reaches now start (woken now o)
+wake-reaches now start o r = let first = before-reaches now start o r in
+    wake-by (Reaches now start) now o first (turn-reaches now start (overdue now (before now o)) (overdue-reaches now start (before now o) first))
+
+follow-reaches : (now : Ticks) (start : Machine) (leader : MemberId) (o : Outcome) → Reaches now start o → Reaches now start (follows now leader o)
+follow-reaches now start leader o r = let x : Outcome = record o { role = Follower } in
+    follow-by (λ (y : Outcome). Reaches now start (touching y)) now leader o.machine.server.state x
+    (touch-reaches now start x r)
+    (touch-reaches now start (starting_replica now (Some leader) x) (start-reaches now start (Some leader) x r))
+    (touch-reaches now start (following_server leader x) (follow-one-reaches now start leader x r))
+
+free-reaches : (now : Ticks) (start : Machine) (o : Outcome) → Reaches now start o → Reaches now start (finds_free now o)
+free-reaches now start o r = let x : Outcome = record o { role = Follower } in
+    free-by (Reaches now start) now o.machine.server.state x
+    (touch-reaches now start x r)
+    (touch-reaches now start (starting_replica now None x) (start-reaches now start None x r))
+    (one-more now start o.machine o.outputs _ tt r)
+
+got-reaches : (now : Ticks) (points : List HistoryPoint) (start : Machine) (sequence : ℕ) (snapshot : SnapshotFacts) (o : Outcome) → Reaches now start o → Reaches now start (got now points sequence snapshot o)
+got-reaches now points start sequence snapshot o r = let read : Outcome = record o { knows = read_noted now snapshot o.knows } in
+    got-by (Reaches now start) now points sequence snapshot o (record {
+      kept = r;
+      quiet = r;
+      other = r;
+      leader = λ held _. end-reaches now start LeaderKeyLost read r;
+      stray = λ _. end-reaches now start LeaderKeyLost read r;
+      renews = λ _ leader _ _. one-more now start o.machine o.outputs _ tt r;
+      touches = touch-reaches now start read r;
+      follows = λ leader _ _. follow-reaches now start leader.holder read r;
+      free = λ _ _. free-reaches now start read r;
+    })
+
+refused-reaches : (now : Ticks) (start : Machine) (sequence : ℕ) (o : Outcome) → Reaches now start o → Reaches now start (refused now sequence o)
+refused-reaches now start sequence o r = refused-by (Reaches now start) now sequence o (record {
+  kept = r;
+  quiet = r;
+  leader = λ held _. end-reaches now start LeaderKeyLost o r;
+  stray = λ _. end-reaches now start LeaderKeyLost o r;
+  follower = λ held _. r;
+})
+
+renewed-reaches : (now ttl : Ticks) (start : Machine) (revision : ℕ) (o : Outcome) → Reaches now start o → Reaches now start (leader_renewed now ttl revision o)
+renewed-reaches now ttl start revision o r = let fed : Outcome = record (feeding now ttl o) { role = Leader revision } in
+    if-cases (Reaches now start) (is_start_too_long now fed.knows fed.machine.server.state) _ fed
+    (λ _. end-reaches now start StartTooLong fed (feed-reaches now ttl start o r)) (λ _. feed-reaches now ttl start o r)
+
+stray-reaches : (now ttl : Ticks) (start : Machine) (revision : ℕ) (o : Outcome) → Reaches now start o → Reaches now start (stray_renewed now ttl revision o)
+stray-reaches now ttl start revision o r =
+    if-cases (Reaches now start) (is_refusing o.machine.watchdog.mode o.machine.watchdog.works) (ending_server now WatchdogNotArmed o) (takes_over now revision (arming now ttl o))
+    (λ _. end-reaches now start WatchdogNotArmed o r) (λ _. arm-reaches now ttl start o r)
+
+begin-reaches : (now : Ticks) (start : Machine) (revision : ℕ) (o : Outcome) → Reaches now start o → Reaches now start (begins now revision o)
+begin-reaches now start revision o r = one-more now start o.machine _ outputs.Promote tt (one-more now start o.machine o.outputs _ tt r)
+
+arms-reaches : (now ttl : Ticks) (start : Machine) (revision : ℕ) (o : Outcome) → Reaches now start o → Reaches now start (arms now ttl revision o)
+arms-reaches now ttl start revision o r =
+    if-cases (Reaches now start) (is_refusing o.machine.watchdog.mode o.machine.watchdog.works) _ (begins now revision (arming now ttl o))
+    (λ _. send-reaches now start (bodies.Request (txns.Release revision)) (record o { outputs = listed outputs.CannotArm o.outputs }) (one-more now start o.machine o.outputs outputs.CannotArm tt r))
+    (λ _. begin-reaches now start revision (arming now ttl o) (arm-reaches now ttl start o r))
+
+takes-reaches : (now ttl : Ticks) (start : Machine) (revision : ℕ) (o : Outcome) → Reaches now start o → Reaches now start (takes_key now ttl revision o)
+takes-reaches now ttl start revision o r =
+    if-cases (Reaches now start) (may_take now o.machine) (arms now ttl revision o) (gives_back revision o)
+    (λ _. arms-reaches now ttl start revision o r) (λ _. one-more now start o.machine o.outputs _ tt r)
+
+granted-reaches : (now : Ticks) (start : Machine) (sequence : ℕ) (grant : Granted) (snapshot : SnapshotFacts) (o : Outcome) → Reaches now start o → Reaches now start (granted now sequence grant snapshot o)
+granted-reaches now start sequence grant snapshot o r = let told : Outcome = record o { knows = informed snapshot o.knows } in
+    granted-by (Reaches now start) now sequence grant snapshot o r r
+    (λ waited _ _. record {
+      other = r;
+      leader = λ held _. renewed-reaches now waited.ttl start grant.revision told r;
+      stray = λ _. stray-reaches now waited.ttl start grant.revision told r;
+      takes = λ _. takes-reaches now waited.ttl start grant.revision told r;
+    })
+
+step-reaches : (now : Ticks) (points : List HistoryPoint) (heard : Heard) (start : Machine) (o : Outcome) → Reaches now start o → Reaches now start (step now points heard o)
+step-reaches now points Wake start o r = wake-reaches now start o r
+step-reaches now points (Got sequence snapshot) start o r = got-reaches now points start sequence snapshot (before now o) (before-reaches now start o r)
+step-reaches now points (HeardGranted sequence grant snapshot) start o r = granted-reaches now start sequence grant snapshot (before now o) (before-reaches now start o r)
+step-reaches now points (Mismatch sequence key found) start o r = refused-reaches now start sequence (before now o) (before-reaches now start o r)
+
+nothing : (now : Ticks) (machine : Machine) → Reached now machine machine []
+nothing now machine = record { machine_is = refl; kinds = All-nil IsOfTable }
+
+pub step-carried-out : (now : Ticks) (points : List HistoryPoint) (heard : Heard) (role : RoleFacts) (knows : Knowledge) (machine : Machine) → IsCarriedOut now machine (step now points heard (made role knows machine []))
+step-carried-out now points heard role knows machine = let r = step-reaches now points heard machine (made role knows machine []) (nothing now machine) in record { machine_is = r.machine_is; kinds = r.kinds }
+
+pub act-carried-out : (now : Ticks) (role : RoleFacts) (knows : Knowledge) (machine : Machine) → IsCarriedOut now machine (act now (made role knows machine []))
+act-carried-out now role knows machine = let r = before-reaches now machine (made role knows machine []) (nothing now machine) in record { machine_is = r.machine_is; kinds = r.kinds }
