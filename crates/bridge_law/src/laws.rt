@@ -1,5 +1,5 @@
 //! Laws of every book: what the law of the lease reads of it, and what it leaves by itself.
-ghost use Rattle.std.specs.Prelude.{ℕ, ◌≡◌, ◌⊎◌, ◌∷◌, ◌<◌, ◌≤◌, ◌++◌, Bool, true, false, List, Option, Some, None};
+ghost use Rattle.std.specs.Prelude.{ℕ, ◌≡◌, ◌⊎◌, ◌∷◌, ◌<◌, ◌≤◌, ◌++◌, Bool, true, false, List, length, Option, Some, None};
 ghost use Rattle.std.specs.FinMap.{find};
 ghost use Rattle.pat_base.specs.declared.name.Name.{Name};
 ghost use Rattle.pat_base.specs.declared.ticks.Ticks.{Ticks};
@@ -20,6 +20,7 @@ ghost use Rattle.event_book.specs.declared.member.Member.{Member};
 ghost use Rattle.event_book.specs.declared.message.Body.TheVariants as bodies;
 ghost use Rattle.event_book.specs.Flight.{InFlightFacts, in_flight};
 ghost use Rattle.event_book.specs.Facts.{Facts, facts_after, facts_over, start_of};
+ghost use Rattle.event_book.specs.Writers.{writes_over};
 ghost use Rattle.lease_law.specs.Actions.{Action, Deliver};
 ghost use Rattle.lease_law.specs.Books.{IsShown};
 ghost use Rattle.lease_law.specs.Claims.{BeginsBehind, MayBeginBehind};
@@ -34,6 +35,7 @@ ghost use Rattle.lease_law.specs.Showing.{granted_events, refused_events, read_e
 ghost use Rattle.bridge_law.specs.Example.{asked_and_granted, answer_flying};
 ghost use Rattle.bridge_law.specs.Flights.{IsSameFlight, IsCausal, AreCausal, IsSameBook};
 ghost use Rattle.bridge_law.specs.Groups.{IsOfMembers, AreNumberedAbove, CarriesGrant};
+ghost use Rattle.bridge_law.specs.Machines.{IsSameMachines, FeedsByGrants};
 ghost use Rattle.bridge_law.specs.Sending.{SendsOnly};
 ghost use Rattle.bridge_law.specs.Waiting.{IsAskedOnce, IsLastAsked, IsLastRun, AsksOnly};
 
@@ -146,6 +148,23 @@ pub fn inputs_send()
         → (i : ℕ) (flying : Flying) → (past_over past events).flight i ≡ Some flying → (s.flight i ≡ Some flying) ⊎ MaySend s m input was agent flying }
     ensures gone { (past : Past) (event : Event) (events : List Event) (last n : ℕ)
         → event.kind ≡ Message (Delivered n) → n ≤ last → AreNumberedAbove last events → (past_over past (event ∷ events)).flight n ≡ None }
+{}
+
+/// A book leaves the same deadlines, holds, runs and writers of its members by the law's definitions as by its own.
+pub fn same_machines()
+    ensures first { (names : List Name) (base : ℕ) → IsSameMachines first_past (start_of names base) }
+    ensures each { (past : Past) (facts : Facts) (kind : EventKind) → IsSameMachines past facts → IsSameMachines (past_after past kind) (facts_after facts kind) }
+    // So each book does.
+    ensures book { (names : List Name) (base : ℕ) (book : List Event) → IsSameMachines (past_of book) (facts_over (start_of names base) book) }
+    ensures count { (names : List Name) (base : ℕ) (book : List Event) → length (facts_over (start_of names base) book).agents ≡ length names }
+    // Writers by the law are those that the book's own definition gives, also of numbers that no member has.
+    ensures writers { (book : List Event) → (past_of book).writes ≡ writes_over (λ n. false) book }
+{}
+
+/// The deadline of a watchdog is one that acknowledgements set only where an event feeds it by acknowledgements.
+pub fn fed_by_grants()
+    ensures each { (past : Past) (kind : EventKind) (m : ℕ) → FeedsByGrants m kind → past.by_failsafe m ≡ false → (past_after past kind).by_failsafe m ≡ false }
+    ensures book { (book : List Event) (m : ℕ) → AllAre (FeedsByGrants m) book → (past_of book).by_failsafe m ≡ false }
 {}
 
 /// There are such books with a grant in flight.

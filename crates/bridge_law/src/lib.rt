@@ -4,5 +4,6 @@
 mod laws;
 
 pub use laws::{
-    beginnings_fall, deliveries, example, heard, inputs_send, same_book, same_flight, waiting,
+    beginnings_fall, deliveries, example, fed_by_grants, heard, inputs_send, same_book,
+    same_flight, same_machines, waiting,
 };

@@ -3,8 +3,6 @@ use Rattle.std.specs.Prelude.{ℕ, ◌+◌, List, [], ◌∷◌, Option, Some, N
 use Rattle.pat_base.specs.declared.name.Name.{Name}
 use Rattle.pat_base.specs.declared.ticks.Ticks.{Ticks}
 use Rattle.pat_base.specs.Changes.{changed_by}
-use Rattle.cluster_script.specs.declared.head.MemberOptions.{MemberOptions}
-use Rattle.cluster_script.specs.Script.{HeadText, MemberText, names_of}
 use Rattle.event_book.specs.declared.event.AgentEvent.{AgentEvent}
 use Rattle.event_book.specs.declared.event.AgentEvent.TheVariants as agents
 use Rattle.event_book.specs.declared.event.Event.{Event}
@@ -24,6 +22,7 @@ use Rattle.ha_loop.specs.Agents.{AgentFacts, Outcome}
 use Rattle.cluster_model.specs.State.{Cluster}
 use Rattle.cluster_model.specs.Hearing.{heard_from}
 use Rattle.cluster_model.specs.Inputs.{outcome_of, outcome_of_heard, starting_agent}
+use Rattle.cluster_model.specs.Machines.{who_of}
 
 -- the agent after an input with this outcome; where there was none to hear it, as before
 abbrev pub agent_after : Option Outcome → Option AgentFacts → Option AgentFacts
@@ -38,12 +37,16 @@ agent_facts_with agents member outcome = changed_by agents member.id.number (age
 abbrev pub agent_facts_without : List (Option AgentFacts) → Member → List (Option AgentFacts)
 agent_facts_without agents member = changed_by agents member.id.number (λ agent. None)
 
+-- the agents of a cluster of this name with these members, at this moment, after one ended or started
+abbrev pub agent_facts_moved : Name → List Member → ℕ → List (Option AgentFacts) → AgentEvent → List (Option AgentFacts)
+agent_facts_moved scope members now known (agents.Killed member) = agent_facts_without known member
+agent_facts_moved scope members now known (agents.Started member run) = changed_by known member.id.number (λ agent. Some (starting_agent (who_of scope members member) now run))
+agent_facts_moved scope members now known _ = known
+
 -- the agents after one was woken, ended or started
 abbrev pub agent_facts_by : Cluster → AgentEvent → List (Option AgentFacts)
 agent_facts_by cluster (agents.Woken member) = agent_facts_with cluster.agents member (outcome_of cluster member Wake)
-agent_facts_by cluster (agents.Killed member) = agent_facts_without cluster.agents member
-agent_facts_by cluster (agents.Started member run) = changed_by cluster.agents member.id.number (λ agent. Some (starting_agent cluster member run))
-agent_facts_by cluster _ = cluster.agents
+agent_facts_by cluster happening = agent_facts_moved cluster.scope cluster.book.members cluster.book.clock cluster.agents happening
 
 -- the agents after this message came to this receiver: the agent of a member acts on it, and none does at the key store
 abbrev pub agent_facts_reached_at : Cluster → InFlightFacts → LinkEnd → List (Option AgentFacts)

@@ -1,23 +1,26 @@
 -- The inputs of agents.
 use Rattle.std.specs.Prelude.{ℕ, ◌+◌, ◌&&◌, not, Bool, true, false, List, [], Option, Some, None, option_map, option_and_then, slice_get}
 use Rattle.pat_base.specs.declared.ticks.Ticks.{Ticks}
+use Rattle.wal_model.specs.declared.entry.HistoryPoint.{HistoryPoint}
 use Rattle.event_book.specs.declared.agent_process.AgentProcess.{AgentProcess}
 use Rattle.event_book.specs.declared.member.Member.{Member}
 use Rattle.ha_loop.specs.declared.heard.Heard.{Heard}
 use Rattle.ha_loop.specs.declared.machine.Machine.{Machine}
+use Rattle.ha_loop.specs.declared.output.Output.{Output}
+use Rattle.ha_loop.specs.declared.who.Who.{Who}
 use Rattle.ha_loop.specs.Agents.{AgentFacts, Follower, Outcome, fresh_knowledge, made}
 use Rattle.ha_loop.specs.Table.{step}
 use Rattle.ha_loop.specs.Wake.{is_due}
-use Rattle.cluster_model.specs.Machines.{machine_of, points_of, who_of}
+use Rattle.cluster_model.specs.Machines.{machine_of, points_of}
 use Rattle.cluster_model.specs.State.{Cluster}
 
 -- the moment of a cluster
 abbrev pub moment_of : Cluster → Ticks
 moment_of cluster = record { 0 = cluster.book.clock }
 
--- the agent of a member, where one runs
-abbrev pub agent_at : List (Option AgentFacts) → Member → Option AgentFacts
-agent_at agents member = option_and_then (λ agent. agent) (slice_get agents member.id.number)
+-- the agent at a place, where one runs
+abbrev pub agent_at : List (Option AgentFacts) → ℕ → Option AgentFacts
+agent_at agents place = option_and_then (λ agent. agent) (slice_get agents place)
 
 -- an agent with its machine, before an input: it has done nothing yet
 abbrev pub standing : Option AgentFacts → Option Machine → Option Outcome
@@ -26,16 +29,25 @@ standing _ _ = None
 
 -- the agent of a member with its machine, where one runs
 abbrev pub standing_of : Cluster → Member → Option Outcome
-standing_of cluster member = standing (agent_at cluster.agents member) (machine_of cluster member)
+standing_of cluster member = standing (agent_at cluster.agents member.id.number) (machine_of cluster member)
+
+-- what this input makes of an agent with its machine, where there are both, at a server with this history
+abbrev pub outcome_at : Ticks → List HistoryPoint → Heard → Option AgentFacts → Option Machine → Option Outcome
+outcome_at now points heard agent machine = option_map (step now points heard) (standing agent machine)
 
 -- what this input makes of the agent of a member
 abbrev pub outcome_of : Cluster → Member → Heard → Option Outcome
-outcome_of cluster member heard = option_map (step (moment_of cluster) (points_of cluster member) heard) (standing_of cluster member)
+outcome_of cluster member heard = outcome_at (moment_of cluster) (points_of cluster member) heard (agent_at cluster.agents member.id.number) (machine_of cluster member)
 
 -- what the agent of a member makes of what a message says, if it says anything to agents
 abbrev pub outcome_of_heard : Cluster → Member → Option Heard → Option Outcome
 outcome_of_heard cluster member None = None
 outcome_of_heard cluster member (Some heard) = outcome_of cluster member heard
+
+-- what an input did, if there was one
+abbrev pub outputs_of : Option Outcome → List Output
+outputs_of None = []
+outputs_of (Some outcome) = outcome.outputs
 
 -- there is something to do for this agent with its machine, if there is one
 abbrev pub has_work : Ticks → Option Outcome → Bool
@@ -46,6 +58,6 @@ has_work now (Some o) = is_due now o.role o.knows o.machine
 abbrev pub is_to_wake : Ticks → AgentProcess → Option Outcome → Bool
 is_to_wake now process o = process.running && (not process.suspended && has_work now o)
 
--- the agent of a member that starts now, in its run of this number: its first turn is due in the next tick
-abbrev pub starting_agent : Cluster → Member → ℕ → AgentFacts
-starting_agent cluster member run = record { role = Follower; knows = fresh_knowledge (who_of cluster member) (record { 0 = cluster.book.clock + 1 }) run }
+-- an agent that starts at this moment, in its run of this number: its first turn is due in the next tick
+abbrev pub starting_agent : Who → ℕ → ℕ → AgentFacts
+starting_agent who now run = record { role = Follower; knows = fresh_knowledge who (record { 0 = now + 1 }) run }

@@ -45,10 +45,10 @@ points_from (Some s) = s.history
 abbrev pub points_of : Cluster → Member → List HistoryPoint
 points_of cluster member = points_from (slice_get cluster.book.servers member.id.number)
 
--- whose agent that of this member is; hosts and tags can't be declared yet
-abbrev pub who_of : Cluster → Member → Who
-who_of cluster member = record { me = member.id; members = length cluster.book.members; scope = cluster.scope; name = member.name; host = local_host; tags = no_tags }
+-- whose agent that of this member is, in a cluster of this name with these members; hosts and tags can't be declared yet
+abbrev pub who_of : Name → List Member → Member → Who
+who_of scope members member = record { me = member.id; members = length members; scope = scope; name = member.name; host = local_host; tags = no_tags }
 
 -- where members are reached, as snapshots tell agents
-abbrev pub hosts_of : Cluster → List (Name × Host)
-hosts_of cluster = map (λ (member : Member). (member.name, local_host)) cluster.book.members
+abbrev pub hosts_of : List Member → List (Name × Host)
+hosts_of members = map (λ (member : Member). (member.name, local_host)) members

@@ -19,6 +19,7 @@ use Rattle.event_book.specs.declared.message.Body.{Body}
 use Rattle.event_book.specs.declared.message.Body.TheVariants as bodies
 use Rattle.event_book.specs.declared.message.Message.{Message}
 use Rattle.event_book.specs.Flight.{InFlightFacts, in_flight}
+use Rattle.event_book.specs.declared.reason.Reason.{Reason}
 use Rattle.ha_loop.specs.declared.heard.Heard.{Heard}
 use Rattle.ha_loop.specs.declared.heard.Heard.TheVariants.{Wake}
 use Rattle.ha_loop.specs.declared.output.Output.{Output}
@@ -31,9 +32,10 @@ use Rattle.cluster_model.specs.declared.delivery.Delivery.TheVariants as deliver
 use Rattle.cluster_model.specs.declared.heard_message.HeardMessage.{HeardMessage}
 use Rattle.cluster_model.specs.Deliveries.{delivery_of}
 use Rattle.cluster_model.specs.Hearing.{heard_from}
-use Rattle.cluster_model.specs.Inputs.{moment_of, outcome_of, outcome_of_heard, standing_of, is_to_wake}
+use Rattle.cluster_model.specs.Commands.{kinds_of}
+use Rattle.cluster_model.specs.Inputs.{moment_of, outcome_of, outcome_of_heard, outputs_of, standing_of, is_to_wake}
 use Rattle.cluster_model.specs.Limits.{most_in_flight}
-use Rattle.cluster_model.specs.Orders.{output_kinds}
+use Rattle.cluster_model.specs.Orders.{declared_member, order_kind, replica_start_kinds, server_at, stop_kinds}
 use Rattle.cluster_model.specs.Parts.{event_of, events_of, events_then, for_some, each}
 use Rattle.cluster_model.specs.State.{Cluster}
 
@@ -61,19 +63,24 @@ abbrev pub sending_events : Cluster → Member → Option AgentProcess → Optio
 sending_events cluster member (Some process) (Some to) sequence body = send_events cluster (agent_message member to process.run sequence body)
 sending_events cluster member _ _ sequence body = []
 
--- what an order of an agent comes to, at the server of its member
-abbrev pub order_events : Cluster → Member → HeardMessage → Output → List Event
-order_events cluster member heard output = for_some (slice_get cluster.book.servers member.id.number) (λ s. events_of cluster (output_kinds cluster.book.members member heard s output))
+-- the server of a member starts as a replica, where it is down
+abbrev pub replica_start_events : Cluster → Member → Option Member → List Event
+replica_start_events cluster member leader = for_some (server_at cluster member) (λ s. events_of cluster (replica_start_kinds member leader s))
+
+-- the agent of a member ends its server
+abbrev pub stop_events : Cluster → Member → Reason → List Event
+stop_events cluster member reason = for_some (server_at cluster member) (λ s. events_of cluster (stop_kinds member reason s))
 
 -- what an output of the agent of a member comes to, on the message that it heard
 abbrev pub output_events : Member → HeardMessage → Cluster → Output → List Event
 output_events member heard cluster (outputs.Send to sequence body) = sending_events cluster member (slice_get cluster.book.agents member.id.number) (receiver_of cluster.book.members to) sequence body
-output_events member heard cluster output = order_events cluster member heard output
+output_events member heard cluster (outputs.StartReplica leader) = replica_start_events cluster member (declared_member cluster.book.members leader)
+output_events member heard cluster (outputs.Stop reason) = stop_events cluster member reason
+output_events member heard cluster output = events_of cluster (kinds_of (order_kind cluster member heard output))
 
--- what the outputs of an input come to, one after another, where there was an agent for it
+-- what the outputs of an input come to, one after another
 abbrev pub input_events : Cluster → Member → HeardMessage → Option Outcome → List Event
-input_events cluster member heard None = []
-input_events cluster member heard (Some outcome) = each (output_events member heard) cluster outcome.outputs
+input_events cluster member heard outcome = each (output_events member heard) cluster (outputs_of outcome)
 
 -- no message is heard by an agent that is woken
 abbrev pub no_message : HeardMessage

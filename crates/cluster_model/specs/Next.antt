@@ -1,5 +1,5 @@
 -- What happens in a step.
-use Rattle.std.specs.Prelude.{ℕ, ◌+◌, ◌-◌, ◌^◌, if◌then◌else◌, List, [], ◌∷◌, Option, Some, None, option_and_then, option_map, slice_get, zero, suc}
+use Rattle.std.specs.Prelude.{ℕ, ◌+◌, ◌-◌, ◌^◌, if◌then◌else◌, true, false, List, [], ◌∷◌, Option, Some, None, option_and_then, option_map, slice_get, zero, suc}
 use Rattle.std.specs.Map.{keys_of}
 use Rattle.pat_base.specs.declared.member_id.MemberId.{MemberId}
 use Rattle.pg_model.specs.declared.answers.Streamed.{Streamed}
@@ -19,7 +19,7 @@ use Rattle.cluster_script.specs.declared.line.Command.TheVariants as commands
 use Rattle.cluster_script.specs.declared.line.Step.{Step}
 use Rattle.cluster_script.specs.declared.line.Step.TheVariants as steps
 use Rattle.cluster_model.specs.Acknowledging.{acknowledge_kinds}
-use Rattle.cluster_model.specs.Commands.{kinds_of, hold_of, resume_of, kill_of, restarted, disarm_of, link_of, cut_of, join_of}
+use Rattle.cluster_model.specs.Commands.{kinds_of, hold_of, resume_of, kill_of, restarted, disarm_at_start, link_of, cut_of, join_of}
 use Rattle.cluster_model.specs.Limits.{most_rounds}
 use Rattle.cluster_model.specs.Machines.{machine_of}
 use Rattle.cluster_model.specs.Messages.{wake_events, message_events, deliver_events, lose_events}
@@ -95,8 +95,7 @@ command_kind cluster _ = None
 
 -- the agent of a member starts, where it doesn't run
 abbrev pub restart_events_of : Cluster → Member → AgentProcess → List Event
-restart_events_of cluster member process =
-    events_then cluster (event_of cluster (restarted member process)) (λ later. if process.running then [] else events_of later (kinds_of (disarm_of member (machine_of cluster member))))
+restart_events_of cluster member process = events_of cluster (restarted member process ∷ kinds_of (disarm_at_start member process (machine_of cluster member)))
 
 -- the agent of a member starts, where there is one that doesn't run
 abbrev pub restart_events : Cluster → Member → List Event

@@ -1,10 +1,12 @@
 -- What there is before the first event.
 use Rattle.std.specs.Prelude.{ℕ, ◌+◌, List, [], ◌∷◌, Option, Some, map, length}
+use Rattle.pat_base.specs.declared.name.Name.{Name}
 use Rattle.cluster_script.specs.declared.head.MemberOptions.{MemberOptions}
 use Rattle.cluster_script.specs.Script.{HeadText, MemberText, names_of}
 use Rattle.event_book.specs.declared.member.Member.{Member}
 use Rattle.event_book.specs.Facts.{start_of}
-use Rattle.ha_loop.specs.Agents.{AgentFacts, Follower, fresh_knowledge}
+use Rattle.ha_loop.specs.Agents.{AgentFacts}
+use Rattle.cluster_model.specs.Inputs.{starting_agent}
 use Rattle.cluster_model.specs.Machines.{who_of}
 use Rattle.cluster_model.specs.State.{Cluster}
 
@@ -17,11 +19,11 @@ abbrev pub cluster_without_agents : HeadText → Cluster
 cluster_without_agents head = record { scope = head.cluster; options = options_of head; book = start_of (names_of head) head.base; agents = [] }
 
 -- the agent of a member at the beginning, in its first run: that of member number i has its first turn at tick i + 1
-abbrev pub first_agent : Cluster → Member → Option AgentFacts
-first_agent cluster member = Some (record { role = Follower; knows = fresh_knowledge (who_of cluster member) (record { 0 = member.id.number + 1 }) 1 })
+abbrev pub first_agent : Name → List Member → Member → Option AgentFacts
+first_agent scope members member = Some (starting_agent (who_of scope members member) member.id.number 1)
 
 -- the cluster of a head, before the first event
 abbrev pub cluster_of : HeadText → Cluster
 cluster_of head =
     let cluster = cluster_without_agents head in
-    record cluster { agents = map (first_agent cluster) cluster.book.members }
+    record cluster { agents = map (first_agent head.cluster cluster.book.members) cluster.book.members }

@@ -1,5 +1,5 @@
 -- What a tick brings beside the clock: machines are reset, keys expire, and servers end.
-use Rattle.std.specs.Prelude.{ℕ, ◌+◌, ◌++◌, nat_le, if◌then◌else◌, true, List, [], ◌∷◌, Option, Some, None, slice_get}
+use Rattle.std.specs.Prelude.{ℕ, ◌+◌, ◌++◌, nat_le, if◌then◌else◌, true, List, [], ◌∷◌, Option, Some, None, option_and_then, slice_get}
 use Rattle.pat_base.specs.declared.member_id.MemberId.{MemberId}
 use Rattle.pat_base.specs.declared.server_state.State.{State}
 use Rattle.pat_base.specs.declared.server_state.State.TheVariants as states
@@ -19,7 +19,7 @@ use Rattle.event_book.specs.Members.{server_of}
 use Rattle.leader_key.specs.Watchdog.{is_due_at}
 use Rattle.cluster_model.specs.Commands.{kinds_of}
 use Rattle.cluster_model.specs.Orders.{declared_member}
-use Rattle.cluster_model.specs.Parts.{event_of, events_of, events_then, for_some, each}
+use Rattle.cluster_model.specs.Parts.{event_of, events_of, events_then, each}
 use Rattle.cluster_model.specs.State.{Cluster}
 
 -- the machine of a member is reset by its watchdog, where that is due
@@ -28,7 +28,7 @@ reset_of now member deadline = if is_due_at now deadline then Some (kinds.Watchd
 
 -- what that brings
 abbrev pub reset_events : Cluster → Member → List Event
-reset_events cluster member = for_some (slice_get cluster.book.deadlines member.id.number) (λ deadline. events_of cluster (kinds_of (reset_of cluster.book.clock member deadline)))
+reset_events cluster member = events_of cluster (kinds_of (option_and_then (reset_of cluster.book.clock member) (slice_get cluster.book.deadlines member.id.number)))
 
 -- the expiry of the leader key, which names its holder
 abbrev pub leader_expiry : Option Member → List EventKind
@@ -55,9 +55,13 @@ abbrev pub completion_by : ℕ → Member → State → Option EventKind
 completion_by now member (states.Stopping true at) = if nat_le at.0 now then Some (kinds.Server (servers.Ended (server_of member))) else None
 completion_by now member _ = None
 
+-- so it is with this server
+abbrev pub completion_of : ℕ → Member → ServerFacts → Option EventKind
+completion_of now member s = completion_by now member s.state
+
 -- what that brings
 abbrev pub completion_events : Cluster → Member → List Event
-completion_events cluster member = for_some (slice_get cluster.book.servers member.id.number) (λ s. events_of cluster (kinds_of (completion_by cluster.book.clock member s.state)))
+completion_events cluster member = events_of cluster (kinds_of (option_and_then (completion_of cluster.book.clock member) (slice_get cluster.book.servers member.id.number)))
 
 -- the clock grows by one, with which starts and stops of servers that don't write are complete, and what has expired is dropped; the machines whose
 -- watchdogs are due are reset; what expired is told; and stops of primaries are complete. Each in script order

@@ -3,6 +3,8 @@
 
 mod delivery;
 mod heard_message;
+mod laws;
 
 pub use delivery::Delivery;
 pub use heard_message::HeardMessage;
+pub use laws::other_concerns_change_nothing;

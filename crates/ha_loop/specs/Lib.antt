@@ -4,9 +4,11 @@ pub mod Before
 pub mod Decisions
 pub mod Fits
 pub mod Info
+pub mod Lawful
 pub mod Orders
 pub mod Outputs
 pub mod Powers
+pub mod Seen
 pub mod Snapshots
 pub mod Start
 pub mod Table

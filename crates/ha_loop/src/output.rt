@@ -25,8 +25,6 @@ pub enum Output {
     StartReplica {
         leader: Option<MemberId>,
     },
-    /// The server starts as a primary again.
-    StartPrimary,
     /// The agent ends the server, for this reason.
     Stop {
         reason: Reason,

@@ -45,11 +45,24 @@ impl Watchdog {
         requires { IfSome margin (λ margin. margin.0 ≤ greatest_margin) }
         ensures { result ≡ record { mode = mode; works = works; margin = margin; deadline = None } }
     {
+        Watchdog::with_deadline(mode, works, margin, None)
+    }
+
+    /// The same, with this deadline.
+    pub fn with_deadline(
+        mode: Mode,
+        works: bool,
+        margin: Option<Ticks>,
+        deadline: Option<Ticks>,
+    ) -> Watchdog
+        requires { IfSome margin (λ margin. margin.0 ≤ greatest_margin) }
+        ensures { result ≡ record { mode = mode; works = works; margin = margin; deadline = deadline } }
+    {
         Watchdog {
             mode,
             works,
             margin,
-            deadline: None,
+            deadline,
         }
     }
 

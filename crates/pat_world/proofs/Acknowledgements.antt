@@ -20,9 +20,11 @@ use Rattle.event_book.specs.declared.event.ReplicationEvent.TheVariants as repli
 use Rattle.event_book.specs.declared.member.Member.{Member}
 use Rattle.event_book.specs.declared.member.ServerOf.{ServerOf}
 use Rattle.event_book.specs.Members.{server_of}
-use Rattle.pat_world.specs.Acknowledging.{acknowledge_kinds, acknowledgement, confirmed_front, ready_commits, AreAcknowledged, IsDone}
-use Rattle.pat_world.specs.Cluster.{Cluster, cluster_after, cluster_over}
-use Rattle.pat_world.specs.Next.{acknowledge_events, events_of, each, events_then, event_of}
+use Rattle.cluster_model.specs.Acknowledging.{acknowledge_kinds, acknowledgement, confirmed_front, ready_commits, AreAcknowledged, IsDone}
+use Rattle.cluster_model.specs.Cluster.{cluster_after, cluster_over}
+use Rattle.cluster_model.specs.State.{Cluster}
+use Rattle.cluster_model.specs.Next.{acknowledge_events}
+use Rattle.cluster_model.specs.Parts.{events_of, each, events_then, event_of}
 use Rattle.pat_world.specs.Room.{HasRoom}
 use Rattle.pat_world.specs.Emits.{Emits}
 use Rattle.pat_world.proofs.Deciding.{stamped-is}

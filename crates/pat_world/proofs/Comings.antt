@@ -9,9 +9,10 @@ use Rattle.event_book.specs.declared.event.MessageEvent.TheVariants as messages
 use Rattle.event_book.specs.Agents.{agents_after}
 use Rattle.event_book.specs.Flight.{Flight, InFlightFacts, in_flight, sent_after}
 use Rattle.event_book.specs.Links.{CutLinks, cuts_after}
-use Rattle.pat_world.specs.Cluster.{Cluster, cluster_after}
+use Rattle.cluster_model.specs.Cluster.{cluster_after}
+use Rattle.cluster_model.specs.State.{Cluster}
 use Rattle.pat_world.specs.Comes.{Counts, IsBare}
-use Rattle.pat_world.specs.Next.{event_of}
+use Rattle.cluster_model.specs.Parts.{event_of}
 use Rattle.pat_world.specs.Settled.{AreKeptBelow, settled_after}
 use Rattle.pat_world.specs.Emits.{Emits}
 use Rattle.pat_world.proofs.Deciding.{stamped-is}

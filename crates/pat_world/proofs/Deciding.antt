@@ -19,8 +19,11 @@ use Rattle.event_book.specs.declared.member.Member.{Member}
 use Rattle.event_book.specs.declared.message.Body.TheVariants as bodies
 use Rattle.event_book.specs.declared.message.Message.{Message}
 use Rattle.event_book.specs.Flight.{InFlightFacts, in_flight, without_message}
-use Rattle.pat_world.specs.Cluster.{Cluster, cluster_after, agent_states_reached_at}
-use Rattle.pat_world.specs.Next.{event_of, for_some, send_events, answer_message, answer_events, decision_events, reaction_to_message, reaction_events, arrival_events, arrival_events_at}
+use Rattle.cluster_model.specs.Cluster.{cluster_after}
+use Rattle.cluster_model.specs.State.{Cluster}
+use Rattle.cluster_model.specs.Messages.{send_events, answer_message, answer_events, decision_events, arrival_events, arrival_events_at}
+use Rattle.cluster_model.specs.Next.{reaction_to_message, reaction_events}
+use Rattle.cluster_model.specs.Parts.{event_of, for_some}
 use Rattle.pat_world.specs.Room.{decision_cost, message_cost, reaction_cost, sending_cost}
 use Rattle.pat_world.specs.Emits.{Emits}
 use Rattle.pat_world.specs.Comes.{Counts}

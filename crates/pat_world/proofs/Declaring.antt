@@ -6,8 +6,8 @@ use Rattle.pat_base.specs.MemberId.{member_by}
 use Rattle.cluster_script.specs.Script.{HeadText}
 use Rattle.event_book.specs.declared.member.Member.{Member}
 use Rattle.event_book.specs.Members.{members_from, put_first}
-use Rattle.pat_world.specs.Cluster.{cluster_of}
-use Rattle.pat_world.specs.Steps.{names_in}
+use Rattle.cluster_model.specs.Starting.{cluster_of}
+use Rattle.cluster_model.specs.Steps.{names_in}
 
 not-past : (n : ℕ) → nat_lt n 16 ≡ false → n < 16 → ⊥
 not-past n is below = grind (arith, nat_tests)

@@ -10,8 +10,11 @@ use Rattle.event_book.specs.declared.event.EventKind.{EventKind}
 use Rattle.event_book.specs.declared.event.EventKind.TheVariants as kinds
 use Rattle.event_book.specs.declared.event.StoreEvent.TheVariants as stores
 use Rattle.event_book.specs.declared.member.Member.{Member}
-use Rattle.pat_world.specs.Cluster.{Cluster, cluster_over}
-use Rattle.pat_world.specs.Next.{events_of, event_of, events_at, expiry_of, expiries_of, declared_member, tick_events}
+use Rattle.cluster_model.specs.Cluster.{cluster_over}
+use Rattle.cluster_model.specs.State.{Cluster}
+use Rattle.cluster_model.specs.Orders.{declared_member}
+use Rattle.cluster_model.specs.Parts.{events_of, event_of, events_at}
+use Rattle.cluster_model.specs.Ticking.{expiry_of, expiries_of, tick_events}
 use Rattle.pat_world.specs.Emits.{Emits}
 use Rattle.pat_world.proofs.Rooms.{HasRoom-fewer}
 use Rattle.pat_world.proofs.Taking.{Emits-then}

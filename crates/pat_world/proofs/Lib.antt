@@ -5,7 +5,6 @@ pub mod Deciding
 pub mod Declaring
 pub mod Expiring
 pub mod Flights
-pub mod Reacting
 pub mod Rest
 pub mod Rooms
 pub mod Sending
@@ -15,9 +14,7 @@ pub mod Serving
 pub mod Settling
 pub mod Standing
 pub mod Starting
-pub mod Staying
 pub mod Streams
 pub mod Taking
-pub mod TurnRooms
 pub mod Waking
 pub mod Worlds

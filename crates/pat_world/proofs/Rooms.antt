@@ -25,9 +25,10 @@ use Rattle.event_book.specs.Flight.{InFlightFacts, Flight, in_flight, sent_after
 use Rattle.event_book.specs.Keys.{keys_after}
 use Rattle.pat_world.specs.declared.agent_state.AgentState.{AgentState}
 use Rattle.pat_world.specs.declared.agent_state.MemberAgent.{MemberAgent}
-use Rattle.pat_world.specs.Cluster.{Cluster, cluster_after, agent_states_after, agent_states_by, agent_states_reached_at, agent_states_by_message, agent_states_by_delivery}
+use Rattle.cluster_model.specs.Cluster.{cluster_after}
+use Rattle.cluster_model.specs.State.{Cluster}
 use Rattle.pat_world.specs.Comes.{Counts, CountsAgent, CountsMessage}
-use Rattle.pat_world.specs.Next.{declared, member_agent_at, member_agent_for, member_agent_of}
+use Rattle.cluster_model.specs.Next.{declared, member_agent_at, member_agent_for, member_agent_of}
 use Rattle.pat_world.specs.Room.{HasRoom, AgentHasRoom}
 use Rattle.pat_world.proofs.ServerRooms.{All-at, All-weaker, CountsCommit, HasTimeline, commits-more, servers-room}
 use Rattle.pat_world.proofs.TurnRooms.{wake_reaction-room, message_reaction-room, fresh-room, AgentHasRoom-fewer}

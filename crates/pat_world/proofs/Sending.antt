@@ -10,10 +10,12 @@ use Rattle.event_book.specs.declared.event.EventKind.TheVariants as kinds
 use Rattle.event_book.specs.declared.event.MessageEvent.TheVariants.{Sent, Lost}
 use Rattle.event_book.specs.declared.message.Message.{Message}
 use Rattle.event_book.specs.Flight.{Flight, InFlightFacts, launched, snapshot_for, grant_for}
-use Rattle.pat_world.specs.Cluster.{Cluster, cluster_after}
+use Rattle.cluster_model.specs.Cluster.{cluster_after}
+use Rattle.cluster_model.specs.State.{Cluster}
 use Rattle.pat_world.specs.Launches.{launched_into}
-use Rattle.pat_world.specs.Next.{event_of, events_of, events_at, lost_at_once, send_events}
-use Rattle.pat_world.specs.Room.{most_in_flight}
+use Rattle.cluster_model.specs.Messages.{lost_at_once, send_events}
+use Rattle.cluster_model.specs.Parts.{event_of, events_of, events_at}
+use Rattle.cluster_model.specs.Limits.{most_in_flight}
 use Rattle.pat_world.specs.Emits.{Emits}
 use Rattle.pat_world.proofs.Taking.{Emits-nothing, Emits-one, Emits-then}
 

@@ -20,12 +20,14 @@ use Rattle.event_book.specs.Members.{server_of}
 use Rattle.event_book.specs.Servers.{starts_as_replica}
 use Rattle.pat_world.specs.declared.follow_row.FollowRow.{FollowRow}
 use Rattle.pat_world.specs.declared.follow_row.FollowRow.TheVariants as rows
-use Rattle.pat_world.specs.Cluster.{Cluster, cluster_after}
+use Rattle.cluster_model.specs.Cluster.{cluster_after}
+use Rattle.cluster_model.specs.State.{Cluster}
 use Rattle.pat_world.specs.Comes.{MayCome}
 use Rattle.pat_world.specs.FollowRows.{follow_kinds, follow_row_of}
-use Rattle.pat_world.specs.Next.{events_of, follow_events, for_some, event_of}
+use Rattle.cluster_model.specs.Next.{follow_events}
+use Rattle.cluster_model.specs.Parts.{events_of, for_some, event_of}
 use Rattle.pat_world.specs.Room.{HasRoom}
-use Rattle.pat_world.specs.ServerCommands.{commit_of, promoted_timeline}
+use Rattle.cluster_model.specs.ServerCommands.{commit_of, promoted_timeline}
 use Rattle.pat_world.specs.Emits.{Emits}
 use Rattle.pat_world.proofs.ServerRooms.{All-at}
 use Rattle.pat_world.proofs.Taking.{Emits-weaker}

@@ -14,7 +14,7 @@ use Rattle.event_book.specs.declared.agent_process.AgentProcess.{AgentProcess}
 use Rattle.event_book.specs.Agents.{first_agents, running_in}
 use Rattle.event_book.specs.Members.{members_from, put_first}
 use Rattle.pat_world.specs.declared.agent_state.AgentState.{AgentState}
-use Rattle.pat_world.specs.Cluster.{cluster_of, first_agent_states}
+use Rattle.cluster_model.specs.Starting.{cluster_of}
 use Rattle.pat_world.specs.Room.{HasRoom, AgentHasRoom}
 use Rattle.pat_world.specs.Turns.{fresh_agent_state}
 use Rattle.pat_world.proofs.ServerRooms.{HasTimeline}

@@ -19,11 +19,13 @@ use Rattle.event_book.specs.declared.member.Member.{Member}
 use Rattle.event_book.specs.declared.member.ServerOf.{ServerOf}
 use Rattle.event_book.specs.Members.{server_of}
 use Rattle.event_book.specs.Servers.{received_by}
-use Rattle.pat_world.specs.Cluster.{Cluster, cluster_after}
-use Rattle.pat_world.specs.Commands.{kinds_of}
-use Rattle.pat_world.specs.Next.{events_of, confirm_events, receive_events}
+use Rattle.cluster_model.specs.Cluster.{cluster_after}
+use Rattle.cluster_model.specs.State.{Cluster}
+use Rattle.cluster_model.specs.Commands.{kinds_of}
+use Rattle.cluster_model.specs.Next.{confirm_events, receive_events}
+use Rattle.cluster_model.specs.Parts.{events_of}
 use Rattle.pat_world.specs.Room.{HasRoom}
-use Rattle.pat_world.specs.Streaming.{confirm_of, unconfirmed_end}
+use Rattle.cluster_model.specs.Streaming.{confirm_of, unconfirmed_end}
 use Rattle.pat_world.specs.Emits.{Emits}
 use Rattle.pat_world.proofs.Deciding.{Emits-after}
 use Rattle.pat_world.proofs.Rooms.{HasRoom-cluster_after}

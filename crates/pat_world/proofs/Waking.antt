@@ -7,8 +7,10 @@ use Rattle.event_book.specs.declared.event.AgentEvent.TheVariants.{Woken}
 use Rattle.event_book.specs.declared.member.Member.{Member}
 use Rattle.pat_world.specs.declared.agent_state.Reaction.{Reaction}
 use Rattle.pat_world.specs.declared.agent_state.MemberAgent.{MemberAgent}
-use Rattle.pat_world.specs.Cluster.{Cluster}
-use Rattle.pat_world.specs.Next.{events_then, event_of, is_to_wake, member_agent_for, reaction_to_wake, reaction_events, wake_events, wake_events_of}
+use Rattle.cluster_model.specs.State.{Cluster}
+use Rattle.cluster_model.specs.Messages.{wake_events, wake_events_of}
+use Rattle.cluster_model.specs.Next.{is_to_wake, member_agent_for, reaction_to_wake, reaction_events}
+use Rattle.cluster_model.specs.Parts.{events_then, event_of}
 use Rattle.pat_world.specs.Room.{input_cost, reaction_cost}
 use Rattle.pat_world.specs.Emits.{Emits}
 use Rattle.pat_world.proofs.Taking.{Emits-then, found-took}

@@ -10,8 +10,9 @@ use Rattle.event_book.specs.Flight.{Flight, InFlightFacts, in_flight, without_me
 use Rattle.pat_world.specs.declared.agent_state.AgentState.{AgentState}
 use Rattle.pat_world.specs.declared.agent_state.Reaction.{Reaction}
 use Rattle.pat_world.specs.declared.world.World.TheInside.{Inside}
-use Rattle.pat_world.specs.Cluster.{Cluster, cluster_after, agent_states_reached_at}
-use Rattle.pat_world.specs.Next.{reaction_to_message}
+use Rattle.cluster_model.specs.Cluster.{cluster_after}
+use Rattle.cluster_model.specs.State.{Cluster}
+use Rattle.cluster_model.specs.Next.{reaction_to_message}
 use Rattle.pat_world.specs.Turns.{message_reaction}
 use Rattle.pat_world.proofs.Deciding.{arrived}
 

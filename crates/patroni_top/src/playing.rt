@@ -3,9 +3,9 @@ ghost use Rattle.std.specs.Prelude.{◌≡◌, ◌<◌, ◌∷◌, [], false, le
 ghost use Rattle.pat_base.specs.Prints.{Prints};
 ghost use Rattle.cluster_script.specs.Script.{IsLine};
 ghost use Rattle.cluster_script.specs.Steps.{steps_of_line, steps_of};
-ghost use Rattle.pat_world.specs.Cluster.{cluster_of};
+ghost use Rattle.cluster_model.specs.Starting.{cluster_of};
 ghost use Rattle.pat_world.specs.Room.{HasRoomFor};
-ghost use Rattle.pat_world.specs.Steps.{IsStep, names_in};
+ghost use Rattle.cluster_model.specs.Steps.{IsStep, names_in};
 ghost use Rattle.patroni_top.specs.Playing.{Plays};
 ghost use Rattle.patroni_top.specs.Run.{KeepsLimits, output_of, traced_after};
 
@@ -23,12 +23,12 @@ pub fn play<K: Sink>(alloc: Global, script: &Script, out: &mut K) -> Result<(), 
     ensures { Prints K.Sink out.old out.new PrintError.Write result (output_of script.now) }
 {
     let mut player = Player::new(alloc, script.head())?;
-    player.play_body(script, out)?;
-    print_summary(alloc, player.world.clock(), out)
+    let played = player.play(script, out);
+    player.close();
+    played
 }
 
-/// Takes steps in a world, and prints what happens.
-#[derive(Drop)]
+/// Takes steps in a world, and prints what happens. It can't be dropped, since a world can't.
 struct Player {
     alloc: Global,
     world: World,
@@ -50,6 +50,23 @@ impl Player {
             trace: false,
             events: Vec::new(alloc),
         })
+    }
+
+    /// Ends a player, and with it its world.
+    fn close(self) {
+        let Player {
+            alloc: _,
+            world,
+            trace: _,
+            events: _,
+        } = self;
+        world.close();
+    }
+
+    /// The steps of a script, and then the closing summary.
+    fn play<K: Sink>(&mut self, script: &Script, out: &mut K) -> Result<(), PrintError> {
+        self.play_body(script, out)?;
+        print_summary(self.alloc, self.world.clock(), out)
     }
 
     /// The lines of a body, one after another.

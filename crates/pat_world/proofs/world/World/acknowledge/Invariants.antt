@@ -1,6 +1,6 @@
 use Rattle.std.proofs.Common.{◌+◌, ◌≤◌, length}
 use Rattle.std.specs.Prelude.{slice_get}
-use Rattle.pat_world.specs.Next.{acknowledge_events}
+use Rattle.cluster_model.specs.Next.{acknowledge_events}
 use Rattle.pat_world.specs.Room.{most_members}
 use Rattle.pat_world.specs.Settled.{AreKeptBelow}
 use Rattle.pat_world.proofs.Acknowledgements.{waiting_at}

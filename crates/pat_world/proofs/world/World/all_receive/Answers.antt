@@ -1,5 +1,5 @@
 use Rattle.std.proofs.Common.{◌≤◌, ◌*◌, arith, ap, length}
-use Rattle.pat_world.specs.Cluster.{Cluster}
+use Rattle.cluster_model.specs.State.{Cluster}
 use Rattle.pat_world.specs.Room.{most_members, receiving_cost, streaming_cost}
 use Rattle.pat_world.proofs.Rest.{EachLeft-end, EachLeft-members, EachLeft-more, EachLeft-place, EachLeft-room}
 use Rattle.pat_world.proofs.Rooms.{HasRoom-fewer}

@@ -7,8 +7,10 @@ use Rattle.event_book.specs.declared.message.Message.{Message}
 use Rattle.event_book.specs.Flight.{Flight, InFlightFacts, in_flight}
 use Rattle.pat_world.specs.declared.agent_state.AgentState.{AgentState}
 use Rattle.pat_world.specs.declared.agent_state.Reaction.{Reaction}
-use Rattle.pat_world.specs.Cluster.{Cluster}
-use Rattle.pat_world.specs.Next.{answer_events, arrival_events, for_some, reaction_events}
+use Rattle.cluster_model.specs.State.{Cluster}
+use Rattle.cluster_model.specs.Messages.{answer_events, arrival_events}
+use Rattle.cluster_model.specs.Next.{reaction_events}
+use Rattle.cluster_model.specs.Parts.{for_some}
 use Rattle.pat_world.specs.Room.{HasRoom, message_cost}
 use Rattle.pat_world.specs.Emits.{Emits}
 use Rattle.pat_world.proofs.Deciding.{nothing-took, stored-took, heard-took}

@@ -1,8 +1,10 @@
 use Rattle.std.proofs.Common.{◌≡◌, arith, rules}
 use Rattle.std.proofs.lemmas.Result.{on_ok_weaker}
 use Rattle.cluster_script.specs.declared.line.Command.TheVariants as commands
-use Rattle.pat_world.specs.Commands.{kinds_of}
-use Rattle.pat_world.specs.Next.{events_of, command_events, command_kind, promote_events, receive_events_at_most, wake_events}
+use Rattle.cluster_model.specs.Commands.{kinds_of}
+use Rattle.cluster_model.specs.Messages.{wake_events}
+use Rattle.cluster_model.specs.Next.{command_events, command_kind, promote_events, receive_events_at_most}
+use Rattle.cluster_model.specs.Parts.{events_of}
 use Rattle.pat_world.specs.Room.{input_cost, promotion_cost, streaming_cost}
 use Rattle.pat_world.proofs.Changing.{commanded, command_kind-took}
 use Rattle.pat_world.proofs.Taking.{found-took}

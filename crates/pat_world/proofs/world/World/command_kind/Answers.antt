@@ -1,9 +1,9 @@
 use Rattle.std.proofs.Common.{◌∙◌, ◌+◌, ap, sym, subst}
 use Rattle.event_book.specs.declared.event.EventKind.{EventKind}
 use Rattle.pg_model.specs.Servers.{entry_for}
-use Rattle.pat_world.specs.Cluster.{Cluster}
+use Rattle.cluster_model.specs.State.{Cluster}
 use Rattle.pat_world.specs.Comes.{MayCome}
-use Rattle.pat_world.specs.ServerCommands.{commit_of}
+use Rattle.cluster_model.specs.ServerCommands.{commit_of}
 use Rattle.pat_world.proofs.Rooms.{run-below}
 use Rattle.pat_world.proofs.ServerCommanding.{commit-comes}
 use Rattle.pat_world.proofs.world.World.command_kind.Goals as goal

@@ -11,8 +11,8 @@ use Rattle.event_book.specs.declared.event.EventKind.TheVariants as kinds
 use Rattle.event_book.specs.declared.event.StoreEvent.TheVariants as stores
 use Rattle.event_book.specs.declared.message.Body.TheVariants as bodies
 use Rattle.event_book.specs.declared.message.Message.{Message}
-use Rattle.pat_world.specs.Cluster.{Cluster}
-use Rattle.pat_world.specs.Next.{decision_events, send_events, answer_message}
+use Rattle.cluster_model.specs.State.{Cluster}
+use Rattle.cluster_model.specs.Messages.{decision_events, send_events, answer_message}
 use Rattle.pat_world.specs.Room.{HasRoom}
 use Rattle.pat_world.specs.Emits.{Emits}
 use Rattle.pat_world.proofs.Deciding.{granted-took, refused-took, granted-event}

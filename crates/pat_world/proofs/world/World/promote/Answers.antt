@@ -1,8 +1,8 @@
 use Rattle.std.proofs.Common.{◌∙◌, ap, sym, subst}
 use Rattle.std.specs.Prelude.{option_and_then, slice_get}
-use Rattle.pat_world.specs.Cluster.{Cluster}
+use Rattle.cluster_model.specs.State.{Cluster}
 use Rattle.pat_world.specs.Room.{HasRoom}
-use Rattle.pat_world.specs.ServerCommands.{promoted_timeline}
+use Rattle.cluster_model.specs.ServerCommands.{promoted_timeline}
 use Rattle.pat_world.proofs.ServerCommanding.{promoted-comes, timeline-below}
 use Rattle.pat_world.proofs.Worlds.{seen}
 use Rattle.pat_world.proofs.world.World.promote.Goals as goal

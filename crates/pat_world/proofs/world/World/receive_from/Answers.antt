@@ -1,8 +1,8 @@
 use Rattle.std.proofs.Common.{◌∙◌, ap, refl, sym, subst, Some}
 use Rattle.std.proofs.lemmas.Result.{on_ok_weaker}
 use Rattle.pg_model.specs.Servers.{news_at}
-use Rattle.pat_world.specs.Cluster.{Cluster}
-use Rattle.pat_world.specs.Next.{receive_events}
+use Rattle.cluster_model.specs.State.{Cluster}
+use Rattle.cluster_model.specs.Next.{receive_events}
 use Rattle.pat_world.specs.Room.{HasRoom}
 use Rattle.pat_world.specs.Emits.{Emits}
 use Rattle.pat_world.proofs.Streams.{connected, diverged-took, quiet-took, received-room, received-took, with_servers}

@@ -2,8 +2,8 @@ use Rattle.std.proofs.Common.{List, ap, refl, subst}
 use Rattle.event_book.specs.declared.event.EventKind.TheVariants as kinds
 use Rattle.event_book.specs.declared.event.AgentEvent.TheVariants.{Woken}
 use Rattle.pat_world.specs.declared.agent_state.AgentState.{AgentState}
-use Rattle.pat_world.specs.Cluster.{Cluster}
-use Rattle.pat_world.specs.Next.{event_of}
+use Rattle.cluster_model.specs.State.{Cluster}
+use Rattle.cluster_model.specs.Parts.{event_of}
 use Rattle.pat_world.specs.Emits.{Emits}
 use Rattle.pat_world.proofs.Comings.{Emits-told}
 use Rattle.pat_world.proofs.Worlds.{seen}

@@ -1,6 +1,7 @@
 use Rattle.std.proofs.Common.{◌+◌, arith}
 use Rattle.std.proofs.lemmas.Result.{on_ok_weaker}
-use Rattle.pat_world.specs.Next.{each, receive_events_of, rounds_events}
+use Rattle.cluster_model.specs.Next.{receive_events_of, rounds_events}
+use Rattle.cluster_model.specs.Parts.{each}
 use Rattle.pat_world.specs.Room.{most_rounds, receiving_cost, rounds_cost, schedule_cost}
 use Rattle.pat_world.proofs.Rooms.{HasRoom-fewer}
 use Rattle.pat_world.proofs.Taking.{Emits-then}

@@ -2,9 +2,9 @@ use Rattle.std.proofs.Common.{arith, ◌∙◌, ◌+◌, refl, ap, sym, subst}
 use Rattle.std.proofs.lemmas.Result.{on_ok_weaker}
 use Rattle.lease_store.specs.Answers.{present_pairs}
 use Rattle.event_book.specs.Flight.{grant_for, snapshot_for}
-use Rattle.pat_world.specs.Cluster.{Cluster}
+use Rattle.cluster_model.specs.State.{Cluster}
 use Rattle.pat_world.specs.Launches.{launched_into}
-use Rattle.pat_world.specs.Next.{send_events}
+use Rattle.cluster_model.specs.Messages.{send_events}
 use Rattle.pat_world.specs.Emits.{Emits}
 use Rattle.pat_world.proofs.Sending.{send-took, loaded-is, with_flight}
 use Rattle.pat_world.proofs.Settling.{kept-sent}

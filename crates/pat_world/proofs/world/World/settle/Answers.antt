@@ -1,6 +1,6 @@
 use Rattle.std.proofs.Common.{◌≡◌, [], arith, sym, subst}
-use Rattle.pat_world.specs.Cluster.{Cluster}
-use Rattle.pat_world.specs.Next.{round_events}
+use Rattle.cluster_model.specs.State.{Cluster}
+use Rattle.cluster_model.specs.Next.{round_events}
 use Rattle.pat_world.proofs.Settling.{round_events-kept}
 use Rattle.pat_world.proofs.Worlds.{seen}
 use Rattle.pat_world.proofs.world.World.settle.Goals as goal

@@ -2,8 +2,10 @@ use Rattle.std.proofs.Common.{◌∙◌, ◌+◌, ◌++◌, refl, ap, sym, subst
 use Rattle.std.proofs.lemmas.Result.{on_ok_weaker}
 use Rattle.lease_store.specs.Answers.{expired_keys}
 use Rattle.event_book.specs.declared.event.EventKind.TheVariants as kinds
-use Rattle.pat_world.specs.Cluster.{Cluster}
-use Rattle.pat_world.specs.Next.{tick_events, event_of, events_at, expiries_of, declared_member}
+use Rattle.cluster_model.specs.State.{Cluster}
+use Rattle.cluster_model.specs.Orders.{declared_member}
+use Rattle.cluster_model.specs.Parts.{event_of, events_at}
+use Rattle.cluster_model.specs.Ticking.{tick_events, expiries_of}
 use Rattle.pat_world.specs.Emits.{Emits}
 use Rattle.pat_world.proofs.Expiring.{tick_events-took}
 use Rattle.pat_world.proofs.Worlds.{seen}
