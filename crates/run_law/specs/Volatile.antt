@@ -10,7 +10,7 @@ use Rattle.run_law.specs.Machines.{live_in, deadline_in, hold_in, run_in}
 -- the agent of a member, if one runs; past the members all is as before the first event
 abbrev pub agent_now : Option (Option AgentFacts) → Option Agent
 agent_now None = Some (fresh_agent 1)
-agent_now (Some agent) = option_map (λ (agent : AgentFacts). agent_seen agent.role agent.knows) agent
+agent_now (Some agent) = option_map agent_seen agent
 
 -- what no event says of a member, by a cluster: whether its server is live, and its agent
 abbrev pub volatile_of : Cluster → ℕ → VolatileState
