@@ -15,7 +15,7 @@ use Rattle.cluster_config.specs.Snapshots.{SnapshotFacts, held_in, failsafe_by, 
 use Rattle.event_book.specs.declared.reason.Reason.TheVariants.{StartTooLong, WatchdogNotArmed}
 use Rattle.lease_law.specs.Leases.{LeaderSeen, FailsafeKey}
 use Rattle.lease_law.specs.Past.{set_members}
-use Rattle.lease_law.proofs.Tools.{none-some}
+use Rattle.lease_law.proofs.Tools.{some-is, none-some}
 use Rattle.ha_loop.specs.declared.heard.Heard.{Heard}
 use Rattle.ha_loop.specs.declared.heard.Heard.TheVariants.{Wake, Got, Granted as HeardGranted, Mismatch}
 use Rattle.ha_loop.specs.declared.knowledge.Waited.{Waited}
@@ -23,7 +23,7 @@ use Rattle.ha_loop.specs.declared.output.Output.TheVariants as outputs
 use Rattle.ha_loop.specs.declared.role.Why.{Why}
 use Rattle.ha_loop.specs.declared.role.Why.TheVariants.{HandOver, Lost}
 use Rattle.ha_loop.specs.Acting.{disarming, arming, feeding, ending_server, touching, starting_replica, following_server, is_refusing, waiting_no_more}
-use Rattle.ha_loop.specs.Agents.{EndsAlone, RoleFacts, Follower, Holder, Ready, Leader, Ending, Stray, Outcome}
+use Rattle.ha_loop.specs.Agents.{EndsAlone, HasCounted, RoleFacts, Follower, Holder, Ready, Leader, Ending, Stray, Outcome}
 use Rattle.ha_loop.specs.Before.{leader_finds_ended, has_ended, finds_live, stray_finds_ended, before}
 use Rattle.ha_loop.specs.Decisions.{is_start_too_long, leader_renewed, takes_over, stray_renewed, may_take, gives_back, begins, arms, takes_key, granted, refused}
 use Rattle.ha_loop.specs.Outputs.{listed}
@@ -71,6 +71,10 @@ pub record Onward (told : Option SnapshotFacts) (o after : Outcome) : Type 0 whe
   pub leader : (seen : LeaderSeen) → leader_seen_if after.knows.seen ≡ Some seen → (leader_seen_if o.knows.seen ≡ Some seen) ⊎ (leader_seen_if told ≡ Some seen)
   pub hold : after.machine.hold ≡ o.machine.hold
   pub ends : IsAlone o → IsAlone after
+  pub counts : HasCounted o.knows → HasCounted after.knows
+
+at-most : {a b c : ℕ} → a ≤ b → b ≤ c → a ≤ c
+at-most first second = omega (arith, first, second)
 
 later : {a b c : ℕ} → a ≤ b → b < c → a < c
 later first second = omega (arith, first, second)
@@ -87,15 +91,16 @@ onward-then told a b c first second = record {
   leader = λ seen e. elim (second.leader seen e) [ inl before-it ↦ first.leader seen before-it | inr new ↦ inr new ];
   hold = second.hold ∙ first.hold;
   ends = λ alone. second.ends (first.ends alone);
+  counts = λ counted. second.counts (first.counts counted);
 }
 
 -- what it knows of keys stays
 abbrev Keeps : (told : Option SnapshotFacts) (o after : Outcome) → Type 0
 Keeps told o after = after.knows.who ≡ o.knows.who → after.knows.run ≡ o.knows.run → after.knows.seen ≡ o.knows.seen → after.knows.known ≡ o.knows.known → after.knows.informed ≡ o.knows.informed → o.knows.sequence ≤ after.knows.sequence
-    → ((n : ℕ) → lease_asked after.knows.waited ≡ Some n → (lease_asked o.knows.waited ≡ Some n) ⊎ (o.knows.sequence < n)) → after.machine.hold ≡ o.machine.hold → (IsAlone o → IsAlone after) → Onward told o after
+    → ((n : ℕ) → lease_asked after.knows.waited ≡ Some n → (lease_asked o.knows.waited ≡ Some n) ⊎ (o.knows.sequence < n)) → after.machine.hold ≡ o.machine.hold → (IsAlone o → IsAlone after) → (HasCounted o.knows → HasCounted after.knows) → Onward told o after
 
 keeps : (told : Option SnapshotFacts) (o after : Outcome) → Keeps told o after
-keeps told o after who run seen known informed last waits hold ends = record {
+keeps told o after who run seen known informed last waits hold ends counts = record {
   who = who;
   run = run;
   last = last;
@@ -106,23 +111,24 @@ keeps told o after who run seen known informed last waits hold ends = record {
   leader = λ seen-now e. inl (subst (λ (x : Option SnapshotFacts). leader_seen_if x ≡ Some seen-now) seen e);
   hold = hold;
   ends = ends;
+  counts = counts;
 }
 
 -- nothing of its questions changes
 same : (told : Option SnapshotFacts) (o : Outcome) → Onward told o o
-same told o = keeps told o o refl refl refl refl refl (omega arith) (λ n e. inl e) refl (λ alone. alone)
+same told o = keeps told o o refl refl refl refl refl (omega arith) (λ n e. inl e) refl (λ alone. alone) (λ counted. counted)
 
 -- a step of a row that neither asks nor waits on: nothing is waited for after it
 rests : (told : Option SnapshotFacts) (o after : Outcome) → after.knows.who ≡ o.knows.who → after.knows.run ≡ o.knows.run → after.knows.seen ≡ o.knows.seen → after.knows.known ≡ o.knows.known → after.knows.informed ≡ o.knows.informed
     → o.knows.sequence ≤ after.knows.sequence → after.knows.waited ≡ None → after.machine.hold ≡ o.machine.hold → Onward told o after
 rests told o after who run seen known informed last waited hold =
-    keeps told o after who run seen known informed last (λ n e. absurd (none-some _ (sym (ap (λ (w : Option Waited). lease_asked w) waited) ∙ e))) hold (λ _ _. waited)
+    keeps told o after who run seen known informed last (λ n e. absurd (none-some _ (sym (ap (λ (w : Option Waited). lease_asked w) waited) ∙ e))) hold (λ _ _. waited) (λ _ one is. absurd (none-some one (sym waited ∙ is)))
 
 -- a step that leaves alone what is waited for, in a role that doesn't end its server
 waits-on : (told : Option SnapshotFacts) (o after : Outcome) → after.knows.who ≡ o.knows.who → after.knows.run ≡ o.knows.run → after.knows.seen ≡ o.knows.seen → after.knows.known ≡ o.knows.known → after.knows.informed ≡ o.knows.informed
     → o.knows.sequence ≤ after.knows.sequence → after.knows.waited ≡ o.knows.waited → after.machine.hold ≡ o.machine.hold → is_active after.role ≡ true → Onward told o after
 waits-on told o after who run seen known informed last waited hold active =
-    keeps told o after who run seen known informed last (λ n e. inl (subst (λ (w : Option Waited). lease_asked w ≡ Some n) waited e)) hold (λ _ ending. absurd (no-way (sym ending ∙ active)))
+    keeps told o after who run seen known informed last (λ n e. inl (subst (λ (w : Option Waited). lease_asked w ≡ Some n) waited e)) hold (λ _ ending. absurd (no-way (sym ending ∙ active))) (λ counted one is. at-most (counted one (sym waited ∙ is)) last)
 
 -- a bit is 0 or 1
 bit-small : (n i : ℕ) → bit_at n i ≤ 1
@@ -169,17 +175,21 @@ tells snapshot o = record {
   leader = λ seen e. inr e;
   hold = refl;
   ends = λ _ _. refl;
+  counts = λ _ one is. absurd (none-some one is);
 }
 
 -- a question that is waited for has a new number
 asked-new : (was n : ℕ) → ◌≡◌ {A = Option ℕ} (Some (was + 1)) (Some n) → was < n
 asked-new was n e = let is : was + 1 ≡ n = cc in omega (arith, is)
 
+counts-asked : (asked one : Waited) (sequence : ℕ) → asked ≡ one → asked.sequence ≡ sequence → one.sequence ≤ sequence
+counts-asked asked one sequence same number = let e : asked.sequence ≡ one.sequence = ap (λ (w : Waited). w.sequence) same in omega (arith, e, number)
+
 -- a step that asks for a lease, or reads
 pub asks-on : (told : Option SnapshotFacts) (o after : Outcome) → after.knows.who ≡ o.knows.who → after.knows.run ≡ o.knows.run → after.knows.seen ≡ o.knows.seen → after.knows.known ≡ o.knows.known → after.knows.informed ≡ o.knows.informed
-    → o.knows.sequence ≤ after.knows.sequence → ((n : ℕ) → lease_asked after.knows.waited ≡ Some n → o.knows.sequence < n) → after.machine.hold ≡ o.machine.hold → is_active after.role ≡ true → Onward told o after
-asks-on told o after who run seen known informed last new hold active =
-    keeps told o after who run seen known informed last (λ n e. inr (new n e)) hold (λ _ ending. absurd (no-way (sym ending ∙ active)))
+    → o.knows.sequence ≤ after.knows.sequence → ((n : ℕ) → lease_asked after.knows.waited ≡ Some n → o.knows.sequence < n) → after.machine.hold ≡ o.machine.hold → is_active after.role ≡ true → (asked : Waited) → after.knows.waited ≡ Some asked → asked.sequence ≡ after.knows.sequence → Onward told o after
+asks-on told o after who run seen known informed last new hold active asked is number =
+    keeps told o after who run seen known informed last (λ n e. inr (new n e)) hold (λ _ ending. absurd (no-way (sym ending ∙ active))) (λ _ one one-is. counts-asked asked one after.knows.sequence (some-is asked one (sym is ∙ one-is)) number)
 
 ended-onward : (told : Option SnapshotFacts) (why : Why) (held : ℕ) (o : Outcome) → Onward told o (has_ended why held o)
 ended-onward told HandOver held o = waits-on told o (has_ended HandOver held o) refl refl refl refl refl (omega arith) refl refl refl
@@ -207,8 +217,8 @@ overdue-onward told now o = overdue-by (Onward told o) now o (record {
 pub turn-onward : (told : Option SnapshotFacts) (now : Ticks) (o : Outcome) → Onward told o (turned now o)
 turn-onward told now o = turn-by (Onward told o) now o (record {
   kept = same told o;
-  quiet = keeps told o (record o { knows = turn_noted now o.knows }) refl refl refl refl refl (omega arith) (λ n e. inl e) refl (λ alone. alone);
-  reads = λ active. asks-on told o (reading now (record o { knows = turn_noted now o.knows })) refl refl refl refl refl (omega arith) (λ n e. absurd (none-some _ e)) refl active;
+  quiet = keeps told o (record o { knows = turn_noted now o.knows }) refl refl refl refl refl (omega arith) (λ n e. inl e) refl (λ alone. alone) (λ counted. counted);
+  reads = λ active. asks-on told o (reading now (record o { knows = turn_noted now o.knows })) refl refl refl refl refl (omega arith) (λ n e. absurd (none-some _ e)) refl active _ refl refl;
 })
 
 pub wake-onward : (told : Option SnapshotFacts) (now : Ticks) (o : Outcome) → Onward told o (woken now o)
@@ -225,9 +235,9 @@ quiet-told snapshot o after who run seen known inform last waited hold =
 
 -- a row behind it that asks for a lease
 asks-told : (snapshot : SnapshotFacts) (o after : Outcome) → after.knows.who ≡ o.knows.who → after.knows.run ≡ o.knows.run → after.knows.seen ≡ Some snapshot → after.knows.known ≡ (Told snapshot o).knows.known → after.knows.informed ≡ (Told snapshot o).knows.informed
-    → o.knows.sequence ≤ after.knows.sequence → lease_asked after.knows.waited ≡ Some (o.knows.sequence + 1) → after.machine.hold ≡ o.machine.hold → is_active after.role ≡ true → Onward (Some snapshot) o after
-asks-told snapshot o after who run seen known inform last waited hold active =
-    onward-then (Some snapshot) o (Told snapshot o) after (tells snapshot o) (asks-on (Some snapshot) (Told snapshot o) after who run seen known inform last (λ n e. asked-new o.knows.sequence n (sym waited ∙ e)) hold active)
+    → o.knows.sequence ≤ after.knows.sequence → lease_asked after.knows.waited ≡ Some (o.knows.sequence + 1) → after.machine.hold ≡ o.machine.hold → is_active after.role ≡ true → (asked : Waited) → after.knows.waited ≡ Some asked → asked.sequence ≡ after.knows.sequence → Onward (Some snapshot) o after
+asks-told snapshot o after who run seen known inform last waited hold active asked is number =
+    onward-then (Some snapshot) o (Told snapshot o) after (tells snapshot o) (asks-on (Some snapshot) (Told snapshot o) after who run seen known inform last (λ n e. asked-new o.knows.sequence n (sym waited ∙ e)) hold active asked is number)
 
 follow-onward : (now : Ticks) (snapshot : SnapshotFacts) (leader : MemberId) (o : Outcome) → Onward (Some snapshot) o (follows now leader (record o { knows = read_noted now snapshot o.knows }))
 follow-onward now snapshot leader o = let x : Outcome = record o { role = Follower; knows = read_noted now snapshot o.knows } in
@@ -241,7 +251,7 @@ free-onward now snapshot o = let x : Outcome = record o { role = Follower; knows
     free-by (Onward (Some snapshot) o) now o.machine.server.state x
     (quiet-told snapshot o (touching x) refl refl refl refl refl (omega arith) refl refl)
     (quiet-told snapshot o (touching (starting_replica now None x)) refl refl refl refl refl (omega arith) refl refl)
-    (asks-told snapshot o (creating now x) refl refl refl refl refl (omega arith) refl refl refl)
+    (asks-told snapshot o (creating now x) refl refl refl refl refl (omega arith) refl refl refl _ refl refl)
 
 pub got-onward : (now : Ticks) (points : List HistoryPoint) (sequence : ℕ) (snapshot : SnapshotFacts) (o : Outcome) → Onward (Some snapshot) o (got now points sequence snapshot o)
 got-onward now points sequence snapshot o = let read : Outcome = record o { knows = read_noted now snapshot o.knows } in
@@ -251,7 +261,7 @@ got-onward now points sequence snapshot o = let read : Outcome = record o { know
       other = quiet-told snapshot o read refl refl refl refl refl (omega arith) refl refl;
       leader = λ held _. quiet-told snapshot o (leader_loses_key now held read) refl refl refl refl refl (omega arith) refl refl;
       stray = λ _. quiet-told snapshot o (stray_loses_key now read) refl refl refl refl refl (omega arith) refl refl;
-      renews = λ active leader _ _. asks-told snapshot o (renewing now points leader.revision read) refl refl refl refl refl (omega arith) refl refl active;
+      renews = λ active leader _ _. asks-told snapshot o (renewing now points leader.revision read) refl refl refl refl refl (omega arith) refl refl active _ refl refl;
       touches = quiet-told snapshot o (touching read) refl refl refl refl refl (omega arith) refl refl;
       follows = λ leader _ _. follow-onward now snapshot leader.holder o;
       free = λ _ _. free-onward now snapshot o;

@@ -23,7 +23,7 @@ use Rattle.ha_loop.specs.declared.output.Output.{Output}
 use Rattle.ha_loop.specs.declared.role.Why.{Why}
 use Rattle.ha_loop.specs.declared.role.Why.TheVariants.{HandOver, Lost}
 use Rattle.ha_loop.specs.declared.who.Who.{Who}
-use Rattle.ha_loop.specs.Agents.{RoleFacts, IsSound, EndsAlone, IsSoundAgent, Outcome, made}
+use Rattle.ha_loop.specs.Agents.{RoleFacts, IsSound, EndsAlone, HasCounted, IsSoundAgent, Outcome, made}
 use Rattle.ha_loop.specs.Before.{has_ended, before}
 use Rattle.ha_loop.specs.Decisions.{is_lease_of, granted, refused}
 use Rattle.ha_loop.specs.Lawful.{StandsIn, HearsAnswer, TellsLease, HearsGrant, IsInputOf, MayPromote, IsLawfulAnd, IsLawfulFrom}
@@ -78,7 +78,7 @@ ended-waits : (why : Why) (held : ℕ) (o : Outcome) → (has_ended why held o).
 ended-waits HandOver held o = refl
 ended-waits Lost held o = refl
 
-before-waits : (now : Ticks) (o : Outcome) → (before now o).knows.waited ≡ o.knows.waited
+pub before-waits : (now : Ticks) (o : Outcome) → (before now o).knows.waited ≡ o.knows.waited
 before-waits now o = before-by (λ (x : Outcome). x.knows.waited ≡ o.knows.waited) now o (record {
   kept = λ _. refl;
   leader = λ _ _ _. refl;
@@ -225,12 +225,19 @@ input-lawful now points heard role knows machine sound = let o : Outcome = made 
 pub action-lawful : (now : Ticks) (role : RoleFacts) (knows : Knowledge) (machine : Machine) → IsSoundAgent role knows → IsLawfulFrom now Wake (made role knows machine []) (act now (made role knows machine []))
 action-lawful now role knows machine sound s m runs input stands hears is = let o : Outcome = made role knows machine [] in act-lawful s m runs input now o (alone-of o sound.ends) (All-nil IsSilent) stands is
 
+-- what is waited for goes on to be counted
+pub input-counts : (now : Ticks) (points : List HistoryPoint) (heard : Heard) (o after : Outcome) → after ≡ step now points heard o → HasCounted o.knows → HasCounted after.knows
+input-counts now points heard o after is counted = subst (λ (x : Outcome). HasCounted x.knows) (sym is) ((step-onward now points heard o).counts counted)
+
+pub action-counts : (now : Ticks) (o after : Outcome) → after ≡ act now o → HasCounted o.knows → HasCounted after.knows
+action-counts now o after is counted = subst (λ (x : Outcome). HasCounted x.knows) (sym is) ((before-onward None now o).counts counted)
+
 -- who ends its server goes on waiting for no answer
 pub input-ends : (now : Ticks) (points : List HistoryPoint) (heard : Heard) (o : Outcome) → EndsAlone o.role o.knows.waited → EndsAlone (step now points heard o).role (step now points heard o).knows.waited
 input-ends now points heard o ends = ends-of (step now points heard o) ((step-onward now points heard o).ends (alone-of o ends))
 
-pub action-ends : (now : Ticks) (o : Outcome) → EndsAlone o.role o.knows.waited → EndsAlone (act now o).role (act now o).knows.waited
-action-ends now o ends = ends-of (act now o) ((before-onward None now o).ends (alone-of o ends))
+pub action-ends-as : (now : Ticks) (o after : Outcome) → after ≡ act now o → EndsAlone o.role o.knows.waited → EndsAlone after.role after.knows.waited
+action-ends-as now o after is ends = subst (λ (x : Outcome). EndsAlone x.role x.knows.waited) (sym is) (ends-of (act now o) ((before-onward None now o).ends (alone-of o ends)))
 
 -- the same of what is made of an input, where no output stood before
 pub input-lawful-as : (now : Ticks) (points : List HistoryPoint) (heard : Heard) (role : RoleFacts) (knows : Knowledge) (machine : Machine) (outs : List Output) (after : Outcome) → after ≡ step now points heard (made role knows machine outs) → IsSoundAgent role knows

@@ -11,3 +11,4 @@ pub mod Sending
 pub mod Lawful
 pub mod LawfulGrants
 pub mod LawfulSteps
+pub mod Asking

@@ -110,11 +110,11 @@ silent-fed None outs all = all
 silent-fed (Some deadline) outs all = silently outs (outputs.Fed deadline) all tt
 
 -- the release of this revision under this number, or a silent output
-abbrev IsReleaseOr : ℕ → ℕ → Output → Type 0
+abbrev pub IsReleaseOr : ℕ → ℕ → Output → Type 0
 IsReleaseOr sequence revision output = IsSilent output ⊎ (output ≡ outputs.Send targets.Store sequence (bodies.Request (txns.Release revision)))
 
 -- what comes before an input sends nothing; or the lease is released of an agent whose server has ended, and that waits for nothing
-data Fronts (o after : Outcome) : Type 0 where
+pub data Fronts (o after : Outcome) : Type 0 where
   Silent : (all : All IsSilent after.outputs) → Fronts o after
   Released : (revision : ℕ) → (held : lease_of o.role ≡ Some revision) → (alone : after.knows.waited ≡ None) → (role : after.role ≡ Follower) → (ended : live after.machine.server.state ≡ false)
       → (counted : o.knows.sequence + 1 ≤ after.knows.sequence) → (all : All (IsReleaseOr (o.knows.sequence + 1) revision) after.outputs) → Fronts o after
@@ -125,7 +125,7 @@ ended-fronts HandOver held o is ended alone silent = Released held (rw is refl) 
     (All-weaker IsSilent (IsReleaseOr (o.knows.sequence + 1) held) (λ output e. inl e) (disarmed o.machine.watchdog.deadline o.outputs) (silent-disarmed o.machine.watchdog.deadline o.outputs silent)) (inr refl))
 ended-fronts Lost held o is ended alone silent = Silent (silent-disarmed o.machine.watchdog.deadline o.outputs silent)
 
-before-fronts : (now : Ticks) (o : Outcome) → IsAlone o → All IsSilent o.outputs → Fronts o (before now o)
+pub before-fronts : (now : Ticks) (o : Outcome) → IsAlone o → All IsSilent o.outputs → Fronts o (before now o)
 before-fronts now o alone silent = let rest : All IsSilent (disarmed o.machine.watchdog.deadline o.outputs) = silent-disarmed o.machine.watchdog.deadline o.outputs silent in
     before-by (Fronts o) now o (record {
       kept = λ _. Silent silent;
@@ -247,7 +247,7 @@ got-silent G now points sequence snapshot o b later silent = let read : Outcome 
       free = λ _ _. free-may G now o read later silent;
     })
 
-got-none : (now : Ticks) (points : List HistoryPoint) (sequence : ℕ) (snapshot : SnapshotFacts) (o : Outcome) → o.knows.waited ≡ None → got now points sequence snapshot o ≡ o
+pub got-none : (now : Ticks) (points : List HistoryPoint) (sequence : ℕ) (snapshot : SnapshotFacts) (o : Outcome) → o.knows.waited ≡ None → got now points sequence snapshot o ≡ o
 got-none now points sequence snapshot o is = rw is refl
 
 got-fronts : (G : ℕ → Type 0) (now : Ticks) (points : List HistoryPoint) (sequence : ℕ) (snapshot : SnapshotFacts) (o b : Outcome) → o.knows.sequence ≤ b.knows.sequence → Fronts o b → AllMay G o (got now points sequence snapshot b)

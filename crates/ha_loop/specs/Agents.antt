@@ -67,10 +67,15 @@ abbrev pub EndsAlone : RoleFacts → Option Waited → Type 0
 EndsAlone (Ending revision why) waited = waited ≡ None
 EndsAlone _ waited = Unit {0}
 
+-- what is waited for has a number that is counted
+abbrev pub HasCounted : Knowledge → Type 0
+HasCounted knows = ForSome knows.waited (λ waited. waited.sequence ≤ knows.sequence)
+
 -- what holds of an agent
 pub record IsSoundAgent (role : RoleFacts) (knows : Knowledge) : Type 0 where
   pub sound : IsSound knows
   pub ends : EndsAlone role knows.waited
+  pub counted : HasCounted knows
 
 -- what holds of a server that is reckoned with
 pub record IsWithin (server : ServerStatus) : Type 0 where

@@ -1,5 +1,6 @@
 pub mod Acting
 pub mod Agents
+pub mod Asking
 pub mod Before
 pub mod Decisions
 pub mod Fits

@@ -76,7 +76,8 @@ impl Agent {
     }
 
     /// One input, by the decision table. `history` is that of the own server. It takes no memory and refuses nothing; the
-    /// machine is what it reckons with, and who carries out the outputs in their order arrives at the same.
+    /// machine is what it reckons with, and who carries out the outputs in their order arrives at the same. Where no output stood
+    /// before, the input is lawful by the law of the lease.
     pub fn step(
         self,
         now: Ticks,
