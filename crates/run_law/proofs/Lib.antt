@@ -18,3 +18,11 @@ pub mod Ticks
 pub mod Steps
 pub mod First
 pub mod EveryRun
+pub mod Fitting
+pub mod InputEvents
+pub mod InputKinds
+pub mod InputMachines
+pub mod InputOutputs
+pub mod InputStays
+pub mod InputWaiting
+pub mod Questions

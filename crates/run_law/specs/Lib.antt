@@ -3,7 +3,9 @@ pub mod Declaring
 pub mod Members
 pub mod Machines
 pub mod Volatile
+pub mod Questions
 pub mod Waiting
+pub mod InputEvents
 pub mod Bridged
 pub mod Kept
 pub mod Asides
