@@ -26,3 +26,4 @@ pub mod InputOutputs
 pub mod InputStays
 pub mod InputWaiting
 pub mod Questions
+pub mod StoreArrivals
