@@ -45,7 +45,6 @@ use Rattle.ha_loop.proofs.Rows.{if-cases, before-by, overdue-by, turn-by, wake-b
 abbrev pub IsSilent : Output → Type 0
 IsSilent (outputs.Send to sequence body) = ⊥
 IsSilent outputs.Promote = ⊥
-IsSilent outputs.StartPrimary = ⊥
 IsSilent (outputs.HoldTaken until from sequence) = ⊥
 IsSilent _ = Unit {0}
 
@@ -73,7 +72,6 @@ abbrev pub MayPut : (ℕ → Type 0) → Outcome → Outcome → Output → Type
 MayPut G o after (outputs.Send targets.Store sequence body) = SendsNew G o after sequence body
 MayPut G o after (outputs.Send (targets.Member member) sequence body) = ⊥
 MayPut G o after outputs.Promote = (revision : ℕ) × G revision
-MayPut G o after outputs.StartPrimary = ⊥
 MayPut G o after (outputs.HoldTaken until from sequence) = ⊥
 MayPut G o after _ = Unit {0}
 
@@ -83,7 +81,6 @@ AllMay G o after = All (MayPut G o after) after.outputs
 silent-may : (G : ℕ → Type 0) (o after : Outcome) (output : Output) → IsSilent output → MayPut G o after output
 silent-may G o after (outputs.Send to sequence body) e = absurd e
 silent-may G o after outputs.Promote e = absurd e
-silent-may G o after outputs.StartPrimary e = e
 silent-may G o after (outputs.HoldTaken until from sequence) e = e
 silent-may G o after _ e = tt
 
@@ -350,12 +347,10 @@ granted-may G now sequence grant snapshot o alone later fits gives silent = gran
 -- where nothing is granted no server comes to accept writes
 unbegun : (o after : Outcome) (output : Output) → MayPut (λ r. ⊥) o after output → BeginsOnly ⊥ output
 unbegun o after outputs.Promote may = may.1
-unbegun o after outputs.StartPrimary may = may
 unbegun o after _ may = tt
 
 never-one : (P : Type 0) (output : Output) → BeginsOnly ⊥ output → BeginsOnly P output
 never-one P outputs.Promote e = absurd e
-never-one P outputs.StartPrimary e = absurd e
 never-one P _ e = tt
 
 never : (P : List Output → Type 0) (before-it outs : List Output) → All (BeginsOnly ⊥) outs → OutputsBeginBehind P before-it outs
@@ -384,7 +379,6 @@ armed-first outs until false is = absurd (no-way is)
 
 silent-never : (output : Output) → IsSilent output → BeginsOnly ⊥ output
 silent-never outputs.Promote silent = silent
-silent-never outputs.StartPrimary silent = silent
 silent-never _ silent = tt
 
 silent-begins : (P : List Output → Type 0) (outs : List Output) → All IsSilent outs → OutputsBeginBehind P [] outs
@@ -446,7 +440,6 @@ grant-begins now sequence grant snapshot o alone armable silent = begins-fronts 
 
 begins-one : (P Q : Type 0) → (P → Q) → (output : Output) → BeginsOnly P output → BeginsOnly Q output
 begins-one P Q more outputs.Promote e = more e
-begins-one P Q more outputs.StartPrimary e = more e
 begins-one P Q more _ e = tt
 
 pub begins-weaker : (P Q : List Output → Type 0) → ((outs : List Output) → P outs → Q outs) → (before-it outs : List Output) → OutputsBeginBehind P before-it outs → OutputsBeginBehind Q before-it outs

@@ -28,7 +28,6 @@ later_hold until (Some hold) = if nat_le hold.0 until.0 then until else hold
 abbrev pub machine_after_output : Ticks → Machine → Output → Machine
 machine_after_output now machine outputs.Promote = with_server (status_promoted machine.server) machine
 machine_after_output now machine (outputs.StartReplica leader) = with_server (status_replica_started now (upstream_of leader) machine.server) machine
-machine_after_output now machine outputs.StartPrimary = with_server (status_primary_started now machine.server) machine
 machine_after_output now machine (outputs.Stop reason) = with_server (status_stopping now machine.server) machine
 machine_after_output now machine (outputs.Follow leader) = with_server (status_following (server_id_of leader) machine.server) machine
 machine_after_output now machine (outputs.Armed until) = with_deadline (Some until) machine
@@ -44,7 +43,6 @@ machine_after_outputs now machine (output ∷ later) = machine_after_outputs now
 
 -- an output that the table makes so far: it starts no server as a primary, takes no hold, and writes to no other member
 abbrev pub IsOfTable : Output → Type 0
-IsOfTable outputs.StartPrimary = ⊥
 IsOfTable (outputs.HoldTaken until from sequence) = ⊥
 IsOfTable (outputs.Send (targets.Member member) sequence body) = ⊥
 IsOfTable _ = Unit {0}

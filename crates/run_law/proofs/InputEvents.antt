@@ -125,7 +125,6 @@ module _ (member : Member) (run heard : ℕ) (Q : Output → Type 0) where
   order-mine cluster message at (outputs.Send to sequence body) table is = tt
   order-mine cluster message at outputs.Promote table is = holds-then Mine (promotion_of member) (server_at cluster member) (λ s. holds-if Mine (is_replica s.state) (kinds.Server (servers.Began (server_of member) (s.timeline + 1))) (refl, is))
   order-mine cluster message at (outputs.StartReplica leader) table is = tt
-  order-mine cluster message at outputs.StartPrimary table is = tt
   order-mine cluster message at (outputs.Stop reason) table is = tt
   order-mine cluster message at (outputs.Follow leader) table is = holds-then Mine (upstream_of member (slice_get cluster.book.members leader.number)) (server_at cluster member) (λ s. upstream-mine (slice_get cluster.book.members leader.number) (is_replica s.state))
   order-mine cluster message at (outputs.Require required) table is =

@@ -372,7 +372,6 @@ module _ (member : Member) where
   output-here cluster message machine (outputs.Send (targets.Member id) sequence body) table old = absurd table
   output-here cluster message machine outputs.Promote table old = promote-here cluster machine old
   output-here cluster message machine (outputs.StartReplica leader) table old = start-here cluster machine (upstream_id leader) (declared_member cluster.book.members leader) old
-  output-here cluster message machine outputs.StartPrimary table old = absurd table
   output-here cluster message machine (outputs.Stop reason) table old = stop-here cluster machine reason old
   output-here cluster message machine (outputs.Follow leader) table old = follow-here cluster machine (server_id_of leader) (slice_get cluster.book.members leader.number) old
   output-here cluster message machine (outputs.Require required) table old = require-here cluster machine required old

@@ -139,7 +139,6 @@ module _ (member : Member) (run : ℕ) (message : HeardMessage) where
   output-numbered cluster (outputs.Send (targets.Member id) sequence body) runs table = absurd table
   output-numbered cluster outputs.Promote runs table = other-numbered cluster outputs.Promote runs table tt
   output-numbered cluster (outputs.StartReplica leader) runs table = other-numbered cluster (outputs.StartReplica leader) runs table tt
-  output-numbered cluster outputs.StartPrimary runs table = absurd table
   output-numbered cluster (outputs.Stop reason) runs table = other-numbered cluster (outputs.Stop reason) runs table tt
   output-numbered cluster (outputs.Follow leader) runs table = other-numbered cluster (outputs.Follow leader) runs table tt
   output-numbered cluster (outputs.Require required) runs table = other-numbered cluster (outputs.Require required) runs table tt
