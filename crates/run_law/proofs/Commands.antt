@@ -1,8 +1,8 @@
 -- Commands of a script keep the law, but for those by which agents act and messages come.
-use Rattle.std.proofs.Common.{ℕ, ◌≡◌, ◌<◌, ◌==◌, Bool, true, false, cond, List, [], length, slice_get, Option, Some, None, option_and_then, option_map, refl, ◌∙◌, ap, sym, ◌≤◌}
+use Rattle.std.proofs.Common.{ℕ, ◌≡◌, ◌<◌, ◌==◌, Bool, true, false, cond, List, [], ◌∷◌, length, slice_get, Option, Some, None, option_and_then, option_map, refl, ◌∙◌, ap, sym, ◌≤◌}
 use Rattle.pat_base.specs.declared.member_id.MemberId.{MemberId}
 use Rattle.wal_model.specs.declared.entry.Entry.{Entry}
-use Rattle.pg_model.specs.Facts.{ServerFacts}
+use Rattle.pg_model.specs.Facts.{ServerFacts, is_replica}
 use Rattle.pg_model.specs.Servers.{entry_for}
 use Rattle.event_book.specs.declared.agent_process.AgentProcess.{AgentProcess}
 use Rattle.event_book.specs.declared.event.AgentEvent.TheVariants as agents
@@ -26,7 +26,7 @@ use Rattle.cluster_script.specs.Script.{HeadText, names_of}
 use Rattle.cluster_model.specs.Messages.{lose_events}
 use Rattle.cluster_model.specs.Next.{command_kind, declared, process_kind, promote_events, restart_events}
 use Rattle.cluster_model.specs.Parts.{event_of, events_of, for_some}
-use Rattle.cluster_model.specs.ServerCommands.{commit_of, crash_of, freezing_of, is_gone, promoted_timeline, slow_of, ticks_of}
+use Rattle.cluster_model.specs.ServerCommands.{commit_of, crash_of, freezing_of, is_gone, slow_of, ticks_of}
 use Rattle.cluster_model.specs.State.{Cluster}
 use Rattle.run_law.specs.Asides.{IsQuiet}
 use Rattle.run_law.specs.Bridged.{Bridged}
@@ -152,9 +152,14 @@ kept-command-kind head few book cluster (commands.Crash id) good = crash-declare
 kept-command-kind head few book cluster command good = kept-quiet-command head book cluster command tt good
 
 -- ---- others
+promote-by : (head : HeadText) (book : List Event) (cluster : Cluster) (m : Member) (more : List EventKind) (replica : Bool) → Bridged head book cluster
+    → IsKept head book cluster (events_of cluster (cond replica (kinds.Server (servers.Promoted (server_of m)) ∷ more) []))
+promote-by head book cluster m more true good = kept-breach head book cluster _ _ (λ no. no) good
+promote-by head book cluster m more false good = kept-none head book cluster good
+
 pub kept-promote : (head : HeadText) (book : List Event) (cluster : Cluster) (m : Member) → Bridged head book cluster → IsKept head book cluster (promote_events cluster m)
 kept-promote head book cluster m good =
-    kept-for_some head book cluster (option_and_then promoted_timeline (slice_get cluster.book.servers m.id.number)) _ good (λ timeline is. kept-breach head book cluster _ _ (λ no. no) good)
+    kept-for_some head book cluster (slice_get cluster.book.servers m.id.number) _ good (λ s is. promote-by head book cluster m _ (is_replica s.state) good)
 
 pub kept-lose : (head : HeadText) (book : List Event) (cluster : Cluster) (number : ℕ) (message : Option InFlightFacts) → Bridged head book cluster → IsKept head book cluster (lose_events cluster number message)
 kept-lose head book cluster number None good = kept-quiet head book cluster (kinds.Note (notes.NoMessage number)) tt good

@@ -73,7 +73,7 @@ deadline-watched before deadlines (watchdogs.Fed member until basis) is same m =
     seen-put deadline_now before deadlines member.id.number m _ (Some until.0) (seen-there deadline_now deadlines member.id.number _ (Some until.0) is.0 (λ found. refl)) (same m)
 deadline-watched before deadlines (watchdogs.Disarmed member) is same m = seen-put deadline_now before deadlines member.id.number m _ None (no-deadline (slice_get deadlines member.id.number)) (same m)
 deadline-watched before deadlines (watchdogs.Reset member) is same m = seen-put deadline_now before deadlines member.id.number m _ None (no-deadline (slice_get deadlines member.id.number)) (same m)
-deadline-watched before deadlines (watchdogs.HoldTaken member until from run sequence) is same m = same m
+deadline-watched before deadlines _ is same m = same m
 
 pub deadline-of : (before : ℕ → Option ℕ) (deadlines : List (Option Ticks)) (kind : EventKind) → IsWithinMembers (length deadlines) kind
     → ((m : ℕ) → before m ≡ deadline_in deadlines m) → (m : ℕ) → deadline_after before kind m ≡ deadline_in (deadlines_after deadlines kind) m
@@ -188,8 +188,11 @@ writes-in before now known kind is same n = elim (slice_get_cases known n).1 [
 ]
 
 deadlines-sized : (deadlines : List (Option Ticks)) (happening : WatchdogEvent) → length (deadlines_by deadlines happening) ≡ length deadlines
-deadlines-sized deadlines (watchdogs.HoldTaken member until from run sequence) = refl
-deadlines-sized deadlines _ = length-changed deadlines _ _
+deadlines-sized deadlines (watchdogs.Armed member until answer) = length-changed deadlines _ _
+deadlines-sized deadlines (watchdogs.Fed member until basis) = length-changed deadlines _ _
+deadlines-sized deadlines (watchdogs.Disarmed member) = length-changed deadlines _ _
+deadlines-sized deadlines (watchdogs.Reset member) = length-changed deadlines _ _
+deadlines-sized deadlines _ = refl
 
 holds-sized : (holds : List (Option Ticks)) (happening : WatchdogEvent) → length (holds_by holds happening) ≡ length holds
 holds-sized holds (watchdogs.HoldTaken member until from run sequence) = length-changed holds _ _

@@ -119,3 +119,8 @@ pub kept-quietly : (head : HeadText) (kinds : List EventKind) → AllKinds IsQui
 kept-quietly head [] all book cluster good = kept-none head book cluster good
 kept-quietly head (kind ∷ more) all book cluster good =
     kept-then head book cluster (event_of cluster kind) (events_of (cluster_after cluster kind) more) (kept-quiet head book cluster kind all.0 good) (λ later. kept-quietly head more all.1 (book ++ event_of cluster kind) (cluster_after cluster kind) later)
+
+-- and one list of them behind another is one
+pub quiet-append : (xs ys : List EventKind) → AllKinds IsQuiet xs → AllKinds IsQuiet ys → AllKinds IsQuiet (xs ++ ys)
+quiet-append [] ys first second = second
+quiet-append (x ∷ xs) ys first second = (first.0, quiet-append xs ys first.1 second)

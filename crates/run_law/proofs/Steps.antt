@@ -16,13 +16,14 @@ use Rattle.cluster_model.specs.declared.delivery.Delivery.{Delivery}
 use Rattle.cluster_model.specs.declared.delivery.Delivery.TheVariants as deliveries
 use Rattle.cluster_model.specs.Deliveries.{delivery_of}
 use Rattle.cluster_script.specs.Script.{HeadText, names_of}
-use Rattle.cluster_model.specs.Inputs.{is_to_wake, moment_of, standing_of}
+use Rattle.cluster_model.specs.Inputs.{has_work, is_to_wake, may_act, moment_of, standing_of}
 use Rattle.cluster_model.specs.Limits.{most_rounds}
-use Rattle.cluster_model.specs.Messages.{arrival_events_at, deliver_events, deliver_events_by, message_events, message_events_by, wake_events, wake_events_if, wake_events_of}
+use Rattle.cluster_model.specs.Messages.{arrival_events_at, deliver_events, deliver_events_by, message_events, message_events_by, turn_events, turn_events_if, wake_events, wake_events_if, wake_events_of}
 use Rattle.cluster_model.specs.Next.{acknowledge_events, command_events, declared, next_events, promote_events, receive_events_at_most, receive_events_of, round_events, rounds_events, run_events, scheduled_events, step_events}
 use Rattle.cluster_model.specs.Parts.{each, is_empty}
 use Rattle.cluster_model.specs.State.{Cluster}
 use Rattle.cluster_model.specs.Ticking.{tick_events}
+use Rattle.lease_law.proofs.Tools.{and-first}
 use Rattle.run_law.specs.Bridged.{Bridged}
 use Rattle.run_law.specs.Declaring.{declared_members}
 use Rattle.run_law.specs.Inputs.{InputsKeep}
@@ -42,7 +43,13 @@ module _ (head : HeadText) (few : length (names_of head) ≤ 16) (inputs : Input
   kept-wake member is book cluster good =
       kept-for_some head book cluster (slice_get cluster.book.agents member.id.number) (wake_events_if cluster member) good
       (λ process found. kept-if head book cluster (is_to_wake (moment_of cluster) process (standing_of cluster member)) (wake_events_of cluster member) []
-      (λ wakes. inputs.wakes book cluster member process good is found wakes) (λ rests. kept-none head book cluster good))
+      (λ wakes. inputs.wakes book cluster member process good is found (and-first (may_act process) (has_work (moment_of cluster) (standing_of cluster member)) wakes)) (λ rests. kept-none head book cluster good))
+
+  kept-turn : (member : Member) → IsDeclared head member → Keeps head (λ cluster. turn_events cluster member)
+  kept-turn member is book cluster good =
+      kept-for_some head book cluster (slice_get cluster.book.agents member.id.number) (turn_events_if cluster member) good
+      (λ process found. kept-if head book cluster (may_act process) (wake_events_of cluster member) []
+      (λ acts. inputs.wakes book cluster member process good is found acts) (λ rests. kept-none head book cluster good))
 
   -- a message comes to its receiver
   arrival-by : (book : List Event) (cluster : Cluster) (number : ℕ) (message : InFlightFacts) (to : LinkEnd) → Bridged head book cluster → in_flight cluster.book.flight number ≡ Some message
@@ -99,7 +106,7 @@ module _ (head : HeadText) (few : length (names_of head) ≤ 16) (inputs : Input
 
   kept-command : (command : Command) → Keeps head (λ cluster. command_events cluster command)
   kept-command (commands.Turn id) book cluster good =
-      kept-for_some head book cluster (declared cluster id) (wake_events cluster) good (λ m is. kept-wake m (declared-now head few book cluster good id m is) book cluster good)
+      kept-for_some head book cluster (declared cluster id) (turn_events cluster) good (λ m is. kept-turn m (declared-now head few book cluster good id m is) book cluster good)
   kept-command (commands.Deliver number) book cluster good = kept-deliver book cluster number (in_flight cluster.book.flight number) good refl
   kept-command (commands.Lose number) book cluster good = kept-lose head book cluster number (in_flight cluster.book.flight number) good
   kept-command (commands.Restart id) book cluster good = kept-restarts head few book cluster id good

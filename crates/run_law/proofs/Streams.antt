@@ -1,5 +1,5 @@
 -- What is received, confirmed and acknowledged keeps the law.
-use Rattle.std.proofs.Common.{ℕ, ◌++◌, List, [], ◌∷◌, map, slice_get, Option, Some, None}
+use Rattle.std.proofs.Common.{ℕ, Bool, ◌++◌, true, false, List, [], ◌∷◌, slice_get, Option, Some, None}
 use Rattle.pat_base.specs.declared.lsn.Lsn.{Lsn}
 use Rattle.pg_model.specs.declared.answers.Streamed.{Streamed}
 use Rattle.pg_model.specs.declared.answers.Streamed.TheVariants as streams
@@ -12,7 +12,8 @@ use Rattle.event_book.specs.declared.event.LogEvent.TheVariants as logs
 use Rattle.event_book.specs.declared.event.ServerEvent.TheVariants as servers
 use Rattle.event_book.specs.declared.member.Member.{Member}
 use Rattle.event_book.specs.Members.{server_of}
-use Rattle.cluster_model.specs.Acknowledging.{acknowledge_kinds, acknowledgement, ready_commits}
+use Rattle.cluster_model.specs.Acknowledging.{acknowledge_kinds, acknowledgements, ready_commits}
+use Rattle.cluster_model.specs.Losing.{is_lacking, loss_if, loss_of, losses_of}
 use Rattle.cluster_model.specs.Cluster.{cluster_after}
 use Rattle.cluster_model.specs.Commands.{kinds_of}
 use Rattle.cluster_script.specs.Script.{HeadText}
@@ -24,7 +25,7 @@ use Rattle.run_law.specs.Asides.{IsQuiet}
 use Rattle.run_law.specs.Bridged.{Bridged}
 use Rattle.run_law.specs.Kept.{IsKept, Keeps}
 use Rattle.run_law.proofs.Composing.{kept-for_some, kept-if, kept-none, kept-then}
-use Rattle.run_law.proofs.Quiet.{AllKinds, kept-quiet, kept-quietly}
+use Rattle.run_law.proofs.Quiet.{AllKinds, kept-quiet, kept-quietly, quiet-append}
 
 -- one such event, if one happens
 abbrev pub IsQuietIf : Option EventKind → Type 0
@@ -64,14 +65,29 @@ keeps-receive head member book cluster good =
     kept-for_some head book cluster (slice_get cluster.book.frozen member.id.number) _ good
     (λ frozen is. kept-if head book cluster frozen [] (receive_events_at_most cluster all_entries member) (λ e. kept-none head book cluster good) (λ e. keeps-receive-at-most head all_entries member book cluster good))
 
-acknowledged-quiet : (member : Member) (commits : List ℕ) → AllKinds IsQuiet (map (acknowledgement member) commits)
-acknowledged-quiet member [] = tt
-acknowledged-quiet member (commit ∷ commits) = (tt, acknowledged-quiet member commits)
+loss-quiet : (member : Member) (test : Bool) → AllKinds IsQuiet (kinds_of (loss_if member test))
+loss-quiet member true = (tt, tt)
+loss-quiet member false = tt
 
-acknowledge-quiet : (member : Member) (s : Option ServerFacts) → AllKinds IsQuiet (acknowledge_kinds member s)
-acknowledge-quiet member None = tt
-acknowledge-quiet member (Some s) = acknowledged-quiet member (ready_commits s)
+loss-now : (commit : ℕ) (member : Member) (s : Option ServerFacts) → AllKinds IsQuiet (loss_of commit member s)
+loss-now commit member None = tt
+loss-now commit member (Some s) = loss-quiet member (is_lacking commit s)
+
+losses-quiet : (commit : ℕ) (known : List ServerFacts) (members : List Member) → AllKinds IsQuiet (losses_of commit known members)
+losses-quiet commit known [] = tt
+losses-quiet commit known (member ∷ members) =
+    quiet-append (loss_of commit member (slice_get known member.id.number)) (losses_of commit known members) (loss-now commit member (slice_get known member.id.number)) (losses-quiet commit known members)
+
+acknowledged-quiet : (known : List ServerFacts) (members : List Member) (member : Member) (commits : List ℕ) → AllKinds IsQuiet (acknowledgements known members member commits)
+acknowledged-quiet known members member [] = tt
+acknowledged-quiet known members member (commit ∷ commits) =
+    (tt, quiet-append (losses_of commit known members) (acknowledgements known members member commits) (losses-quiet commit known members) (acknowledged-quiet known members member commits))
+
+acknowledge-quiet : (known : List ServerFacts) (members : List Member) (member : Member) (s : Option ServerFacts) → AllKinds IsQuiet (acknowledge_kinds known members member s)
+acknowledge-quiet known members member None = tt
+acknowledge-quiet known members member (Some s) = acknowledged-quiet known members member (ready_commits s)
 
 pub keeps-acknowledge : (head : HeadText) (member : Member) → Keeps head (λ cluster. acknowledge_events cluster member)
 keeps-acknowledge head member book cluster good =
-    kept-quietly head (acknowledge_kinds member (slice_get cluster.book.servers member.id.number)) (acknowledge-quiet member (slice_get cluster.book.servers member.id.number)) book cluster good
+    kept-quietly head (acknowledge_kinds cluster.book.servers cluster.book.members member (slice_get cluster.book.servers member.id.number))
+    (acknowledge-quiet cluster.book.servers cluster.book.members member (slice_get cluster.book.servers member.id.number)) book cluster good

@@ -41,7 +41,7 @@ use Rattle.run_law.proofs.Actions.{action-kept, machine-is}
 use Rattle.run_law.proofs.Asides.{asides-begin, matched-behind}
 use Rattle.run_law.proofs.Composing.{Each, over-append}
 use Rattle.run_law.proofs.Members.{declared-within, each-declared, listed}
-use Rattle.run_law.proofs.Quiet.{AllKinds, quiet-aside, quiet-local}
+use Rattle.run_law.proofs.Quiet.{AllKinds, quiet-append, quiet-aside, quiet-local}
 use Rattle.run_law.proofs.TickMachines.{ends, quiet-machines, resets, stops_seen, ticked-machine}
 
 -- events of a tick beside the clock's
@@ -76,10 +76,6 @@ completed-beside cluster now x _ = tt
 ends-beside : (cluster : Cluster) (now : ℕ) (x : Member) (found : Option ServerFacts) → AllAre IsBeside (events_of cluster (kinds_of (option_and_then (completion_of now x) found)))
 ends-beside cluster now x None = tt
 ends-beside cluster now x (Some s) = completed-beside cluster now x s.state
-
-quiet-append : (xs ys : List EventKind) → AllKinds IsQuiet xs → AllKinds IsQuiet ys → AllKinds IsQuiet (xs ++ ys)
-quiet-append [] ys first second = second
-quiet-append (x ∷ xs) ys first second = (first.0, quiet-append xs ys first.1 second)
 
 leader-quiet : (holder : Option Member) → AllKinds IsQuiet (leader_expiry holder)
 leader-quiet None = tt
