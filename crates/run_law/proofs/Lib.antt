@@ -26,3 +26,6 @@ pub mod InputOutputs
 pub mod InputStays
 pub mod InputWaiting
 pub mod Questions
+pub mod InputSeen
+pub mod InputHears
+pub mod InputKept
