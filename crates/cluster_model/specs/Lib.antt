@@ -6,6 +6,7 @@ pub mod Deliveries
 pub mod Hearing
 pub mod Inputs
 pub mod Limits
+pub mod Losing
 pub mod Machines
 pub mod Messages
 pub mod Next

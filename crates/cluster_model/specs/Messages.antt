@@ -33,9 +33,9 @@ use Rattle.cluster_model.specs.declared.heard_message.HeardMessage.{HeardMessage
 use Rattle.cluster_model.specs.Deliveries.{delivery_of}
 use Rattle.cluster_model.specs.Hearing.{heard_from}
 use Rattle.cluster_model.specs.Commands.{kinds_of}
-use Rattle.cluster_model.specs.Inputs.{moment_of, outcome_of, outcome_of_heard, outputs_of, standing_of, is_to_wake}
+use Rattle.cluster_model.specs.Inputs.{moment_of, outcome_of, outcome_of_heard, may_act, outputs_of, standing_of, is_to_wake}
 use Rattle.cluster_model.specs.Limits.{most_in_flight}
-use Rattle.cluster_model.specs.Orders.{declared_member, order_kind, replica_start_kinds, server_at, stop_kinds}
+use Rattle.cluster_model.specs.Orders.{declared_member, order_kind, replica_start_kinds, server_at, stop_kinds, promotion_kinds, feed_kinds, arming, feeding}
 use Rattle.cluster_model.specs.Parts.{event_of, events_of, events_then, for_some, each}
 use Rattle.cluster_model.specs.State.{Cluster}
 
@@ -71,9 +71,16 @@ replica_start_events cluster member leader = for_some (server_at cluster member)
 abbrev pub stop_events : Cluster → Member → Reason → List Event
 stop_events cluster member reason = for_some (server_at cluster member) (λ s. events_of cluster (stop_kinds member reason s))
 
+-- the server of a member is promoted, where it is a replica
+abbrev pub promotion_events : Cluster → Member → List Event
+promotion_events cluster member = for_some (server_at cluster member) (λ s. events_of cluster (promotion_kinds member cluster.book.acknowledged s))
+
 -- what an output of the agent of a member comes to, on the message that it heard
 abbrev pub output_events : Member → HeardMessage → Cluster → Output → List Event
 output_events member heard cluster (outputs.Send to sequence body) = sending_events cluster member (slice_get cluster.book.agents member.id.number) (receiver_of cluster.book.members to) sequence body
+output_events member heard cluster outputs.Promote = promotion_events cluster member
+output_events member heard cluster (outputs.Armed until) = events_of cluster (feed_kinds member heard (arming member until heard))
+output_events member heard cluster (outputs.Fed until) = events_of cluster (feed_kinds member heard (feeding member until heard))
 output_events member heard cluster (outputs.StartReplica leader) = replica_start_events cluster member (declared_member cluster.book.members leader)
 output_events member heard cluster (outputs.Stop reason) = stop_events cluster member reason
 output_events member heard cluster output = events_of cluster (kinds_of (order_kind cluster member heard output))
@@ -84,11 +91,19 @@ input_events cluster member heard outcome = each (output_events member heard) cl
 
 -- no message is heard by an agent that is woken
 abbrev pub no_message : HeardMessage
-no_message = record { number = 0; run = 0 }
+no_message = record { number = 0; run = 0; sent = record { 0 = 0 } }
 
 -- the agent of a member is woken, and acts
 abbrev pub wake_events_of : Cluster → Member → List Event
 wake_events_of cluster member = events_then cluster (event_of cluster (kinds.Agent (Woken member))) (λ later. input_events later member no_message (outcome_of cluster member Wake))
+
+-- a script wakes the agent of a member, where it runs and isn't suspended: one with nothing else to do takes note of its server
+abbrev pub turn_events_if : Cluster → Member → AgentProcess → List Event
+turn_events_if cluster member process = if may_act process then wake_events_of cluster member else []
+
+-- a script wakes the agent of a member, where there is one that may act
+abbrev pub turn_events : Cluster → Member → List Event
+turn_events cluster member = for_some (slice_get cluster.book.agents member.id.number) (turn_events_if cluster member)
 
 -- the agent of a member is woken, where it has something to do
 abbrev pub wake_events_if : Cluster → Member → AgentProcess → List Event
@@ -130,7 +145,7 @@ answer_events cluster number message = answer_events_by cluster number message m
 
 -- the message of this number, as its receiver hears it
 abbrev pub heard_message : ℕ → InFlightFacts → HeardMessage
-heard_message number message = record { number = number; run = message.message.run }
+heard_message number message = record { number = number; run = message.message.run; sent = message.sent }
 
 -- the agent of a member acts on a message that comes
 abbrev pub hear_events : Cluster → ℕ → InFlightFacts → Member → List Event

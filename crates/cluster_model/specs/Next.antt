@@ -22,9 +22,9 @@ use Rattle.cluster_model.specs.Acknowledging.{acknowledge_kinds}
 use Rattle.cluster_model.specs.Commands.{kinds_of, hold_of, resume_of, kill_of, restarted, disarm_at_start, link_of, cut_of, join_of}
 use Rattle.cluster_model.specs.Limits.{most_rounds}
 use Rattle.cluster_model.specs.Machines.{machine_of}
-use Rattle.cluster_model.specs.Messages.{wake_events, message_events, deliver_events, lose_events}
+use Rattle.cluster_model.specs.Messages.{wake_events, turn_events, message_events, deliver_events, lose_events}
 use Rattle.cluster_model.specs.Parts.{event_of, events_of, events_then, for_some, each, is_empty}
-use Rattle.cluster_model.specs.ServerCommands.{promote_kinds, promoted_timeline, crash_of, freezing_of, slow_of, commit_of}
+use Rattle.cluster_model.specs.ServerCommands.{promote_kinds, crash_of, freezing_of, slow_of, commit_of}
 use Rattle.cluster_model.specs.State.{Cluster}
 use Rattle.cluster_model.specs.Streaming.{source_of, confirm_of, unconfirmed_end}
 use Rattle.cluster_model.specs.Ticking.{tick_events}
@@ -65,11 +65,11 @@ receive_events_of cluster member = for_some (slice_get cluster.book.frozen membe
 
 -- the commits of the server of a member are acknowledged, as far as they may be
 abbrev pub acknowledge_events : Cluster → Member → List Event
-acknowledge_events cluster member = events_of cluster (acknowledge_kinds member (slice_get cluster.book.servers member.id.number))
+acknowledge_events cluster member = events_of cluster (acknowledge_kinds cluster.book.servers cluster.book.members member (slice_get cluster.book.servers member.id.number))
 
 -- a replica is promoted by its operator, and begins on the next timeline
 abbrev pub promote_events : Cluster → Member → List Event
-promote_events cluster member = for_some (option_and_then promoted_timeline (slice_get cluster.book.servers member.id.number)) (λ timeline. events_of cluster (promote_kinds member timeline))
+promote_events cluster member = for_some (slice_get cluster.book.servers member.id.number) (λ s. events_of cluster (promote_kinds member cluster.book.acknowledged s))
 
 -- the declared member of this number
 abbrev pub declared : Cluster → MemberId → Option Member
@@ -103,7 +103,7 @@ restart_events cluster member = for_some (slice_get cluster.book.agents member.i
 
 -- the events of a command
 abbrev pub command_events : Cluster → Command → List Event
-command_events cluster (commands.Turn id) = for_some (declared cluster id) (wake_events cluster)
+command_events cluster (commands.Turn id) = for_some (declared cluster id) (turn_events cluster)
 command_events cluster (commands.Deliver number) = deliver_events cluster number (in_flight cluster.book.flight number)
 command_events cluster (commands.Lose number) = lose_events cluster number (in_flight cluster.book.flight number)
 command_events cluster (commands.Restart id) = for_some (declared cluster id) (restart_events cluster)

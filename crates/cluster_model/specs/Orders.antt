@@ -24,6 +24,7 @@ use Rattle.ha_loop.specs.declared.output.Output.{Output}
 use Rattle.ha_loop.specs.declared.output.Output.TheVariants as outputs
 use Rattle.cluster_model.specs.declared.heard_message.HeardMessage.{HeardMessage}
 use Rattle.cluster_model.specs.Commands.{kinds_of}
+use Rattle.cluster_model.specs.Losing.{beginning_kinds}
 use Rattle.cluster_model.specs.State.{Cluster}
 
 -- the server of a member
@@ -36,8 +37,20 @@ declared_member members None = None
 declared_member members (Some id) = slice_get members id.number
 
 -- a replica begins to accept writes on the next timeline
-abbrev pub promotion_of : Member → ServerFacts → Option EventKind
-promotion_of member s = if is_replica s.state then Some (kinds.Server (servers.Began (server_of member) (s.timeline + 1))) else None
+abbrev pub promotion_kinds : Member → List ℕ → ServerFacts → List EventKind
+promotion_kinds member acknowledged s = if is_replica s.state then beginning_kinds member (s.timeline + 1) acknowledged s.log else []
+
+-- the watchdog of a member gets its first deadline, on the message that was heard
+abbrev pub arming : Member → Ticks → HeardMessage → EventKind
+arming member until heard = kinds.Watchdog (watchdogs.Armed member until heard.number)
+
+-- it gets a new one
+abbrev pub feeding : Member → Ticks → HeardMessage → EventKind
+feeding member until heard = kinds.Watchdog (watchdogs.Fed member until (bases.Grant heard.number))
+
+-- that is measured from the moment at which the message was sent
+abbrev pub feed_kinds : Member → HeardMessage → EventKind → List EventKind
+feed_kinds member heard feed = kinds.Watchdog (watchdogs.Measured member heard.sent) ∷ feed ∷ []
 
 -- a server follows this leader's, if there is such a member
 abbrev pub following_of : Member → Option Member → Option EventKind
@@ -85,18 +98,15 @@ require_of members member required s =
 abbrev pub hold_taken : Member → Ticks → ℕ → ℕ → Member → EventKind
 hold_taken member until run sequence from = kinds.Watchdog (watchdogs.HoldTaken member until from run sequence)
 
--- what an agent tells of its watchdog, on the message that it heard
-abbrev pub told_of : Member → HeardMessage → Output → Option EventKind
-told_of member heard (outputs.Armed until) = Some (kinds.Watchdog (watchdogs.Armed member until heard.number))
-told_of member heard (outputs.Fed until) = Some (kinds.Watchdog (watchdogs.Fed member until (bases.Grant heard.number)))
-told_of member heard outputs.Disarmed = Some (kinds.Watchdog (watchdogs.Disarmed member))
-told_of member heard outputs.CannotArm = Some (kinds.Note (notes.CannotArm member))
-told_of member heard _ = None
+-- what an agent tells of its watchdog, but for its feeds
+abbrev pub told_of : Member → Output → Option EventKind
+told_of member outputs.Disarmed = Some (kinds.Watchdog (watchdogs.Disarmed member))
+told_of member outputs.CannotArm = Some (kinds.Note (notes.CannotArm member))
+told_of member _ = None
 
 -- what an order comes to that brings one event at most, at the member's server, on the message that was heard
 abbrev pub order_kind : Cluster → Member → HeardMessage → Output → Option EventKind
-order_kind cluster member heard outputs.Promote = option_and_then (promotion_of member) (server_at cluster member)
 order_kind cluster member heard (outputs.Follow leader) = option_and_then (upstream_of member (slice_get cluster.book.members leader.number)) (server_at cluster member)
 order_kind cluster member heard (outputs.Require required) = option_and_then (require_of cluster.book.members member required) (server_at cluster member)
 order_kind cluster member heard (outputs.HoldTaken until from sequence) = option_map (hold_taken member until heard.run sequence) (slice_get cluster.book.members from.number)
-order_kind cluster member heard output = told_of member heard output
+order_kind cluster member heard output = told_of member output

@@ -12,17 +12,15 @@ use Rattle.event_book.specs.declared.event.Note.TheVariants.{RefusesCommit}
 use Rattle.event_book.specs.declared.event.ServerEvent.TheVariants as servers
 use Rattle.event_book.specs.declared.member.Member.{Member}
 use Rattle.event_book.specs.Members.{server_of}
+use Rattle.cluster_model.specs.Losing.{beginning_kinds}
 use Rattle.cluster_script.specs.declared.line.SlowedCall.{SlowedCall}
 use Rattle.cluster_script.specs.declared.line.SlowedCall.TheVariants as slowed_calls
 use Rattle.cluster_script.specs.declared.ranges.Delay.{Delay}
 
--- a replica may be promoted, to the next timeline
-abbrev pub promoted_timeline : ServerFacts → Option ℕ
-promoted_timeline s = if is_replica s.state then Some (s.timeline + 1) else None
-
--- a replica is promoted by its operator, and accepts writes on this timeline
-abbrev pub promote_kinds : Member → ℕ → List EventKind
-promote_kinds member timeline = kinds.Server (servers.Promoted (server_of member)) ∷ kinds.Server (servers.Began (server_of member) timeline) ∷ []
+-- a replica is promoted by its operator, and begins to accept writes on the next timeline
+abbrev pub promote_kinds : Member → List ℕ → ServerFacts → List EventKind
+promote_kinds member acknowledged s =
+    if is_replica s.state then kinds.Server (servers.Promoted (server_of member)) ∷ beginning_kinds member (s.timeline + 1) acknowledged s.log else []
 
 -- it crashed, or waits for a copy
 abbrev pub is_gone : State → Bool

@@ -95,4 +95,5 @@ module _ {B : Type 0} (f : ServerFacts → B)
 module _ {B : Type 0} (f : ServerFacts → B) (reads : (s t : ServerFacts) → s.state ≡ t.state → s.log ≡ t.log → f s ≡ f t) where
   pub replicated-kept : (known : List ServerFacts) (happening : ReplicationEvent) → map f (servers_by_replication known happening) ≡ map f known
   replicated-kept known (replications.RequiredSet server required names) = kept-one f known _ _ (λ s. reads _ s refl refl)
+  replicated-kept known (replications.Lacks server) = refl
   replicated-kept known _ = kept-one f known _ _ (λ s. reads _ s refl refl)

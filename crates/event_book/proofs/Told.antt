@@ -102,6 +102,7 @@ required-by-server now known happening = others-kept (λ s. s.required) (λ s t 
 required-replicated : (known : List ServerFacts) (happening : ReplicationEvent)
     → required_in (servers_by_replication known happening) ≡ required_after (required_in known) (kinds.Replication happening)
 required-replicated known (replications.RequiredSet server required names) = changed-one (λ s. s.required) known server.id.number _ _ (λ s. refl)
+required-replicated known (replications.Lacks server) = refl
 required-replicated known _ = kept-one (λ s. s.required) known _ _ (λ s. refl)
 
 pub required-of : (now : ℕ) (known : List ServerFacts) (kind : EventKind) → required_in (servers_after now known kind) ≡ required_after (required_in known) kind
@@ -129,6 +130,7 @@ confirmed-by-server now known happening = others-kept (λ s. s.confirmed) (λ s 
 confirmed-replicated : (known : List ServerFacts) (happening : ReplicationEvent)
     → confirmed_in (servers_by_replication known happening) ≡ confirmed_after (confirmed_in known) (kinds.Replication happening)
 confirmed-replicated known (replications.Confirmed server by end) = changed-one (λ s. s.confirmed) known server.id.number _ _ (λ s. refl)
+confirmed-replicated known (replications.Lacks server) = refl
 confirmed-replicated known _ = kept-one (λ s. s.confirmed) known _ _ (λ s. refl)
 
 pub confirmed-of : (now : ℕ) (known : List ServerFacts) (kind : EventKind) → confirmed_in (servers_after now known kind) ≡ confirmed_after (confirmed_in known) kind

@@ -29,6 +29,7 @@ watchdog_line trace tick (watchdogs.Armed member until answer) =
 watchdog_line trace tick (watchdogs.Fed member until basis) = fed_line trace tick (name_bytes member.name) until.0
 watchdog_line trace tick (watchdogs.Disarmed member) = None
 watchdog_line trace tick (watchdogs.Reset member) = Some (decimal tick ++ (codes " " ++ (name_bytes member.name ++ codes " is reset by its watchdog\n")))
+watchdog_line trace tick (watchdogs.Measured member since) = None
 watchdog_line trace tick (watchdogs.HoldTaken member until from run sequence) = None
 
 -- the line of what happens to a server by itself
@@ -72,4 +73,5 @@ required_line tick name (All members) names =
 abbrev pub replication_line : ℕ → ReplicationEvent → Option (List ℕ)
 replication_line tick (replications.RequiredSet server required names) = required_line tick (name_bytes server.name) required names
 replication_line tick (replications.Confirmed server by end) = None
+replication_line tick (replications.Lacks server) = None
 replication_line tick (replications.Acknowledged server commit) = Some (decimal tick ++ (codes " commit " ++ (decimal commit ++ codes " is acknowledged\n")))

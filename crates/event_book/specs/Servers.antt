@@ -84,6 +84,7 @@ abbrev pub servers_by_replication : List ServerFacts → ReplicationEvent → Li
 servers_by_replication known (replications.RequiredSet server required names) = changed_by known server.id.number (requiring required)
 servers_by_replication known (replications.Confirmed server by end) = changed_by known server.id.number (confirming by.id end)
 servers_by_replication known (replications.Acknowledged server commit) = changed_by known server.id.number (λ s. record s { waiting = drop 1 s.waiting })
+servers_by_replication known (replications.Lacks server) = known
 
 -- a reset of its machine crashes a server
 abbrev pub servers_by_watchdog : List ServerFacts → WatchdogEvent → List ServerFacts

@@ -90,6 +90,12 @@ pub enum WatchdogEvent {
     Reset {
         member: Member,
     },
+    /// What lets the member arm or feed its watchdog next is measured from this moment: the answer was sent then that tells the
+    /// grant.
+    Measured {
+        member: Member,
+        since: Ticks,
+    },
     /// The member acknowledged the failsafe request of this number in this run of its sender. It doesn't take the
     /// leader key before the moment `until`.
     HoldTaken {
@@ -212,6 +218,10 @@ pub enum ReplicationEvent {
     Acknowledged {
         server: ServerOf,
         commit: u64,
+    },
+    /// The server accepts writes, and its log lacks a commit whose client was told that it is stored.
+    Lacks {
+        server: ServerOf,
     },
 }
 

@@ -24,8 +24,10 @@ pub use event::{
 };
 pub use laws::{links_are_told, servers_match_events};
 pub use link::{Link, LinkEnd};
+pub use listing::listed;
 pub use member::{Member, ServerOf};
 pub use message::{Body, Message};
+pub use name_order::put_name;
 pub use names::{Bytes, Names};
 pub use peer_answer::PeerAnswer;
 pub use printing::text;

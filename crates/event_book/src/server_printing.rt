@@ -29,7 +29,9 @@ pub fn watchdog_line(
             let name = member.name;
             Ok(Some(format!(in alloc; "{tick} {name} is reset by its watchdog\n")?))
         }
-        WatchdogEvent::Disarmed { .. } | WatchdogEvent::HoldTaken { .. } => Ok(None),
+        WatchdogEvent::Disarmed { .. }
+        | WatchdogEvent::Measured { .. }
+        | WatchdogEvent::HoldTaken { .. } => Ok(None),
     }
 }
 
@@ -153,7 +155,7 @@ pub fn replication_line(
             required,
             names,
         } => required_line(alloc, tick, server.name, *required, names),
-        ReplicationEvent::Confirmed { .. } => Ok(None),
+        ReplicationEvent::Confirmed { .. } | ReplicationEvent::Lacks { .. } => Ok(None),
         ReplicationEvent::Acknowledged { commit, .. } => {
             Ok(Some(format!(in alloc; "{tick} commit {commit} is acknowledged\n")?))
         }

@@ -1,7 +1,7 @@
 -- What the outputs of an input, carried out in their order, make of a machine.
 use Rattle.std.specs.Prelude.{◌≡◌, nat_le, if◌then◌else◌, List, [], ◌∷◌, Option, Some, None, All}
 use Rattle.pat_base.specs.declared.ticks.Ticks.{Ticks}
-use Rattle.pg_model.specs.Status.{status_replica_started, status_primary_started, status_stopping, status_following, status_promoted}
+use Rattle.pg_model.specs.Status.{status_replica_started, status_stopping, status_following, status_promoted}
 use Rattle.event_book.specs.Members.{server_id_of}
 use Rattle.pg_model.specs.declared.status.ServerStatus.{ServerStatus}
 use Rattle.ha_loop.specs.declared.machine.Machine.{Machine}
@@ -41,7 +41,7 @@ abbrev pub machine_after_outputs : Ticks → Machine → List Output → Machine
 machine_after_outputs now machine [] = machine
 machine_after_outputs now machine (output ∷ later) = machine_after_outputs now (machine_after_output now machine output) later
 
--- an output that the table makes so far: it starts no server as a primary, takes no hold, and writes to no other member
+-- an output that the table makes so far: it takes no hold, and writes to no other member
 abbrev pub IsOfTable : Output → Type 0
 IsOfTable (outputs.HoldTaken until from sequence) = ⊥
 IsOfTable (outputs.Send (targets.Member member) sequence body) = ⊥

@@ -74,6 +74,16 @@ frame-watchdog m f (watchdogs.Reset member) mine = record {
   by_failsafe = λ n o. refl;
   hold = λ n o. refl;
 }
+frame-watchdog m f (watchdogs.Measured member since) mine = record {
+  clock = refl;
+  leader = refl;
+  failsafe = refl;
+  revision = refl;
+  runs = refl;
+  deadline = λ n o. refl;
+  by_failsafe = λ n o. refl;
+  hold = λ n o. refl;
+}
 frame-watchdog m f (watchdogs.HoldTaken member until from run sequence) mine = record {
   clock = refl;
   leader = refl;

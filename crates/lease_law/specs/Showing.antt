@@ -29,6 +29,7 @@ IsOwnWatchdog m (watchdogs.Armed member until answer) = member.id.number ≡ m
 IsOwnWatchdog m (watchdogs.Fed member until basis) = member.id.number ≡ m
 IsOwnWatchdog m (watchdogs.Disarmed member) = member.id.number ≡ m
 IsOwnWatchdog m (watchdogs.Reset member) = member.id.number ≡ m
+IsOwnWatchdog m (watchdogs.Measured member since) = member.id.number ≡ m
 IsOwnWatchdog m (watchdogs.HoldTaken member until from run sequence) = member.id.number ≡ m
 
 -- an event that one input of this member's agent may bring: of watchdogs and holds it changes that member's alone

@@ -29,3 +29,4 @@ pub mod Questions
 pub mod InputSeen
 pub mod InputHears
 pub mod InputKept
+pub mod StoreArrivals

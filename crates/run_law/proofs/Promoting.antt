@@ -12,7 +12,7 @@ use Rattle.run_law.specs.Declaring.{declared_of}
 use Rattle.run_law.specs.Kept.{MeetsPremises, IsKept}
 use Rattle.run_law.specs.Volatile.{volatile_of}
 
-hands-off-back : (book rest : List Event) → AreHandsOff (book ++ rest) → AreHandsOff rest
+pub hands-off-back : (book rest : List Event) → AreHandsOff (book ++ rest) → AreHandsOff rest
 hands-off-back [] rest is = is
 hands-off-back (event ∷ book) rest is = hands-off-back book rest is.1
 

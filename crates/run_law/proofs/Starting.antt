@@ -1,5 +1,5 @@
 -- The start of an agent keeps the law.
-use Rattle.std.proofs.Common.{ℕ, ◌≡◌, ◌<◌, ◌+◌, ◌++◌, Bool, cond, true, false, List, [], length, slice_get, Option, Some, None, option_map, refl, ◌∙◌, ap, sym, subst, arith}
+use Rattle.std.proofs.Common.{ℕ, ◌≡◌, ◌<◌, ◌+◌, ◌++◌, Bool, cond, true, false, List, [], ◌∷◌, length, slice_get, Option, Some, None, option_map, refl, ◌∙◌, ap, sym, subst, arith}
 use Rattle.std.proofs.Math.ListN.{length-map}
 use Rattle.pat_base.specs.declared.ticks.Ticks.{Ticks}
 use Rattle.pat_base.specs.ServerState.{live}
@@ -151,8 +151,7 @@ kept-start head book cluster member run small next good =
 -- an agent that is to start, by its process
 restart-by : (head : HeadText) (book : List Event) (cluster : Cluster) (member : Member) (process : AgentProcess) (running : Bool) → process.running ≡ running → member.id.number < member_count head
     → slice_get cluster.book.agents member.id.number ≡ Some process → Bridged head book cluster
-    → IsKept head book cluster (events_then cluster (event_of cluster (cond running (kinds.Note (AlreadyRunning member)) (kinds.Agent (agents.Started member (process.run + 1)))))
-    (λ later. cond running [] (events_of later (kinds_of (disarm_of member (machine_of cluster member))))))
+    → IsKept head book cluster (events_of cluster (cond running (kinds.Note (AlreadyRunning member)) (kinds.Agent (agents.Started member (process.run + 1))) ∷ kinds_of (cond running None (disarm_of member (machine_of cluster member)))))
 restart-by head book cluster member process true runs small is good =
     kept-then head book cluster (event_of cluster (kinds.Note (AlreadyRunning member))) [] (kept-quiet head book cluster (kinds.Note (AlreadyRunning member)) tt good) (λ later. kept-none head _ _ later)
 restart-by head book cluster member process false runs small is good =

@@ -1,9 +1,11 @@
--- Each step of a script keeps the law, where inputs of agents and messages that come do.
+-- Each step of a script keeps the law, where inputs of agents do.
 use Rattle.std.proofs.Common.{ℕ, ◌≡◌, ◌≤◌, List, [], ◌∷◌, length, slice_get, Option, Some, None, zero, suc, refl, sym, subst}
 use Rattle.std.specs.Map.{keys_of}
 use Rattle.event_book.specs.declared.event.Event.{Event}
 use Rattle.event_book.specs.declared.event.EventKind.TheVariants as kinds
 use Rattle.event_book.specs.declared.event.Note.TheVariants as notes
+use Rattle.event_book.specs.declared.link.LinkEnd.{LinkEnd}
+use Rattle.event_book.specs.declared.link.LinkEnd.TheVariants as ends
 use Rattle.event_book.specs.declared.member.Member.{Member}
 use Rattle.event_book.specs.Flight.{InFlightFacts, in_flight}
 use Rattle.cluster_script.specs.declared.line.Command.{Command}
@@ -16,7 +18,7 @@ use Rattle.cluster_model.specs.Deliveries.{delivery_of}
 use Rattle.cluster_script.specs.Script.{HeadText, names_of}
 use Rattle.cluster_model.specs.Inputs.{is_to_wake, moment_of, standing_of}
 use Rattle.cluster_model.specs.Limits.{most_rounds}
-use Rattle.cluster_model.specs.Messages.{deliver_events, deliver_events_by, message_events, message_events_by, wake_events, wake_events_if, wake_events_of}
+use Rattle.cluster_model.specs.Messages.{arrival_events_at, deliver_events, deliver_events_by, message_events, message_events_by, wake_events, wake_events_if, wake_events_of}
 use Rattle.cluster_model.specs.Next.{acknowledge_events, command_events, declared, next_events, promote_events, receive_events_at_most, receive_events_of, round_events, rounds_events, run_events, scheduled_events, step_events}
 use Rattle.cluster_model.specs.Parts.{each, is_empty}
 use Rattle.cluster_model.specs.State.{Cluster}
@@ -31,6 +33,7 @@ use Rattle.run_law.proofs.Composing.{keeps-all, keeps-each, keeps-then, kept-for
 use Rattle.run_law.proofs.Ending.{kept-loss}
 use Rattle.run_law.proofs.Members.{each-declared}
 use Rattle.run_law.proofs.Quiet.{kept-quiet}
+use Rattle.run_law.proofs.StoreArrivals.{kept-store-arrival}
 use Rattle.run_law.proofs.Streams.{keeps-acknowledge, keeps-receive, keeps-receive-at-most}
 use Rattle.run_law.proofs.Ticks.{keeps-tick}
 
@@ -41,9 +44,15 @@ module _ (head : HeadText) (few : length (names_of head) ≤ 16) (inputs : Input
       (λ process found. kept-if head book cluster (is_to_wake (moment_of cluster) process (standing_of cluster member)) (wake_events_of cluster member) []
       (λ wakes. inputs.wakes book cluster member process good is found wakes) (λ rests. kept-none head book cluster good))
 
+  -- a message comes to its receiver
+  arrival-by : (book : List Event) (cluster : Cluster) (number : ℕ) (message : InFlightFacts) (to : LinkEnd) → Bridged head book cluster → in_flight cluster.book.flight number ≡ Some message
+      → message.message.to ≡ to → delivery_of cluster.book.cuts cluster.book.agents message.message ≡ deliveries.Open → IsKept head book cluster (arrival_events_at cluster number message to)
+  arrival-by book cluster number message ends.Store good found to is = kept-store-arrival head book cluster number message good found to
+  arrival-by book cluster number message (ends.Member member) good found to is = inputs.hears book cluster number message member good found to is
+
   message-by : (book : List Event) (cluster : Cluster) (number : ℕ) (message : InFlightFacts) (delivery : Delivery) → Bridged head book cluster → in_flight cluster.book.flight number ≡ Some message
       → delivery_of cluster.book.cuts cluster.book.agents message.message ≡ delivery → IsKept head book cluster (message_events_by cluster number message delivery)
-  message-by book cluster number message deliveries.Open good found is = inputs.arrives book cluster number message good found is
+  message-by book cluster number message deliveries.Open good found is = arrival-by book cluster number message message.message.to good found refl is
   message-by book cluster number message deliveries.Cut good found is = kept-loss head book cluster number good
   message-by book cluster number message deliveries.Suspended good found is = kept-none head book cluster good
   message-by book cluster number message deliveries.Gone good found is = kept-loss head book cluster number good
@@ -55,7 +64,7 @@ module _ (head : HeadText) (few : length (names_of head) ≤ 16) (inputs : Input
 
   deliver-by : (book : List Event) (cluster : Cluster) (number : ℕ) (message : InFlightFacts) (delivery : Delivery) → Bridged head book cluster → in_flight cluster.book.flight number ≡ Some message
       → delivery_of cluster.book.cuts cluster.book.agents message.message ≡ delivery → IsKept head book cluster (deliver_events_by cluster number message delivery)
-  deliver-by book cluster number message deliveries.Open good found is = inputs.arrives book cluster number message good found is
+  deliver-by book cluster number message deliveries.Open good found is = arrival-by book cluster number message message.message.to good found refl is
   deliver-by book cluster number message deliveries.Cut good found is = kept-quiet head book cluster (kinds.Note (notes.Undeliverable number)) tt good
   deliver-by book cluster number message deliveries.Suspended good found is = kept-quiet head book cluster (kinds.Note (notes.Undeliverable number)) tt good
   deliver-by book cluster number message deliveries.Gone good found is = kept-loss head book cluster number good

@@ -1,0 +1,14 @@
+pub mod Filling
+pub mod Serials
+pub mod Fronts
+pub mod Writing
+pub mod Breaking
+pub mod Modes
+pub mod Losing
+pub mod Standing
+pub mod Guarding
+pub mod Keeping
+pub mod Spans
+pub mod Measuring
+pub mod Steps
+pub mod Listing

@@ -1,0 +1,12 @@
+pub mod Noting
+pub mod Heads
+pub mod SummaryText
+pub mod Lacking
+pub mod Moments
+pub mod Seeing
+pub mod Claims
+pub mod Losses
+pub mod Lateness
+pub mod Sights
+pub mod Telling
+pub mod Listed
