@@ -26,4 +26,7 @@ pub mod InputOutputs
 pub mod InputStays
 pub mod InputWaiting
 pub mod Questions
+pub mod InputSeen
+pub mod InputHears
+pub mod InputKept
 pub mod StoreArrivals
