@@ -3,7 +3,7 @@ use Rattle.std.proofs.Common.{◌≡◌, ◌+◌, ◌++◌, ◌==◌, ◌&&◌, 
 use Rattle.std.proofs.lemmas.List.Elements.{All-head, All-tail}
 use Rattle.pat_base.specs.declared.member_id.MemberId.{MemberId}
 use Rattle.pat_base.specs.declared.ticks.Ticks.{Ticks}
-use Rattle.pg_model.specs.Facts.{ServerFacts, is_down, is_replica, is_up}
+use Rattle.pg_model.specs.Facts.{ServerFacts, entries_of, is_down, is_replica, is_up}
 use Rattle.pg_model.specs.Running.{is_primary}
 use Rattle.event_book.specs.declared.agent_process.AgentProcess.{AgentProcess}
 use Rattle.event_book.specs.declared.event.Event.{Event}
@@ -30,8 +30,10 @@ use Rattle.cluster_model.specs.declared.heard_message.HeardMessage.{HeardMessage
 use Rattle.cluster_model.specs.Cluster.{cluster_after, cluster_over}
 use Rattle.cluster_model.specs.Commands.{kinds_of}
 use Rattle.cluster_model.specs.Limits.{most_in_flight}
+use Rattle.summary.specs.Lacking.{lacks_in}
+use Rattle.cluster_model.specs.Losing.{beginning_kinds, loss_if}
 use Rattle.cluster_model.specs.Messages.{agent_message, lost_at_once, send_events, sending_events, replica_start_events, stop_events, output_events}
-use Rattle.cluster_model.specs.Orders.{declared_member, following_of, is_same_required, order_kind, promotion_of, replica_start_kinds, require_of, required_names, server_at, stop_kind, stop_kinds, stop_of, upstream_of}
+use Rattle.cluster_model.specs.Orders.{declared_member, following_of, is_same_required, order_kind, promotion_kinds, arming, feeding, feed_kinds, replica_start_kinds, require_of, required_names, server_at, stop_kind, stop_kinds, stop_of, upstream_of}
 use Rattle.cluster_model.specs.Parts.{each, event_of, events_of, events_then, for_some}
 use Rattle.cluster_model.specs.State.{Cluster}
 use Rattle.lease_law.specs.Premises.{AllAre}
@@ -81,6 +83,18 @@ module _ (member : Member) (run heard : ℕ) (Q : Output → Type 0) where
   abbrev Mine : EventKind → Type 0
   Mine kind = IsOfInput member run heard Q kind
 
+  loss-mine : (test : Bool) → AllKinds Mine (kinds_of (loss_if member test))
+  loss-mine true = (refl, tt)
+  loss-mine false = tt
+
+  promote-mine : (s : ServerFacts) (acknowledged : List ℕ) (test : Bool) → Q outputs.Promote → AllKinds Mine (if test then beginning_kinds member (s.timeline + 1) acknowledged s.log else [])
+  promote-mine s acknowledged true is = ((refl, is), loss-mine (lacks_in (entries_of s.log) acknowledged))
+  promote-mine s acknowledged false is = tt
+
+  promotes-mine : (cluster : Cluster) (found : Option ServerFacts) → Q outputs.Promote → AllAre Mine (for_some found (λ s. events_of cluster (promotion_kinds member cluster.book.acknowledged s)))
+  promotes-mine cluster None is = tt
+  promotes-mine cluster (Some s) is = all-kinds Mine cluster (promotion_kinds member cluster.book.acknowledged s) (promote-mine s cluster.book.acknowledged (is_replica s.state) is)
+
   follow-mine : (leader : Option Member) → HoldsIf Mine (following_of member leader)
   follow-mine None = tt
   follow-mine (Some leader) = refl
@@ -123,15 +137,15 @@ module _ (member : Member) (run heard : ℕ) (Q : Output → Type 0) where
 
   order-mine : (cluster : Cluster) (message : HeardMessage) → message.number ≡ heard → (output : Output) → IsOfTable output → Q output → HoldsIf Mine (order_kind cluster member message output)
   order-mine cluster message at (outputs.Send to sequence body) table is = tt
-  order-mine cluster message at outputs.Promote table is = holds-then Mine (promotion_of member) (server_at cluster member) (λ s. holds-if Mine (is_replica s.state) (kinds.Server (servers.Began (server_of member) (s.timeline + 1))) (refl, is))
+  order-mine cluster message at outputs.Promote table is = tt
   order-mine cluster message at (outputs.StartReplica leader) table is = tt
   order-mine cluster message at (outputs.Stop reason) table is = tt
   order-mine cluster message at (outputs.Follow leader) table is = holds-then Mine (upstream_of member (slice_get cluster.book.members leader.number)) (server_at cluster member) (λ s. upstream-mine (slice_get cluster.book.members leader.number) (is_replica s.state))
   order-mine cluster message at (outputs.Require required) table is =
       holds-then Mine (require_of cluster.book.members member required) (server_at cluster member)
       (λ s. require-mine (kinds.Replication (replications.RequiredSet (server_of member) required (required_names cluster.book.members required))) (is_same_required s.required required) refl)
-  order-mine cluster message at (outputs.Armed until) table is = (refl, at, is)
-  order-mine cluster message at (outputs.Fed until) table is = (refl, ap (λ (n : ℕ). bases.Grant n) at, is)
+  order-mine cluster message at (outputs.Armed until) table is = tt
+  order-mine cluster message at (outputs.Fed until) table is = tt
   order-mine cluster message at outputs.Disarmed table is = refl
   order-mine cluster message at outputs.CannotArm table is = tt
   order-mine cluster message at (outputs.HoldTaken until from sequence) table is = absurd table
@@ -144,6 +158,9 @@ module _ (member : Member) (run heard : ℕ) (Q : Output → Type 0) where
       → (output : Output) → IsOfTable output → Q output → AllAre Mine (output_events member message cluster output)
   output-mine cluster message at runs (outputs.Send targets.Store sequence body) table is = sends-mine cluster sequence body (slice_get cluster.book.agents member.id.number) runs is
   output-mine cluster message at runs (outputs.Send (targets.Member id) sequence body) table is = absurd table
+  output-mine cluster message at runs outputs.Promote table is = promotes-mine cluster (server_at cluster member) is
+  output-mine cluster message at runs (outputs.Armed until) table is = all-kinds Mine cluster (feed_kinds member message (arming member until message)) (refl, ((refl, at, is), tt))
+  output-mine cluster message at runs (outputs.Fed until) table is = all-kinds Mine cluster (feed_kinds member message (feeding member until message)) (refl, ((refl, ap (λ (n : ℕ). bases.Grant n) at, is), tt))
   output-mine cluster message at runs (outputs.StartReplica leader) table is = starts-mine cluster (declared_member cluster.book.members leader) (server_at cluster member)
   output-mine cluster message at runs (outputs.Stop reason) table is = stops-mine cluster reason (server_at cluster member)
   output-mine cluster message at runs output table is = ordered-mine cluster message at output table is

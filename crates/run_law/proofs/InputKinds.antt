@@ -90,6 +90,7 @@ module _ (member : Member) (run heard : ℕ) (Q : Output → Type 0) where
   mine-own (kinds.Watchdog (watchdogs.Armed by until answer)) is = ap (λ (b : Member). b.id.number) is.0
   mine-own (kinds.Watchdog (watchdogs.Fed by until basis)) is = ap (λ (b : Member). b.id.number) is.0
   mine-own (kinds.Watchdog (watchdogs.Disarmed by)) is = ap (λ (b : Member). b.id.number) is
+  mine-own (kinds.Watchdog (watchdogs.Measured by from)) is = ap (λ (b : Member). b.id.number) is
   mine-own (kinds.Watchdog (watchdogs.Reset by)) is = absurd is
   mine-own (kinds.Watchdog (watchdogs.HoldTaken by until from r sequence)) is = absurd is
   mine-own kinds.Tick is = absurd is

@@ -7,7 +7,7 @@ use Rattle.pat_base.specs.declared.server_state.Required.{Required}
 use Rattle.pat_base.specs.declared.server_state.State.{State}
 use Rattle.pat_base.specs.declared.server_state.State.TheVariants as states
 use Rattle.pat_base.specs.declared.ticks.Ticks.{Ticks}
-use Rattle.pg_model.specs.Facts.{ServerFacts, is_down, is_replica, is_up}
+use Rattle.pg_model.specs.Facts.{ServerFacts, entries_of, is_down, is_replica, is_up}
 use Rattle.pg_model.specs.declared.status.ServerStatus.{ServerStatus}
 use Rattle.pg_model.specs.Running.{is_primary, moment_after, stopping, started}
 use Rattle.pg_model.specs.Status.{status_promoted, status_replica_started, status_stopping, status_following}
@@ -41,7 +41,9 @@ use Rattle.cluster_model.specs.Cluster.{cluster_after, cluster_over}
 use Rattle.cluster_model.specs.Commands.{kinds_of}
 use Rattle.cluster_model.specs.Limits.{most_in_flight}
 use Rattle.cluster_model.specs.Messages.{agent_message, lost_at_once, send_events, sending_events, output_events}
-use Rattle.cluster_model.specs.Orders.{declared_member, following_of, is_same_required, order_kind, promotion_of, replica_start_kinds, require_of, required_names, server_at, stop_kind, stop_kinds, stop_of, upstream_of}
+use Rattle.summary.specs.Lacking.{lacks_in}
+use Rattle.cluster_model.specs.Losing.{beginning_kinds, loss_if}
+use Rattle.cluster_model.specs.Orders.{declared_member, following_of, is_same_required, order_kind, promotion_kinds, replica_start_kinds, require_of, required_names, server_at, stop_kind, stop_kinds, stop_of, upstream_of}
 use Rattle.cluster_model.specs.Parts.{each, event_of, events_of, for_some}
 use Rattle.cluster_model.specs.State.{Cluster}
 use Rattle.run_law.proofs.Composing.{over-append}
@@ -216,28 +218,34 @@ module _ (member : Member) where
   abbrev Behind : Cluster → List EventKind → Cluster
   Behind cluster list = cluster_over cluster (events_of cluster list)
 
-  promote-by : (cluster : Cluster) (machine : Machine) (s : ServerFacts) (b : Bool) → slice_get cluster.book.servers member.id.number ≡ Some s → is_replica machine.server.state ≡ b → Here cluster machine
-      → Here (Behind cluster (kinds_of (if b then Some (kinds.Server (servers.Began (server_of member) (s.timeline + 1))) else None))) (with_server (status_promoted machine.server) machine)
-  promote-by cluster machine s true is replica old =
+  -- that a commit is lacking changes nothing
+  loss-here : (cluster : Cluster) (machine : Machine) (test : Bool) → Here cluster machine → Here (Behind cluster (kinds_of (loss_if member test))) machine
+  loss-here cluster machine true old = unmoved cluster (cluster_after cluster (kinds.Replication (replications.Lacks (server_of member)))) member.id.number machine refl refl refl old
+  loss-here cluster machine false old = old
+
+  promote-by : (cluster : Cluster) (machine : Machine) (s : ServerFacts) (acknowledged : List ℕ) (b : Bool) → is_replica machine.server.state ≡ b → Here cluster machine
+      → Here (Behind cluster (if b then beginning_kinds member (s.timeline + 1) acknowledged s.log else [])) (with_server (status_promoted machine.server) machine)
+  promote-by cluster machine s acknowledged true replica old =
       let later = cluster_after cluster (kinds.Server (servers.Began (server_of member) (s.timeline + 1))) in
-      ordered cluster later member.id.number machine (status_promoted machine.server) states.Primary refl refl
+      loss-here later (with_server (status_promoted machine.server) machine) (lacks_in (entries_of s.log) acknowledged)
+      (ordered cluster later member.id.number machine (status_promoted machine.server) states.Primary refl refl
       (promoted-state machine.server ∙ ap (λ (b : Bool). if b then states.Primary else machine.server.state) replica)
       (promoted-delays machine.server).0 (promoted-delays machine.server).1
       (moves cluster later member.id.number (λ s. begun_in s.state s) machine.server.state states.Primary machine.server.stop_delay machine.server.start_delay refl
       (λ s state stop start. let made = begun-is s.state s in (made.0, made.1 ∙ stop, made.2 ∙ start)) old.server)
-      old
-  promote-by cluster machine s false is replica old =
+      old)
+  promote-by cluster machine s acknowledged false replica old =
       ordered cluster cluster member.id.number machine (status_promoted machine.server) machine.server.state refl refl
       (promoted-state machine.server ∙ ap (λ (b : Bool). if b then states.Primary else machine.server.state) replica)
       (promoted-delays machine.server).0 (promoted-delays machine.server).1
       old.server old
 
   promote-here : (cluster : Cluster) (machine : Machine) → Here cluster machine
-      → Here (Behind cluster (kinds_of (option_and_then (promotion_of member) (server_at cluster member)))) (with_server (status_promoted machine.server) machine)
+      → Here (cluster_over cluster (for_some (server_at cluster member) (λ s. events_of cluster (promotion_kinds member cluster.book.acknowledged s)))) (with_server (status_promoted machine.server) machine)
   promote-here cluster machine old =
       let s = old.server.server in
-      subst (λ (found : Option ServerFacts). Here (Behind cluster (kinds_of (option_and_then (promotion_of member) found))) (with_server (status_promoted machine.server) machine)) (sym old.server.is)
-      (promote-by cluster machine s (is_replica s.state) old.server.is (ap is_replica (sym old.server.state_is)) old)
+      subst (λ (found : Option ServerFacts). Here (cluster_over cluster (for_some found (λ s. events_of cluster (promotion_kinds member cluster.book.acknowledged s)))) (with_server (status_promoted machine.server) machine)) (sym old.server.is)
+      (promote-by cluster machine s cluster.book.acknowledged (is_replica s.state) (ap is_replica (sym old.server.state_is)) old)
 
   -- it follows another one, or doesn't
   follows-here : (cluster : Cluster) (machine : Machine) (leader : Option Member) → Here cluster machine → Here (Behind cluster (kinds_of (following_of member leader))) machine
@@ -376,12 +384,12 @@ module _ (member : Member) where
   output-here cluster message machine (outputs.Follow leader) table old = follow-here cluster machine (server_id_of leader) (slice_get cluster.book.members leader.number) old
   output-here cluster message machine (outputs.Require required) table old = require-here cluster machine required old
   output-here cluster message machine (outputs.Armed until) table old = record {
-    server = stays-server cluster (cluster_after cluster (kinds.Watchdog (watchdogs.Armed member until message.number))) member.id.number machine.server.state machine.server.stop_delay machine.server.start_delay refl old.server;
+    server = stays-server cluster (cluster_after (cluster_after cluster (kinds.Watchdog (watchdogs.Measured member message.sent))) (kinds.Watchdog (watchdogs.Armed member until message.number))) member.id.number machine.server.state machine.server.stop_delay machine.server.start_delay refl old.server;
     deadline = item-here cluster.book.deadlines member.id.number _ machine.watchdog.deadline old.deadline;
     hold = old.hold;
   }
   output-here cluster message machine (outputs.Fed until) table old = record {
-    server = stays-server cluster (cluster_after cluster (kinds.Watchdog (watchdogs.Fed member until (bases.Grant message.number)))) member.id.number machine.server.state machine.server.stop_delay machine.server.start_delay refl old.server;
+    server = stays-server cluster (cluster_after (cluster_after cluster (kinds.Watchdog (watchdogs.Measured member message.sent))) (kinds.Watchdog (watchdogs.Fed member until (bases.Grant message.number)))) member.id.number machine.server.state machine.server.stop_delay machine.server.start_delay refl old.server;
     deadline = item-here cluster.book.deadlines member.id.number _ machine.watchdog.deadline old.deadline;
     hold = old.hold;
   }

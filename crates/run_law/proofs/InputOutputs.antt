@@ -236,14 +236,18 @@ module _ (member : Member) (run : ℕ) (message : HeardMessage) where
     | inr later ↦ elim (arms-or outs output later) [ inl was ↦ inl (or-right (is_arming one) (has_one is_arming outs) was) | inr now ↦ inr now ]
   ]
 
+  -- from when a feed is measured
+  abbrev measured : Cluster → Event
+  measured cluster = record { tick = record { 0 = cluster.book.clock }; kind = kinds.Watchdog (watchdogs.Measured member message.sent) }
+
   -- an arming is told
   arming-told : (cluster : Cluster) (output : Output) (before : List Event) → Keeps before → is_arming output ≡ true → ArmedIn (before ++ Brings cluster output)
   arming-told cluster (outputs.Armed until) before kept e = record {
-    front = before;
+    front = before ++ measured cluster ∷ [];
     event = record { tick = record { 0 = cluster.book.clock }; kind = kinds.Watchdog (watchdogs.Armed member until message.number) };
     rest = [];
-    is = refl;
-    aside = kept;
+    is = assoc before (measured cluster ∷ []) _;
+    aside = all-both (KeepsMomentOf message.number) before (measured cluster ∷ []) kept (tt, tt);
     fed = (refl, refl);
   }
   arming-told cluster outputs.Promote before kept e = absurd (no-way e)
@@ -295,14 +299,14 @@ module _ (member : Member) (run : ℕ) (message : HeardMessage) where
 
   fed-now : (cluster : Cluster) (output : Output) (rest : List Event) → is_feeding output ≡ true → FedIn (Brings cluster output ++ rest)
   fed-now cluster (outputs.Armed until) rest e = record {
-    front = [];
+    front = measured cluster ∷ [];
     event = record { tick = record { 0 = cluster.book.clock }; kind = kinds.Watchdog (watchdogs.Armed member until message.number) };
     rest = rest;
     is = refl;
     fed = (refl, refl);
   }
   fed-now cluster (outputs.Fed until) rest e = record {
-    front = [];
+    front = measured cluster ∷ [];
     event = record { tick = record { 0 = cluster.book.clock }; kind = kinds.Watchdog (watchdogs.Fed member until (bases.Grant message.number)) };
     rest = rest;
     is = refl;

@@ -98,6 +98,7 @@ module _ (member : Member) (run heard : ℕ) (Q : Output → Type 0) where
   servers-one : (now : ℕ) (known : List ServerFacts) (kind : EventKind) → Mine kind → (n : ℕ) → n ≢ member.id.number → slice_get (servers_after now known kind) n ≡ slice_get known n
   servers-one now known (kinds.Server happening) is n other = servers-by now known happening is n other
   servers-one now known (kinds.Replication (replications.RequiredSet server required names)) is n other = other-one known server _ n other is
+  servers-one now known (kinds.Replication (replications.Lacks server)) is n other = refl
   servers-one now known (kinds.Replication _) is n other = absurd is
   servers-one now known (kinds.Log happening) is n other = absurd is
   servers-one now known (kinds.Watchdog (watchdogs.Reset by)) is n other = absurd is
