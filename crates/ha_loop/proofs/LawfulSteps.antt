@@ -1,6 +1,7 @@
 -- Each input of the table is lawful, by what is heard.
 use Rattle.std.proofs.Common.{◌≡◌, ◌⊎◌, ℕ, ◌≤◌, true, false, List, [], Option, Some, None, All, refl, sym, subst, ap, ◌∙◌, inl, inr}
 use Rattle.std.proofs.lemmas.List.Elements.{All-nil}
+use Rattle.std.specs.Option.{ForSome}
 use Rattle.pat_base.specs.declared.member_set.MemberSet.{MemberSet}
 use Rattle.pat_base.specs.declared.ticks.Ticks.{Ticks}
 use Rattle.pat_base.specs.ServerState.{live}
@@ -23,7 +24,7 @@ use Rattle.ha_loop.specs.declared.output.Output.{Output}
 use Rattle.ha_loop.specs.declared.role.Why.{Why}
 use Rattle.ha_loop.specs.declared.role.Why.TheVariants.{HandOver, Lost}
 use Rattle.ha_loop.specs.declared.who.Who.{Who}
-use Rattle.ha_loop.specs.Agents.{RoleFacts, IsSound, EndsAlone, HasCounted, IsSoundAgent, Outcome, made}
+use Rattle.ha_loop.specs.Agents.{RoleFacts, EndsAlone, HasCounted, IsSoundAgent, Outcome, made}
 use Rattle.ha_loop.specs.Before.{has_ended, before}
 use Rattle.ha_loop.specs.Decisions.{is_lease_of, granted, refused}
 use Rattle.ha_loop.specs.Lawful.{StandsIn, HearsAnswer, TellsLease, HearsGrant, IsInputOf, MayPromote, IsLawfulAnd, IsLawfulFrom}
@@ -98,8 +99,12 @@ awaited-before sequence grant o b waits who awaited = record {
   mine = subst (λ (w : Who). is_lease_of w.me grant ≡ true) who awaited.mine;
 }
 
-pub span-of : (knows : Knowledge) (waited : Waited) → IsSound knows → knows.waited ≡ Some waited → IsLeaseSpan waited.ttl.0
-span-of knows waited sound is = sound.span waited is
+-- what an agent waits for asks for the span of a lease
+abbrev pub AsksLeases : Knowledge → Type 0
+AsksLeases knows = ForSome knows.waited (λ waited. IsLeaseSpan waited.ttl.0)
+
+span-of : (knows : Knowledge) (waited : Waited) → AsksLeases knows → knows.waited ≡ Some waited → IsLeaseSpan waited.ttl.0
+span-of knows waited asks is = asks waited is
 
 -- a revision that the grant gives which is waited for
 abbrev Gives : ℕ → Granted → Outcome → ℕ → Type 0
@@ -129,7 +134,7 @@ acts-free s m runs input now o after stands is unready free acts = elim (acts-se
   | inr ready ↦ absurd (no-way (sym unready ∙ ready))
 ]
 
-leads-brought : (s : State) (m runs sequence : ℕ) (input : AgentInput) (now : Ticks) (grant : Granted) (snapshot : SnapshotFacts) (o after : Outcome) → IsSound o.knows → StandsIn s m runs now o → HearsGrant s m input.heard now sequence grant snapshot o → IsInputOf s m runs o after input
+leads-brought : (s : State) (m runs sequence : ℕ) (input : AgentInput) (now : Ticks) (grant : Granted) (snapshot : SnapshotFacts) (o after : Outcome) → AsksLeases o.knows → StandsIn s m runs now o → HearsGrant s m input.heard now sequence grant snapshot o → IsInputOf s m runs o after input
     → GrantMay now sequence grant snapshot (before now o) after → after.machine.hold ≡ (before now o).machine.hold → Brought s m input o after
 leads-brought s m runs sequence input now grant snapshot o after sound stands hears is (Nothing brings same) hold =
     let all : BringsNothing o after = brings-then o (before now o) after (before-brings now o) brings in record {
@@ -179,7 +184,7 @@ refused-lawful s m runs input now sequence o alone silent stands is = let b : Ou
     (refusal-leaves now sequence o) (refusal-brings now sequence o) (parted-by b (refused now sequence b) (before-fits now o) (refused-brings now sequence b))
     (refused-may Nobody now sequence o alone silent) (λ key e. absurd (none-some _ e)) (λ seen e. absurd (none-some _ e))
 
-may-promote : (s : State) (m runs sequence : ℕ) (input : AgentInput) (now : Ticks) (grant : Granted) (snapshot : SnapshotFacts) (o : Outcome) → IsSound o.knows → StandsIn s m runs now o → HearsGrant s m input.heard now sequence grant snapshot o
+may-promote : (s : State) (m runs sequence : ℕ) (input : AgentInput) (now : Ticks) (grant : Granted) (snapshot : SnapshotFacts) (o : Outcome) → AsksLeases o.knows → StandsIn s m runs now o → HearsGrant s m input.heard now sequence grant snapshot o
     → (outs : List Output) → BeginsOn now sequence grant (before now o) outs → MayPromote s m input outs
 may-promote s m runs sequence input now grant snapshot o sound stands hears outs begin = let awaited : IsAwaitedLease sequence grant o.knows = awaited-by sequence grant now o begin.decides in record {
   fed = fed-of s m runs sequence input.heard now grant snapshot o stands hears awaited (span-of o.knows awaited.waited sound awaited.is);
@@ -187,7 +192,7 @@ may-promote s m runs sequence input now grant snapshot o sound stands hears outs
   armed = begin.armed_is;
 }
 
-grant-lawful : (s : State) (m runs : ℕ) (input : AgentInput) (now : Ticks) (sequence : ℕ) (grant : Granted) (snapshot : SnapshotFacts) (o : Outcome) → IsSound o.knows → IsAlone o → All IsSilent o.outputs → StandsIn s m runs now o
+grant-lawful : (s : State) (m runs : ℕ) (input : AgentInput) (now : Ticks) (sequence : ℕ) (grant : Granted) (snapshot : SnapshotFacts) (o : Outcome) → AsksLeases o.knows → IsAlone o → All IsSilent o.outputs → StandsIn s m runs now o
     → HearsGrant s m input.heard now sequence grant snapshot o → IsInputOf s m runs o (granted now sequence grant snapshot (before now o)) input → IsLawfulAnd s m (granted now sequence grant snapshot (before now o)) input
 grant-lawful s m runs input now sequence grant snapshot o sound alone silent stands hears is =
     let b : Outcome = before now o in
@@ -211,15 +216,20 @@ grant-lawful s m runs input now sequence grant snapshot o sound alone silent sta
           (grant-begins now sequence grant snapshot o alone (λ decides. armable-before o b (before-leaves now o) (hears.lease (awaited-by sequence grant now o decides)).armable) silent);
     }
 
-step-lawful : (now : Ticks) (points : List HistoryPoint) (heard : Heard) (o : Outcome) → IsSound o.knows → IsAlone o → All IsSilent o.outputs → IsLawfulFrom now heard o (step now points heard o)
+step-lawful : (now : Ticks) (points : List HistoryPoint) (heard : Heard) (o : Outcome) → AsksLeases o.knows → IsAlone o → All IsSilent o.outputs → IsLawfulFrom now heard o (step now points heard o)
 step-lawful now points Wake o sound alone silent s m runs input stands hears is = wake-lawful s m runs input now o alone silent stands is
 step-lawful now points (Got sequence snapshot) o sound alone silent s m runs input stands hears is = got-lawful s m runs input now points sequence snapshot o alone silent stands hears is
 step-lawful now points (HeardGranted sequence grant snapshot) o sound alone silent s m runs input stands hears is = grant-lawful s m runs input now sequence grant snapshot o sound alone silent stands hears is
 step-lawful now points (Mismatch sequence key found) o sound alone silent s m runs input stands hears is = refused-lawful s m runs input now sequence o alone silent stands is
 
--- each input of the table is lawful
+-- each input of the table is lawful, whenever the agent's turns began
+pub input-lawful-from : (now : Ticks) (points : List HistoryPoint) (heard : Heard) (role : RoleFacts) (knows : Knowledge) (machine : Machine) → AsksLeases knows → EndsAlone role knows.waited
+    → IsLawfulFrom now heard (made role knows machine []) (step now points heard (made role knows machine []))
+input-lawful-from now points heard role knows machine asks ends = let o : Outcome = made role knows machine [] in step-lawful now points heard o asks (alone-of o ends) (All-nil IsSilent)
+
+-- so is that of a sound agent
 pub input-lawful : (now : Ticks) (points : List HistoryPoint) (heard : Heard) (role : RoleFacts) (knows : Knowledge) (machine : Machine) → IsSoundAgent role knows → IsLawfulFrom now heard (made role knows machine []) (step now points heard (made role knows machine []))
-input-lawful now points heard role knows machine sound = let o : Outcome = made role knows machine [] in step-lawful now points heard o sound.sound (alone-of o sound.ends) (All-nil IsSilent)
+input-lawful now points heard role knows machine sound = input-lawful-from now points heard role knows machine sound.sound.span sound.ends
 
 -- so is a request of an operator, which hears no answer
 pub action-lawful : (now : Ticks) (role : RoleFacts) (knows : Knowledge) (machine : Machine) → IsSoundAgent role knows → IsLawfulFrom now Wake (made role knows machine []) (act now (made role knows machine []))

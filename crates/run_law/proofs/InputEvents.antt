@@ -1,0 +1,166 @@
+-- What an input of an agent brings, event by event.
+use Rattle.std.proofs.Common.{◌≡◌, ◌+◌, ◌++◌, ◌==◌, ◌&&◌, ◌≤◌, ◌<◌, nat_le, ℕ, Bool, true, false, if◌then◌else◌, List, [], ◌∷◌, Option, Some, None, All, length, slice_get, option_and_then, refl, sym, subst, ap, ◌∙◌, arith}
+use Rattle.std.proofs.lemmas.List.Elements.{All-head, All-tail}
+use Rattle.pat_base.specs.declared.member_id.MemberId.{MemberId}
+use Rattle.pat_base.specs.declared.ticks.Ticks.{Ticks}
+use Rattle.pg_model.specs.Facts.{ServerFacts, entries_of, is_down, is_replica, is_up}
+use Rattle.pg_model.specs.Running.{is_primary}
+use Rattle.event_book.specs.declared.agent_process.AgentProcess.{AgentProcess}
+use Rattle.event_book.specs.declared.event.Event.{Event}
+use Rattle.event_book.specs.declared.event.EventKind.{EventKind}
+use Rattle.event_book.specs.declared.event.EventKind.TheVariants as kinds
+use Rattle.event_book.specs.declared.event.MessageEvent.TheVariants.{Sent, Lost}
+use Rattle.event_book.specs.declared.event.Note.TheVariants as notes
+use Rattle.event_book.specs.declared.event.ReplicationEvent.TheVariants as replications
+use Rattle.event_book.specs.declared.event.ServerEvent.TheVariants as servers
+use Rattle.event_book.specs.declared.event.WatchdogEvent.TheVariants as watchdogs
+use Rattle.event_book.specs.declared.link.LinkEnd.TheVariants as ends
+use Rattle.event_book.specs.declared.member.Member.{Member}
+use Rattle.event_book.specs.declared.message.Body.{Body}
+use Rattle.event_book.specs.declared.message.Message.{Message}
+use Rattle.event_book.specs.declared.reason.Basis.TheVariants as bases
+use Rattle.event_book.specs.declared.reason.Reason.{Reason}
+use Rattle.event_book.specs.Flight.{sent_after}
+use Rattle.event_book.specs.Members.{server_of}
+use Rattle.ha_loop.specs.declared.output.Output.{Output}
+use Rattle.ha_loop.specs.declared.output.Output.TheVariants as outputs
+use Rattle.ha_loop.specs.declared.output.Target.TheVariants as targets
+use Rattle.ha_loop.specs.Orders.{IsOfTable}
+use Rattle.cluster_model.specs.declared.heard_message.HeardMessage.{HeardMessage}
+use Rattle.cluster_model.specs.Cluster.{cluster_after, cluster_over}
+use Rattle.cluster_model.specs.Commands.{kinds_of}
+use Rattle.cluster_model.specs.Limits.{most_in_flight}
+use Rattle.summary.specs.Lacking.{lacks_in}
+use Rattle.cluster_model.specs.Losing.{beginning_kinds, loss_if}
+use Rattle.cluster_model.specs.Messages.{agent_message, lost_at_once, send_events, sending_events, replica_start_events, stop_events, output_events}
+use Rattle.cluster_model.specs.Orders.{declared_member, following_of, is_same_required, order_kind, promotion_kinds, arming, feeding, feed_kinds, replica_start_kinds, require_of, required_names, server_at, stop_kind, stop_kinds, stop_of, upstream_of}
+use Rattle.cluster_model.specs.Parts.{each, event_of, events_of, events_then, for_some}
+use Rattle.cluster_model.specs.State.{Cluster}
+use Rattle.lease_law.specs.Premises.{AllAre}
+use Rattle.bridge_law.specs.Groups.{IsNumberedAbove, AreNumberedAbove}
+use Rattle.run_law.specs.InputEvents.{IsQuestionOf, IsOfInput}
+use Rattle.run_law.proofs.Composing.{over-append}
+
+-- ---- lists of events and of kinds
+abbrev pub AllKinds : (EventKind → Type 0) → List EventKind → Type 0
+AllKinds P [] = Unit {0}
+AllKinds P (kind ∷ more) = P kind × AllKinds P more
+
+abbrev pub HoldsIf : (EventKind → Type 0) → Option EventKind → Type 0
+HoldsIf P None = Unit {0}
+HoldsIf P (Some kind) = P kind
+
+pub all-kinds : (P : EventKind → Type 0) (cluster : Cluster) (list : List EventKind) → AllKinds P list → AllAre P (events_of cluster list)
+all-kinds P cluster [] all = tt
+all-kinds P cluster (kind ∷ more) all = (all.0, all-kinds P (cluster_after cluster kind) more all.1)
+
+pub one-kind : (P : EventKind → Type 0) (found : Option EventKind) → HoldsIf P found → AllKinds P (kinds_of found)
+one-kind P None is = tt
+one-kind P (Some kind) is = (is, tt)
+
+pub all-both : (P : EventKind → Type 0) (xs ys : List Event) → AllAre P xs → AllAre P ys → AllAre P (xs ++ ys)
+all-both P [] ys first second = second
+all-both P (x ∷ xs) ys first second = (first.0, all-both P xs ys first.1 second)
+
+pub all-more : (P Q : EventKind → Type 0) (xs : List Event) → ((kind : EventKind) → P kind → Q kind) → AllAre P xs → AllAre Q xs
+all-more P Q [] more all = tt
+all-more P Q (x ∷ xs) more all = (more x.kind all.0, all-more P Q xs more all.1)
+
+pub all-front : (P : EventKind → Type 0) (xs ys : List Event) → AllAre P (xs ++ ys) → AllAre P xs
+all-front P [] ys all = tt
+all-front P (x ∷ xs) ys all = (all.0, all-front P xs ys all.1)
+
+holds-then : {X : Type 0} (P : EventKind → Type 0) (f : X → Option EventKind) (found : Option X) → ((x : X) → HoldsIf P (f x)) → HoldsIf P (option_and_then f found)
+holds-then P f None all = tt
+holds-then P f (Some x) all = all x
+
+holds-if : (P : EventKind → Type 0) (test : Bool) (kind : EventKind) → P kind → HoldsIf P (if test then Some kind else None)
+holds-if P true kind is = is
+holds-if P false kind is = tt
+
+-- ---- the events of one output
+module _ (member : Member) (run heard : ℕ) (Q : Output → Type 0) where
+  abbrev Mine : EventKind → Type 0
+  Mine kind = IsOfInput member run heard Q kind
+
+  loss-mine : (test : Bool) → AllKinds Mine (kinds_of (loss_if member test))
+  loss-mine true = (refl, tt)
+  loss-mine false = tt
+
+  promote-mine : (s : ServerFacts) (acknowledged : List ℕ) (test : Bool) → Q outputs.Promote → AllKinds Mine (if test then beginning_kinds member (s.timeline + 1) acknowledged s.log else [])
+  promote-mine s acknowledged true is = ((refl, is), loss-mine (lacks_in (entries_of s.log) acknowledged))
+  promote-mine s acknowledged false is = tt
+
+  promotes-mine : (cluster : Cluster) (found : Option ServerFacts) → Q outputs.Promote → AllAre Mine (for_some found (λ s. events_of cluster (promotion_kinds member cluster.book.acknowledged s)))
+  promotes-mine cluster None is = tt
+  promotes-mine cluster (Some s) is = all-kinds Mine cluster (promotion_kinds member cluster.book.acknowledged s) (promote-mine s cluster.book.acknowledged (is_replica s.state) is)
+
+  follow-mine : (leader : Option Member) → HoldsIf Mine (following_of member leader)
+  follow-mine None = tt
+  follow-mine (Some leader) = refl
+
+  upstream-mine : (leader : Option Member) (test : Bool) → HoldsIf Mine (if test then following_of member leader else None)
+  upstream-mine leader true = follow-mine leader
+  upstream-mine leader false = tt
+
+  stop-mine : (test : Bool) → Mine (if test then kinds.Server (servers.Ended (server_of member)) else kinds.Server (servers.Stops (server_of member)))
+  stop-mine true = refl
+  stop-mine false = refl
+
+  started-mine : (leader : Option Member) (test : Bool) → AllKinds Mine (if test then kinds.Server (servers.StartsAsReplica (server_of member)) ∷ kinds_of (following_of member leader) else [])
+  started-mine leader true = (refl, one-kind Mine (following_of member leader) (follow-mine leader))
+  started-mine leader false = tt
+
+  require-mine : (kind : EventKind) (test : Bool) → Mine kind → HoldsIf Mine (if test then None else Some kind)
+  require-mine kind true is = tt
+  require-mine kind false is = is
+
+  starts-mine : (cluster : Cluster) (leader : Option Member) (found : Option ServerFacts) → AllAre Mine (for_some found (λ s. events_of cluster (replica_start_kinds member leader s)))
+  starts-mine cluster leader None = tt
+  starts-mine cluster leader (Some s) = all-kinds Mine cluster (replica_start_kinds member leader s) (started-mine leader (is_down s.state))
+
+  stops-mine : (cluster : Cluster) (reason : Reason) (found : Option ServerFacts) → AllAre Mine (for_some found (λ s. events_of cluster (stop_kinds member reason s)))
+  stops-mine cluster reason None = tt
+  stops-mine cluster reason (Some s) =
+      all-kinds Mine cluster (stop_kinds member reason s) (tt, one-kind Mine (stop_of member s) (holds-if Mine (is_up s.state) (stop_kind member s.state s.stop_delay) (stop-mine (is_primary s.state && s.stop_delay.0 == 0))))
+
+  lost-mine : (test : Bool) (number : ℕ) → AllKinds Mine (lost_at_once test number)
+  lost-mine true number = (tt, tt)
+  lost-mine false number = tt
+
+  sends-mine : (cluster : Cluster) (sequence : ℕ) (body : Body) (found : Option AgentProcess) → ((process : AgentProcess) → found ≡ Some process → process.run ≡ run) → Q (outputs.Send targets.Store sequence body)
+      → AllAre Mine (sending_events cluster member found (Some ends.Store) sequence body)
+  sends-mine cluster sequence body None runs is = tt
+  sends-mine cluster sequence body (Some process) runs is =
+      all-kinds Mine cluster (kinds.Message (Sent (cluster.book.sent + 1) (agent_message member ends.Store process.run sequence body)) ∷ lost_at_once (nat_le most_in_flight (length cluster.book.flight)) (cluster.book.sent + 1))
+      (record { sequence = sequence; body = body; is = ap (λ (r : ℕ). agent_message member ends.Store r sequence body) (runs process refl); from = is }, lost-mine (nat_le most_in_flight (length cluster.book.flight)) (cluster.book.sent + 1))
+
+  order-mine : (cluster : Cluster) (message : HeardMessage) → message.number ≡ heard → (output : Output) → IsOfTable output → Q output → HoldsIf Mine (order_kind cluster member message output)
+  order-mine cluster message at (outputs.Send to sequence body) table is = tt
+  order-mine cluster message at outputs.Promote table is = tt
+  order-mine cluster message at (outputs.StartReplica leader) table is = tt
+  order-mine cluster message at (outputs.Stop reason) table is = tt
+  order-mine cluster message at (outputs.Follow leader) table is = holds-then Mine (upstream_of member (slice_get cluster.book.members leader.number)) (server_at cluster member) (λ s. upstream-mine (slice_get cluster.book.members leader.number) (is_replica s.state))
+  order-mine cluster message at (outputs.Require required) table is =
+      holds-then Mine (require_of cluster.book.members member required) (server_at cluster member)
+      (λ s. require-mine (kinds.Replication (replications.RequiredSet (server_of member) required (required_names cluster.book.members required))) (is_same_required s.required required) refl)
+  order-mine cluster message at (outputs.Armed until) table is = tt
+  order-mine cluster message at (outputs.Fed until) table is = tt
+  order-mine cluster message at outputs.Disarmed table is = refl
+  order-mine cluster message at outputs.CannotArm table is = tt
+  order-mine cluster message at (outputs.HoldTaken until from sequence) table is = absurd table
+
+  ordered-mine : (cluster : Cluster) (message : HeardMessage) → message.number ≡ heard → (output : Output) → IsOfTable output → Q output → AllAre Mine (events_of cluster (kinds_of (order_kind cluster member message output)))
+  ordered-mine cluster message at output table is =
+      all-kinds Mine cluster (kinds_of (order_kind cluster member message output)) (one-kind Mine (order_kind cluster member message output) (order-mine cluster message at output table is))
+
+  pub output-mine : (cluster : Cluster) (message : HeardMessage) → message.number ≡ heard → ((process : AgentProcess) → slice_get cluster.book.agents member.id.number ≡ Some process → process.run ≡ run)
+      → (output : Output) → IsOfTable output → Q output → AllAre Mine (output_events member message cluster output)
+  output-mine cluster message at runs (outputs.Send targets.Store sequence body) table is = sends-mine cluster sequence body (slice_get cluster.book.agents member.id.number) runs is
+  output-mine cluster message at runs (outputs.Send (targets.Member id) sequence body) table is = absurd table
+  output-mine cluster message at runs outputs.Promote table is = promotes-mine cluster (server_at cluster member) is
+  output-mine cluster message at runs (outputs.Armed until) table is = all-kinds Mine cluster (feed_kinds member message (arming member until message)) (refl, ((refl, at, is), tt))
+  output-mine cluster message at runs (outputs.Fed until) table is = all-kinds Mine cluster (feed_kinds member message (feeding member until message)) (refl, ((refl, ap (λ (n : ℕ). bases.Grant n) at, is), tt))
+  output-mine cluster message at runs (outputs.StartReplica leader) table is = starts-mine cluster (declared_member cluster.book.members leader) (server_at cluster member)
+  output-mine cluster message at runs (outputs.Stop reason) table is = stops-mine cluster reason (server_at cluster member)
+  output-mine cluster message at runs output table is = ordered-mine cluster message at output table is
