@@ -4,9 +4,11 @@ use Rattle.pat_base.specs.Prints.{Prints}
 use Rattle.pat_base.proofs.Printing.{Prints-then, Prints-stop}
 use Rattle.event_book.specs.Text.{summary_at}
 use Rattle.cluster_script.specs.Steps.{steps_of}
-use Rattle.pat_world.specs.Cluster.{Cluster, cluster_of, cluster_over}
-use Rattle.pat_world.specs.Next.{run_events}
-use Rattle.pat_world.specs.Steps.{names_in}
+use Rattle.cluster_model.specs.Cluster.{cluster_over}
+use Rattle.cluster_model.specs.Starting.{cluster_of}
+use Rattle.cluster_model.specs.State.{Cluster}
+use Rattle.cluster_model.specs.Next.{run_events}
+use Rattle.cluster_model.specs.Steps.{names_in}
 use Rattle.pat_world.proofs.Declaring.{names-start}
 use Rattle.patroni_top.specs.declared.print_error.PrintError.TheVariants.{Write}
 use Rattle.patroni_top.proofs.Whole.{has-room, text-is}
