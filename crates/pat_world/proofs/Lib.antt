@@ -8,6 +8,7 @@ pub mod Declaring
 pub mod Expiring
 pub mod Flights
 pub mod Hearing
+pub mod Reaching
 pub mod Rest
 pub mod Rooms
 pub mod Sending

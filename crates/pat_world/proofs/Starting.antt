@@ -59,6 +59,14 @@ mapped-more X Y f all at x done longer h is so more =
 pub mapped-end : (X Y : Type 0) (f : X → Y) (all : List X) (at : ℕ) (done : List Y) → length all ≤ at → done ++ map f (drop at all) ≡ map f all → done ≡ map f all
 mapped-end X Y f all at done h so = sym (append-nil done) ∙ ap (λ xs. done ++ map f xs) (sym (drop_all at all h)) ∙ so
 
+-- one element more of a list
+pub rest-more : (X : Type 0) (all done longer : List X) (place : ℕ) (x : X) → done ++ drop place all ≡ all → slice_get all place ≡ Some x → longer ≡ done ++ x ∷ [] → longer ++ drop (place + 1) all ≡ all
+rest-more X all done longer place x so is more =
+    ap (λ l. l ++ drop (place + 1) all) more ∙ append_assoc done (x ∷ []) (drop (place + 1) all) ∙ ap (λ xs. done ++ xs) (sym (drop-get X all place x is)) ∙ so
+
+pub rest-end : (X : Type 0) (all done : List X) (place : ℕ) → done ++ drop place all ≡ all → length all ≤ place → done ≡ all
+rest-end X all done place so h = sym (append-nil done) ∙ ap (λ xs. done ++ xs) (sym (drop_all place all h)) ∙ so
+
 -- so many events have room before the first one
 abbrev pub ample : ℕ
 ample = 2 ^ 54

@@ -9,7 +9,7 @@ use Rattle.cluster_model.specs.Messages.{answer_events, arrival_events}
 use Rattle.cluster_model.specs.Parts.{for_some}
 use Rattle.cluster_model.specs.State.{Cluster}
 use Rattle.pat_world.specs.Reached.{reached_by}
-use Rattle.pat_world.specs.Room.{HasRoom, message_cost}
+use Rattle.pat_world.specs.Room.{HasRoom, decision_cost, message_cost}
 use Rattle.pat_world.specs.Emits.{Emits}
 use Rattle.pat_world.proofs.Deciding.{hearing-is, heard-took, landing, nothing-took, stored-took}
 use Rattle.pat_world.proofs.Rooms.{HasRoom-cluster_after, HasRoom-fewer, HasRoom-landed}
@@ -51,8 +51,13 @@ returns-in_default c =
     subst (λ (b : Cluster). Emits b (landing before c.land.new.self before.agents) c.args.events.now.items c.args.events.now.items (for_some (in_flight b.book.flight c.args.number) (arrival_events b c.args.number)) message_cost) c.self.view_is
     (nothing-took before _ c.args.number c.args.events.now.items (sym c.land.ensures.message ∙ c.in_default.is) state)
 
-pub returns-in-Store : goal.returns-in-Store
-returns-in-Store c =
+pub answer-requires-clause-room : goal.answer-requires-clause-room
+answer-requires-clause-room c =
+    let before = seen c.self.inside in
+    HasRoom-landed before c.land.new.self decision_cost (HasRoom-fewer before message_cost decision_cost (omega arith) (subst (λ (b : Cluster). HasRoom b message_cost) (sym c.self.view_is) c.requires))
+
+pub returns-in_ok-note-in-Store : goal.returns-in_ok-note-in-Store
+returns-in_ok-note-in-Store c =
     let before = seen c.self.inside in
     let carried = c.in-Some.carried in
     let found : in_flight before.book.flight c.args.number ≡ Some carried = sym c.land.ensures.message ∙ c.in-Some.is in
@@ -71,8 +76,8 @@ deliver_to-requires-clause-room c =
     let before = seen c.self.inside in
     HasRoom-landed before c.land.new.self message_cost (subst (λ (b : Cluster). HasRoom b message_cost) (sym c.self.view_is) c.requires)
 
-pub returns : goal.returns
-returns c =
+pub returns-in-Member : goal.returns-in-Member
+returns-in-Member c =
     let before = seen c.self.inside in
     let carried = c.in-Some.carried in
     let member = c.in-Member.member in

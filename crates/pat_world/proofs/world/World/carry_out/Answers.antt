@@ -1,4 +1,4 @@
-use Rattle.std.proofs.Common.{sym, subst, IsNone}
+use Rattle.std.proofs.Common.{◌≡◌, [], rules}
 use Rattle.pat_world.proofs.Carrying.{carrying-end, carrying-more, carrying-room, carrying-short}
 use Rattle.pat_world.proofs.world.World.carry_out.Goals as goal
 
@@ -12,4 +12,6 @@ pub loop-output-preserved : goal.loop-output-preserved
 loop-output-preserved c = carrying-more _ _ _ _ _ _ _ _ _ _ _ _ c.in-Some.output c.loop-output.invariant c.take.ensures.outputs c.in-Some.is c.in_ok-carry.ensures
 
 pub returns-clause-emits : goal.returns-clause-emits
-returns-clause-emits c = carrying-end _ _ _ _ _ _ _ _ c.loop-output.invariant (c.take.ensures.none.0 (subst IsNone (sym c.in_default.is) tt))
+returns-clause-emits c =
+    let empty : c.loop-output.outputs.outputs ≡ [] = search rules in
+    carrying-end _ _ _ _ _ _ _ _ c.loop-output.invariant empty
