@@ -12,8 +12,9 @@ use Rattle.cluster_script.specs.declared.line.Line.{Line}
 use Rattle.cluster_script.specs.declared.line.Step.{Step}
 use Rattle.cluster_script.specs.Script.{AllAreLines, IsLine}
 use Rattle.cluster_script.specs.Steps.{steps_of, steps_of_line}
-use Rattle.pat_world.specs.Cluster.{Cluster, cluster_over}
-use Rattle.pat_world.specs.Next.{next_events, run_events}
+use Rattle.cluster_model.specs.Cluster.{cluster_over}
+use Rattle.cluster_model.specs.State.{Cluster}
+use Rattle.cluster_model.specs.Next.{next_events, run_events}
 use Rattle.pat_world.specs.Room.{HasRoomFor, step_cost}
 use Rattle.pat_world.specs.Emits.{Emits}
 use Rattle.pat_world.proofs.Rooms.{HasRoom-fewer}

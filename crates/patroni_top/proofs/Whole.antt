@@ -8,11 +8,13 @@ use Rattle.cluster_script.specs.declared.line.Step.{Step}
 use Rattle.cluster_script.specs.declared.line.Step.TheVariants as steps
 use Rattle.cluster_script.specs.Script.{ScriptText}
 use Rattle.cluster_script.specs.Steps.{steps_of, steps_of_line, ticks_of_line, total_ticks}
-use Rattle.pat_world.specs.Cluster.{Cluster, cluster_of, cluster_over}
-use Rattle.pat_world.specs.Next.{run_events}
+use Rattle.cluster_model.specs.Cluster.{cluster_over}
+use Rattle.cluster_model.specs.Starting.{cluster_of}
+use Rattle.cluster_model.specs.State.{Cluster}
+use Rattle.cluster_model.specs.Next.{run_events}
 use Rattle.pat_world.specs.Room.{HasRoomFor, step_cost}
 use Rattle.pat_world.proofs.Rooms.{HasRoom-fewer}
-use Rattle.pat_world.proofs.Starting.{start-room}
+use Rattle.pat_world.proofs.Starting.{ample, start-room}
 use Rattle.patroni_top.specs.Run.{KeepsLimits, output_of, printed_from}
 
 -- a body has no more steps than ticks and lines
@@ -28,7 +30,7 @@ body-steps (line ∷ body) = omega (arith, line-steps line, body-steps body, len
 -- no script within the limits brings a counter to its end
 pub has-room : (s : ScriptText) (world : Cluster) → KeepsLimits s → world ≡ cluster_of s.head → HasRoomFor world (length (steps_of s.body))
 has-room s world few start = rw start (record {
-  room = HasRoom-fewer (cluster_of s.head) (2 ^ 59) (step_cost * length (steps_of s.body)) (omega (arith, few.ticks, few.lines, body-steps s.body)) (start-room s.head);
+  room = HasRoom-fewer (cluster_of s.head) ample (step_cost * length (steps_of s.body)) (omega (arith, few.ticks, few.lines, body-steps s.body)) (start-room s.head);
 })
 
 -- the world, the trace and the clock are those of the book

@@ -12,8 +12,10 @@ use Rattle.cluster_script.specs.declared.line.Command.{Command}
 use Rattle.cluster_script.specs.declared.line.Command.TheVariants as commands
 use Rattle.cluster_script.specs.declared.line.Step.{Step}
 use Rattle.cluster_script.specs.declared.line.Step.TheVariants as steps
-use Rattle.pat_world.specs.Cluster.{Cluster, cluster_of, cluster_over}
-use Rattle.pat_world.specs.Next.{next_events, run_events}
+use Rattle.cluster_model.specs.Cluster.{cluster_over}
+use Rattle.cluster_model.specs.Starting.{cluster_of}
+use Rattle.cluster_model.specs.State.{Cluster}
+use Rattle.cluster_model.specs.Next.{next_events, run_events}
 
 -- a body of a script within the limits
 pub record KeepsLimits (script : ScriptText) : Type 0 where

@@ -1,7 +1,7 @@
 //! Steps, and what they print.
 ghost use Rattle.std.specs.Prelude.{◌≡◌, ◌<◌, ◌∷◌, [], false, length, IfOk, replicate, slice_get, Some};
 ghost use Rattle.pat_base.specs.Prints.{Prints};
-ghost use Rattle.cluster_script.specs.Script.{IsLine};
+ghost use Rattle.cluster_script.specs.Script.{IsLine, names_of};
 ghost use Rattle.cluster_script.specs.Steps.{steps_of_line, steps_of};
 ghost use Rattle.cluster_model.specs.Starting.{cluster_of};
 ghost use Rattle.pat_world.specs.Room.{HasRoomFor};
@@ -23,7 +23,7 @@ pub fn play<K: Sink>(alloc: Global, script: &Script, out: &mut K) -> Result<(), 
     ensures { Prints K.Sink out.old out.new PrintError.Write result (output_of script.now) }
 {
     let mut player = Player::new(alloc, script.head())?;
-    let played = player.play(script, out);
+    let played = player.play_script(script, out);
     player.close();
     played
 }
@@ -63,8 +63,14 @@ impl Player {
         world.close();
     }
 
-    /// The steps of a script, and then the closing summary.
-    fn play<K: Sink>(&mut self, script: &Script, out: &mut K) -> Result<(), PrintError> {
+    /// The steps of a script, from the world of its head on, and then the closing summary.
+    fn play_script<K: Sink>(&mut self, script: &Script, out: &mut K) -> Result<(), PrintError>
+        requires limits { KeepsLimits script.now }
+        requires world { self.old.world ≡ cluster_of script.now.head }
+        requires members { names_in self.old.world.book.members ≡ names_of script.now.head }
+        requires untraced { self.old.trace ≡ false }
+        ensures { Prints K.Sink out.old out.new PrintError.Write result (output_of script.now) }
+    {
         self.play_body(script, out)?;
         print_summary(self.alloc, self.world.clock(), out)
     }
@@ -72,7 +78,7 @@ impl Player {
     /// The lines of a body, one after another.
     fn play_body<K: Sink>(&mut self, script: &Script, out: &mut K) -> Result<(), PrintError>
         requires room { HasRoomFor self.old.world (length (steps_of script.now.body)) }
-        requires members { names_in self.old.world.book.members ≡ script.now.head.members }
+        requires members { names_in self.old.world.book.members ≡ names_of script.now.head }
         ensures { Plays K.Sink self.old self.new out.old out.new result (steps_of script.now.body) }
     {
         for place in 0..script.len() {
