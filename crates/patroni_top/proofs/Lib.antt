@@ -2,4 +2,5 @@ pub mod Endings
 pub mod Input
 pub mod Played
 pub mod Telling
+pub mod Watching
 pub mod Whole
