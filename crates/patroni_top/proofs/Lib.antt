@@ -1,3 +1,4 @@
+pub mod Books
 pub mod Endings
 pub mod Input
 pub mod Played

@@ -5,6 +5,7 @@
 
 mod ended;
 mod ending;
+mod laws;
 mod playing;
 mod print_error;
 mod printing;
@@ -14,5 +15,6 @@ mod top;
 mod watches;
 
 pub use ended::Ended;
+pub use laws::closing_guards_writers;
 pub use status::Status;
 pub use top::run;
