@@ -590,7 +590,7 @@ const AGENTS_AND_LINKS: [Run; 7] = [
 ];
 
 /// What comes of leases.
-const LEASES: [Run; 5] = [
+const LEASES: [Run; 6] = [
     (
         "run 348\n",
         "",
@@ -622,6 +622,22 @@ const LEASES: [Run; 5] = [
          301 b takes the leader key\n\
          301 the renewal of a is refused, leader has revision 4\n",
         Closing { end: 301, ..QUIET },
+    ),
+    // It was asked for while the server was down, and has nothing to end.
+    (
+        "run 48\ncrash a\ntick 51\nturn a\ndeliver 9\ndeliver 10\ntick 200\ndeliver 11\ndeliver 12\nrun 1\n",
+        "50 a crashed\n\
+         301 the leader key of a expires\n\
+         301 the renewal of a is refused, leader is absent\n\
+         302 a starts as a replica\n\
+         302 b takes the leader key\n\
+         302 b arms its watchdog until 552\n\
+         302 b accepts writes on timeline 3\n",
+        Closing {
+            end: 302,
+            writers: "b",
+            ..QUIET
+        },
     ),
     // A renewal is waited for from the beginning of its turn.
     (

@@ -1,6 +1,7 @@
 //! Runs in which servers are promoted, crash, stream and commit.
 use crate::in_memory::{
-    Closing, FOLLOWED, FOLLOWED_LINES, ONE_MEMBER, Opening, QUIET, Run, TWO_MEMBERS, prints,
+    Closing, FOLLOWED, FOLLOWED_LINES, ONE_MEMBER, OWN_MEMBERS, Opening, QUIET, Run, TWO_MEMBERS,
+    prints,
 };
 use std::test::Fail;
 
@@ -245,7 +246,7 @@ const SERVERS: [Run; 9] = [
 ];
 
 /// Members that have nobody to follow.
-const SERVERS_WITHOUT_A_LEADER: [Run; 4] = [
+const SERVERS_WITHOUT_A_LEADER: [Run; 5] = [
     // A server that is down starts as a replica of none, and leads at the next turn.
     (
         "crash a\nrun 110\n",
@@ -300,7 +301,40 @@ const SERVERS_WITHOUT_A_LEADER: [Run; 4] = [
             ..QUIET
         },
     ),
+    // One that its operator promoted while its agent's create was on its way: the agent doesn't use that grant, and asks for
+    // the renewal of its key in its next turn.
+    (
+        "tick 1\nturn a\ndeliver 1\ndeliver 2\ndeliver 3\npromote a\ndeliver 4\nrun 100\n",
+        "1 a takes the leader key\n\
+         1 a is promoted by its operator\n\
+         1 a accepts writes on timeline 2\n\
+         101 a arms its watchdog until 351\n",
+        Closing {
+            end: 101,
+            premises: "broken at 1 by an operator on a",
+            writers: "a",
+            ..QUIET
+        },
+    ),
 ];
+
+/// Writers are listed in the order of their names, and not in that of the script.
+const ORDER_OF_NAMES: [Run; 1] = [(
+    "member b\nmember a\nrun 5\npromote a\n",
+    "1 b takes the leader key\n\
+     1 b arms its watchdog until 251\n\
+     1 b accepts writes on timeline 2\n\
+     2 a follows b\n\
+     5 a is promoted by its operator\n\
+     5 a accepts writes on timeline 3\n",
+    Closing {
+        end: 5,
+        premises: "broken at 5 by an operator on a",
+        two_writers: "first at 5",
+        writers: "a b",
+        ..QUIET
+    },
+)];
 
 /// Logs that begin with 100 bytes.
 const SMALL: Opening = Opening {
@@ -334,7 +368,8 @@ const SMALL_LOGS: [Run; 1] = [(
 
 #[test]
 fn promoted_by_hand(rt: HostRuntime) -> Result<(), Fail> {
-    prints(&rt, rt.alloc(), &FOLLOWED, &PROMOTED_BY_HAND)
+    prints(&rt, rt.alloc(), &FOLLOWED, &PROMOTED_BY_HAND)?;
+    prints(&rt, rt.alloc(), &OWN_MEMBERS, &ORDER_OF_NAMES)
 }
 
 #[test]

@@ -160,7 +160,7 @@ const LATE_RENEWALS: [Run; 3] = [
 ];
 
 /// Watchdogs by the options of their members.
-const OPTIONS: [Run; 9] = [
+const OPTIONS: [Run; 10] = [
     // The longest and the shortest deadline over a lease.
     (
         "member a margin=0\nmember b\nrun 50\nhold a\nrun 260\n",
@@ -280,6 +280,24 @@ const OPTIONS: [Run; 9] = [
             ..QUIET
         },
     ),
+    // So it tells one that was started anew over its live server.
+    (
+        "member a watchdog=off\nrun 1\nkill a\nrestart a\ntick 1\nturn a\ndeliver 5\ndeliver 6\n\
+         tick 299\ndeliver 7\ndeliver 8\n",
+        "1 a takes the leader key\n\
+         1 a accepts writes on timeline 2\n\
+         1 a is killed\n\
+         1 a is started\n\
+         301 the leader key of a expires\n\
+         301 the renewal of a is refused, leader is absent\n\
+         301 a ends its server: the leader key is lost\n\
+         301 a no longer accepts writes\n",
+        Closing {
+            end: 301,
+            premises: "broken at 0 by the watchdog of a",
+            ..QUIET
+        },
+    ),
     // Who needs a watchdog and has none gives the key back.
     (
         "member a watchdog=required device=broken\nmember b\nrun 110\n",
@@ -310,7 +328,7 @@ const OPTIONS: [Run; 9] = [
 ];
 
 /// Stops that take time. The leader can't reach the key store, and ends its server at tick 201; its watchdog's deadline is 251.
-const DELAYS: [Run; 5] = [
+const DELAYS: [Run; 6] = [
     (
         "slow a stop 30\nrun 48\ncut a store\nrun 180\ncommit a 8\nrun 1\ncommit a 8\nrun 29\n",
         "50 a and store are cut\n\
@@ -357,6 +375,17 @@ const DELAYS: [Run; 5] = [
             acknowledged: 1,
             ..QUIET
         },
+    ),
+    // An agent that is started anew meanwhile lets it stop, and feeds nothing.
+    (
+        "slow a stop 100\nrun 48\ncut a store\nrun 160\nkill a\nrestart a\njoin a store\nrun 50\n",
+        "50 a and store are cut\n\
+         201 a ends its server: the key store is out of reach\n\
+         210 a is killed\n\
+         210 a is started\n\
+         210 a and store are joined\n\
+         251 a is reset by its watchdog\n",
+        Closing { end: 260, ..QUIET },
     ),
     // The server of an agent without a lease has no watchdog, and stops as slowly as it may. Its agent waits for that.
     (
