@@ -23,8 +23,8 @@ pub const NO_FAULTS: Faults = Faults {
 #[derive(Drop)]
 pub struct Outcome {
     pub status: u8,
-    pub out: Vec<u8>,
-    pub err: Vec<u8>,
+    pub out: String,
+    pub err: String,
 }
 
 /// The seven lines that close a run, by what they say of it. No cluster here is synchronous. `end` is a moment in ticks.
@@ -118,8 +118,8 @@ pub fn run_in_memory(
     }
     Ok(Outcome {
         status: status.code(),
-        out: out.bytes().to_vec(alloc)?,
-        err: err.bytes().to_vec(alloc)?,
+        out: String::from_utf8_lossy(alloc, out.bytes())?,
+        err: String::from_utf8_lossy(alloc, err.bytes())?,
     })
 }
 
@@ -174,9 +174,9 @@ pub fn prints(rt: &impl Abort, alloc: Global, opening: &Opening, runs: &[Run]) -
         let lines = repeated(alloc, opening.lines, lines, 1)?;
         let printed = closed(alloc, lines.as_str(), *closing)?;
         let ended = run_in_memory(alloc, "run", script.as_str(), NO_FAULTS)?;
-        assert_eq!(rt; ended.err.as_slice(), b"".as_slice(), "{body}");
+        assert_eq!(rt; ended.err.as_str(), "", "{body}");
         assert_eq!(rt; ended.status, 0, "{body}");
-        assert_eq!(rt; ended.out.as_slice(), printed.as_bytes(), "{body}");
+        assert_eq!(rt; ended.out.as_str(), printed.as_str(), "{body}");
     }
     Ok(())
 }

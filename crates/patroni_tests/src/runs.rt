@@ -696,10 +696,10 @@ const SIXTEEN_READS: &str = "tick 100\n\
     turn i\nturn j\nturn k\nturn l\nturn m\nturn n\nturn o\nturn p\n";
 
 /// The first so many of these lines, as one text.
-fn first_lines(alloc: Global, lines: &[&str], count: usize) -> Result<Vec<u8>, AllocError> {
-    let mut text = Vec::new(alloc);
+fn first_lines(alloc: Global, lines: &[&str], count: usize) -> Result<String, AllocError> {
+    let mut text = String::new(alloc);
     for line in lines.iter().take(count) {
-        text.extend_from_slice(line.as_bytes())?;
+        text.push_str(line)?;
     }
     Ok(text)
 }
@@ -714,10 +714,10 @@ fn one_member(rt: HostRuntime) -> Result<(), Fail> {
     let ended = run_in_memory(alloc, "run", ONE_MEMBER_RUNS, NO_FAULTS)?;
     assert_eq!(rt; ended.status, 0);
     assert_eq!(rt;
-        ended.out.as_slice(),
-        first_lines(alloc, &ONE_MEMBER_PRINTED, 10)?.as_slice()
+        ended.out.as_str(),
+        first_lines(alloc, &ONE_MEMBER_PRINTED, 10)?.as_str()
     );
-    assert_eq!(rt; ended.err.as_slice(), b"".as_slice());
+    assert_eq!(rt; ended.err.as_str(), "");
     let shown = shown(alloc, ONE_MEMBER_RUNS, first_member(&rt))?;
     assert!(rt; shown == Some((State::Primary, 2)));
     Ok(())
@@ -800,8 +800,8 @@ fn refusals_of_the_first_form(rt: HostRuntime) -> Result<(), Fail> {
     ] {
         let ended = run_in_memory(alloc, word, script, faults)?;
         assert_eq!(rt; ended.status, status, "{word}");
-        assert_eq!(rt; ended.out.as_slice(), b"".as_slice(), "{word}");
-        assert_eq!(rt; ended.err.as_slice(), err.as_bytes(), "{word}");
+        assert_eq!(rt; ended.out.as_str(), "", "{word}");
+        assert_eq!(rt; ended.err.as_str(), err, "{word}");
     }
     Ok(())
 }
@@ -816,12 +816,8 @@ fn fails_behind(rt: &impl Abort, alloc: Global, lines: usize) -> Result<(), Fail
     let ended = run_in_memory(alloc, "run", ONE_MEMBER_RUNS, faults)?;
     let written = first_lines(alloc, &ONE_MEMBER_PRINTED, lines)?;
     assert_eq!(rt; ended.status, 4, "behind {lines}");
-    assert_eq!(rt; ended.out.as_slice(), written.as_slice(), "behind {lines}");
-    assert_eq!(rt;
-        ended.err.as_slice(),
-        b"write fault\n".as_slice(),
-        "behind {lines}"
-    );
+    assert_eq!(rt; ended.out.as_str(), written.as_str(), "behind {lines}");
+    assert_eq!(rt; ended.err.as_str(), "write fault\n", "behind {lines}");
     Ok(())
 }
 
@@ -847,7 +843,7 @@ fn a_fault_at_each_read(rt: HostRuntime) -> Result<(), Fail> {
         };
         let ended = run_in_memory(rt.alloc(), "run", ONE_MEMBER_RUNS, faults)?;
         assert_eq!(rt; ended.status, 3, "read {call}");
-        assert_eq!(rt; ended.out.as_slice(), b"".as_slice(), "read {call}");
+        assert_eq!(rt; ended.out.as_str(), "", "read {call}");
     }
     Ok(())
 }
@@ -860,7 +856,7 @@ fn a_fault_where_the_refusal_is_told(rt: HostRuntime) -> Result<(), Fail> {
     };
     let ended = run_in_memory(rt.alloc(), "runs", ONE_MEMBER_RUNS, faults)?;
     assert_eq!(rt; ended.status, 2);
-    assert_eq!(rt; ended.err.as_slice(), b"".as_slice());
+    assert_eq!(rt; ended.err.as_str(), "");
     Ok(())
 }
 
@@ -873,9 +869,9 @@ fn refuses(
     err: &str,
 ) -> Result<(), Fail> {
     let ended = run_in_memory(alloc, "run", script, NO_FAULTS)?;
-    assert_eq!(rt; ended.err.as_slice(), err.as_bytes(), "{err}");
+    assert_eq!(rt; ended.err.as_str(), err, "{err}");
     assert_eq!(rt; ended.status, status, "{err}");
-    assert_eq!(rt; ended.out.as_slice(), b"".as_slice(), "{err}");
+    assert_eq!(rt; ended.out.as_str(), "", "{err}");
     Ok(())
 }
 
@@ -945,7 +941,7 @@ fn as_many_lines_as_a_script_may_have(rt: HostRuntime) -> Result<(), Fail> {
     let ended = run_in_memory(alloc, "run", script.as_str(), NO_FAULTS)?;
     assert_eq!(rt; ended.status, 0);
     let wanted = closed(alloc, "", QUIET)?;
-    assert_eq!(rt; ended.out.as_slice(), wanted.as_bytes());
+    assert_eq!(rt; ended.out.as_str(), wanted.as_str());
     Ok(())
 }
 
@@ -977,7 +973,7 @@ fn sixteen_members(rt: HostRuntime) -> Result<(), Fail> {
     let wanted = closed(alloc, wanted.as_str(), closing)?;
     let ended = run_in_memory(alloc, "run", script.as_str(), NO_FAULTS)?;
     assert_eq!(rt; ended.status, 0);
-    assert_eq!(rt; ended.out.as_slice(), wanted.as_bytes());
+    assert_eq!(rt; ended.out.as_str(), wanted.as_str());
     Ok(())
 }
 
@@ -1006,6 +1002,6 @@ fn one_message_more_than_may_be_in_flight(rt: HostRuntime) -> Result<(), Fail> {
         ..QUIET
     };
     let wanted = closed(alloc, lines, closing)?;
-    assert_eq!(rt; ended.out.as_slice(), wanted.as_bytes());
+    assert_eq!(rt; ended.out.as_str(), wanted.as_str());
     Ok(())
 }
