@@ -1,5 +1,5 @@
 -- The lines of a script and nothing else spell it.
-use Rattle.std.proofs.Common.{◌≡◌, ℕ, ◌+◌, ◌^◌, ◌≤◌, ◌<◌, ◌&&◌, ◌==◌, nat_lt, not, Bool, true, false, cond, List, [], ◌∷◌, ◌++◌, length, map, slice_get, Option, Some, None, Ok, ◌%◌, refl, ◌∙◌, ap, sym, subst, arith, length-append}
+use Rattle.std.proofs.Common.{◌≡◌, ℕ, ◌+◌, ◌*◌, ◌^◌, ◌≤◌, ◌<◌, ◌&&◌, ◌==◌, nat_lt, not, Bool, true, false, cond, List, [], ◌∷◌, ◌++◌, length, map, slice_get, codes, Option, Some, None, Ok, ◌%◌, refl, ◌∙◌, ap, sym, subst, arith, length-append}
 use Rattle.std.specs.Fmt.{decimal}
 use Rattle.std.specs.List.{list_all}
 use Rattle.std.specs.Str.{is_utf8}
@@ -13,10 +13,15 @@ use Rattle.pat_base.specs.Name.{name_bytes}
 use Rattle.pat_base.specs.NameText.{is_name, is_name_byte}
 use Rattle.pat_base.specs.declared.name.Name.{Name}
 use Rattle.pat_base.specs.declared.member_id.MemberId.{MemberId}
+use Rattle.leader_key.specs.declared.watchdog.Mode.{Mode}
+use Rattle.leader_key.specs.declared.watchdog.Mode.TheVariants as modes
 use Rattle.cluster_script.specs.Lines.{ended, lines_in, is_skipped, counted_lines}
+use Rattle.cluster_script.specs.Margins.{unsaid_margin}
+use Rattle.cluster_script.specs.Options.{option_text, behind_blanks, mode_to_say, device_to_say, margin_to_say, options_to_say}
 use Rattle.cluster_script.specs.Reading.{script_of}
-use Rattle.cluster_script.specs.Script.{ScriptText, IsScript, IsCommand, IsLine, AllAreLines, text_of_name, member_text, end_word, switch_text, slowed_call_text, two_texts, command_text, member_line_text, line_text, member_lines, default_base, base_or_default, base_lines, base_to_say, head_lines, body_lines, script_lines, spelling_of, AllInForm, Spells}
+use Rattle.cluster_script.specs.Script.{MemberText, MemberLine, ScriptText, names_of, members_of_lines, shortest_line, IsScript, IsCommand, IsLine, AllAreLines, text_of_name, member_text, end_word, switch_text, slowed_call_text, two_texts, command_text, line_text, member_lines, default_base, base_or_default, base_lines, base_to_say, head_with_base, head_lines, body_lines, script_lines, spelling_of, AllInForm, Spells}
 use Rattle.cluster_script.specs.Words.{spelled, word_of}
+use Rattle.cluster_script.specs.declared.head.MemberOptions.{MemberOptions}
 use Rattle.cluster_script.specs.declared.keyword.Keyword.{Keyword}
 use Rattle.cluster_script.specs.declared.keyword.Keyword.TheVariants as words
 use Rattle.cluster_script.specs.declared.line.End.{End}
@@ -27,6 +32,9 @@ use Rattle.cluster_script.specs.declared.line.Line.{Line}
 use Rattle.cluster_script.specs.declared.line.Line.TheVariants as lines
 use Rattle.cluster_script.specs.declared.line.SlowedCall.{SlowedCall}
 use Rattle.cluster_script.specs.declared.line.SlowedCall.TheVariants as slowed_calls
+use Rattle.cluster_script.specs.declared.member_option.MemberOption.{MemberOption}
+use Rattle.cluster_script.specs.declared.member_option.MemberOption.TheVariants as options
+use Rattle.cluster_script.proofs.OptionLaws.{margin-fits, options-enough}
 use Rattle.cluster_script.proofs.SpellLaws.{size-fits, delay-fits, base-fits, spelled-is-read}
 use Rattle.cluster_script.proofs.WordLaws.{spelled-counts}
 
@@ -182,6 +190,72 @@ line-IsLineText members (lines.Command c) is = command-IsLineText members c is
 name-line : (keyword : Keyword) (name : Name) → IsLineText (spelled keyword (name_bytes name))
 name-line keyword name = spelled-IsLineText keyword (name_bytes name) (IsPlain-most (name_bytes name) 32 100 (omega arith) (name-IsPlain name))
 
+-- the line of a member with its options
+option-IsPlain : (o : MemberOption) → IsPlain (option_text o) 18
+option-IsPlain (options.Watchdog modes.Off) = record { plain = refl; short = omega arith }
+option-IsPlain (options.Watchdog modes.Automatic) = record { plain = refl; short = omega arith }
+option-IsPlain (options.Watchdog modes.Required) = record { plain = refl; short = omega arith }
+option-IsPlain (options.Device true) = record { plain = refl; short = omega arith }
+option-IsPlain (options.Device false) = record { plain = refl; short = omega arith }
+option-IsPlain (options.Margin margin) =
+    IsPlain-append (codes "margin=") (decimal margin.seconds) 7 11 (record { plain = refl; short = omega arith }) (record {
+      plain = (decimal-IsPlain margin.seconds (margin-fits margin)).plain;
+      short = length-decimal-le 11 margin.seconds (omega arith) (omega (arith, margin.most)) (margin-fits margin);
+    })
+
+options-IsPlain : (os : List MemberOption) → IsPlain (behind_blanks (map option_text os)) (length os * 19)
+options-IsPlain [] = record { plain = refl; short = omega arith }
+options-IsPlain (o ∷ os) =
+    let whole : IsPlain (option_text o ++ behind_blanks (map option_text os)) (18 + length os * 19) = IsPlain-append (option_text o) (behind_blanks (map option_text os)) 18 (length os * 19) (option-IsPlain o) (options-IsPlain os) in
+    IsPlain-most (32 ∷ (option_text o ++ behind_blanks (map option_text os))) ((18 + length os * 19) + 1) (length (o ∷ os) * 19) (omega arith) (blank-IsPlain (option_text o ++ behind_blanks (map option_text os)) (18 + length os * 19) whole)
+
+one-mode : (mode : Mode) → length (mode_to_say mode) ≤ 1
+one-mode modes.Off = omega arith
+one-mode modes.Automatic = omega arith
+one-mode modes.Required = omega arith
+
+one-device : (works : Bool) → length (device_to_say works) ≤ 1
+one-device true = omega arith
+one-device false = omega arith
+
+one-of : (t : Bool) (o : MemberOption) → length (cond t [] (o ∷ [])) ≤ 1
+one-of true o = omega arith
+one-of false o = omega arith
+
+few-options : (declared : MemberOptions) → length (options_to_say declared) ≤ 3
+few-options declared =
+    omega (
+      arith,
+      one-mode declared.watchdog,
+      one-device declared.device_works,
+      one-of (declared.margin.seconds == unsaid_margin) (options.Margin declared.margin),
+      length-append (mode_to_say declared.watchdog) (device_to_say declared.device_works ++ margin_to_say declared.margin),
+      length-append (device_to_say declared.device_works) (margin_to_say declared.margin),
+    )
+
+member-line : (m : MemberText) → IsLineText (shortest_line m)
+member-line m =
+    let os : List MemberOption = options_to_say m.options in
+    spelled-IsLineText words.Member (name_bytes m.name ++ behind_blanks (map option_text os))
+    (IsPlain-most (name_bytes m.name ++ behind_blanks (map option_text os)) (32 + length os * 19) 100 (omega (arith, few-options m.options))
+    (IsPlain-append (name_bytes m.name) (behind_blanks (map option_text os)) 32 (length os * 19) (name-IsPlain m.name) (options-IsPlain os)))
+
+-- a member's line with the options that have to be said
+canonical_line : MemberText → MemberLine
+canonical_line m =
+    let enough = options-enough m.options in
+    record { name = m.name; words = options_to_say m.options; said = enough.said; once = enough.once }
+
+canonical-lines : (members : List MemberText) → member_lines (map canonical_line members) ≡ map shortest_line members
+unfolding canonical_line
+canonical-lines [] = refl
+canonical-lines (m ∷ members) = ap (λ t. shortest_line m ∷ t) (canonical-lines members)
+
+canonical-members : (members : List MemberText) → members_of_lines (map canonical_line members) ≡ members
+unfolding canonical_line
+canonical-members [] = refl
+canonical-members (m ∷ members) = λ i. record { name = m.name; options = (options-enough m.options).is i } ∷ canonical-members members i
+
 abbrev AllLineTexts : List (List ℕ) → Type 0
 AllLineTexts [] = Unit {0}
 AllLineTexts (line ∷ rest) = IsLineText line × AllLineTexts rest
@@ -190,9 +264,9 @@ AllLineTexts-append : (xs ys : List (List ℕ)) → AllLineTexts xs → AllLineT
 AllLineTexts-append [] ys h k = k
 AllLineTexts-append (x ∷ xs) ys h k = (h.0, AllLineTexts-append xs ys h.1 k)
 
-members-AllLineTexts : (members : List Name) → AllLineTexts (map member_line_text members)
+members-AllLineTexts : (members : List MemberText) → AllLineTexts (map shortest_line members)
 members-AllLineTexts [] = tt
-members-AllLineTexts (m ∷ members) = (name-line words.Member m, members-AllLineTexts members)
+members-AllLineTexts (m ∷ members) = (member-line m, members-AllLineTexts members)
 
 base-AllLineTexts : (said : Option ℕ) → base_or_default said < 2 ^ 64 → AllLineTexts (base_lines said)
 base-AllLineTexts None fits = tt
@@ -214,9 +288,9 @@ script-AllLineTexts : (s : ScriptText) → IsScript s → AllLineTexts (script_l
 script-AllLineTexts s h =
     let fits : base_or_default (base_to_say s.head.base) < 2 ^ 64 = subst (λ (n : ℕ). n < 2 ^ 64) (sym (base-is-said s.head.base)) (base-fits s.head.base h.head.base_most) in (
       name-line words.Cluster s.head.cluster,
-      AllLineTexts-append (base_lines (base_to_say s.head.base) ++ member_lines s.head.members) (body_lines s.head.members s.body)
-          (AllLineTexts-append (base_lines (base_to_say s.head.base)) (member_lines s.head.members) (base-AllLineTexts (base_to_say s.head.base) fits) (members-AllLineTexts s.head.members))
-          (body-AllLineTexts s.head.members s.body h.body),
+      AllLineTexts-append (base_lines (base_to_say s.head.base) ++ map shortest_line s.head.members) (body_lines (names_of s.head) s.body)
+          (AllLineTexts-append (base_lines (base_to_say s.head.base)) (map shortest_line s.head.members) (base-AllLineTexts (base_to_say s.head.base) fits) (members-AllLineTexts s.head.members))
+          (body-AllLineTexts (names_of s.head) s.body h.body),
     )
 
 -- such lines are text of few bytes, and are cut again
@@ -253,7 +327,14 @@ spelling-Spells s h =
     record {
       form = subst AllInForm (sym (lines-again (script_lines s) texts)) (all-in-form (script_lines s) texts);
       head = head_lines s.head;
-      says = record { before = []; said = base_to_say s.head.base; behind = s.head.members; members = refl; base = base-is-said s.head.base; order = refl };
+      says = record {
+        before = [];
+        said = base_to_say s.head.base;
+        behind = map canonical_line s.head.members;
+        members = canonical-members s.head.members;
+        base = base-is-said s.head.base;
+        order = ap (head_with_base s.head.cluster [] (base_to_say s.head.base)) (sym (canonical-lines s.head.members));
+      };
       lines = ap counted_lines (lines-again (script_lines s) texts) ∙ all-count (script_lines s) texts;
     }
 

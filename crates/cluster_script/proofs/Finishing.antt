@@ -3,10 +3,10 @@ use Rattle.std.proofs.Common.{◌≡◌, ℕ, List, [], ◌∷◌, length, Optio
 use Rattle.pat_base.specs.declared.name.Name.{Name}
 use Rattle.cluster_script.specs.Draft.{draft_of}
 use Rattle.cluster_script.specs.Reading.{finished}
-use Rattle.cluster_script.specs.Script.{ScriptText, IsScript, base_or_default}
+use Rattle.cluster_script.specs.Script.{MemberText, ScriptText, IsScript, base_or_default}
 use Rattle.cluster_script.specs.declared.line.Line.{Line}
 
-pub finished-IsScript : (o : Option Name) (cluster : Name) (base : Option ℕ) (members : List Name) (body : List Line) → o ≡ Some cluster → (length members ≡ 0 → ⊥)
+pub finished-IsScript : (o : Option Name) (cluster : Name) (base : Option ℕ) (members : List MemberText) (body : List Line) → o ≡ Some cluster → (length members ≡ 0 → ⊥)
     → ((text : ScriptText) → finished (draft_of o base members body) ≡ Ok text → IsScript text)
     → IsScript (record { head = record { cluster = cluster; base = base_or_default base; members = members }; body = body })
 finished-IsScript o cluster base [] body is some law = absurd (some refl)

@@ -7,6 +7,7 @@ pub mod LimitLaws
 pub mod MemberLaws
 pub mod NameLaws
 pub mod NumberLaws
+pub mod OptionLaws
 pub mod Outcomes
 pub mod Places
 pub mod RangeLaws

@@ -8,7 +8,7 @@ use Rattle.pat_base.specs.declared.name.Name.{Name}
 use Rattle.cluster_script.specs.Lines.{lines_in, is_skipped, counted_lines}
 use Rattle.cluster_script.specs.Limits.{member_line_count, ticks_or_none, ticks_in_line, ticks_in, limit_of_lines, limit_of}
 use Rattle.cluster_script.specs.Reading.{script_of}
-use Rattle.cluster_script.specs.Script.{ScriptText, IsLine, AllAreLines, line_text, body_lines}
+use Rattle.cluster_script.specs.Script.{ScriptText, names_of, IsLine, AllAreLines, line_text, body_lines}
 use Rattle.cluster_script.specs.Steps.{ticks_of_line, total_ticks}
 use Rattle.cluster_script.specs.declared.line.Line.{Line}
 use Rattle.cluster_script.specs.declared.line.Line.TheVariants as lines
@@ -82,4 +82,4 @@ pub within-limits : (bytes : List ℕ) (text : ScriptText) → script_of bytes �
 within-limits bytes text e none =
     let read = read-is-spelled bytes text e in
     let passed = none_passed (nat_lt 1048576 (length bytes)) limits.Bytes (limit_of_lines (lines_in bytes)) none in
-    text-within (lines_in bytes) read.1.head text.head.members text.body read.0.body read.1.lines (lines-within (lines_in bytes) passed.1)
+    text-within (lines_in bytes) read.1.head (names_of text.head) text.body read.0.body read.1.lines (lines-within (lines_in bytes) passed.1)

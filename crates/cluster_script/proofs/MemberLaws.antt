@@ -1,33 +1,56 @@
 -- Members in a table.
-use Rattle.std.proofs.Common.{◌≡◌, ℕ, Bool, true, false, cond, List, [], ◌∷◌, ◌++◌, slice_get, Option, Some, None, is_some, refl, ap, zero, suc}
+use Rattle.std.proofs.Common.{◌≡◌, ℕ, Bool, true, false, cond, List, [], ◌∷◌, ◌++◌, ◌<◌, slice_get, length, Option, Some, None, is_some, option_map, arith, refl, ◌∙◌, ap, sym}
 use Rattle.std.specs.Bool.{Decides}
 use Rattle.std.specs.Str.{bytes_eq}
 use Rattle.std.specs.Map.{keys_of}
+use Rattle.std.proofs.lemmas.List.{length-map}
+use Rattle.std.proofs.lemmas.Option.{slice_get-map}
 use Rattle.indexmap.specs.IndexMap.{insert_entry}
 use Rattle.pat_base.specs.Name.{name_bytes}
 use Rattle.pat_base.specs.declared.name.Name.{Name}
 use Rattle.cluster_script.specs.Lines.{one_more}
 use Rattle.cluster_script.specs.Members.{place_of}
+use Rattle.cluster_script.specs.Script.{MemberText, member_names, member_of_entry, members_in}
+use Rattle.cluster_script.specs.declared.head.MemberOptions.{MemberOptions}
 use Rattle.cluster_script.proofs.Places.{same_text}
 
-pub slice_get-keys_of : {X : Type 0} (es : List (Name × X)) (i : ℕ) (name : Name) (x : X) → slice_get es i ≡ Some (name, x) → slice_get (keys_of es) i ≡ Some name
-slice_get-keys_of [] i name x e = cc
-slice_get-keys_of (e ∷ es) zero name x h = let same : e ≡ (name, x) = cc in ap Some (ap (λ (p : Name × _). p.0) same)
-slice_get-keys_of (e ∷ es) (suc i) name x h = slice_get-keys_of es i name x h
+-- the entry at a place is the member there
+pub slice_get-members_in : (es : List (Name × MemberOptions)) (i : ℕ) (name : Name) (v : MemberOptions) → slice_get es i ≡ Some (name, v) → slice_get (members_in es) i ≡ Some (record { name = name; options = v })
+slice_get-members_in es i name v e = slice_get-map member_of_entry es i ∙ ap (option_map member_of_entry) e
+
+pub slice_get-members_in-None : (es : List (Name × MemberOptions)) (i : ℕ) → slice_get es i ≡ None → slice_get (members_in es) i ≡ None
+slice_get-members_in-None es i e = slice_get-map member_of_entry es i ∙ ap (option_map member_of_entry) e
+
+pub slice_get-member_names : (es : List (Name × MemberOptions)) (i : ℕ) (name : Name) (v : MemberOptions) → slice_get es i ≡ Some (name, v) → slice_get (member_names (members_in es)) i ≡ Some name
+slice_get-member_names es i name v e = slice_get-map (λ (m : MemberText). m.name) (members_in es) i ∙ ap (option_map (λ (m : MemberText). m.name)) (slice_get-members_in es i name v e)
 
 more-none : (o : Option ℕ) → one_more o ≡ None → o ≡ None
 more-none None e = refl
 more-none (Some n) e = cc
 
-last-step : {X : Type 0} (t : Bool) (e : Name × X) (es new : List (Name × X)) (name : Name) (v : X) (o : Option ℕ) → cond t (Some 0) (one_more o) ≡ None → (o ≡ None → keys_of new ≡ keys_of es ++ name ∷ []) → keys_of (cond t ((e.0, v) ∷ es) (e ∷ new)) ≡ e.0 ∷ (keys_of es ++ name ∷ [])
+last-step : (t : Bool) (e : Name × MemberOptions) (es new : List (Name × MemberOptions)) (name : Name) (v : MemberOptions) (o : Option ℕ) → cond t (Some 0) (one_more o) ≡ None
+    → (o ≡ None → members_in new ≡ members_in es ++ member_of_entry (name, v) ∷ []) → members_in (cond t ((e.0, v) ∷ es) (e ∷ new)) ≡ member_of_entry e ∷ (members_in es ++ member_of_entry (name, v) ∷ [])
 last-step true e es new name v o h step = cc
-last-step false e es new name v o h step = ap (λ t. e.0 ∷ t) (step (more-none o h))
+last-step false e es new name v o h step = ap (λ t. member_of_entry e ∷ t) (step (more-none o h))
 
 -- a name that isn't there is put last
-pub keys-insert_entry : {X : Type 0} (p : Name → Name → Bool) (name : Name) (v : X) → ((m : Name) → Decides (p name m) (name ≡ m)) → (es : List (Name × X)) → place_of (keys_of es) name ≡ None → keys_of (insert_entry p es name v) ≡ keys_of es ++ name ∷ []
-keys-insert_entry p name v h [] none = refl
-keys-insert_entry p name v h (e ∷ es) none =
-    rw (same_text (p name) name h e.0) (last-step (bytes_eq (name_bytes e.0) (name_bytes name)) e es (insert_entry p es name v) name v (place_of (keys_of es) name) none (λ n. keys-insert_entry p name v h es n))
+pub members-insert_entry : (p : Name → Name → Bool) (name : Name) (v : MemberOptions) → ((m : Name) → Decides (p name m) (name ≡ m)) → (es : List (Name × MemberOptions)) → place_of (member_names (members_in es)) name ≡ None
+    → members_in (insert_entry p es name v) ≡ members_in es ++ member_of_entry (name, v) ∷ []
+members-insert_entry p name v h [] none = refl
+members-insert_entry p name v h (e ∷ es) none =
+    rw (same_text (p name) name h e.0) (last-step (bytes_eq (name_bytes e.0) (name_bytes name)) e es (insert_entry p es name v) name v (place_of (member_names (members_in es)) name) none (λ n. members-insert_entry p name v h es n))
+
+-- the names of members are the keys of their table
+pub names-are-keys : (es : List (Name × MemberOptions)) → member_names (members_in es) ≡ keys_of es
+names-are-keys [] = refl
+names-are-keys (e ∷ es) = ap (λ t. e.0 ∷ t) (names-are-keys es)
+
+pub keys-count : (es : List (Name × MemberOptions)) → length (keys_of es) ≡ length (members_in es)
+keys-count es = length-map es (λ x. x.0) ∙ sym (length-map es member_of_entry)
+
+-- what is new among keys is new among members
+pub among-members : (es : List (Name × MemberOptions)) (name : Name) → length (keys_of es) < 16 → place_of (keys_of es) name ≡ None → (length (members_in es) < 16) × (place_of (member_names (members_in es)) name ≡ None)
+among-members es name few none = (omega (arith, keys-count es), ap (λ names. place_of names name) (names-are-keys es) ∙ none)
 
 pub absent : {X : Type 0} (o : Option X) → is_some o ≡ false → o ≡ None
 absent None e = refl

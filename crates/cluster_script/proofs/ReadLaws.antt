@@ -1,67 +1,75 @@
 -- What is read as a script is one, and is spelled so.
-use Rattle.std.proofs.Common.{◌≡◌, ℕ, ◌+◌, ◌^◌, ◌≤◌, ◌<◌, ◌&&◌, nat_le, Bool, true, false, cond, List, [], ◌∷◌, ◌++◌, length, Option, Some, None, Ok, Err, refl, ◌∙◌, ap, sym, subst, arith, append_assoc, append-nil, length-append}
+use Rattle.std.proofs.Common.{◌≡◌, ℕ, ◌+◌, ◌^◌, ◌≤◌, ◌<◌, ◌&&◌, nat_le, Bool, true, false, cond, List, [], ◌∷◌, ◌++◌, length, map, Option, Some, None, Ok, Err, refl, ◌∙◌, ap, sym, subst, arith, append_assoc, append-nil, length-append}
 use Rattle.std.specs.Fmt.{decimal}
 use Rattle.std.specs.Str.{is_utf8}
 use Rattle.std.proofs.lemmas.Bool.Decides.{nat_tests}
-use Rattle.std.proofs.lemmas.List.{map-append}
+use Rattle.std.proofs.lemmas.List.{map-append, length-map}
 use Rattle.pat_base.specs.Name.{name_bytes, name_of}
 use Rattle.pat_base.specs.declared.name.Name.{Name}
 use Rattle.pat_base.proofs.Names.{name_of-text}
 use Rattle.cluster_script.specs.Arguments.{number_in, line_of_words}
 use Rattle.cluster_script.specs.Draft.{DraftText, script_so_far}
-use Rattle.cluster_script.specs.Faults.{on_ok}
+use Rattle.cluster_script.specs.Faults.{on_ok, both}
 use Rattle.cluster_script.specs.Lines.{lines_in, is_skipped, counted_lines}
 use Rattle.cluster_script.specs.Members.{place_of}
-use Rattle.cluster_script.specs.Reading.{has_option, declared_in_head, declared_once, named_member, new_member, next_member, ranged_base, base_in, head_end, base_end, next_base, addition_of, known_addition, addition_in, with_addition, with_line, alone, cluster_named, cluster_in, cluster_by_keyword, first_line, first_draft, after_counted, after_text, after_line, after_lines, at_line, with_some, finished, script_of}
-use Rattle.cluster_script.specs.Script.{AreDifferent, ScriptText, IsScript, IsLine, AllAreLines, cluster_text, member_line_text, base_text, line_text, member_lines, base_or_default, head_with_base, IsHeadLines, body_lines, IsInForm, AllInForm, Spells}
+use Rattle.cluster_script.specs.Options.{SayOnce, option_text, behind_blanks, options_or_default}
+use Rattle.cluster_script.specs.OptionReading.{options_in}
+use Rattle.cluster_script.specs.Reading.{name_in, declared_in_head, declared_once, named_member, new_member, next_member, ranged_base, base_in, head_end, base_end, next_base, addition_of, known_addition, addition_in, with_addition, with_line, alone, cluster_named, cluster_in, cluster_by_keyword, first_line, first_draft, after_counted, after_text, after_line, after_lines, at_line, with_some, finished, script_of}
+use Rattle.cluster_script.specs.Script.{AreDifferent, MemberText, MemberLine, ScriptText, member_names, names_of, member_of_entry, member_of_line, members_of_lines, IsScript, IsLine, AllAreLines, cluster_text, member_line_text, base_text, line_text, member_lines, base_or_default, head_with_base, IsHeadLines, body_lines, IsInForm, AllInForm, Spells}
 use Rattle.cluster_script.specs.Words.{spelled, keyword_of, cut_word}
 use Rattle.cluster_script.specs.declared.addition.Addition.{Addition}
 use Rattle.cluster_script.specs.declared.addition.Addition.TheVariants as additions
 use Rattle.cluster_script.specs.declared.fault.Fault.TheVariants as faults
 use Rattle.cluster_script.specs.declared.keyword.Keyword.{Keyword}
 use Rattle.cluster_script.specs.declared.keyword.Keyword.TheVariants as words
+use Rattle.cluster_script.specs.declared.head.MemberOptions.{MemberOptions}
 use Rattle.cluster_script.specs.declared.line.Line.{Line}
+use Rattle.cluster_script.specs.declared.member_option.MemberOption.{MemberOption}
+use Rattle.cluster_script.specs.declared.member_option.SaidOptions.{SaidOptions}
 use Rattle.cluster_script.proofs.ArgumentLaws.{number_in-Ok, line_of_words-Ok}
 use Rattle.cluster_script.proofs.NameLaws.{AreDifferent-push}
 use Rattle.cluster_script.proofs.NumberLaws.{number-is}
-use Rattle.cluster_script.proofs.Outcomes.{none_is, ok_is, err_is, on_ok-Ok, on_ok-made, at_line-Ok, cond-Ok, cond-Err}
+use Rattle.cluster_script.proofs.OptionLaws.{options_in-Ok, options-behind}
+use Rattle.cluster_script.proofs.Outcomes.{none_is, ok_is, err_is, on_ok-Ok, on_ok-made, ok_or-Ok, both-Ok, at_line-Ok, cond-Ok, cond-Err}
 use Rattle.cluster_script.proofs.WordLaws.{cut_word-None, cut_word-Some, keyword_of-is}
+
+-- a line that declares a member
+pub record DeclaredLine (line : List ℕ) (name : Name) (declared : MemberOptions) : Type 0 where
+  pub is : MemberLine
+  pub text : member_line_text is ≡ line
+  pub declares : member_of_line is ≡ member_of_entry (name, declared)
 
 -- what a line adds, and how it is spelled
 abbrev IsAddition : Option ℕ → List Name → List Line → List ℕ → Addition → Type 0
-IsAddition base members body line (additions.Member name) = (member_line_text name ≡ line) × (length members < 16) × (place_of members name ≡ None) × (body ≡ [])
+IsAddition base members body line (additions.Member name declared) = DeclaredLine line name declared × (length members < 16) × (place_of members name ≡ None) × (body ≡ [])
 IsAddition base members body line (additions.Base n) = (base_text n ≡ line) × (1 ≤ n) × (n ≤ 2 ^ 40) × (base ≡ None) × (body ≡ [])
 IsAddition base members body line (additions.Body l) = (line_text members l ≡ line) × IsLine members l
 
 -- the words of a member's line
-record DeclaresMember (members : List Name) (body : List Line) (rest : Option (List ℕ)) (name : Name) : Type 0 where
+record DeclaresMember (members : List Name) (body : List Line) (rest : Option (List ℕ)) (member : Name × MemberOptions) : Type 0 where
   pub words : List ℕ
   pub is : rest ≡ Some words
-  pub text : name_bytes name ≡ words
+  pub os : List MemberOption
+  pub said : SaidOptions
+  pub once : SayOnce os said
+  pub declared : options_or_default said ≡ member.1
+  pub text : name_bytes member.0 ++ behind_blanks (map option_text os) ≡ words
   pub few : length members < 16
-  pub absent : place_of members name ≡ None
+  pub absent : place_of members member.0 ≡ None
   pub in_head : body ≡ []
 
-in_head-Ok : (name x : Name) (body : List Line) → declared_in_head name body ≡ Ok x → (name ≡ x) × (body ≡ [])
-in_head-Ok name x [] e = (ok_is name x e, refl)
-in_head-Ok name x (l ∷ body) e = absurd (err_is _ x e)
+in_head-Ok : (member x : Name × MemberOptions) (body : List Line) → declared_in_head member body ≡ Ok x → (member ≡ x) × (body ≡ [])
+in_head-Ok member x [] e = (ok_is member x e, refl)
+in_head-Ok member x (l ∷ body) e = absurd (err_is _ x e)
 
-once-Ok : (members : List Name) (name x : Name) (body : List Line) (o : Option ℕ) → place_of members name ≡ o → declared_once name body o ≡ Ok x → (name ≡ x) × (place_of members name ≡ None) × (body ≡ [])
-once-Ok members name x body (Some place) is e = absurd (err_is _ x e)
-once-Ok members name x body None is e = let p = in_head-Ok name x body e in (p.0, is, p.1)
-
-named-Ok : (members : List Name) (body : List Line) (word : List ℕ) (o : Option Name) (rest : Option (List ℕ)) (x : Name) → name_of word ≡ o → named_member members body o rest ≡ Ok x
-    → (name_bytes x ≡ word) × (rest ≡ None) × (place_of members x ≡ None) × (body ≡ [])
-named-Ok members body word None rest x is e = absurd (err_is _ x e)
-named-Ok members body word (Some name) (Some words) x is e = absurd (err_is _ x e)
-named-Ok members body word (Some name) None x is e =
-    let p = once-Ok members name x body (place_of members name) refl e in
-    (ap name_bytes (sym p.0) ∙ name_of-text word name is, refl, subst (λ (n : Name). place_of members n ≡ None) p.0 p.1, p.2)
+once-Ok : (members : List Name) (member x : Name × MemberOptions) (body : List Line) (o : Option ℕ) → place_of members member.0 ≡ o → declared_once member body o ≡ Ok x → (member ≡ x) × (place_of members member.0 ≡ None) × (body ≡ [])
+once-Ok members member x body (Some place) is e = absurd (err_is _ x e)
+once-Ok members member x body None is e = let p = in_head-Ok member x body e in (p.0, is, p.1)
 
 not-many : (n : ℕ) → nat_le 16 n ≡ false → n < 16
 not-many n e = grind (arith, nat_tests)
 
-next_member-Ok : (members : List Name) (body : List Line) (rest : Option (List ℕ)) (x : Name) → next_member members body rest ≡ Ok x → DeclaresMember members body rest x
+next_member-Ok : (members : List Name) (body : List Line) (rest : Option (List ℕ)) (x : Name × MemberOptions) → next_member members body rest ≡ Ok x → DeclaresMember members body rest x
 next_member-Ok members body rest x e =
     let p = cond-Err (nat_le 16 (length members)) (new_member members body rest) faults.BadWord x e in
     words-Ok rest (not-many (length members) p.0) p.1
@@ -69,9 +77,23 @@ next_member-Ok members body rest x e =
     words-Ok : (rest : Option (List ℕ)) → length members < 16 → new_member members body rest ≡ Ok x → DeclaresMember members body rest x
     words-Ok None few e = absurd (err_is _ x e)
     words-Ok (Some words) few e =
-        let p = cond-Err (has_option words) (named_member members body (name_of (cut_word words).0) (cut_word words).1) faults.NotBuilt x e in
-        let q = named-Ok members body (cut_word words).0 (name_of (cut_word words).0) (cut_word words).1 x refl p.1 in
-        record { words = words; is = refl; text = q.0 ∙ cut_word-None words q.1; few = few; absent = q.2; in_head = q.3 }
+        let p = on_ok-Ok (both (name_in (cut_word words).0) (options_in (cut_word words).1)) (named_member members body) x e in
+        let b = both-Ok (name_in (cut_word words).0) (options_in (cut_word words).1) p.0 p.1 in
+        let q = once-Ok members p.0 x body (place_of members p.0.0) refl p.2 in
+        let d = options_in-Ok (cut_word words).1 p.0.1 b.1 in
+        let name : name_bytes p.0.0 ≡ (cut_word words).0 = name_of-text (cut_word words).0 p.0.0 (ok_or-Ok (name_of (cut_word words).0) faults.BadName p.0.0 b.0) in
+        subst (DeclaresMember members body (Some words)) q.0 (record {
+          words = words;
+          is = refl;
+          os = d.words;
+          said = d.said;
+          once = d.once;
+          declared = d.is;
+          text = options-behind words (name_bytes p.0.0) (cut_word words).1 d.words refl name d.text;
+          few = few;
+          absent = q.1;
+          in_head = q.2;
+        })
 
 -- the words of a base's line
 record DeclaresBase (said : Option ℕ) (body : List Line) (rest : Option (List ℕ)) (n : ℕ) : Type 0 where
@@ -127,12 +149,20 @@ body-Ok base members body line keyword a k e =
     on_ok-made (IsAddition base members body line) (line_of_words members keyword (cut_word line).1) additions.Body a e (λ l is.
     let s = line_of_words-Ok members keyword (cut_word line).1 l is in (s.text ∙ line-is line keyword s.words k s.is, s.fits))
 
-member-Ok : (base : Option ℕ) (members : List Name) (body : List Line) (line : List ℕ) (a : Addition) → keyword_of (cut_word line).0 ≡ Some words.Member → on_ok (next_member members body (cut_word line).1) (λ name. Ok (additions.Member name)) ≡ Ok a
-    → IsAddition base members body line a
+member-Ok : (base : Option ℕ) (members : List Name) (body : List Line) (line : List ℕ) (a : Addition) → keyword_of (cut_word line).0 ≡ Some words.Member
+    → on_ok (next_member members body (cut_word line).1) (λ member. Ok (additions.Member member.0 member.1)) ≡ Ok a → IsAddition base members body line a
 member-Ok base members body line a k e =
-    on_ok-made (IsAddition base members body line) (next_member members body (cut_word line).1) additions.Member a e (λ name is.
-    let s = next_member-Ok members body (cut_word line).1 name is in
-    (ap (spelled words.Member) s.text ∙ line-is line words.Member s.words k s.is, s.few, s.absent, s.in_head))
+    on_ok-made (IsAddition base members body line) (next_member members body (cut_word line).1) (λ (member : Name × MemberOptions). additions.Member member.0 member.1) a e (λ member is.
+    let s = next_member-Ok members body (cut_word line).1 member is in (
+      record {
+        is = record { name = member.0; words = s.os; said = s.said; once = s.once };
+        text = ap (spelled words.Member) s.text ∙ line-is line words.Member s.words k s.is;
+        declares = ap (λ (o : MemberOptions). member_of_entry (member.0, o)) s.declared;
+      },
+      s.few,
+      s.absent,
+      s.in_head,
+    ))
 
 base-Ok : (base : Option ℕ) (members : List Name) (body : List Line) (line : List ℕ) (a : Addition) → keyword_of (cut_word line).0 ≡ Some words.Base → on_ok (next_base base body (cut_word line).1) (λ n. Ok (additions.Base n)) ≡ Ok a
     → IsAddition base members body line a
@@ -184,16 +214,16 @@ IsBaseIfSaid (Some n) = (1 ≤ n) × (n ≤ 2 ^ 40)
 record IsBegun (d : DraftText) : Type 0 where
   pub base : IsBaseIfSaid d.base
   pub few : length d.members ≤ 16
-  pub different : AreDifferent d.members
-  pub body : AllAreLines d.members d.body
+  pub different : AreDifferent (member_names d.members)
+  pub body : AllAreLines (member_names d.members) d.body
 
 -- the lines so far, which say a draft: those of its head with the base somewhere among its members, and those of its body
 record SayDraft (d : DraftText) (ls : List (List ℕ)) : Type 0 where
-  pub before : List Name
-  pub behind : List Name
-  pub members : before ++ behind ≡ d.members
+  pub before : List MemberLine
+  pub behind : List MemberLine
+  pub members : members_of_lines (before ++ behind) ≡ d.members
   pub no_base : d.base ≡ None → behind ≡ []
-  pub lines : ls ≡ head_with_base d.cluster before d.base behind ++ body_lines d.members d.body
+  pub lines : ls ≡ head_with_base d.cluster (member_lines before) d.base (member_lines behind) ++ body_lines (member_names d.members) d.body
 
 -- lines that say a draft, and what holds of it
 record Adds (d : DraftText) (ls : List (List ℕ)) : Type 0 where
@@ -215,70 +245,90 @@ push-behind : {X : Type 0} (f g h : List X) (l : X) → ((f ++ (g ++ h)) ++ []) 
 push-behind f g h l = simp (append_assoc, append-nil)
 
 -- a head alone
-start : Name → Option ℕ → List Name → DraftText
+start : Name → Option ℕ → List MemberText → DraftText
 start cluster base members = record { cluster = cluster; base = base; members = members; body = [] }
 
 -- as long as no base is said, all members stand before it
-no-base-lines : (cluster : Name) (members : List Name) (ls : List (List ℕ)) → SayDraft (start cluster None members) ls → ls ≡ head_with_base cluster members None [] ++ []
+record SayNoBase (cluster : Name) (members : List MemberText) (ls : List (List ℕ)) : Type 0 where
+  pub before : List MemberLine
+  pub members_are : members_of_lines before ≡ members
+  pub lines : ls ≡ head_with_base cluster (member_lines before) None [] ++ []
+
+no-base-lines : (cluster : Name) (members : List MemberText) (ls : List (List ℕ)) → SayDraft (start cluster None members) ls → SayNoBase cluster members ls
 unfolding start
 no-base-lines cluster members ls h =
     let none : h.behind ≡ [] = h.no_base refl in
-    let all : h.before ≡ members = sym (append-nil h.before) ∙ ap (λ b. h.before ++ b) (sym none) ∙ h.members in
-    h.lines ∙ ap (λ b. head_with_base cluster h.before None b ++ []) none ∙ ap (λ f. head_with_base cluster f None [] ++ []) all
+    record {
+      before = h.before;
+      members_are = ap members_of_lines (sym (append-nil h.before)) ∙ ap (λ b. members_of_lines (h.before ++ b)) (sym none) ∙ h.members;
+      lines = h.lines ∙ ap (λ b. head_with_base cluster (member_lines h.before) None (member_lines b) ++ []) none;
+    }
 
-member-lines : (cluster name : Name) (base : Option ℕ) (members : List Name) (ls : List (List ℕ)) → SayDraft (start cluster base members) ls → SayDraft (start cluster base (members ++ name ∷ [])) (ls ++ member_line_text name ∷ [])
+one-declared : (lines : List MemberLine) (line : MemberLine) (members : List MemberText) → members_of_lines lines ≡ members → members_of_lines (lines ++ line ∷ []) ≡ members ++ member_of_line line ∷ []
+one-declared lines line members are = map-append member_of_line lines (line ∷ []) ∙ ap (λ t. t ++ member_of_line line ∷ []) are
+
+member-lines : (cluster : Name) (line : MemberLine) (base : Option ℕ) (members : List MemberText) (ls : List (List ℕ)) → SayDraft (start cluster base members) ls → SayDraft (start cluster base (members ++ member_of_line line ∷ [])) (ls ++ member_line_text line ∷ [])
 unfolding start
-member-lines cluster name None members ls h = record {
-  before = members ++ name ∷ [];
-  behind = [];
-  members = append-nil (members ++ name ∷ []);
-  no_base = λ _. refl;
-  lines = ap (λ t. t ++ member_line_text name ∷ []) (no-base-lines cluster members ls h)
-      ∙ ap (λ t. cluster_text cluster ∷ t) (push-member (member_lines members) (member_line_text name) ∙ ap (λ t. (t ++ []) ++ []) (sym (map-append member_line_text members (name ∷ []))));
-}
-member-lines cluster name (Some n) members ls h = record {
+member-lines cluster line None members ls h =
+    let n = no-base-lines cluster members ls h in
+    record {
+      before = n.before ++ line ∷ [];
+      behind = [];
+      members = ap members_of_lines (append-nil (n.before ++ line ∷ [])) ∙ one-declared n.before line members n.members_are;
+      no_base = λ _. refl;
+      lines = ap (λ t. t ++ member_line_text line ∷ []) n.lines
+          ∙ ap (λ t. cluster_text cluster ∷ t) (push-member (member_lines n.before) (member_line_text line) ∙ ap (λ t. (t ++ []) ++ []) (sym (map-append member_line_text n.before (line ∷ []))));
+    }
+member-lines cluster line (Some n) members ls h = record {
   before = h.before;
-  behind = h.behind ++ name ∷ [];
-  members = sym (append_assoc h.before h.behind (name ∷ [])) ∙ ap (λ t. t ++ name ∷ []) h.members;
+  behind = h.behind ++ line ∷ [];
+  members = ap members_of_lines (sym (append_assoc h.before h.behind (line ∷ []))) ∙ one-declared (h.before ++ h.behind) line members h.members;
   no_base = λ e. absurd (none_is n (sym e));
-  lines = ap (λ t. t ++ member_line_text name ∷ []) h.lines
+  lines = ap (λ t. t ++ member_line_text line ∷ []) h.lines
       ∙ ap (λ t. cluster_text cluster ∷ t)
-      (push-behind (member_lines h.before) (base_text n ∷ []) (member_lines h.behind) (member_line_text name)
-      ∙ ap (λ t. (member_lines h.before ++ (base_text n ∷ t)) ++ []) (sym (map-append member_line_text h.behind (name ∷ []))));
+      (push-behind (member_lines h.before) (base_text n ∷ []) (member_lines h.behind) (member_line_text line)
+      ∙ ap (λ t. (member_lines h.before ++ (base_text n ∷ t)) ++ []) (sym (map-append member_line_text h.behind (line ∷ []))));
 }
 
-base-lines : (cluster : Name) (n : ℕ) (members : List Name) (ls : List (List ℕ)) → SayDraft (start cluster None members) ls → SayDraft (start cluster (Some n) members) (ls ++ base_text n ∷ [])
+base-lines : (cluster : Name) (n : ℕ) (members : List MemberText) (ls : List (List ℕ)) → SayDraft (start cluster None members) ls → SayDraft (start cluster (Some n) members) (ls ++ base_text n ∷ [])
 unfolding start
-base-lines cluster n members ls h = record {
-  before = members;
-  behind = [];
-  members = append-nil members;
-  no_base = λ e. absurd (none_is n (sym e));
-  lines = ap (λ t. t ++ base_text n ∷ []) (no-base-lines cluster members ls h) ∙ ap (λ t. cluster_text cluster ∷ t) (push-base (member_lines members) (base_text n));
-}
+base-lines cluster n members ls h =
+    let none = no-base-lines cluster members ls h in
+    record {
+      before = none.before;
+      behind = [];
+      members = ap members_of_lines (append-nil none.before) ∙ none.members_are;
+      no_base = λ e. absurd (none_is n (sym e));
+      lines = ap (λ t. t ++ base_text n ∷ []) none.lines ∙ ap (λ t. cluster_text cluster ∷ t) (push-base (member_lines none.before) (base_text n));
+    }
 
-body-lines : (d : DraftText) (l : Line) (ls : List (List ℕ)) → SayDraft d ls → SayDraft (record d { body = d.body ++ l ∷ [] }) (ls ++ line_text d.members l ∷ [])
+body-lines : (d : DraftText) (l : Line) (ls : List (List ℕ)) → SayDraft d ls → SayDraft (record d { body = d.body ++ l ∷ [] }) (ls ++ line_text (member_names d.members) l ∷ [])
 body-lines d l ls h = record {
   before = h.before;
   behind = h.behind;
   members = h.members;
   no_base = h.no_base;
-  lines = ap (λ t. t ++ line_text d.members l ∷ []) h.lines
-      ∙ append_assoc (head_with_base d.cluster h.before d.base h.behind) (body_lines d.members d.body) (line_text d.members l ∷ [])
-      ∙ ap (λ t. head_with_base d.cluster h.before d.base h.behind ++ t) (sym (map-append (line_text d.members) d.body (l ∷ [])));
+  lines = ap (λ t. t ++ line_text (member_names d.members) l ∷ []) h.lines
+      ∙ append_assoc (head_with_base d.cluster (member_lines h.before) d.base (member_lines h.behind)) (body_lines (member_names d.members) d.body) (line_text (member_names d.members) l ∷ [])
+      ∙ ap (λ t. head_with_base d.cluster (member_lines h.before) d.base (member_lines h.behind) ++ t) (sym (map-append (line_text (member_names d.members)) d.body (l ∷ [])));
 }
 
-member-Adds : (cluster name : Name) (base : Option ℕ) (members : List Name) (body : List Line) (ls : List (List ℕ)) → body ≡ [] → length members < 16 → place_of members name ≡ None
+member-Adds : (cluster : Name) (line : MemberLine) (base : Option ℕ) (members : List MemberText) (body : List Line) (ls : List (List ℕ)) → body ≡ [] → length (member_names members) < 16 → place_of (member_names members) line.name ≡ None
     → Adds (record { cluster = cluster; base = base; members = members; body = body }) ls
-    → Adds (record { cluster = cluster; base = base; members = members ++ name ∷ []; body = body }) (ls ++ member_line_text name ∷ [])
+    → Adds (record { cluster = cluster; base = base; members = members ++ member_of_line line ∷ []; body = body }) (ls ++ member_line_text line ∷ [])
 unfolding start
-member-Adds cluster name base members [] ls is few absent h = record {
-  says = member-lines cluster name base members ls h.says;
-  begun = record { base = h.begun.base; few = omega (arith, length-append members (name ∷ [])); different = AreDifferent-push members name h.begun.different absent; body = tt };
+member-Adds cluster line base members [] ls is few absent h = record {
+  says = member-lines cluster line base members ls h.says;
+  begun = record {
+    base = h.begun.base;
+    few = omega (arith, length-append members (member_of_line line ∷ []), length-map members (λ (m : MemberText). m.name));
+    different = subst AreDifferent (sym (map-append (λ (m : MemberText). m.name) members (member_of_line line ∷ []))) (AreDifferent-push (member_names members) line.name h.begun.different absent);
+    body = tt;
+  };
 }
-member-Adds cluster name base members (l ∷ body) ls is few absent h = cc
+member-Adds cluster line base members (l ∷ body) ls is few absent h = cc
 
-base-Adds : (cluster : Name) (n : ℕ) (base : Option ℕ) (members : List Name) (body : List Line) (ls : List (List ℕ)) → base ≡ None → body ≡ [] → 1 ≤ n → n ≤ 2 ^ 40
+base-Adds : (cluster : Name) (n : ℕ) (base : Option ℕ) (members : List MemberText) (body : List Line) (ls : List (List ℕ)) → base ≡ None → body ≡ [] → 1 ≤ n → n ≤ 2 ^ 40
     → Adds (record { cluster = cluster; base = base; members = members; body = body }) ls
     → Adds (record { cluster = cluster; base = Some n; members = members; body = body }) (ls ++ base_text n ∷ [])
 unfolding start
@@ -289,21 +339,26 @@ base-Adds cluster n None members [] ls first is least most h = record {
 base-Adds cluster n None members (l ∷ body) ls first is least most h = cc
 base-Adds cluster n (Some k) members body ls first is least most h = absurd (none_is k (sym first))
 
-addition-Adds : (d : DraftText) (ls : List (List ℕ)) (line : List ℕ) (a : Addition) → Adds d ls → IsAddition d.base d.members d.body line a → Adds (with_addition d a) (ls ++ line ∷ [])
-addition-Adds d ls line (additions.Member name) h is =
-    subst (λ (l : List ℕ). Adds (with_addition d (additions.Member name)) (ls ++ l ∷ [])) is.0 (member-Adds d.cluster name d.base d.members d.body ls is.3 is.1 is.2 h)
+addition-Adds : (d : DraftText) (ls : List (List ℕ)) (line : List ℕ) (a : Addition) → Adds d ls → IsAddition d.base (member_names d.members) d.body line a → Adds (with_addition d a) (ls ++ line ∷ [])
+addition-Adds d ls line (additions.Member name declared) h is =
+    let one = is.0.is in
+    let same : one.name ≡ name = ap (λ (m : MemberText). m.name) is.0.declares in
+    let absent : place_of (member_names d.members) one.name ≡ None = ap (place_of (member_names d.members)) same ∙ is.2 in
+    subst (λ (l : List ℕ). Adds (with_addition d (additions.Member name declared)) (ls ++ l ∷ [])) is.0.text
+    (subst (λ (m : MemberText). Adds (record { cluster = d.cluster; base = d.base; members = d.members ++ m ∷ []; body = d.body }) (ls ++ member_line_text one ∷ [])) is.0.declares
+    (member-Adds d.cluster one d.base d.members d.body ls is.3 is.1 absent h))
 addition-Adds d ls line (additions.Base n) h is =
     subst (λ (l : List ℕ). Adds (with_addition d (additions.Base n)) (ls ++ l ∷ [])) is.0 (base-Adds d.cluster n d.base d.members d.body ls is.3 is.4 is.1 is.2 h)
 addition-Adds d ls line (additions.Body l) h is =
     subst (λ (t : List ℕ). Adds (with_addition d (additions.Body l)) (ls ++ t ∷ [])) is.0 (record {
       says = body-lines d l ls h.says;
-      begun = record { base = h.begun.base; few = h.begun.few; different = h.begun.different; body = AllAreLines-push d.members d.body l h.begun.body is.1 };
+      begun = record { base = h.begun.base; few = h.begun.few; different = h.begun.different; body = AllAreLines-push (member_names d.members) d.body l h.begun.body is.1 };
     })
 
 line-Adds : (d e : DraftText) (ls : List (List ℕ)) (line : List ℕ) → Adds d ls → with_line d line ≡ Ok e → Adds e (ls ++ line ∷ [])
 line-Adds d e ls line h is =
-    let p = on_ok-Ok (addition_in d.base d.members d.body line) (λ added. Ok (with_addition d added)) e is in
-    subst (λ (x : DraftText). Adds x (ls ++ line ∷ [])) (ok_is (with_addition d p.0) e p.2) (addition-Adds d ls line p.0 h (addition_in-Ok d.base d.members d.body line p.0 p.1))
+    let p = on_ok-Ok (addition_in d.base (member_names d.members) d.body line) (λ added. Ok (with_addition d added)) e is in
+    subst (λ (x : DraftText). Adds x (ls ++ line ∷ [])) (ok_is (with_addition d p.0) e p.2) (addition-Adds d ls line p.0 h (addition_in-Ok d.base (member_names d.members) d.body line p.0 p.1))
 
 -- the first line
 alone-Ok : (name x : Name) (rest : Option (List ℕ)) → alone name rest ≡ Ok x → (name ≡ x) × (rest ≡ None)
@@ -381,7 +436,7 @@ lines-Adds number o p ls (line ∷ rest) h e =
     ((a.0, b.0), subst (AddsIfAny p) all b.1)
 
 -- a whole script
-with_some-Ok : (s t : ScriptText) (members : List Name) → with_some s members ≡ Ok t → (s ≡ t) × (0 < length members)
+with_some-Ok : (s t : ScriptText) (members : List MemberText) → with_some s members ≡ Ok t → (s ≡ t) × (0 < length members)
 with_some-Ok s t [] e = absurd (err_is _ t e)
 with_some-Ok s t (m ∷ members) e = (ok_is s t e, omega arith)
 
@@ -396,7 +451,7 @@ pub record AreScript (text : ScriptText) (all : List (List ℕ)) : Type 0 where
   pub script : IsScript text
   pub head : List (List ℕ)
   pub says : IsHeadLines text.head head
-  pub counted : counted_lines all ≡ head ++ body_lines text.head.members text.body
+  pub counted : counted_lines all ≡ head ++ body_lines (names_of text.head) text.body
 
 base-range : (said : Option ℕ) → IsBaseIfSaid said → (1 ≤ base_or_default said) × (base_or_default said ≤ 2 ^ 40)
 base-range None h = (omega arith, omega arith)
@@ -410,7 +465,7 @@ draft-AreScript d all h some =
         head = record { base_least = range.0; base_most = range.1; some = some; few = h.begun.few; different = h.begun.different };
         body = h.begun.body;
       };
-      head = head_with_base d.cluster h.says.before d.base h.says.behind;
+      head = head_with_base d.cluster (member_lines h.says.before) d.base (member_lines h.says.behind);
       says = record { before = h.says.before; said = d.base; behind = h.says.behind; members = h.says.members; base = refl; order = refl };
       counted = h.says.lines;
     }

@@ -1,11 +1,12 @@
 -- What is spelled as a script is read as it.
-use Rattle.std.proofs.Common.{◌≡◌, ◌≢◌, ℕ, ◌+◌, ◌^◌, ◌≤◌, ◌<◌, ◌&&◌, ◌==◌, nat_le, Bool, true, false, cond, List, [], ◌∷◌, ◌++◌, length, slice_get, Option, Some, None, Result, Ok, Err, codes, refl, ◌∙◌, ap, sym, subst, zero, suc, arith, append_assoc, append-nil, length-append}
+use Rattle.std.proofs.Common.{◌≡◌, ◌≢◌, ℕ, ◌+◌, ◌^◌, ◌≤◌, ◌<◌, ◌&&◌, ◌==◌, nat_le, Bool, true, false, cond, List, [], ◌∷◌, ◌++◌, length, map, slice_get, Option, Some, None, Result, Ok, Err, codes, refl, ◌∙◌, ap, sym, subst, zero, suc, arith, append_assoc, append-nil, length-append}
 use Rattle.std.specs.Fmt.{decimal}
 use Rattle.std.specs.List.{list_all}
 use Rattle.std.specs.Option.{ok_or, option_and_then}
 use Rattle.std.specs.Str.{bytes_eq}
 use Rattle.std.proofs.lemmas.Bool.{and_parts, eqb-true}
 use Rattle.std.proofs.lemmas.Bool.Decides.{nat_tests}
+use Rattle.std.proofs.lemmas.List.{map-append, length-map}
 use Rattle.std.proofs.lemmas.Option.{slice_get_within}
 use Rattle.std.proofs.lemmas.Slice.Eq.{bytes_eq-Decides}
 use Rattle.pat_base.specs.Bounded.{is_text-bytes}
@@ -26,12 +27,14 @@ use Rattle.pat_base.specs.declared.name.Name.{Name}
 use Rattle.cluster_script.specs.Faults.{on_ok}
 use Rattle.cluster_script.specs.Lines.{lines_in, is_skipped, counted_lines}
 use Rattle.cluster_script.specs.Members.{place_of}
-use Rattle.cluster_script.specs.Reading.{has_option, declared_once, named_member, new_member, next_member, ranged_base, base_in, base_end, next_base, addition_of, known_addition, addition_in, with_addition, with_line, cluster_named, cluster_by_keyword, first_line, first_draft, after_counted, after_text, after_line, after_lines, at_line, with_some, finished, script_of}
-use Rattle.cluster_script.specs.Script.{AreDifferent, ScriptText, IsScript, IsMember, IsEnd, IsLink, IsCommand, IsLine, AllAreLines, cluster_text, member_line_text, line_text, body_lines, IsInForm, AllInForm, Spells, member_text, text_of_name}
+use Rattle.cluster_script.specs.Options.{option_text, behind_blanks, options_or_default}
+use Rattle.cluster_script.specs.Reading.{name_in, declared_once, named_member, new_member, next_member, ranged_base, base_in, base_end, next_base, addition_of, known_addition, addition_in, with_addition, with_line, cluster_named, cluster_by_keyword, first_line, first_draft, after_counted, after_text, after_line, after_lines, at_line, with_some, finished, script_of}
+use Rattle.cluster_script.specs.Script.{AreDifferent, MemberText, MemberLine, ScriptText, member_names, names_of, member_of_line, members_of_lines, IsScript, IsMember, IsEnd, IsLink, IsCommand, IsLine, AllAreLines, cluster_text, member_line_text, line_text, body_lines, IsInForm, AllInForm, Spells, member_text, text_of_name}
 use Rattle.cluster_script.specs.Words.{spelled, keyword_of, cut_word}
 use Rattle.cluster_script.specs.declared.addition.Addition.TheVariants as additions
 use Rattle.cluster_script.specs.declared.fault.Fault.{Fault}
 use Rattle.cluster_script.specs.declared.fault.Fault.TheVariants as faults
+use Rattle.cluster_script.specs.declared.head.MemberOptions.{MemberOptions}
 use Rattle.cluster_script.specs.declared.keyword.Keyword.{Keyword}
 use Rattle.cluster_script.specs.declared.keyword.Keyword.TheVariants as words
 use Rattle.cluster_script.specs.declared.line.End.{End}
@@ -46,8 +49,9 @@ use Rattle.cluster_script.specs.declared.ranges.CommitSize.{CommitSize}
 use Rattle.cluster_script.specs.declared.ranges.Delay.{Delay}
 use Rattle.cluster_script.proofs.NameLaws.{place_of-Some, place_of-None}
 use Rattle.cluster_script.proofs.NumberLaws.{number-decimal, first_at-decimal}
+use Rattle.cluster_script.proofs.OptionLaws.{options-cut, options_in-again}
 use Rattle.cluster_script.proofs.RangeLaws.{commit_size_of-Some, delay_of-Some}
-use Rattle.cluster_script.proofs.WordLaws.{cut_word-again, cut_word-alone, cut_word-spelled, keyword_of-word_of, passed}
+use Rattle.cluster_script.proofs.WordLaws.{cut_word-again, cut_word-alone, cut_word-spelled, keyword_of-word_of}
 
 -- no blank stands in a name
 byte-other : (b : ℕ) → is_name_byte b ≡ true → (b == 32) ≡ false
@@ -260,29 +264,27 @@ addition-again base members body keyword rest =
     ap (λ p. known_addition base members body (keyword_of p.0) p.1) (cut_word-spelled keyword rest)
     ∙ ap (λ k. known_addition base members body k (Some rest)) (keyword_of-word_of keyword)
 
-line-again : (d : DraftText) (line : Line) → 0 < length d.members → AreDifferent d.members → IsLine d.members line → with_line d (line_text d.members line) ≡ Ok (record d { body = d.body ++ line ∷ [] })
+line-again : (d : DraftText) (line : Line) → 0 < length (member_names d.members) → AreDifferent (member_names d.members) → IsLine (member_names d.members) line → with_line d (line_text (member_names d.members) line) ≡ Ok (record d { body = d.body ++ line ∷ [] })
 line-again d line some h is =
-    let said = line-IsSaid d.members line some h is in
+    let said = line-IsSaid (member_names d.members) line some h is in
     ap (with_line d) said.text
-    ∙ ap (λ r. on_ok r (λ added. Ok (with_addition d added))) (addition-again d.base d.members d.body said.keyword said.words ∙ said.in_body d.base d.body)
+    ∙ ap (λ r. on_ok r (λ added. Ok (with_addition d added))) (addition-again d.base (member_names d.members) d.body said.keyword said.words ∙ said.in_body d.base d.body)
 
--- no option stands in a name
-no_option : (v : List ℕ) → first_at 32 v ≡ None → has_option v ≡ false
-no_option [] h = refl
-no_option (b ∷ bs) h =
-    let p = passed (b == 32) (first_at 32 bs) h in
-    rw (p.0, no_option bs p.1) refl
-
+-- a member's line is read again
 few : (n : ℕ) → n < 16 → nat_le 16 n ≡ false
 few n h = grind (arith, nat_tests)
 
-new-again : (members : List Name) (name : Name) → length members < 16 → place_of members name ≡ None → next_member members [] (Some (name_bytes name)) ≡ Ok name
-new-again members name small absent =
-    ap (λ t. cond t (Err faults.BadWord) (new_member members [] (Some (name_bytes name)))) (few (length members) small)
-    ∙ ap (λ t. cond t (Err faults.NotBuilt) (named_member members [] (name_of (cut_word (name_bytes name)).0) (cut_word (name_bytes name)).1)) (no_option (name_bytes name) (first_at-name name))
-    ∙ ap (λ p. named_member members [] (name_of p.0) p.1) (cut_word-alone (name_bytes name) (first_at-name name))
-    ∙ ap (λ o. named_member members [] o None) (name_of-name_bytes name)
-    ∙ ap (declared_once name []) absent
+new-again : (members : List Name) (line : MemberLine) → length members < 16 → place_of members line.name ≡ None
+    → next_member members [] (Some (name_bytes line.name ++ behind_blanks (map option_text line.words))) ≡ Ok (line.name, options_or_default line.said)
+new-again members line small absent =
+    let text : List ℕ = name_bytes line.name ++ behind_blanks (map option_text line.words) in
+    let declared : MemberOptions = options_or_default line.said in
+    let cut = options-cut (name_bytes line.name) line.words (first_at-name line.name) in
+    ap (λ t. cond t (Err faults.BadWord) (new_member members [] (Some text))) (few (length members) small)
+    ∙ ap (λ r. on_ok (both (name_in (cut_word text).0) r) (named_member members [])) (options_in-again (cut_word text).1 line.words line.said cut.words_are line.once)
+    ∙ ap (λ w. on_ok (both (name_in w) (Ok declared)) (named_member members [])) cut.name_is
+    ∙ ap (λ o. on_ok (both (ok_or o faults.BadName) (Ok declared)) (named_member members [])) (name_of-name_bytes line.name)
+    ∙ ap (declared_once (line.name, declared) []) absent
 
 -- a base is read again
 in_range : (n : ℕ) → 1 ≤ n → n ≤ 2 ^ 40 → (nat_le 1 n && nat_le n (2 ^ 40)) ≡ true
@@ -298,21 +300,22 @@ next_base-again n least most =
     ∙ ap (λ t. on_ok (cond t (Ok n) (Err faults.BadNumber)) (λ k. on_ok (base_end None [] None) (λ _. Ok k))) (in_range n least most)
 
 -- a head alone
-start : Name → Option ℕ → List Name → DraftText
+start : Name → Option ℕ → List MemberText → DraftText
 start cluster base members = record { cluster = cluster; base = base; members = members; body = [] }
 
-member_line-again : (cluster name : Name) (base : Option ℕ) (members : List Name) → length members < 16 → place_of members name ≡ None → with_line (start cluster base members) (member_line_text name) ≡ Ok (start cluster base (members ++ name ∷ []))
+member_line-again : (cluster : Name) (line : MemberLine) (base : Option ℕ) (members : List MemberText) → length (member_names members) < 16 → place_of (member_names members) line.name ≡ None
+    → with_line (start cluster base members) (member_line_text line) ≡ Ok (start cluster base (members ++ member_of_line line ∷ []))
 unfolding start
-member_line-again cluster name base members small absent =
+member_line-again cluster line base members small absent =
     ap (λ r. on_ok r (λ added. Ok (with_addition (start cluster base members) added)))
-    (addition-again base members [] words.Member (name_bytes name)
-    ∙ ap (λ r. on_ok r (λ name. Ok (additions.Member name))) (new-again members name small absent))
+    (addition-again base (member_names members) [] words.Member (name_bytes line.name ++ behind_blanks (map option_text line.words))
+    ∙ ap (λ r. on_ok r (λ member. Ok (additions.Member member.0 member.1))) (new-again (member_names members) line small absent))
 
-base_line-again : (cluster : Name) (n : ℕ) (members : List Name) → 1 ≤ n → n ≤ 2 ^ 40 → with_line (start cluster None members) (base_text n) ≡ Ok (start cluster (Some n) members)
+base_line-again : (cluster : Name) (n : ℕ) (members : List MemberText) → 1 ≤ n → n ≤ 2 ^ 40 → with_line (start cluster None members) (base_text n) ≡ Ok (start cluster (Some n) members)
 unfolding start
 base_line-again cluster n members least most =
     ap (λ r. on_ok r (λ added. Ok (with_addition (start cluster None members) added)))
-    (addition-again None members [] words.Base (decimal n)
+    (addition-again None (member_names members) [] words.Base (decimal n)
     ∙ ap (λ r. on_ok r (λ n. Ok (additions.Base n))) (next_base-again n least most))
 
 -- lines that are read one after the other
@@ -342,20 +345,28 @@ new_name front name back (Some i) h e =
     let same : i ≡ length front = h i (length front) name (slice_get-front front (name ∷ back) i name at) (slice_get-seam front name back) in
     absurd (omega (arith, slice_get_within front i name at))
 
-members-again : (cluster : Name) (base : Option ℕ) (front back : List Name) → AreDifferent (front ++ back) → length (front ++ back) ≤ 16 → Chain (Some (start cluster base front)) (member_lines back) (Some (start cluster base (front ++ back)))
+member_names-append : (front back : List MemberText) → member_names (front ++ back) ≡ member_names front ++ member_names back
+member_names-append front back = map-append (λ (m : MemberText). m.name) front back
+
+count-names : (members : List MemberText) → length (member_names members) ≡ length members
+count-names members = length-map members (λ (m : MemberText). m.name)
+
+members-again : (cluster : Name) (base : Option ℕ) (front : List MemberText) (back : List MemberLine) → AreDifferent (member_names (front ++ members_of_lines back)) → length (front ++ members_of_lines back) ≤ 16
+    → Chain (Some (start cluster base front)) (member_lines back) (Some (start cluster base (front ++ members_of_lines back)))
 unfolding Chain
 members-again cluster base front [] h small = ap (λ m. Some (start cluster base m)) (sym (append-nil front))
-members-again cluster base front (name ∷ back) h small =
-    let next : (front ++ name ∷ []) ++ back ≡ front ++ name ∷ back = append_assoc front (name ∷ []) back in
-    let fits : length front < 16 = omega (arith, length-append front (name ∷ back)) in (
-      Some (start cluster base (front ++ name ∷ [])),
-      ap (λ r. on_ok r (λ t. Ok (Some t))) (member_line-again cluster name base front fits (new_name front name back (place_of front name) h refl)),
-      subst (λ (m : List Name). Chain (Some (start cluster base (front ++ name ∷ []))) (member_lines back) (Some (start cluster base m))) next
-          (members-again cluster base (front ++ name ∷ []) back (rw next h) (rw next small)),
+members-again cluster base front (line ∷ back) h small =
+    let next : (front ++ member_of_line line ∷ []) ++ members_of_lines back ≡ front ++ member_of_line line ∷ members_of_lines back = append_assoc front (member_of_line line ∷ []) (members_of_lines back) in
+    let fits : length (member_names front) < 16 = omega (arith, length-append front (member_of_line line ∷ members_of_lines back), count-names front) in
+    let apart : AreDifferent (member_names front ++ line.name ∷ member_names (members_of_lines back)) = subst AreDifferent (member_names-append front (member_of_line line ∷ members_of_lines back)) h in (
+      Some (start cluster base (front ++ member_of_line line ∷ [])),
+      ap (λ r. on_ok r (λ t. Ok (Some t))) (member_line-again cluster line base front fits (new_name (member_names front) line.name (member_names (members_of_lines back)) (place_of (member_names front) line.name) apart refl)),
+      subst (λ (m : List MemberText). Chain (Some (start cluster base (front ++ member_of_line line ∷ []))) (member_lines back) (Some (start cluster base m))) next
+          (members-again cluster base (front ++ member_of_line line ∷ []) back (rw next h) (rw next small)),
     )
 
 -- the base's line, where there is one
-base-again : (cluster : Name) (said : Option ℕ) (members : List Name) → 1 ≤ base_or_default said → base_or_default said ≤ 2 ^ 40 → Chain (Some (start cluster None members)) (base_lines said) (Some (start cluster said members))
+base-again : (cluster : Name) (said : Option ℕ) (members : List MemberText) → 1 ≤ base_or_default said → base_or_default said ≤ 2 ^ 40 → Chain (Some (start cluster None members)) (base_lines said) (Some (start cluster said members))
 unfolding Chain
 base-again cluster None members least most = refl
 base-again cluster (Some n) members least most = (
@@ -364,13 +375,13 @@ base-again cluster (Some n) members least most = (
   refl,
 )
 
-body-again : (d : DraftText) (front back : List Line) → 0 < length d.members → AreDifferent d.members → AllAreLines d.members back → Chain (Some (record d { body = front })) (body_lines d.members back) (Some (record d { body = front ++ back }))
+body-again : (d : DraftText) (front back : List Line) → 0 < length (member_names d.members) → AreDifferent (member_names d.members) → AllAreLines (member_names d.members) back → Chain (Some (record d { body = front })) (body_lines (member_names d.members) back) (Some (record d { body = front ++ back }))
 unfolding Chain
 body-again d front [] some h is = ap (λ (b : List Line). Some (record d { body = b })) (sym (append-nil front))
 body-again d front (line ∷ back) some h is = (
   Some (record d { body = front ++ line ∷ [] }),
   ap (λ r. on_ok r (λ t. Ok (Some t))) (line-again (record d { body = front }) line some h is.0),
-  subst (λ (b : List Line). Chain (Some (record d { body = front ++ line ∷ [] })) (body_lines d.members back) (Some (record d { body = b }))) (append_assoc front (line ∷ []) back)
+  subst (λ (b : List Line). Chain (Some (record d { body = front ++ line ∷ [] })) (body_lines (member_names d.members) back) (Some (record d { body = b }))) (append_assoc front (line ∷ []) back)
       (body-again d (front ++ line ∷ []) back some h is.1),
 )
 
@@ -386,31 +397,35 @@ front-AreDifferent : (front back : List Name) → AreDifferent (front ++ back) �
 front-AreDifferent front back h i j name p q = h i j name (slice_get-front front back i name p) (slice_get-front front back j name q)
 
 -- a head's lines, whose base stands behind these members
-head-again : (cluster : Name) (before : List Name) (said : Option ℕ) (behind : List Name) → AreDifferent (before ++ behind) → length (before ++ behind) ≤ 16 → 1 ≤ base_or_default said → base_or_default said ≤ 2 ^ 40
-    → Chain None (head_with_base cluster before said behind) (Some (start cluster said (before ++ behind)))
+head-again : (cluster : Name) (before : List MemberLine) (said : Option ℕ) (behind : List MemberLine) → AreDifferent (member_names (members_of_lines before ++ members_of_lines behind)) → length (members_of_lines before ++ members_of_lines behind) ≤ 16
+    → 1 ≤ base_or_default said → base_or_default said ≤ 2 ^ 40 → Chain None (head_with_base cluster (member_lines before) said (member_lines behind)) (Some (start cluster said (members_of_lines before ++ members_of_lines behind)))
 unfolding Chain start
-head-again cluster before said behind h small least most = (
-  Some (start cluster None []),
-  ap (λ r. on_ok r (λ name. Ok (Some (first_draft name)))) (first-again cluster),
-  chain-append (Some (start cluster None [])) (Some (start cluster None before)) (Some (start cluster said (before ++ behind))) (member_lines before) (base_lines said ++ member_lines behind)
-      (members-again cluster None [] before (front-AreDifferent before behind h) (omega (arith, length-append before behind)))
-      (chain-append (Some (start cluster None before)) (Some (start cluster said before)) (Some (start cluster said (before ++ behind))) (base_lines said) (member_lines behind)
-      (base-again cluster said before least most)
-      (members-again cluster said before behind h small)),
-)
+head-again cluster before said behind h small least most =
+    let front : List MemberText = members_of_lines before in
+    let back : List MemberText = members_of_lines behind in
+    let different : AreDifferent (member_names (members_of_lines before)) = front-AreDifferent (member_names (members_of_lines before)) (member_names (members_of_lines behind)) (subst AreDifferent (member_names-append (members_of_lines before) (members_of_lines behind)) h) in (
+      Some (start cluster None []),
+      ap (λ r. on_ok r (λ name. Ok (Some (first_draft name)))) (first-again cluster),
+      chain-append (Some (start cluster None [])) (Some (start cluster None front)) (Some (start cluster said (front ++ back))) (member_lines before) (base_lines said ++ member_lines behind)
+          (members-again cluster None [] before different (omega (arith, length-append (members_of_lines before) (members_of_lines behind))))
+          (chain-append (Some (start cluster None front)) (Some (start cluster said front)) (Some (start cluster said (front ++ back))) (base_lines said) (member_lines behind)
+          (base-again cluster said front least most)
+          (members-again cluster said front behind h small)),
+    )
 
 -- what the lines of a script say, where they say this base
 draft : ScriptText → Option ℕ → DraftText
 draft s said = record { cluster = s.head.cluster; base = said; members = s.head.members; body = s.body }
 
-all-again : (s : ScriptText) (head : List (List ℕ)) (says : IsHeadLines s.head head) → IsScript s → Chain None (head ++ body_lines s.head.members s.body) (Some (draft s says.said))
+all-again : (s : ScriptText) (head : List (List ℕ)) (says : IsHeadLines s.head head) → IsScript s → Chain None (head ++ body_lines (names_of s.head) s.body) (Some (draft s says.said))
 unfolding start draft
 all-again s head says h =
-    chain-append None (Some (start s.head.cluster says.said s.head.members)) (Some (draft s says.said)) head (body_lines s.head.members s.body)
+    let members : members_of_lines says.before ++ members_of_lines says.behind ≡ s.head.members = sym (map-append member_of_line says.before says.behind) ∙ says.members in
+    chain-append None (Some (start s.head.cluster says.said s.head.members)) (Some (draft s says.said)) head (body_lines (names_of s.head) s.body)
     (subst (λ (ls : List (List ℕ)). Chain None ls (Some (start s.head.cluster says.said s.head.members))) (sym says.order)
-    (subst (λ (m : List Name). Chain None (head_with_base s.head.cluster says.before says.said says.behind) (Some (start s.head.cluster says.said m))) says.members
-    (head-again s.head.cluster says.before says.said says.behind (rw says.members h.head.different) (rw says.members h.head.few) (rw says.base h.head.base_least) (rw says.base h.head.base_most))))
-    (body-again (draft s says.said) [] s.body h.head.some h.head.different h.body)
+    (subst (λ (m : List MemberText). Chain None (head_with_base s.head.cluster (member_lines says.before) says.said (member_lines says.behind)) (Some (start s.head.cluster says.said m))) members
+    (head-again s.head.cluster says.before says.said says.behind (rw members h.head.different) (rw members h.head.few) (rw says.base h.head.base_least) (rw says.base h.head.base_most))))
+    (body-again (draft s says.said) [] s.body (omega (arith, h.head.some, count-names s.head.members)) h.head.different h.body)
 
 -- lines among empty lines and comments
 short-true : (line : List ℕ) → length line ≤ 8192 → nat_le (length line) 8192 ≡ true
@@ -438,7 +453,7 @@ lines-again number o p [] form chain = ap Ok chain
 lines-again number o p (line ∷ rest) form chain =
     lines-step number o p line rest (is_skipped line) refl form.0 (λ m c. lines-again (number + 1) m p rest form.1 c) chain
 
-with_some-again : (s : ScriptText) (members : List Name) → 0 < length members → with_some s members ≡ Ok s
+with_some-again : (s : ScriptText) (members : List MemberText) → 0 < length members → with_some s members ≡ Ok s
 with_some-again s [] h = absurd (omega arith)
 with_some-again s (m ∷ members) h = refl
 

@@ -46,12 +46,12 @@ pub cut_word-None : (bytes : List ℕ) → (cut_word bytes).1 ≡ None → (cut_
 cut_word-None bytes e = cut-None bytes (first_at 32 bytes) e
 
 -- a word, a blank and the rest
-cut-Some : (bytes rest : List ℕ) (o : Option ℕ) → first_at 32 bytes ≡ o → (cut_at bytes o).1 ≡ Some rest → bytes ≡ (cut_at bytes o).0 ++ (32 ∷ rest)
-cut-Some bytes rest None is e = absurd (none_is rest e)
-cut-Some bytes rest (Some n) is e = first_at-parts 32 bytes n is ∙ ap (λ t. take n bytes ++ (32 ∷ t)) (some_is (drop (n + 1) bytes) rest e)
+pub cut-Some : (c : ℕ) (bytes rest : List ℕ) (o : Option ℕ) → first_at c bytes ≡ o → (cut_at bytes o).1 ≡ Some rest → bytes ≡ (cut_at bytes o).0 ++ (c ∷ rest)
+cut-Some c bytes rest None is e = absurd (none_is rest e)
+cut-Some c bytes rest (Some n) is e = first_at-parts c bytes n is ∙ ap (λ t. take n bytes ++ (c ∷ t)) (some_is (drop (n + 1) bytes) rest e)
 
 pub cut_word-Some : (bytes rest : List ℕ) → (cut_word bytes).1 ≡ Some rest → bytes ≡ (cut_word bytes).0 ++ (32 ∷ rest)
-cut_word-Some bytes rest e = cut-Some bytes rest (first_at 32 bytes) refl e
+cut_word-Some bytes rest e = cut-Some 32 bytes rest (first_at 32 bytes) refl e
 
 -- a byte that is nowhere in a word stands first behind it
 pub passed : (t : Bool) (o : Option ℕ) → cond t (Some 0) (one_more o) ≡ None → (t ≡ false) × (o ≡ None)

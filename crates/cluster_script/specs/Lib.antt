@@ -3,8 +3,11 @@ pub mod Draft
 pub mod Faults
 pub mod Limits
 pub mod Lines
+pub mod Margins
 pub mod Members
 pub mod Numbers
+pub mod OptionReading
+pub mod Options
 pub mod Ranges
 pub mod Reading
 pub mod Script

@@ -2,7 +2,9 @@
 use Rattle.std.specs.Prelude.{ℕ, ◌≡◌, ◌^◌, nat_le, Bool, true, false, Option, Some, None, refl}
 use Rattle.std.proofs.lemmas.Bool.{leb-true}
 use Rattle.cluster_script.specs.declared.ranges.CommitSize.{CommitSize}
+use Rattle.cluster_script.specs.Margins.{longest_margin, unsaid_margin}
 use Rattle.cluster_script.specs.declared.ranges.Delay.{Delay}
+use Rattle.cluster_script.specs.declared.ranges.Margin.{Margin}
 
 -- a commit, by the tests of its range
 unfoldable pub commit_size_by : (number : ℕ) (some few : Bool) → nat_le 1 number ≡ some → nat_le number (2 ^ 30) ≡ few → Option CommitSize
@@ -22,3 +24,16 @@ delay_by number false few = None
 -- a delay of so many ticks: at most 100,000
 unfoldable pub delay_of : ℕ → Option Delay
 delay_of number = delay_by number (nat_le number 100000) refl
+
+-- a margin, by the test of its range
+unfoldable pub margin_by : (number : ℕ) (few : Bool) → nat_le number longest_margin ≡ few → Option Margin
+margin_by number true few = Some (record { seconds = number; most = leb-true number longest_margin few })
+margin_by number false few = None
+
+-- a margin of so many seconds: at most 15
+unfoldable pub margin_of : ℕ → Option Margin
+margin_of number = margin_by number (nat_le number longest_margin) refl
+
+-- the margin that no option says
+unfoldable pub default_margin : Margin
+default_margin = record { seconds = unsaid_margin; most = leb-true unsaid_margin longest_margin refl }

@@ -1,68 +1,58 @@
 -- The script that bytes are, or the first line with a fault and its first fault.
-use Rattle.std.specs.Prelude.{ℕ, ◌≡◌, ◌+◌, ◌^◌, ◌<◌, nat_le, ◌==◌, Bool, false, ◌&&◌, ◌||◌, if◌then◌else◌, List, [], ◌∷◌, ◌++◌, Option, Some, None, Result, Ok, Err, codes, length}
-use Rattle.std.specs.List.{starts_with, list_any}
+use Rattle.std.specs.Prelude.{ℕ, ◌≡◌, ◌+◌, ◌^◌, ◌<◌, nat_le, ◌&&◌, if◌then◌else◌, List, [], ◌∷◌, ◌++◌, Option, Some, None, Result, Ok, Err, length}
+use Rattle.std.specs.Option.{ok_or}
 use Rattle.std.specs.Str.{is_utf8}
-use Rattle.std.specs.Prelude.{nat_eq}
 use Rattle.pat_base.specs.Name.{name_of}
 use Rattle.pat_base.specs.declared.name.Name.{Name}
 use Rattle.cluster_script.specs.Arguments.{number_in, line_of_words}
 use Rattle.cluster_script.specs.Draft.{DraftText, script_so_far}
-use Rattle.cluster_script.specs.Faults.{on_ok}
+use Rattle.cluster_script.specs.Faults.{on_ok, both}
 use Rattle.cluster_script.specs.Lines.{lines_in, is_skipped}
 use Rattle.cluster_script.specs.Members.{place_of}
-use Rattle.cluster_script.specs.Script.{ScriptText}
+use Rattle.cluster_script.specs.OptionReading.{options_in}
+use Rattle.cluster_script.specs.Script.{MemberText, ScriptText, member_names, member_of_entry}
 use Rattle.cluster_script.specs.Words.{keyword_of, cut_word}
 use Rattle.cluster_script.specs.declared.addition.Addition.{Addition}
 use Rattle.cluster_script.specs.declared.addition.Addition.TheVariants as additions
 use Rattle.cluster_script.specs.declared.fault.Fault.{Fault}
 use Rattle.cluster_script.specs.declared.fault.Fault.TheVariants as faults
+use Rattle.cluster_script.specs.declared.head.MemberOptions.{MemberOptions}
 use Rattle.cluster_script.specs.declared.keyword.Keyword.{Keyword}
 use Rattle.cluster_script.specs.declared.keyword.Keyword.TheVariants as words
 use Rattle.cluster_script.specs.declared.line.Line.{Line}
 use Rattle.cluster_script.specs.declared.script_fault.ScriptFault.{ScriptFault}
 use Rattle.cluster_script.specs.declared.script_fault.ScriptFault.TheVariants as script_faults
 
--- the options of members, none of which is built yet, begin so
-abbrev pub option_names : List (List ℕ)
-option_names = codes "host=" ∷ codes "nofailover=" ∷ codes "nosync=" ∷ codes "noloadbalance=" ∷ codes "priority=" ∷ codes "watchdog=" ∷ codes "device=" ∷ codes "margin=" ∷ []
-
--- an option stands right here
-abbrev pub begins_option : List ℕ → Bool
-begins_option bytes = list_any (starts_with nat_eq bytes) option_names
-
--- an option stands behind one of the blanks
-abbrev pub has_option : List ℕ → Bool
-has_option [] = false
-has_option (b ∷ bs) = ((b == 32) && begins_option bs) || has_option bs
-
 -- a line of the head stands behind lines of the body
 abbrev pub in_head : List Line → Fault → Fault
 in_head [] fault = fault
 in_head (line ∷ body) fault = faults.HeadLate
 
--- a name that is declared in front of the body
-abbrev pub declared_in_head : Name → List Line → Result Name Fault
-declared_in_head name [] = Ok name
-declared_in_head name (line ∷ body) = Err faults.HeadLate
+-- a member that is declared in front of the body
+abbrev pub declared_in_head : Name × MemberOptions → List Line → Result (Name × MemberOptions) Fault
+declared_in_head member [] = Ok member
+declared_in_head member (line ∷ body) = Err faults.HeadLate
 
--- a name whose place says whether it is declared already
-abbrev pub declared_once : Name → List Line → Option ℕ → Result Name Fault
-declared_once name body (Some place) = Err faults.Duplicate
-declared_once name body None = declared_in_head name body
+-- a member of a name whose place says whether it is declared already
+abbrev pub declared_once : Name × MemberOptions → List Line → Option ℕ → Result (Name × MemberOptions) Fault
+declared_once member body (Some place) = Err faults.Duplicate
+declared_once member body None = declared_in_head member body
 
--- the name of a new member, behind which its line ends
-abbrev pub named_member : List Name → List Line → Option Name → Option (List ℕ) → Result Name Fault
-named_member members body None rest = Err faults.BadName
-named_member members body (Some name) (Some words) = Err faults.BadOption
-named_member members body (Some name) None = declared_once name body (place_of members name)
+-- a member of a new name
+abbrev pub named_member : List Name → List Line → Name × MemberOptions → Result (Name × MemberOptions) Fault
+named_member members body member = declared_once member body (place_of members member.0)
 
--- a line 'member': its name, and no option
-abbrev pub new_member : List Name → List Line → Option (List ℕ) → Result Name Fault
+-- a name
+abbrev pub name_in : List ℕ → Result Name Fault
+name_in word = ok_or (name_of word) faults.BadName
+
+-- a line 'member': a name, and options behind it
+abbrev pub new_member : List Name → List Line → Option (List ℕ) → Result (Name × MemberOptions) Fault
 new_member members body None = Err (in_head body faults.WordCount)
-new_member members body (Some words) = if has_option words then Err faults.NotBuilt else named_member members body (name_of (cut_word words).0) (cut_word words).1
+new_member members body (Some words) = on_ok (both (name_in (cut_word words).0) (options_in (cut_word words).1)) (named_member members body)
 
 -- the seventeenth line 'member' is unknown
-abbrev pub next_member : List Name → List Line → Option (List ℕ) → Result Name Fault
+abbrev pub next_member : List Name → List Line → Option (List ℕ) → Result (Name × MemberOptions) Fault
 next_member members body rest = if nat_le 16 (length members) then Err faults.BadWord else new_member members body rest
 
 -- how many bytes a log may begin with: 1 to 2 ^ 40
@@ -108,7 +98,7 @@ second_cluster (Some words) = named_twice (name_of (cut_word words).0)
 abbrev pub addition_of : Option ℕ → List Name → List Line → Keyword → Option (List ℕ) → Result Addition Fault
 addition_of base members body words.Cluster rest = Err (second_cluster rest)
 addition_of base members body words.Base rest = on_ok (next_base base body rest) (λ n. Ok (additions.Base n))
-addition_of base members body words.Member rest = on_ok (next_member members body rest) (λ name. Ok (additions.Member name))
+addition_of base members body words.Member rest = on_ok (next_member members body rest) (λ member. Ok (additions.Member member.0 member.1))
 addition_of base members body keyword rest = on_ok (line_of_words members keyword rest) (λ line. Ok (additions.Body line))
 
 -- what a line adds, if its first word is known
@@ -123,18 +113,18 @@ addition_in base members body line = known_addition base members body (keyword_o
 -- the base behind what is added
 abbrev pub base_after : Option ℕ → Addition → Option ℕ
 base_after base (additions.Base n) = Some n
-base_after base (additions.Member name) = base
+base_after base (additions.Member name options) = base
 base_after base (additions.Body line) = base
 
 -- the members behind what is added
-abbrev pub members_after : List Name → Addition → List Name
-members_after members (additions.Member name) = members ++ name ∷ []
+abbrev pub members_after : List MemberText → Addition → List MemberText
+members_after members (additions.Member name options) = members ++ member_of_entry (name, options) ∷ []
 members_after members (additions.Base n) = members
 members_after members (additions.Body line) = members
 
 -- the body behind what is added
 abbrev pub body_after : List Line → Addition → List Line
-body_after body (additions.Member name) = body
+body_after body (additions.Member name options) = body
 body_after body (additions.Base n) = body
 body_after body (additions.Body line) = body ++ line ∷ []
 
@@ -144,7 +134,7 @@ with_addition d added = record { cluster = d.cluster; base = base_after d.base a
 
 -- what the lines say with one more of them
 abbrev pub with_line : DraftText → List ℕ → Result DraftText Fault
-with_line d line = on_ok (addition_in d.base d.members d.body line) (λ added. Ok (with_addition d added))
+with_line d line = on_ok (addition_in d.base (member_names d.members) d.body line) (λ added. Ok (with_addition d added))
 
 -- a name, behind which its line ends
 abbrev pub alone : Name → Option (List ℕ) → Result Name Fault
@@ -188,8 +178,8 @@ abbrev pub after_line : Option DraftText → List ℕ → Result (Option DraftTe
 after_line d line = if is_utf8 line then (if nat_le (length line) 8192 then after_text d line else Err faults.TooLong) else Err faults.NotUtf8
 
 -- a member that a line adds is one of at most 16, and no other has its name
-abbrev pub IsNew : List Name → Addition → Type 0
-IsNew members (additions.Member name) = (length members < 16) × (place_of members name ≡ None)
+abbrev pub IsNew : List MemberText → Addition → Type 0
+IsNew members (additions.Member name options) = (length members < 16) × (place_of (member_names members) name ≡ None)
 IsNew members (additions.Base n) = Unit {0}
 IsNew members (additions.Body line) = Unit {0}
 
@@ -204,7 +194,7 @@ after_lines number d [] = Ok d
 after_lines number d (line ∷ lines) = on_ok (at_line number (after_line d line)) (λ e. after_lines (number + 1) e lines)
 
 -- a script that has a member
-abbrev pub with_some : ScriptText → List Name → Result ScriptText Fault
+abbrev pub with_some : ScriptText → List MemberText → Result ScriptText Fault
 with_some s [] = Err faults.NoMember
 with_some s (member ∷ members) = Ok s
 

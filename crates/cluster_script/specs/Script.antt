@@ -6,7 +6,9 @@ use Rattle.pat_base.specs.Name.{name_bytes}
 use Rattle.pat_base.specs.declared.name.Name.{Name}
 use Rattle.pat_base.specs.declared.member_id.MemberId.{MemberId}
 use Rattle.cluster_script.specs.Lines.{ended, lines_in, counted_lines}
+use Rattle.cluster_script.specs.Options.{SayOnce, option_text, behind_blanks, options_or_default, options_to_say}
 use Rattle.cluster_script.specs.Words.{spelled}
+use Rattle.cluster_script.specs.declared.head.MemberOptions.{MemberOptions}
 use Rattle.cluster_script.specs.declared.keyword.Keyword.TheVariants as words
 use Rattle.cluster_script.specs.declared.line.End.{End}
 use Rattle.cluster_script.specs.declared.line.End.TheVariants as ends
@@ -16,12 +18,35 @@ use Rattle.cluster_script.specs.declared.line.SlowedCall.{SlowedCall}
 use Rattle.cluster_script.specs.declared.line.SlowedCall.TheVariants as slowed_calls
 use Rattle.cluster_script.specs.declared.line.Line.{Line}
 use Rattle.cluster_script.specs.declared.line.Line.TheVariants as lines
+use Rattle.cluster_script.specs.declared.member_option.MemberOption.{MemberOption}
+use Rattle.cluster_script.specs.declared.member_option.SaidOptions.{SaidOptions}
+
+-- what a script declares of a member
+pub record MemberText : Type 0 where
+  pub name : Name
+  pub options : MemberOptions
 
 -- the head of a script: the cluster's name, the bytes of data that each server's log begins with, and the members in order
 pub record HeadText : Type 0 where
   pub cluster : Name
   pub base : ℕ
-  pub members : List Name
+  pub members : List MemberText
+
+-- the names of members, in order
+abbrev pub member_names : List MemberText → List Name
+member_names members = map (λ member. member.name) members
+
+-- the names of a head's members, in order
+abbrev pub names_of : HeadText → List Name
+names_of head = member_names head.members
+
+-- a member of this name and these options
+abbrev pub member_of_entry : Name × MemberOptions → MemberText
+member_of_entry entry = record { name = entry.0; options = entry.1 }
+
+-- the members of a table, in order
+abbrev pub members_in : List (Name × MemberOptions) → List MemberText
+members_in entries = map member_of_entry entries
 
 -- a script: its head, and the lines of its body
 pub record ScriptText : Type 0 where
@@ -60,9 +85,32 @@ two_texts first second = first ++ (32 ∷ second)
 abbrev pub cluster_text : Name → List ℕ
 cluster_text name = spelled words.Cluster (name_bytes name)
 
--- the line of a member
-abbrev pub member_line_text : Name → List ℕ
-member_line_text name = spelled words.Member (name_bytes name)
+-- the line of a member with these options behind its name
+abbrev pub line_with_options : Name → List MemberOption → List ℕ
+line_with_options name said = spelled words.Member (name_bytes name ++ behind_blanks (map option_text said))
+
+-- a line of a member: its name, its options in the line's order, and what they say, each at most once
+pub record MemberLine : Type 0 where
+  pub name : Name
+  pub words : List MemberOption
+  pub said : SaidOptions
+  pub once : SayOnce words said
+
+-- the member that a line declares
+abbrev pub member_of_line : MemberLine → MemberText
+member_of_line line = record { name = line.name; options = options_or_default line.said }
+
+-- the members that lines declare, in order
+abbrev pub members_of_lines : List MemberLine → List MemberText
+members_of_lines lines = map member_of_line lines
+
+-- the text of such a line
+abbrev pub member_line_text : MemberLine → List ℕ
+member_line_text line = line_with_options line.name line.words
+
+-- the line of a member with the options that have to be said
+abbrev pub shortest_line : MemberText → List ℕ
+shortest_line member = line_with_options member.name (options_to_say member.options)
 
 -- the line of a base
 abbrev pub base_text : ℕ → List ℕ
@@ -94,9 +142,9 @@ line_text members (lines.Run n) = spelled words.Run (decimal n)
 line_text members (lines.Tick n) = spelled words.Tick (decimal n)
 line_text members (lines.Command command) = command_text members command
 
--- the lines of members, in order
-abbrev pub member_lines : List Name → List (List ℕ)
-member_lines members = map member_line_text members
+-- the texts of lines of members, in order
+abbrev pub member_lines : List MemberLine → List (List ℕ)
+member_lines lines = map member_line_text lines
 
 -- the base of a script that says none: five files of 16 MiB
 abbrev pub default_base : ℕ
@@ -117,21 +165,21 @@ abbrev pub base_to_say : ℕ → Option ℕ
 base_to_say base = if base == default_base then None else Some base
 
 -- a cluster's line, then members' lines with at most one line 'base' before, between or behind them
-abbrev pub head_with_base : Name → List Name → Option ℕ → List Name → List (List ℕ)
-head_with_base cluster before said behind = cluster_text cluster ∷ (member_lines before ++ (base_lines said ++ member_lines behind))
+abbrev pub head_with_base : Name → List (List ℕ) → Option ℕ → List (List ℕ) → List (List ℕ)
+head_with_base cluster before said behind = cluster_text cluster ∷ (before ++ (base_lines said ++ behind))
 
 -- lines that say a head: its members in order, and its base unless that is the default
 pub record IsHeadLines (head : HeadText) (lines : List (List ℕ)) : Type 0 where
-  pub before : List Name
+  pub before : List MemberLine
   pub said : Option ℕ
-  pub behind : List Name
-  pub members : before ++ behind ≡ head.members
+  pub behind : List MemberLine
+  pub members : members_of_lines (before ++ behind) ≡ head.members
   pub base : base_or_default said ≡ head.base
-  pub order : lines ≡ head_with_base head.cluster before said behind
+  pub order : lines ≡ head_with_base head.cluster (member_lines before) said (member_lines behind)
 
--- all lines of a script, in order: those of its head say the base first, and only where it isn't the default
+-- all lines of a script, in order: those of its head say the base first, and of base and options only what isn't the default
 abbrev pub head_lines : HeadText → List (List ℕ)
-head_lines head = head_with_base head.cluster [] (base_to_say head.base) head.members
+head_lines head = head_with_base head.cluster [] (base_to_say head.base) (map shortest_line head.members)
 
 -- all lines of a body, in order
 abbrev pub body_lines : List Name → List Line → List (List ℕ)
@@ -139,7 +187,7 @@ body_lines members body = map (line_text members) body
 
 -- all lines of a script, in order: those of its head, then those of its body
 abbrev pub script_lines : ScriptText → List (List ℕ)
-script_lines s = head_lines s.head ++ body_lines s.head.members s.body
+script_lines s = head_lines s.head ++ body_lines (names_of s.head) s.body
 
 -- the bytes of a script: its lines and nothing else
 abbrev pub spelling_of : ScriptText → List ℕ
@@ -160,7 +208,7 @@ pub record Spells (bytes : List ℕ) (s : ScriptText) : Type 0 where
   pub form : AllInForm (lines_in bytes)
   pub head : List (List ℕ)
   pub says : IsHeadLines s.head head
-  pub lines : counted_lines (lines_in bytes) ≡ head ++ body_lines s.head.members s.body
+  pub lines : counted_lines (lines_in bytes) ≡ head ++ body_lines (names_of s.head) s.body
 
 -- no name stands at two places
 abbrev pub AreDifferent : List Name → Type 0
@@ -172,7 +220,7 @@ pub record IsHead (head : HeadText) : Type 0 where
   pub base_most : head.base ≤ 2 ^ 40
   pub some : 0 < length head.members
   pub few : length head.members ≤ 16
-  pub different : AreDifferent head.members
+  pub different : AreDifferent (names_of head)
 
 -- a member that is declared
 abbrev pub IsMember : List Name → MemberId → Type 0
@@ -223,4 +271,4 @@ AllAreLines members (line ∷ body) = IsLine members line × AllAreLines members
 -- what holds of each script
 pub record IsScript (s : ScriptText) : Type 0 where
   pub head : IsHead s.head
-  pub body : AllAreLines s.head.members s.body
+  pub body : AllAreLines (names_of s.head) s.body

@@ -1,12 +1,12 @@
 //! What a line adds to a script.
-use crate::Line;
+use crate::{Line, MemberOptions};
 use pat_base::Name;
 
 /// What a line behind the cluster's adds to a script.
 #[derive(Clone, Copy, Debug, PartialEq, Eq)]
 pub enum Addition {
-    /// One more member, with this name.
-    Member(Name),
+    /// One more member, with this name and these options.
+    Member(Name, MemberOptions),
     /// The base, in bytes: 1 to 2^40.
     Base(u64),
     /// One more line of the body.

@@ -173,7 +173,8 @@ fn same_end(first: End, second: End) -> bool
     }
 }
 
-fn both<A: Drop, B: Drop>(
+/// Two things that are both wanted, or the first of their faults.
+pub fn both<A: Drop, B: Drop>(
     first: Result<A, Fault>,
     second: Result<B, Fault>,
 ) -> Result<(A, B), Fault>

@@ -2,7 +2,7 @@
 ghost use Rattle.std.specs.Prelude.{ℕ, ◌≡◌, ◌<◌, ◌≤◌, ◌+◌, ◌++◌, ◌∷◌, ◌^◌, List, [], length, map, Option, None, Some, Ok, IfOk, OnOk, OnErr, IfErr, IfSome};
 ghost use Rattle.std.specs.Option.{option_copied};
 ghost use Rattle.indexmap.specs.IndexMap.{keys};
-ghost use Rattle.cluster_script.specs.Script.{ScriptText, IsScript, base_or_default};
+ghost use Rattle.cluster_script.specs.Script.{ScriptText, IsScript, base_or_default, member_names, members_in};
 ghost use Rattle.cluster_script.specs.Reading.{Gives, IsNew, addition_of, addition_in, base_after, members_after, body_after, after_counted, after_line, after_lines, at_line, finished};
 
 use crate::addition::Addition;
@@ -13,7 +13,7 @@ use crate::keyword::Keyword;
 use crate::lines::{is_skipped, is_text};
 use crate::members::Members;
 use crate::words::{cut_word, keyword_of};
-use crate::{Fault, Head, Line, MemberOptions, Script, ScriptFault};
+use crate::{Fault, Head, Line, Script, ScriptFault};
 use indexmap::IndexMap;
 use pat_base::Name;
 use std::alloc::Global;
@@ -33,14 +33,14 @@ pub struct Draft {
 
 impl Model for Draft {
     ghost use Rattle.std.specs.Prelude.{Option};
-    ghost use Rattle.indexmap.specs.IndexMap.{keys};
     ghost use Rattle.cluster_script.specs.Draft.{DraftText, IsDraft, draft_of};
+    ghost use Rattle.cluster_script.specs.Script.{members_in};
 
     ghost Value = { Option DraftText };
 
-    ghost view = { λ d. draft_of d.cluster d.base (keys d.members) d.body.items };
+    ghost view = { λ d. draft_of d.cluster d.base (members_in d.members.entries) d.body.items };
 
-    ghost invariant = { λ d. IsDraft d.cluster d.base (keys d.members) d.body.items };
+    ghost invariant = { λ d. IsDraft d.cluster d.base (members_in d.members.entries) d.body.items };
 }
 
 /// What a line of this first word adds, from the words behind it. The one place where first words are told apart, but for
@@ -54,12 +54,15 @@ fn addition_of(
 ) -> Result<Addition, Fault>
     requires { length (keys members.now) ≤ 16 }
     ensures value { result ≡ addition_of base (keys members.now) body.now keyword (option_copied rest.entry) }
-    ensures new { IfOk result (IsNew (keys members.now)) }
+    ensures new { IfOk result (IsNew (members_in members.now.entries)) }
 {
     match keyword {
         Keyword::Cluster => Err(second_cluster(rest)),
         Keyword::Base => Ok(Addition::Base(next_base(base, body, rest)?)),
-        Keyword::Member => Ok(Addition::Member(next_member(members, body, rest)?)),
+        Keyword::Member => {
+            let (name, options) = next_member(members, body, rest)?;
+            Ok(Addition::Member(name, options))
+        }
         _ => Ok(Addition::Body(line_of_words(members, keyword, rest)?)),
     }
 }
@@ -71,9 +74,9 @@ fn addition_in(
     body: &[Line],
     line: &[u8],
 ) -> Result<Addition, Fault>
-    requires { length (keys members.now) ≤ 16 }
-    ensures value { result ≡ addition_in base (keys members.now) body.now line.now }
-    ensures new { IfOk result (IsNew (keys members.now)) }
+    requires { length (members_in members.now.entries) ≤ 16 }
+    ensures value { result ≡ addition_in base (member_names (members_in members.now.entries)) body.now line.now }
+    ensures new { IfOk result (IsNew (members_in members.now.entries)) }
 {
     let (word, rest) = cut_word(line);
     match keyword_of(word) {
@@ -88,16 +91,16 @@ fn apply(
     body: &mut Vec<Line>,
     added: Addition,
 ) -> Result<(), ScriptFault>
-    requires { IsNew (keys members.old) added }
+    requires { IsNew (members_in members.old.entries) added }
     ensures base { OnOk result (base.new ≡ base_after base.old added) }
-    ensures members { OnOk result (keys members.new ≡ members_after (keys members.old) added) }
+    ensures members { OnOk result (members_in members.new.entries ≡ members_after (members_in members.old.entries) added) }
     ensures body { OnOk result (body.new.items ≡ body_after body.old.items added) }
     ensures memory { IfErr result (λ e. e ≡ ScriptFault.Memory) }
-    ensures same { OnErr result ((base.new ≡ base.old) × (keys members.new ≡ keys members.old) × (body.new.items ≡ body.old.items)) }
+    ensures same { OnErr result ((base.new ≡ base.old) × (members_in members.new.entries ≡ members_in members.old.entries) × (body.new.items ≡ body.old.items)) }
 {
     match added {
-        Addition::Member(name) => {
-            members.insert(name, MemberOptions {})?;
+        Addition::Member(name, options) => {
+            members.insert(name, options)?;
         }
         Addition::Base(n) => *base = Some(n),
         Addition::Body(line) => body.push(line)?,

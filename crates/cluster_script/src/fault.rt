@@ -23,7 +23,7 @@ pub enum Fault {
     BadNumber,
     /// A word that isn't one of those that may stand there.
     BadOption,
-    /// A cluster, a base or a member is declared twice.
+    /// A cluster, a base, a member or an option of a member is declared twice.
     Duplicate,
     /// A name that no line declares as a member's.
     UnknownName,

@@ -1,13 +1,22 @@
 //! The head of a script.
 ghost use Rattle.std.specs.Prelude.{ℕ, ◌≡◌, ◌≤◌, ◌<◌, ◌^◌, ◌↔◌, length, slice_get, IsNone};
 
+use crate::Margin;
 use indexmap::IndexMap;
+use leader_key::Mode;
 use pat_base::Name;
 use std::marker::Model;
 
-/// What a script declares of a member beside its name. Nothing yet: the options of `member` lines are to come.
+/// What a script declares of a member beside its name: of its watchdog (Patroni documentation, "Watchdog support").
 #[derive(Clone, Copy, Debug, PartialEq, Eq)]
-pub struct MemberOptions {}
+pub struct MemberOptions {
+    /// Whether the member uses a watchdog: `Automatic` where no option says it.
+    pub watchdog: Mode,
+    /// Whether the device of its watchdog works, as it does where no option says it.
+    pub device_works: bool,
+    /// How long before the end of a lease its watchdog's deadline lies: 5 seconds where no option says it.
+    pub margin: Margin,
+}
 
 /// The base of a script that says none: five files of 16 MiB.
 pub(crate) const DEFAULT_BASE: u64 = 83_886_080;
@@ -21,25 +30,23 @@ pub struct Head {
 }
 
 impl Model for Head {
-    ghost use Rattle.indexmap.specs.IndexMap.{keys};
-    ghost use Rattle.cluster_script.specs.Script.{HeadText, IsHead};
+    ghost use Rattle.cluster_script.specs.Script.{HeadText, IsHead, members_in};
 
     ghost Value = { HeadText };
 
-    ghost view = { λ h. record { cluster = h.cluster; base = h.base; members = keys h.members } };
+    ghost view = { λ h. record { cluster = h.cluster; base = h.base; members = members_in h.members.entries } };
 
-    ghost invariant = { λ h. IsHead (record { cluster = h.cluster; base = h.base; members = keys h.members }) };
+    ghost invariant = { λ h. IsHead (record { cluster = h.cluster; base = h.base; members = members_in h.members.entries }) };
 }
 
 impl Head {
-    ghost use Rattle.std.specs.Prelude.{ℕ, ◌≡◌, ◌≤◌, ◌<◌, ◌^◌, ◌↔◌, length, slice_get, IsNone};
-    ghost use Rattle.indexmap.specs.IndexMap.{keys};
-    ghost use Rattle.cluster_script.specs.Script.{HeadText, IsHead};
+    ghost use Rattle.std.specs.Prelude.{ℕ, ◌≡◌, ◌≤◌, ◌<◌, ◌^◌, ◌↔◌, length, option_map, slice_get, IsNone};
+    ghost use Rattle.cluster_script.specs.Script.{HeadText, IsHead, members_in, names_of};
 
     /// The head of this cluster with this base and these members.
     pub(crate) fn new(cluster: Name, base: u64, members: IndexMap<Name, MemberOptions>) -> Head
-        requires { IsHead (record { cluster = cluster; base = base; members = keys members }) }
-        ensures { result ≡ record { cluster = cluster; base = base; members = keys members } }
+        requires { IsHead (record { cluster = cluster; base = base; members = members_in members.entries }) }
+        ensures { result ≡ record { cluster = cluster; base = base; members = members_in members.entries } }
     {
         Head {
             cluster,
@@ -76,11 +83,22 @@ impl Head {
 
     /// The name of the member at this place, from 0. `None` exactly past the last member.
     pub fn member(&self, place: usize) -> Option<Name>
-        ensures value { result ≡ slice_get self.now.members place }
+        ensures value { result ≡ slice_get (names_of self.now) place }
         ensures past { IsNone result ↔ (length self.now.members ≤ place) }
     {
         match self.members.get_index(place) {
             Some((name, _)) => Some(*name),
+            None => None,
+        }
+    }
+
+    /// What the script declares of the member at this place, from 0. `None` exactly past the last member.
+    pub fn options(&self, place: usize) -> Option<MemberOptions>
+        ensures value { result ≡ option_map (λ member. member.options) (slice_get self.now.members place) }
+        ensures past { IsNone result ↔ (length self.now.members ≤ place) }
+    {
+        match self.members.get_index(place) {
+            Some((_, options)) => Some(*options),
             None => None,
         }
     }

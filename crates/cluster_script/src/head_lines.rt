@@ -3,13 +3,14 @@ ghost use Rattle.std.specs.Prelude.{ℕ, ◌≡◌, ◌<◌, ◌≤◌, ◌^◌,
 ghost use Rattle.std.specs.Option.{option_copied};
 ghost use Rattle.indexmap.specs.IndexMap.{keys};
 ghost use Rattle.cluster_script.specs.Members.{place_of};
-ghost use Rattle.cluster_script.specs.Reading.{begins_option, has_option, in_head, declared_once, new_member, next_member, base_in, head_end, base_end, base_missing, next_base, second_cluster, cluster_in, first_line};
+ghost use Rattle.cluster_script.specs.Reading.{in_head, declared_in_head, named_member, name_in, new_member, next_member, base_in, head_end, base_end, base_missing, next_base, second_cluster, cluster_in, first_line};
 
-use crate::arguments::number_in;
+use crate::arguments::{both, number_in};
 use crate::keyword::Keyword;
 use crate::members::{Members, place_of};
+use crate::options::options_in;
 use crate::words::{cut_word, keyword_of};
-use crate::{Fault, Line};
+use crate::{Fault, Line, MemberOptions};
 use pat_base::Name;
 
 /// The most members that a script may have.
@@ -17,32 +18,6 @@ const MEMBERS: usize = 16;
 
 /// The greatest base of a script, in bytes.
 const GREATEST_BASE: u64 = 1_099_511_627_776;
-
-/// Whether an option of a member stands right here.
-fn begins_option(bytes: &[u8]) -> bool
-    ensures { result ≡ begins_option bytes.now }
-{
-    bytes.starts_with(b"host=")
-        || bytes.starts_with(b"nofailover=")
-        || bytes.starts_with(b"nosync=")
-        || bytes.starts_with(b"noloadbalance=")
-        || bytes.starts_with(b"priority=")
-        || bytes.starts_with(b"watchdog=")
-        || bytes.starts_with(b"device=")
-        || bytes.starts_with(b"margin=")
-}
-
-/// Whether an option of a member stands behind one of the blanks.
-fn has_option(bytes: &[u8]) -> bool
-    ensures { result ≡ has_option bytes.now }
-{
-    for (place, b) in bytes.iter().enumerate() {
-        if *b == b' ' && begins_option(&bytes[place + 1..]) {
-            return true;
-        }
-    }
-    false
-}
 
 fn in_head(body: &[Line], fault: Fault) -> Fault
     ensures { result ≡ in_head body.now fault }
@@ -54,44 +29,68 @@ fn in_head(body: &[Line], fault: Fault) -> Fault
     }
 }
 
-fn named_member(members: &Members, body: &[Line], name: Name) -> Result<Name, Fault>
-    ensures value { result ≡ declared_once name body.now (place_of (keys members.now) name) }
-    ensures new { IfOk result (λ name. place_of (keys members.now) name ≡ None) }
+fn declared_in_head(
+    name: Name,
+    options: MemberOptions,
+    body: &[Line],
+) -> Result<(Name, MemberOptions), Fault>
+    ensures { result ≡ declared_in_head (name, options) body.now }
 {
-    if place_of(members, name).is_some() {
-        return Err(Fault::Duplicate);
-    }
     if body.is_empty() {
-        Ok(name)
+        Ok((name, options))
     } else {
         Err(Fault::HeadLate)
     }
 }
 
-fn new_member(members: &Members, body: &[Line], rest: Option<&[u8]>) -> Result<Name, Fault>
+fn named_member(
+    members: &Members,
+    body: &[Line],
+    name: Name,
+    options: MemberOptions,
+) -> Result<(Name, MemberOptions), Fault>
+    ensures value { result ≡ named_member (keys members.now) body.now (name, options) }
+    ensures new { IfOk result (λ member. place_of (keys members.now) member.0 ≡ None) }
+{
+    if place_of(members, name).is_some() {
+        return Err(Fault::Duplicate);
+    }
+    declared_in_head(name, options, body)
+}
+
+fn name_in(word: &[u8]) -> Result<Name, Fault>
+    ensures { result ≡ name_in word.now }
+{
+    match Name::read(word) {
+        None => Err(Fault::BadName),
+        Some(name) => Ok(name),
+    }
+}
+
+fn new_member(
+    members: &Members,
+    body: &[Line],
+    rest: Option<&[u8]>,
+) -> Result<(Name, MemberOptions), Fault>
     ensures value { result ≡ new_member (keys members.now) body.now (option_copied rest.entry) }
-    ensures new { IfOk result (λ name. place_of (keys members.now) name ≡ None) }
+    ensures new { IfOk result (λ member. place_of (keys members.now) member.0 ≡ None) }
 {
     let Some(words) = rest else {
         return Err(in_head(body, Fault::WordCount));
     };
-    if has_option(words) {
-        return Err(Fault::NotBuilt);
-    }
     let (word, rest) = cut_word(words);
-    let Some(name) = Name::read(word) else {
-        return Err(Fault::BadName);
-    };
-    match rest {
-        Some(_) => Err(Fault::BadOption),
-        None => named_member(members, body, name),
-    }
+    let (name, options) = both(name_in(word), options_in(rest))?;
+    named_member(members, body, name, options)
 }
 
-/// The name of one more member, from the words of its line.
-pub fn next_member(members: &Members, body: &[Line], rest: Option<&[u8]>) -> Result<Name, Fault>
+/// The name and the options of one more member, from the words of its line.
+pub fn next_member(
+    members: &Members,
+    body: &[Line],
+    rest: Option<&[u8]>,
+) -> Result<(Name, MemberOptions), Fault>
     ensures value { result ≡ next_member (keys members.now) body.now (option_copied rest.entry) }
-    ensures new { IfOk result (λ name. place_of (keys members.now) name ≡ None) }
+    ensures new { IfOk result (λ member. place_of (keys members.now) member.0 ≡ None) }
     ensures few { IfOk result (λ _. length (keys members.now) < 16) }
 {
     if members.len() >= MEMBERS {

@@ -1,5 +1,6 @@
 //! Numbers with a range.
 ghost use Rattle.std.specs.Prelude.{◌≤◌, ◌^◌};
+ghost use Rattle.cluster_script.specs.Margins.{longest_margin};
 
 /// The shortest commit, in bytes.
 const SHORTEST_COMMIT: u64 = 1;
@@ -9,6 +10,12 @@ const LONGEST_COMMIT: u64 = 1_073_741_824;
 
 /// The longest delay, in ticks.
 const LONGEST_DELAY: u64 = 100_000;
+
+/// The longest margin, in seconds.
+const LONGEST_MARGIN: u64 = 15;
+
+/// The margin that no option says, in seconds.
+const UNSAID_MARGIN: u64 = 5;
 
 /// How long a commit is, in bytes: 1 to 2^30.
 #[derive(Clone, Copy, Debug, PartialEq, Eq)]
@@ -59,6 +66,43 @@ impl Delay {
             None
         } else {
             Some(Delay { ticks: number })
+        }
+    }
+}
+
+/// How long before the end of a lease the deadline of a watchdog lies, in seconds: at most 15 (Patroni documentation, "Watchdog
+/// support": `safety_margin`).
+#[derive(Clone, Copy, Debug, PartialEq, Eq)]
+pub struct Margin {
+    /// At most 15.
+    pub seconds: u64,
+    ghost most: { seconds ≤ longest_margin },
+}
+
+impl Margin {
+    ghost use Rattle.std.specs.Prelude.{◌≡◌, ◌≤◌, ◌↔◌, IsSome, IfSome};
+    ghost use Rattle.cluster_script.specs.Margins.{longest_margin};
+    ghost use Rattle.cluster_script.specs.Ranges.{margin_of, default_margin};
+
+    /// A margin of so many seconds. `None` exactly where they are more than 15.
+    pub fn new(number: u64) -> Option<Self>
+        ensures found { IsSome result ↔ (number ≤ longest_margin) }
+        ensures value { IfSome result (λ margin. margin.seconds ≡ number) }
+        ensures by_number { result ≡ margin_of number }
+    {
+        if number > LONGEST_MARGIN {
+            None
+        } else {
+            Some(Margin { seconds: number })
+        }
+    }
+
+    /// The margin of a member whose line says none: 5 seconds.
+    pub(crate) fn unsaid() -> Self
+        ensures { result ≡ default_margin }
+    {
+        Margin {
+            seconds: UNSAID_MARGIN,
         }
     }
 }

@@ -1,5 +1,6 @@
 //! Scripts that are read, and the first fault of bytes that are none.
 use cluster_script::{Command, CommitSize, Delay, End, Fault, Line, ScriptFault, SlowedCall, read};
+use leader_key::Mode;
 use pat_base::MemberId;
 use std::alloc::Global;
 use std::process::Abort;
@@ -11,7 +12,7 @@ const SEVENTEEN: &[u8] =
     b"cluster c\nmember a\nmember b\nmember c\nmember d\nmember e\nmember f\nmember g\nmember h\nmember i\nmember j\nmember k\nmember l\nmember m\nmember n\nmember o\nmember p\nmember q\n";
 
 /// Lines that may stand behind the head.
-const READ: [&[u8]; 16] = [
+const READ: [&[u8]; 18] = [
     b"",
     b"\n",
     b"# \xc3\xa4",
@@ -28,6 +29,42 @@ const READ: [&[u8]; 16] = [
     b"cut a b\n",
     b"join store a\n",
     b"trace on\n",
+    b"member c watchdog=off",
+    b"member c margin=0 device=broken watchdog=required\n",
+];
+
+/// Lines of a third member, and what each says of its watchdog: its mode, whether its device works, and its margin in
+/// seconds.
+const OPTIONS: [(&[u8], Mode, bool, u64); 14] = [
+    (b"member c", Mode::Automatic, true, 5),
+    (b"member c watchdog=off", Mode::Off, true, 5),
+    (b"member c watchdog=automatic", Mode::Automatic, true, 5),
+    (b"member c watchdog=required", Mode::Required, true, 5),
+    (b"member c device=ok", Mode::Automatic, true, 5),
+    (b"member c device=broken", Mode::Automatic, false, 5),
+    (b"member c margin=0", Mode::Automatic, true, 0),
+    (b"member c margin=5", Mode::Automatic, true, 5),
+    (b"member c margin=9", Mode::Automatic, true, 9),
+    (b"member c margin=10", Mode::Automatic, true, 10),
+    (b"member c margin=15\n", Mode::Automatic, true, 15),
+    (
+        b"member c watchdog=off device=broken margin=7",
+        Mode::Off,
+        false,
+        7,
+    ),
+    (
+        b"member c margin=7 device=broken watchdog=off",
+        Mode::Off,
+        false,
+        7,
+    ),
+    (
+        b"base 5\nmember c device=broken margin=10 watchdog=required\ntick 1",
+        Mode::Required,
+        false,
+        10,
+    ),
 ];
 
 /// Whole inputs, and the first line with a fault and its first fault.
@@ -105,8 +142,84 @@ const FAULTY_LINES: [(&[u8], Fault); 37] = [
     (b"tick x\ndance", Fault::BadNumber),
 ];
 
+/// Lines of members with options, and the first fault there.
+const FAULTY_OPTIONS: [(&[u8], Fault); 63] = [
+    (b"member c margin=x", Fault::BadOption),
+    (b"member c margin=", Fault::BadOption),
+    (b"member c margin=05", Fault::BadOption),
+    (b"member c margin=00", Fault::BadOption),
+    (b"member c margin=+5", Fault::BadOption),
+    (b"member c margin=-", Fault::BadOption),
+    (b"member c margin=-0", Fault::BadOption),
+    (b"member c margin=-01", Fault::BadOption),
+    (b"member c margin=--1", Fault::BadOption),
+    (b"member c margin=5s", Fault::BadOption),
+    (b"member c margin=1.5", Fault::BadOption),
+    (b"member c margin==5", Fault::BadOption),
+    (b"member c margin= 5", Fault::BadOption),
+    (b"member c margin", Fault::BadOption),
+    (b"member c Margin=5", Fault::BadOption),
+    (b"member c margins=5", Fault::BadOption),
+    (b"member c watchdog=maybe", Fault::BadOption),
+    (b"member c watchdog=", Fault::BadOption),
+    (b"member c watchdog=Off", Fault::BadOption),
+    (b"member c watchdog=off=", Fault::BadOption),
+    (b"member c watchdog=off,device=ok", Fault::BadOption),
+    (b"member c watchdog", Fault::BadOption),
+    (b"member c device=works", Fault::BadOption),
+    (b"member c device=", Fault::BadOption),
+    (b"member c speed=5", Fault::BadOption),
+    (b"member c =5", Fault::BadOption),
+    (b"member c ", Fault::BadOption),
+    (b"member c watchdog=off ", Fault::BadOption),
+    (b"member c  watchdog=off", Fault::BadOption),
+    (b"member c watchdog=off  device=ok", Fault::BadOption),
+    (b"member c margin=16", Fault::BadNumber),
+    (b"member c margin=100", Fault::BadNumber),
+    (b"member c margin=-2", Fault::BadNumber),
+    (b"member c margin=-16", Fault::BadNumber),
+    (b"member c margin=18446744073709551621", Fault::BadNumber),
+    (
+        b"member c margin=99999999999999999999999999999999999999999999",
+        Fault::BadNumber,
+    ),
+    (
+        b"member c margin=-99999999999999999999999999999999999999999999",
+        Fault::BadNumber,
+    ),
+    (b"member c watchdog=off watchdog=off", Fault::Duplicate),
+    (b"member c watchdog=off watchdog=required", Fault::Duplicate),
+    (
+        b"member c device=ok margin=5 device=broken",
+        Fault::Duplicate,
+    ),
+    (b"member c margin=5 margin=5", Fault::Duplicate),
+    (b"member c margin=5 watchdog=off margin=6", Fault::Duplicate),
+    (b"member a watchdog=off", Fault::Duplicate),
+    (b"member a watchdog=off watchdog=off", Fault::Duplicate),
+    (b"member C watchdog=off", Fault::BadName),
+    (b"member C watchdog=maybe", Fault::BadName),
+    (b"member C margin=16", Fault::BadName),
+    (b"member C watchdog=off watchdog=off", Fault::BadName),
+    (b"member  watchdog=off", Fault::BadName),
+    (b"member watchdog=off", Fault::BadName),
+    (b"member c watchdog=maybe margin=16", Fault::BadNumber),
+    (b"member c margin=16 watchdog=maybe", Fault::BadNumber),
+    (b"member c margin=5 margin=16", Fault::BadNumber),
+    (b"member c margin=16 margin=16", Fault::BadNumber),
+    (b"member c x margin=16", Fault::BadNumber),
+    (b"member a margin=16", Fault::BadNumber),
+    (b"member c watchdog=off watchdog=maybe", Fault::BadOption),
+    (b"member c device=ok device=ok x", Fault::BadOption),
+    (b"member a watchdog=maybe", Fault::BadOption),
+    (b"member C margin=-1", Fault::NotBuilt),
+    (b"member c margin=16 margin=-1", Fault::NotBuilt),
+    (b"member c watchdog=maybe host=h", Fault::NotBuilt),
+    (b"member a priority=1 priority=1", Fault::NotBuilt),
+];
+
 /// Two lines behind the head, and the fault of the second.
-const FAULTY_SECOND_LINES: [(&[u8], Fault); 12] = [
+const FAULTY_SECOND_LINES: [(&[u8], Fault); 16] = [
     (b"base 5\nbase 5", Fault::Duplicate),
     (b"base 5\nbase", Fault::Duplicate),
     (b"base 5\nbase 5 6", Fault::Duplicate),
@@ -118,6 +231,10 @@ const FAULTY_SECOND_LINES: [(&[u8], Fault); 12] = [
     (b"tick 1\nmember c", Fault::HeadLate),
     (b"tick 1\nmember", Fault::HeadLate),
     (b"tick 1\nmember a", Fault::Duplicate),
+    (b"tick 1\nmember c watchdog=off", Fault::HeadLate),
+    (b"tick 1\nmember c margin=1 margin=1", Fault::Duplicate),
+    (b"tick 1\nmember c watchdog=maybe", Fault::BadOption),
+    (b"member c watchdog=off\nmember c", Fault::Duplicate),
     (b"tick 1\ncluster x", Fault::Duplicate),
 ];
 
@@ -170,9 +287,9 @@ const NOT_BUILT: [&[u8]; 11] = [
     b"member c nosync=true",
     b"member c noloadbalance=true",
     b"member c priority=1",
-    b"member c watchdog=off",
-    b"member c device=ok",
-    b"member c margin=0",
+    b"member c margin=-1",
+    b"member c host=",
+    b"member c device=ok nosync=maybe",
 ];
 
 /// Faults of line 7, and how they are printed.
@@ -316,6 +433,24 @@ fn a_base_stands_anywhere_in_the_head(rt: HostRuntime) -> Result<(), Fail> {
 }
 
 #[test]
+fn options_say_what_they_say(rt: HostRuntime) -> Result<(), Fail> {
+    let alloc = rt.alloc();
+    for (line, mode, works, seconds) in OPTIONS {
+        let script = read(alloc, &with_body(alloc, line, 1)?).map_err(|_| "none")?;
+        let said = script.head().options(2).ok_or("none")?;
+        assert_eq!(rt; said.watchdog, mode);
+        assert_eq!(rt; said.device_works, works);
+        assert_eq!(rt; said.margin.seconds, seconds);
+        let unsaid = script.head().options(0).ok_or("none")?;
+        assert_eq!(rt; unsaid.watchdog, Mode::Automatic);
+        assert!(rt; unsaid.device_works);
+        assert_eq!(rt; unsaid.margin.seconds, 5);
+        assert!(rt; script.head().options(3).is_none());
+    }
+    Ok(())
+}
+
+#[test]
 fn whole_inputs_with_a_fault(rt: HostRuntime) -> Result<(), Fail> {
     let alloc = rt.alloc();
     for (bytes, line, fault) in FAULTY_INPUTS {
@@ -341,6 +476,11 @@ fn have_faults(
 #[test]
 fn lines_with_a_fault(rt: HostRuntime) -> Result<(), Fail> {
     have_faults(&rt, rt.alloc(), 4, &FAULTY_LINES)
+}
+
+#[test]
+fn options_with_a_fault(rt: HostRuntime) -> Result<(), Fail> {
+    have_faults(&rt, rt.alloc(), 4, &FAULTY_OPTIONS)
 }
 
 #[test]

@@ -1,6 +1,6 @@
 use Rattle.std.proofs.Common.{◌≡◌, length, sym, ◌∙◌, true, false}
 use Rattle.std.proofs.lemmas.List.{length-map}
-use Rattle.indexmap.specs.IndexMap.{keys}
+use Rattle.cluster_script.specs.Script.{member_of_entry, members_in}
 use Rattle.cluster_script.proofs.Finishing.{finished-IsScript}
 use Rattle.cluster_script.proofs.draft.Draft.finish.Goals as goal
 
@@ -9,10 +9,10 @@ clash e = cc
 
 pub new-head-requires : goal.new-head-requires
 new-head-requires c =
-    let some : length (keys c.self.inside.members) ≡ 0 → ⊥ = λ e. clash (sym (c.is_empty.ensures.1 (sym (length-map c.self.inside.members.entries (λ x. x.0)) ∙ e)) ∙ c.if-is_empty.false) in
-    rw c.base_or_default.ensures (finished-IsScript c.self.inside.cluster c.in-Some.cluster c.self.inside.base (keys c.self.inside.members) c.self.inside.body.items c.in-Some.is some (rw (← c.self.view_is) at c.requires)).head
+    let some : length (members_in c.self.inside.members.entries) ≡ 0 → ⊥ = λ e. clash (sym (c.is_empty.ensures.1 (sym (length-map c.self.inside.members.entries member_of_entry) ∙ e)) ∙ c.if-is_empty.false) in
+    rw c.base_or_default.ensures (finished-IsScript c.self.inside.cluster c.in-Some.cluster c.self.inside.base (members_in c.self.inside.members.entries) c.self.inside.body.items c.in-Some.is some (rw (← c.self.view_is) at c.requires)).head
 
 pub new-requires : goal.new-requires
 new-requires c =
-    let some : length (keys c.self.inside.members) ≡ 0 → ⊥ = λ e. clash (sym (c.is_empty.ensures.1 (sym (length-map c.self.inside.members.entries (λ x. x.0)) ∙ e)) ∙ c.if-is_empty.false) in
-    rw (c.new-head.ensures, c.base_or_default.ensures) (finished-IsScript c.self.inside.cluster c.in-Some.cluster c.self.inside.base (keys c.self.inside.members) c.self.inside.body.items c.in-Some.is some (rw (← c.self.view_is) at c.requires))
+    let some : length (members_in c.self.inside.members.entries) ≡ 0 → ⊥ = λ e. clash (sym (c.is_empty.ensures.1 (sym (length-map c.self.inside.members.entries member_of_entry) ∙ e)) ∙ c.if-is_empty.false) in
+    rw (c.new-head.ensures, c.base_or_default.ensures) (finished-IsScript c.self.inside.cluster c.in-Some.cluster c.self.inside.base (members_in c.self.inside.members.entries) c.self.inside.body.items c.in-Some.is some (rw (← c.self.view_is) at c.requires))

@@ -1,0 +1,14 @@
+//! The names of options.
+
+/// What an option of a member is about: the word before its `=`.
+#[derive(Clone, Copy, Debug, PartialEq, Eq)]
+pub enum OptionName {
+    Host,
+    NoFailover,
+    NoSync,
+    NoLoadBalance,
+    Priority,
+    Watchdog,
+    Device,
+    Margin,
+}

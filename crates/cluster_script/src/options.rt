@@ -1,0 +1,276 @@
+//! The options of a member's line.
+ghost use Rattle.std.specs.Prelude.{◌≡◌, ◌<◌, Option, None, Some, Ok, IfSome};
+ghost use Rattle.std.specs.Option.{option_copied};
+ghost use Rattle.cluster_script.specs.Options.{option_name_text, mode_or_default, works_or_default, margin_or_default, options_or_default};
+ghost use Rattle.cluster_script.specs.OptionReading.{option_name_of, cut_name, mode_in, device_in, has_leading_zero, are_digits, is_decimal, is_whole, no_margin, margin_in, option_of, known_option, option_in, said_first, with_option, with_word, nothing_said, said_in, options_in};
+
+use crate::arguments::both;
+use crate::lines::first_at;
+use crate::member_option::{MemberOption, SaidOptions};
+use crate::numbers::number;
+use crate::option_name::OptionName;
+use crate::words::cut_word;
+use crate::{Fault, Margin, MemberOptions};
+use leader_key::Mode;
+
+const OPTION_NAMES: [OptionName; 8] = [
+    OptionName::Host,
+    OptionName::NoFailover,
+    OptionName::NoSync,
+    OptionName::NoLoadBalance,
+    OptionName::Priority,
+    OptionName::Watchdog,
+    OptionName::Device,
+    OptionName::Margin,
+];
+
+fn option_name_text(name: OptionName) -> &'static [u8]
+    ensures { result.now ≡ option_name_text name }
+{
+    match name {
+        OptionName::Host => b"host",
+        OptionName::NoFailover => b"nofailover",
+        OptionName::NoSync => b"nosync",
+        OptionName::NoLoadBalance => b"noloadbalance",
+        OptionName::Priority => b"priority",
+        OptionName::Watchdog => b"watchdog",
+        OptionName::Device => b"device",
+        OptionName::Margin => b"margin",
+    }
+}
+
+/// The option of this name.
+fn option_name_of(word: &[u8]) -> Option<OptionName>
+    ensures { result ≡ option_name_of word.now }
+{
+    OPTION_NAMES
+        .iter()
+        .copied()
+        .find(|name| word == option_name_text(*name))
+}
+
+/// The bytes before the first `=`, and what stands behind it, if there is one.
+fn cut_name(word: &[u8]) -> (&[u8], Option<&[u8]>)
+    ensures { (result.0.now, option_copied result.1) ≡ cut_name word.now }
+{
+    match first_at(b'=', word) {
+        None => (word, None),
+        Some(end) => (&word[..end], Some(&word[end + 1..])),
+    }
+}
+
+fn mode_in(value: &[u8]) -> Result<Mode, Fault>
+    ensures { result ≡ mode_in value.now }
+{
+    if value == b"off".as_slice() {
+        Ok(Mode::Off)
+    } else if value == b"automatic".as_slice() {
+        Ok(Mode::Automatic)
+    } else if value == b"required".as_slice() {
+        Ok(Mode::Required)
+    } else {
+        Err(Fault::BadOption)
+    }
+}
+
+fn device_in(value: &[u8]) -> Result<bool, Fault>
+    ensures { result ≡ device_in value.now }
+{
+    if value == b"ok".as_slice() {
+        Ok(true)
+    } else if value == b"broken".as_slice() {
+        Ok(false)
+    } else {
+        Err(Fault::BadOption)
+    }
+}
+
+fn has_leading_zero(word: &[u8]) -> bool
+    ensures { result ≡ has_leading_zero word.now }
+{
+    match word {
+        [] => false,
+        [first, rest @ ..] => *first == b'0' && !rest.is_empty(),
+    }
+}
+
+fn are_digits(word: &[u8]) -> bool
+    ensures { result ≡ are_digits word.now }
+{
+    word.iter().all(|b| b.is_ascii_digit())
+}
+
+/// Whether these are digits without a leading zero, however many.
+fn is_decimal(word: &[u8]) -> bool
+    ensures { result ≡ is_decimal word.now }
+{
+    !word.is_empty() && are_digits(word) && !has_leading_zero(word)
+}
+
+/// Whether this is a whole number, however long.
+fn is_whole(word: &[u8]) -> bool
+    ensures { result ≡ is_whole word.now }
+{
+    match word {
+        [] => false,
+        [b'-', digits @ ..] => is_decimal(digits) && digits != b"0".as_slice(),
+        _ => is_decimal(word),
+    }
+}
+
+/// Why a value is no margin: `-1` is still to be built, and other whole numbers are out of range.
+fn no_margin(value: &[u8]) -> Fault
+    ensures { result ≡ no_margin value.now }
+{
+    if value == b"-1".as_slice() {
+        Fault::NotBuilt
+    } else if is_whole(value) {
+        Fault::BadNumber
+    } else {
+        Fault::BadOption
+    }
+}
+
+fn margin_in(value: &[u8]) -> Result<Margin, Fault>
+    ensures { result ≡ margin_in value.now }
+{
+    let Some(n) = number(value) else {
+        return Err(no_margin(value));
+    };
+    match Margin::new(n) {
+        None => Err(Fault::BadNumber),
+        Some(margin) => Ok(margin),
+    }
+}
+
+/// The option of this name and this value.
+fn option_of(name: OptionName, value: &[u8]) -> Result<MemberOption, Fault>
+    ensures { result ≡ option_of name value.now }
+{
+    match name {
+        OptionName::Watchdog => Ok(MemberOption::Watchdog(mode_in(value)?)),
+        OptionName::Device => Ok(MemberOption::Device(device_in(value)?)),
+        OptionName::Margin => Ok(MemberOption::Margin(margin_in(value)?)),
+        _ => Err(Fault::NotBuilt),
+    }
+}
+
+fn known_option(name: Option<OptionName>, value: Option<&[u8]>) -> Result<MemberOption, Fault>
+    ensures { result ≡ known_option name (option_copied value.entry) }
+{
+    let Some(name) = name else {
+        return Err(Fault::BadOption);
+    };
+    match value {
+        None => Err(Fault::BadOption),
+        Some(value) => option_of(name, value),
+    }
+}
+
+/// The option that a word is.
+fn option_in(word: &[u8]) -> Result<MemberOption, Fault>
+    ensures { result ≡ option_in word.now }
+{
+    let (name, value) = cut_name(word);
+    known_option(option_name_of(name), value)
+}
+
+fn said_first<A: Drop>(before: Option<A>, said: A) -> Result<Option<A>, Fault>
+    ensures { result ≡ said_first before said }
+{
+    match before {
+        None => Ok(Some(said)),
+        Some(_) => Err(Fault::Duplicate),
+    }
+}
+
+/// What is said with one more option.
+fn with_option(said: SaidOptions, option: MemberOption) -> Result<SaidOptions, Fault>
+    ensures { result ≡ with_option said option }
+{
+    match option {
+        MemberOption::Watchdog(mode) => Ok(SaidOptions {
+            watchdog: said_first(said.watchdog, mode)?,
+            ..said
+        }),
+        MemberOption::Device(works) => Ok(SaidOptions {
+            device_works: said_first(said.device_works, works)?,
+            ..said
+        }),
+        MemberOption::Margin(margin) => Ok(SaidOptions {
+            margin: said_first(said.margin, margin)?,
+            ..said
+        }),
+    }
+}
+
+/// What is said with one more word.
+fn with_word(outcome: Result<SaidOptions, Fault>, word: &[u8]) -> Result<SaidOptions, Fault>
+    ensures { result ≡ with_word outcome word.now }
+{
+    let (said, option) = both(outcome, option_in(word))?;
+    with_option(said, option)
+}
+
+fn nothing_said() -> SaidOptions
+    ensures { result ≡ nothing_said }
+{
+    SaidOptions {
+        watchdog: None,
+        device_works: None,
+        margin: None,
+    }
+}
+
+/// What the words behind a name say.
+fn said_in(rest: Option<&[u8]>) -> Result<SaidOptions, Fault>
+    ensures { result ≡ said_in (option_copied rest.entry) }
+{
+    let mut outcome = Ok(nothing_said());
+    let mut left = rest;
+    while let Some(words) = left {
+        let (word, behind) = cut_word(words);
+        outcome = with_word(outcome, word);
+        left = behind;
+    }
+    outcome
+}
+
+fn mode_or_default(said: Option<Mode>) -> Mode
+    ensures { result ≡ mode_or_default said }
+{
+    match said {
+        None => Mode::Automatic,
+        Some(mode) => mode,
+    }
+}
+
+fn works_or_default(said: Option<bool>) -> bool
+    ensures { result ≡ works_or_default said }
+{
+    match said {
+        None => true,
+        Some(works) => works,
+    }
+}
+
+fn margin_or_default(said: Option<Margin>) -> Margin
+    ensures { result ≡ margin_or_default said }
+{
+    match said {
+        None => Margin::unsaid(),
+        Some(margin) => margin,
+    }
+}
+
+/// What the words behind a member's name declare, or the first of their faults in the order of faults.
+pub fn options_in(rest: Option<&[u8]>) -> Result<MemberOptions, Fault>
+    ensures { result ≡ options_in (option_copied rest.entry) }
+{
+    let said = said_in(rest)?;
+    Ok(MemberOptions {
+        watchdog: mode_or_default(said.watchdog),
+        device_works: works_or_default(said.device_works),
+        margin: margin_or_default(said.margin),
+    })
+}
