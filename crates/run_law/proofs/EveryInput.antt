@@ -1,8 +1,7 @@
 -- Each input of an agent keeps the law: whoever is woken, and whatever message comes to one.
-use Rattle.std.proofs.Common.{ℕ, ◌≡◌, ◌≤◌, ◌++◌, ◌==◌, ◌&&◌, ◌||◌, not, Bool, true, false, cond, List, [], ◌∷◌, length, slice_get, slice_set, Option, Some, None, option_and_then, option_map, refl, ◌∙◌, ap, sym, subst, arith}
+use Rattle.std.proofs.Common.{ℕ, ◌≡◌, ◌≤◌, ◌++◌, ◌==◌, ◌&&◌, ◌||◌, not, Bool, true, false, cond, List, slice_get, slice_set, Option, Some, None, option_and_then, refl, ◌∙◌, ap, sym, subst, arith}
 use Rattle.std.proofs.lemmas.List.{set-get_or}
 use Rattle.std.proofs.lemmas.Option.{get_or_from_slice_get}
-use Rattle.pat_base.specs.declared.ticks.Ticks.{Ticks}
 use Rattle.pat_base.specs.Changes.{changed_at, changed_by}
 use Rattle.event_book.specs.declared.agent_process.AgentProcess.{AgentProcess}
 use Rattle.event_book.specs.declared.event.AgentEvent.TheVariants as agents
@@ -21,12 +20,10 @@ use Rattle.event_book.specs.Links.{is_cut}
 use Rattle.ha_loop.specs.declared.heard.Heard.{Heard}
 use Rattle.ha_loop.specs.declared.heard.Heard.TheVariants.{Wake}
 use Rattle.ha_loop.specs.declared.machine.Machine.{Machine}
-use Rattle.ha_loop.specs.Agents.{AgentFacts, Outcome, made}
-use Rattle.ha_loop.specs.Table.{step}
+use Rattle.ha_loop.specs.Agents.{AgentFacts, Outcome}
 use Rattle.cluster_script.specs.Script.{HeadText}
-use Rattle.cluster_model.specs.declared.delivery.Delivery.{Delivery}
 use Rattle.cluster_model.specs.declared.delivery.Delivery.TheVariants as deliveries
-use Rattle.cluster_model.specs.Cluster.{agent_after, agent_facts_after, agent_facts_reached, agent_facts_reached_at, agent_facts_with, cluster_after}
+use Rattle.cluster_model.specs.Cluster.{agent_after, agent_facts_reached, agent_facts_reached_at, agent_facts_with, cluster_after}
 use Rattle.cluster_model.specs.Deliveries.{delivery_of, delivery_to, delivery_to_agent, is_answer, is_stale, link_of_message}
 use Rattle.cluster_model.specs.Hearing.{heard_from}
 use Rattle.cluster_model.specs.Inputs.{agent_at, moment_of, outcome_at, outcome_of, outcome_of_heard}
@@ -43,14 +40,14 @@ use Rattle.run_law.specs.Bridged.{Bridged, IsMatched}
 use Rattle.run_law.specs.Declaring.{declared_of}
 use Rattle.run_law.specs.Inputs.{InputsKeep}
 use Rattle.run_law.specs.Kept.{IsKept}
-use Rattle.run_law.specs.Volatile.{agent_now, machine_in, volatile_of}
+use Rattle.run_law.specs.Volatile.{agent_now, volatile_of}
 use Rattle.run_law.specs.Waiting.{IsAddressed, IsAnswer}
 use Rattle.run_law.proofs.Actions.{action-kept, machines-kept}
 use Rattle.run_law.proofs.InputHears.{hears-by}
 use Rattle.run_law.proofs.InputKept.{input-kept}
 use Rattle.run_law.proofs.InputSeen.{found-of}
 use Rattle.run_law.proofs.SameMachine.{machine-same}
-use Rattle.run_law.proofs.StoreArrivals.{LeavesMembers, matched-after, same-volatile}
+use Rattle.run_law.proofs.StoreArrivals.{matched-after, same-volatile}
 
 -- ---- nobody acts
 unchanged-at : (agents : List (Option AgentFacts)) (k : ℕ) (found : Option (Option AgentFacts)) → slice_get agents k ≡ found → changed_at agents k (agent_after None) found ≡ agents
