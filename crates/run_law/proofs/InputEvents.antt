@@ -1,74 +1,37 @@
 -- What an input of an agent brings, event by event.
-use Rattle.std.proofs.Common.{◌≡◌, ◌+◌, ◌++◌, ◌==◌, ◌&&◌, ◌≤◌, ◌<◌, nat_le, ℕ, Bool, true, false, if◌then◌else◌, List, [], ◌∷◌, Option, Some, None, All, length, slice_get, option_and_then, refl, sym, subst, ap, ◌∙◌, arith}
-use Rattle.std.proofs.lemmas.List.Elements.{All-head, All-tail}
-use Rattle.pat_base.specs.declared.member_id.MemberId.{MemberId}
-use Rattle.pat_base.specs.declared.ticks.Ticks.{Ticks}
+use Rattle.std.proofs.Common.{◌≡◌, ◌+◌, ◌++◌, ◌==◌, ◌&&◌, nat_le, ℕ, Bool, true, false, if◌then◌else◌, List, [], ◌∷◌, Option, Some, None, length, slice_get, option_and_then, refl, ap}
 use Rattle.pg_model.specs.Facts.{ServerFacts, entries_of, is_down, is_replica, is_up}
 use Rattle.pg_model.specs.Running.{is_primary}
 use Rattle.event_book.specs.declared.agent_process.AgentProcess.{AgentProcess}
 use Rattle.event_book.specs.declared.event.Event.{Event}
 use Rattle.event_book.specs.declared.event.EventKind.{EventKind}
 use Rattle.event_book.specs.declared.event.EventKind.TheVariants as kinds
-use Rattle.event_book.specs.declared.event.MessageEvent.TheVariants.{Sent, Lost}
-use Rattle.event_book.specs.declared.event.Note.TheVariants as notes
+use Rattle.event_book.specs.declared.event.MessageEvent.TheVariants.{Sent}
 use Rattle.event_book.specs.declared.event.ReplicationEvent.TheVariants as replications
 use Rattle.event_book.specs.declared.event.ServerEvent.TheVariants as servers
-use Rattle.event_book.specs.declared.event.WatchdogEvent.TheVariants as watchdogs
 use Rattle.event_book.specs.declared.link.LinkEnd.TheVariants as ends
 use Rattle.event_book.specs.declared.member.Member.{Member}
 use Rattle.event_book.specs.declared.message.Body.{Body}
-use Rattle.event_book.specs.declared.message.Message.{Message}
 use Rattle.event_book.specs.declared.reason.Basis.TheVariants as bases
 use Rattle.event_book.specs.declared.reason.Reason.{Reason}
-use Rattle.event_book.specs.Flight.{sent_after}
 use Rattle.event_book.specs.Members.{server_of}
 use Rattle.ha_loop.specs.declared.output.Output.{Output}
 use Rattle.ha_loop.specs.declared.output.Output.TheVariants as outputs
 use Rattle.ha_loop.specs.declared.output.Target.TheVariants as targets
 use Rattle.ha_loop.specs.Orders.{IsOfTable}
 use Rattle.cluster_model.specs.declared.heard_message.HeardMessage.{HeardMessage}
-use Rattle.cluster_model.specs.Cluster.{cluster_after, cluster_over}
+use Rattle.cluster_model.specs.Cluster.{cluster_after}
 use Rattle.cluster_model.specs.Commands.{kinds_of}
 use Rattle.cluster_model.specs.Limits.{most_in_flight}
 use Rattle.summary.specs.Lacking.{lacks_in}
 use Rattle.cluster_model.specs.Losing.{beginning_kinds, loss_if}
-use Rattle.cluster_model.specs.Messages.{agent_message, lost_at_once, send_events, sending_events, replica_start_events, stop_events, output_events}
+use Rattle.cluster_model.specs.Messages.{agent_message, lost_at_once, sending_events, output_events}
 use Rattle.cluster_model.specs.Orders.{declared_member, following_of, is_same_required, order_kind, promotion_kinds, arming, feeding, feed_kinds, replica_start_kinds, require_of, required_names, server_at, stop_kind, stop_kinds, stop_of, upstream_of}
-use Rattle.cluster_model.specs.Parts.{each, event_of, events_of, events_then, for_some}
+use Rattle.cluster_model.specs.Parts.{events_of, for_some}
 use Rattle.cluster_model.specs.State.{Cluster}
 use Rattle.lease_law.specs.Premises.{AllAre}
-use Rattle.bridge_law.specs.Groups.{IsNumberedAbove, AreNumberedAbove}
-use Rattle.run_law.specs.InputEvents.{IsQuestionOf, IsOfInput}
-use Rattle.run_law.proofs.Composing.{over-append}
-
--- ---- lists of events and of kinds
-abbrev pub AllKinds : (EventKind → Type 0) → List EventKind → Type 0
-AllKinds P [] = Unit {0}
-AllKinds P (kind ∷ more) = P kind × AllKinds P more
-
-abbrev pub HoldsIf : (EventKind → Type 0) → Option EventKind → Type 0
-HoldsIf P None = Unit {0}
-HoldsIf P (Some kind) = P kind
-
-pub all-kinds : (P : EventKind → Type 0) (cluster : Cluster) (list : List EventKind) → AllKinds P list → AllAre P (events_of cluster list)
-all-kinds P cluster [] all = tt
-all-kinds P cluster (kind ∷ more) all = (all.0, all-kinds P (cluster_after cluster kind) more all.1)
-
-pub one-kind : (P : EventKind → Type 0) (found : Option EventKind) → HoldsIf P found → AllKinds P (kinds_of found)
-one-kind P None is = tt
-one-kind P (Some kind) is = (is, tt)
-
-pub all-both : (P : EventKind → Type 0) (xs ys : List Event) → AllAre P xs → AllAre P ys → AllAre P (xs ++ ys)
-all-both P [] ys first second = second
-all-both P (x ∷ xs) ys first second = (first.0, all-both P xs ys first.1 second)
-
-pub all-more : (P Q : EventKind → Type 0) (xs : List Event) → ((kind : EventKind) → P kind → Q kind) → AllAre P xs → AllAre Q xs
-all-more P Q [] more all = tt
-all-more P Q (x ∷ xs) more all = (more x.kind all.0, all-more P Q xs more all.1)
-
-pub all-front : (P : EventKind → Type 0) (xs ys : List Event) → AllAre P (xs ++ ys) → AllAre P xs
-all-front P [] ys all = tt
-all-front P (x ∷ xs) ys all = (all.0, all-front P xs ys all.1)
+use Rattle.run_law.proofs.Lists.{AllKinds, HoldsIf, all-kinds, one-kind}
+use Rattle.run_law.specs.InputEvents.{IsOfInput}
 
 holds-then : {X : Type 0} (P : EventKind → Type 0) (f : X → Option EventKind) (found : Option X) → ((x : X) → HoldsIf P (f x)) → HoldsIf P (option_and_then f found)
 holds-then P f None all = tt

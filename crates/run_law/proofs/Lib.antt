@@ -1,4 +1,5 @@
 pub mod Places
+pub mod Lists
 pub mod Machines
 pub mod SameMachine
 pub mod Composing
@@ -30,3 +31,4 @@ pub mod InputSeen
 pub mod InputHears
 pub mod InputKept
 pub mod StoreArrivals
+pub mod EveryInput
