@@ -1,5 +1,5 @@
 -- Commits that are acknowledged, one event at a time.
-use Rattle.std.proofs.Common.{◌≡◌, ℕ, suc, zero, ◌+◌, ◌<◌, ◌&&◌, Bool, true, false, List, [], ◌∷◌, ◌++◌, length, map, drop, All, Option, Some, None, ◌⊎◌, inl, inr, arith, refl, ◌∙◌, ap, sym, subst}
+use Rattle.std.proofs.Common.{◌≡◌, ℕ, suc, zero, ◌+◌, ◌<◌, ◌&&◌, Bool, true, false, List, [], ◌∷◌, ◌++◌, length, map, drop, All, Option, Some, None, ◌⊎◌, inl, inr, append_assoc, arith, refl, ◌∙◌, ap, sym, subst}
 use Rattle.std.specs.Prelude.{slice_get, slice_set, option_and_then, if◌then◌else◌}
 use Rattle.std.proofs.lemmas.Bool.{cases_eq}
 use Rattle.std.proofs.lemmas.List.Elements.{All-nil, All-cons}
@@ -20,19 +20,21 @@ use Rattle.event_book.specs.declared.event.ReplicationEvent.TheVariants as repli
 use Rattle.event_book.specs.declared.member.Member.{Member}
 use Rattle.event_book.specs.declared.member.ServerOf.{ServerOf}
 use Rattle.event_book.specs.Members.{server_of}
-use Rattle.cluster_model.specs.Acknowledging.{acknowledge_kinds, acknowledgement, confirmed_front, ready_commits, AreAcknowledged, IsDone}
+use Rattle.cluster_model.specs.Acknowledging.{acknowledge_kinds, acknowledgement, acknowledgements, confirmed_front, ready_commits, AreAcknowledged, IsDone}
 use Rattle.cluster_model.specs.Cluster.{cluster_after, cluster_over}
+use Rattle.cluster_model.specs.Losing.{loss_of, losses_of}
 use Rattle.cluster_model.specs.State.{Cluster}
 use Rattle.cluster_model.specs.Next.{acknowledge_events}
 use Rattle.cluster_model.specs.Parts.{events_of, each, events_then, event_of}
 use Rattle.pat_world.specs.Room.{HasRoom}
 use Rattle.pat_world.specs.Emits.{Emits}
 use Rattle.pat_world.proofs.Deciding.{stamped-is}
+use Rattle.pat_world.proofs.Losses.{at_once, losses-quiet, quiet-took}
 use Rattle.pat_world.proofs.Rest.{Left, Left-end, Left-more}
 use Rattle.pat_world.proofs.Rooms.{HasRoom-fewer}
 use Rattle.pat_world.proofs.ServerRooms.{with-all, HasTimeline}
 use Rattle.pat_world.proofs.Serving.{serving, serving-cluster_after}
-use Rattle.pat_world.proofs.Taking.{cluster_over-append}
+use Rattle.pat_world.proofs.Taking.{Emits-then, cluster_over-append}
 
 -- the server after its oldest waiting commit was acknowledged
 abbrev pub one_told : ServerFacts → ServerFacts
@@ -148,26 +150,91 @@ acknowledged-one cluster member commit s server known told tick has longer there
       room = λ more room. subst (λ (c : Cluster). HasRoom c more) (sym state) (HasRoom-acknowledged cluster member commit more (HasRoom-fewer cluster (0 + more) more (omega arith) room));
     }
 
+-- who waits for a commit no longer lacks no other one
+pub losses-same : (known : List ServerFacts) (place : ℕ) (s : ServerFacts) (commit : ℕ) (members : List Member) → slice_get known place ≡ Some s
+    → losses_of commit (changed_by known place one_told) members ≡ losses_of commit known members
+losses-same known place s commit [] there = refl
+losses-same known place s commit (member ∷ members) there =
+    ap (λ (ks : List EventKind). ks ++ losses_of commit (changed_by known place one_told) members) (at (cases_eq member.id.number place))
+    ∙ ap (λ (ks : List EventKind). loss_of commit member (slice_get known member.id.number) ++ ks) (losses-same known place s commit members there)
+  where
+    at : (member.id.number ≡ place) ⊎ (member.id.number ≡ place → ⊥) → loss_of commit member (slice_get (changed_by known place one_told) member.id.number) ≡ loss_of commit member (slice_get known member.id.number)
+    at (inl e) =
+        ap (λ (n : ℕ). loss_of commit member (slice_get (changed_by known place one_told) n)) e ∙ ap (loss_of commit member) (got-with known place s one_told there)
+        ∙ ap (loss_of commit member) (sym there) ∙ ap (λ (n : ℕ). loss_of commit member (slice_get known n)) (sym e)
+    at (inr other) =
+        ap (loss_of commit member) (ap (λ (o : Option ServerFacts). slice_get (changed_at known place one_told o) member.id.number) there ∙ got-set_other known place member.id.number (one_told s) other)
+
+-- so the other acknowledgements stay as they are
+pub acknowledgements-same : (known : List ServerFacts) (place : ℕ) (s : ServerFacts) (members : List Member) (member : Member) (commits : List ℕ) → slice_get known place ≡ Some s
+    → acknowledgements (changed_by known place one_told) members member commits ≡ acknowledgements known members member commits
+acknowledgements-same known place s members member [] there = refl
+acknowledgements-same known place s members member (commit ∷ commits) there =
+    ap (λ (ks : List EventKind). acknowledgement member commit ∷ (ks ++ acknowledgements (changed_by known place one_told) members member commits)) (losses-same known place s commit members there)
+    ∙ ap (λ (ks : List EventKind). acknowledgement member commit ∷ (losses_of commit known members ++ ks)) (acknowledgements-same known place s members member commits there)
+
+-- a commit is acknowledged, and it is told who lacks it
+abbrev pub told_events : Cluster → Member → ℕ → List Event
+told_events cluster member commit =
+    events_then cluster (event_of cluster (acknowledgement member commit)) (λ later. at_once later (losses_of commit cluster.book.servers cluster.book.members))
+
+-- a list of them: the first is told, and then the others
+told-first : (cluster : Cluster) (member : Member) (commit : ℕ) (more : List EventKind)
+    → events_of cluster (acknowledgement member commit ∷ (losses_of commit cluster.book.servers cluster.book.members ++ more))
+    ≡ told_events cluster member commit ++ events_of (cluster_after cluster (acknowledgement member commit)) more
+told-first cluster member commit more =
+    let kind : EventKind = acknowledgement member commit in
+    let next : Cluster = cluster_after cluster kind in
+    let losses = losses_of commit cluster.book.servers cluster.book.members in
+    ap (λ es. event_of cluster kind ++ es) ((losses-quiet next commit cluster.book.servers cluster.book.members).behind more)
+    ∙ sym (append_assoc (event_of cluster kind) (at_once next losses) (events_of next more))
+
+-- what is told changes no more than the acknowledgement does
+told-over : (cluster : Cluster) (member : Member) (commit : ℕ) → cluster_over cluster (told_events cluster member commit) ≡ cluster_after cluster (acknowledgement member commit)
+told-over cluster member commit =
+    let kind : EventKind = acknowledgement member commit in
+    let next : Cluster = cluster_after cluster kind in
+    cluster_over-append cluster (event_of cluster kind) (at_once next (losses_of commit cluster.book.servers cluster.book.members))
+    ∙ (losses-quiet next commit cluster.book.servers cluster.book.members).still
+
 -- the first of what is left is acknowledged
 pub acknowledged-rest : (cluster : Cluster) (member : Member) (commit : ℕ) (s : ServerFacts) → slice_get cluster.book.servers member.id.number ≡ Some s → next_acknowledged s ≡ Some commit
-    → acknowledge_events cluster member ≡ events_then cluster (event_of cluster (acknowledgement member commit)) (λ later. acknowledge_events later member)
+    → acknowledge_events cluster member ≡ events_then cluster (told_events cluster member commit) (λ later. acknowledge_events later member)
 acknowledged-rest cluster member commit s there next =
     let place = member.id.number in
-    let kind : EventKind = acknowledgement member commit in
-    ap (λ (o : Option ServerFacts). events_of cluster (acknowledge_kinds member o)) there
-    ∙ ap (λ (commits : List ℕ). events_of cluster (map (acknowledgement member) commits)) (ready-next s commit next).0
-    ∙ ap (λ (o : Option ServerFacts). event_of cluster kind ++ events_of (cluster_after cluster kind) (acknowledge_kinds member o)) (sym (got-with cluster.book.servers place s one_told there))
+    let known = cluster.book.servers in
+    let members = cluster.book.members in
+    let later : Cluster = cluster_after cluster (acknowledgement member commit) in
+    let rest = acknowledgements known members member (ready_commits (one_told s)) in
+    let same : acknowledge_events later member ≡ events_of later rest =
+        ap (λ (o : Option ServerFacts). events_of later (acknowledge_kinds later.book.servers members member o)) (got-with known place s one_told there)
+        ∙ ap (events_of later) (acknowledgements-same known place s members member (ready_commits (one_told s)) there) in
+    ap (λ (o : Option ServerFacts). events_of cluster (acknowledge_kinds known members member o)) there
+    ∙ ap (λ (commits : List ℕ). events_of cluster (acknowledgements known members member commits)) (ready-next s commit next).0
+    ∙ told-first cluster member commit rest
+    ∙ ap (λ es. told_events cluster member commit ++ es) (sym same)
+    ∙ ap (λ (c : Cluster). told_events cluster member commit ++ acknowledge_events c member) (sym (told-over cluster member commit))
 
-pub acknowledge-more : (start cluster : Cluster) (member : Member) (commit : ℕ) (server : ServerOf) (known : List ServerFacts) (told : List ℕ) (tick : Ticks) (had has longer whole : List Event)
+pub acknowledge-more : (start cluster view : Cluster) (member : Member) (commit : ℕ) (server : ServerOf) (known : List ServerFacts) (told : List ℕ) (tick : Ticks) (had has longer longest whole : List Event)
     → Left start cluster had has whole (acknowledge_events cluster member) 0 0 → option_and_then next_acknowledged (slice_get cluster.book.servers member.id.number) ≡ Some commit
     → known ≡ changed_by cluster.book.servers member.id.number acknowledged → told ≡ cluster.book.acknowledged ++ commit ∷ [] → server ≡ server_of member → tick.0 ≡ cluster.book.clock
     → longer ≡ has ++ record { tick = tick; kind = kinds.Replication (replications.Acknowledged server commit) } ∷ []
-    → Left start (telling cluster known told) had longer whole (acknowledge_events (telling cluster known told) member) 0 0
-acknowledge-more start cluster member commit server known told tick had has longer whole left is known_is told_is server_is at longer_is =
+    → telling cluster known told ≡ view → longest ≡ longer ++ at_once view (losses_of commit view.book.servers view.book.members)
+    → Left start (telling cluster known told) had longest whole (acknowledge_events (telling cluster known told) member) 0 0
+acknowledge-more start cluster view member commit server known told tick had has longer longest whole left is known_is told_is server_is at longer_is view_is longest_is =
     let found = found-next (slice_get cluster.book.servers member.id.number) commit is in
-    Left-more start cluster (telling cluster known told) had has longer whole (event_of cluster (acknowledgement member commit)) (λ later. acknowledge_events later member) _ 0 0 0 0 left
+    let place = member.id.number in
+    let after = telling cluster known told in
+    let losses = losses_of commit cluster.book.servers cluster.book.members in
+    let servers : known ≡ changed_by cluster.book.servers place one_told = known_is ∙ ap (changed_at cluster.book.servers place acknowledged) found.1
+        ∙ ap (slice_set cluster.book.servers place) (ready-next found.0 commit found.2).1 ∙ sym (ap (changed_at cluster.book.servers place one_told) found.1) in
+    let lost : losses_of commit known cluster.book.members ≡ losses = ap (λ (xs : List ServerFacts). losses_of commit xs cluster.book.members) servers ∙ losses-same cluster.book.servers place found.0 commit cluster.book.members found.1 in
+    let written : longest ≡ longer ++ at_once after losses = longest_is ∙ ap (λ (c : Cluster). longer ++ at_once c (losses_of commit c.book.servers c.book.members)) (sym view_is) ∙ ap (λ (ks : List EventKind). longer ++ at_once after ks) lost in
+    let one = acknowledged-one cluster member commit found.0 server known told tick has longer found.1 found.2 known_is told_is server_is at longer_is in
+    let two = quiet-took after losses longer longest (losses-quiet after commit cluster.book.servers cluster.book.members) written in
+    Left-more start cluster after had has longest whole (told_events cluster member commit) (λ later. acknowledge_events later member) _ 0 0 0 0 left
     (acknowledged-rest cluster member commit found.0 found.1 found.2)
-    (acknowledged-one cluster member commit found.0 server known told tick has longer found.1 found.2 known_is told_is server_is at longer_is) (omega arith)
+    (Emits-then cluster after after has longer longest (event_of cluster (acknowledgement member commit)) (λ later. at_once later losses) 0 0 0 one two (omega arith)) (omega arith)
 
 -- fewer commits wait
 pub acknowledge-fewer : (known after : List ServerFacts) (place commit : ℕ) → option_and_then next_acknowledged (slice_get known place) ≡ Some commit → after ≡ changed_by known place acknowledged
@@ -184,9 +251,9 @@ none-left known place None there is = ap (changed_at known place acknowledged) t
 none-left known place (Some s) there is =
     ap (changed_at known place acknowledged) there ∙ ap (λ (b : Bool). slice_set known place (if b then one_told s else s)) (ready-none s is).0 ∙ set-same known place s there
 
-no-kinds : (member : Member) (found : Option ServerFacts) → option_and_then next_acknowledged found ≡ None → acknowledge_kinds member found ≡ []
-no-kinds member None is = refl
-no-kinds member (Some s) is = ap (map (acknowledgement member)) (ready-none s is).1
+no-kinds : (known : List ServerFacts) (members : List Member) (member : Member) (found : Option ServerFacts) → option_and_then next_acknowledged found ≡ None → acknowledge_kinds known members member found ≡ []
+no-kinds known members member None is = refl
+no-kinds known members member (Some s) is = ap (acknowledgements known members member) (ready-none s is).1
 
 -- none is left
 pub acknowledge-end : (start cluster : Cluster) (member : Member) (known : List ServerFacts) (had has whole : List Event)
@@ -196,7 +263,7 @@ acknowledge-end start cluster member known had has whole left none known_is =
     let place = member.id.number in
     let same : known ≡ cluster.book.servers = known_is ∙ none-left cluster.book.servers place (slice_get cluster.book.servers place) refl none in
     subst (λ (xs : List ServerFacts). Emits start (telling cluster xs cluster.book.acknowledged) had has whole 0) (sym same)
-    (Left-end start cluster had has whole _ 0 0 left (ap (events_of cluster) (no-kinds member (slice_get cluster.book.servers place) none)))
+    (Left-end start cluster had has whole _ 0 0 left (ap (events_of cluster) (no-kinds cluster.book.servers cluster.book.members member (slice_get cluster.book.servers place) none)))
 
 cons-met : (met : Bool) (serial commit : ℕ) (rest more : List ℕ) → (if met then serial ∷ rest else []) ≡ commit ∷ more → (met ≡ true) × (rest ≡ more)
 cons-met true serial commit rest more is = (refl, inner rest more serial commit is)
@@ -245,16 +312,23 @@ keeps-one cluster member commit s there may = record { members = refl; done = λ
 
 -- once all that may be acknowledged at a server are, it is done
 done-there : (cluster : Cluster) (member : Member) (s : ServerFacts) (commits : List ℕ) → slice_get cluster.book.servers member.id.number ≡ Some s → ready_commits s ≡ commits
-    → let after = cluster_over cluster (events_of cluster (map (acknowledgement member) commits)) in Keeps cluster after × DoneAt after member.id.number
+    → let after = cluster_over cluster (events_of cluster (acknowledgements cluster.book.servers cluster.book.members member commits)) in Keeps cluster after × DoneAt after member.id.number
 done-there cluster member s [] there none =
     (record { members = refl; done = λ place done. done }, subst IsDone (sym there) (nothing-of (writes s.state) s.required s.confirmed s.waiting none))
 done-there cluster member s (commit ∷ more) there ready =
     let next = cons-of (writes s.state) s.required s.confirmed s.waiting commit more ready in
-    let rest = done-there (cluster_after cluster (acknowledgement member commit)) member (one_told s) more (got-with cluster.book.servers member.id.number s one_told there) next.1 in
-    (Keeps-then cluster (cluster_after cluster (acknowledgement member commit)) _ (keeps-one cluster member commit s there next.0) rest.0, rest.1)
+    let later : Cluster = cluster_after cluster (acknowledgement member commit) in
+    let rest = done-there later member (one_told s) more (got-with cluster.book.servers member.id.number s one_told there) next.1 in
+    let others = acknowledgements cluster.book.servers cluster.book.members member more in
+    let same : cluster_over cluster (events_of cluster (acknowledgement member commit ∷ (losses_of commit cluster.book.servers cluster.book.members ++ others))) ≡ cluster_over later (events_of later (acknowledgements later.book.servers later.book.members member more)) =
+        ap (cluster_over cluster) (told-first cluster member commit others) ∙ cluster_over-append cluster (told_events cluster member commit) (events_of later others)
+        ∙ ap (λ (c : Cluster). cluster_over c (events_of later others)) (told-over cluster member commit)
+        ∙ ap (λ (ks : List EventKind). cluster_over later (events_of later ks)) (sym (acknowledgements-same cluster.book.servers member.id.number s cluster.book.members member more there)) in
+    let P : Cluster → Type 0 = λ after. Keeps cluster after × DoneAt after member.id.number in
+    subst P (sym same) (Keeps-then cluster later _ (keeps-one cluster member commit s there next.0) rest.0, rest.1)
 
 done-for : (cluster : Cluster) (member : Member) (found : Option ServerFacts) → slice_get cluster.book.servers member.id.number ≡ found
-    → let after = cluster_over cluster (events_of cluster (acknowledge_kinds member found)) in Keeps cluster after × DoneAt after member.id.number
+    → let after = cluster_over cluster (events_of cluster (acknowledge_kinds cluster.book.servers cluster.book.members member found)) in Keeps cluster after × DoneAt after member.id.number
 done-for cluster member None there = (record { members = refl; done = λ place done. done }, subst IsDone (sym there) tt)
 done-for cluster member (Some s) there = done-there cluster member s (ready_commits s) there refl
 

@@ -9,6 +9,8 @@ pub mod Expiring
 pub mod Flights
 pub mod Hearing
 pub mod Reaching
+pub mod Losses
+pub mod Promoting
 pub mod Rest
 pub mod Rooms
 pub mod Sending

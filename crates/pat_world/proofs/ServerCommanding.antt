@@ -23,7 +23,8 @@ use Rattle.cluster_model.specs.State.{Cluster}
 use Rattle.pat_world.specs.Comes.{MayCome}
 use Rattle.cluster_model.specs.Parts.{events_of, for_some, event_of}
 use Rattle.pat_world.specs.Room.{HasRoom}
-use Rattle.cluster_model.specs.ServerCommands.{commit_of, promoted_timeline}
+use Rattle.pat_world.specs.Promoting.{promoted_timeline}
+use Rattle.cluster_model.specs.ServerCommands.{commit_of}
 use Rattle.pat_world.specs.Emits.{Emits}
 use Rattle.pat_world.proofs.ServerRooms.{All-at}
 use Rattle.pat_world.proofs.Taking.{Emits-weaker}
@@ -62,7 +63,7 @@ pub timeline-below : (cluster : Cluster) (place : ℕ) → HasRoom cluster 2 →
 timeline-below cluster place room =
     roomy-at cluster.book.servers place (slice_get cluster.book.servers place) refl (λ s is. All-at ServerFacts (λ s. s.timeline + 2 < 2 ^ 60) cluster.book.servers place s room.timelines is)
 
-standby-if : (replica : Bool) (next timeline : ℕ) → (if replica then Some next else None) ≡ Some timeline → (replica ≡ true) × (next ≡ timeline)
+pub standby-if : (replica : Bool) (next timeline : ℕ) → (if replica then Some next else None) ≡ Some timeline → (replica ≡ true) × (next ≡ timeline)
 standby-if true next timeline is = (refl, same_Some next timeline is)
 standby-if false next timeline is = absurd (none-some timeline is)
 
@@ -75,10 +76,10 @@ pub promotable : (cluster : Cluster) (place timeline : ℕ) → option_and_then 
     → IfSome (slice_get cluster.book.servers place) (λ s. IsTrue (is_replica s.state) × (s.timeline < 2 ^ 60))
 promotable cluster place timeline is room = promotable-at (slice_get cluster.book.servers place) timeline is (timeline-below cluster place room)
 
--- a replica that its operator promoted may begin
-pub promoted-comes : (cluster : Cluster) (member : Member) (timeline : ℕ) (server : ServerOf) → server ≡ server_of member → option_and_then promoted_timeline (slice_get cluster.book.servers member.id.number) ≡ Some timeline → HasRoom cluster 2
-    → MayCome (cluster_after cluster (kinds.Server (servers.Promoted server))) (kinds.Server (servers.Began server timeline))
-promoted-comes cluster member timeline server server_is is room = rw server_is (record { bare = tt; counts = tt; serves = promotable cluster member.id.number timeline is room })
+-- a replica may begin
+pub begun-comes : (cluster : Cluster) (member : Member) (timeline : ℕ) (server : ServerOf) → server ≡ server_of member → option_and_then promoted_timeline (slice_get cluster.book.servers member.id.number) ≡ Some timeline → HasRoom cluster 2
+    → MayCome cluster (kinds.Server (servers.Began server timeline))
+begun-comes cluster member timeline server server_is is room = rw server_is (record { bare = tt; counts = tt; serves = promotable cluster member.id.number timeline is room })
 
 set-got : (known : List ServerFacts) (place : ℕ) (s : ServerFacts) → slice_get known place ≡ Some s → slice_set known place s ≡ known
 set-got known place s there = ap (λ (t : ServerFacts). slice_set known place t) (sym (get_or_from_slice_get known place s s there)) ∙ set-get_or known place s

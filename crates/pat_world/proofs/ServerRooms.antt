@@ -145,6 +145,7 @@ room-replicated : (events : ℕ) (known : List ServerFacts) (happening : Replica
 room-replicated events known (replications.RequiredSet server required names) all = with-same events known server.id.number _ (λ s. refl) all
 room-replicated events known (replications.Confirmed server by end) all = with-same events known server.id.number _ (λ s. refl) all
 room-replicated events known (replications.Acknowledged server commit) all = with-same events known server.id.number _ (λ s. refl) all
+room-replicated events known (replications.Lacks server) all = fewer events known all
 
 room-watched : (events : ℕ) (known : List ServerFacts) (happening : WatchdogEvent) → Roomy (1 + events) known → Roomy events (servers_by_watchdog known happening)
 room-watched events known (watchdogs.Reset member) all = with-same events known member.id.number _ (λ s. refl) all

@@ -15,9 +15,9 @@ use Rattle.ha_loop.specs.declared.machine.Machine.{Machine}
 use Rattle.ha_loop.specs.declared.output.Output.{Output}
 use Rattle.ha_loop.specs.Agents.{AgentFacts, made}
 use Rattle.ha_loop.specs.Outputs.{most_outputs}
-use Rattle.cluster_model.specs.Inputs.{agent_at, is_to_wake, moment_of, outcome_at, outcome_of, outcome_of_heard, outputs_of, standing_of}
+use Rattle.cluster_model.specs.Inputs.{agent_at, is_to_wake, may_act, moment_of, outcome_at, outcome_of, outcome_of_heard, outputs_of, standing_of}
 use Rattle.cluster_model.specs.Machines.{machine_of, points_of}
-use Rattle.cluster_model.specs.Messages.{input_events, no_message, output_events, wake_events, wake_events_if, wake_events_of}
+use Rattle.cluster_model.specs.Messages.{input_events, no_message, output_events, turn_events, turn_events_if, wake_events, wake_events_if, wake_events_of}
 use Rattle.cluster_model.specs.Parts.{each, events_then, event_of}
 use Rattle.cluster_model.specs.State.{Cluster}
 use Rattle.pat_world.specs.Emits.{Emits}
@@ -58,4 +58,11 @@ pub wake-took : (cluster after : Cluster) (member : Member) (process : AgentProc
     → is_to_wake (moment_of cluster) process (standing_of cluster member) ≡ true → Emits cluster after had has (wake_events_of cluster member) input_cost → Emits cluster after had has (wake_events cluster member) input_cost
 wake-took cluster after member process had has there ready woken =
     found-took AgentProcess cluster after had has (wake_events_if cluster member) (slice_get cluster.book.agents member.id.number) process input_cost there
+    (subst (λ (b : Bool). Emits cluster after had has (if b then wake_events_of cluster member else []) input_cost) (sym ready) woken)
+
+-- so is one that a script wakes, where it may act
+pub turn-took : (cluster after : Cluster) (member : Member) (process : AgentProcess) (had has : List Event) → slice_get cluster.book.agents member.id.number ≡ Some process
+    → may_act process ≡ true → Emits cluster after had has (wake_events_of cluster member) input_cost → Emits cluster after had has (turn_events cluster member) input_cost
+turn-took cluster after member process had has there ready woken =
+    found-took AgentProcess cluster after had has (turn_events_if cluster member) (slice_get cluster.book.agents member.id.number) process input_cost there
     (subst (λ (b : Bool). Emits cluster after had has (if b then wake_events_of cluster member else []) input_cost) (sym ready) woken)

@@ -33,6 +33,14 @@ replica_start_cost = 1 + 1
 abbrev pub stopping_cost : ℕ
 stopping_cost = 1 + 1
 
+-- a watchdog is fed, and from when that counts
+abbrev pub feeding_cost : ℕ
+feeding_cost = 1 + 1
+
+-- a replica begins, and lacks a commit
+abbrev pub beginning_cost : ℕ
+beginning_cost = 1 + 1
+
 -- no output brings more than a message
 abbrev pub output_cost : ℕ
 output_cost = sending_cost
@@ -59,7 +67,7 @@ streaming_cost = 1 + 1
 
 -- an operator promotes a replica, and it begins
 abbrev pub promotion_cost : ℕ
-promotion_cost = 1 + 1
+promotion_cost = 1 + beginning_cost
 
 -- an agent starts, and removes the deadline of its watchdog
 abbrev pub restart_cost : ℕ

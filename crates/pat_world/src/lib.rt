@@ -6,6 +6,7 @@ mod deliveries;
 mod flight;
 mod from_head;
 mod links;
+mod losing;
 mod machines;
 mod members;
 mod orders;

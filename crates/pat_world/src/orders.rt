@@ -2,7 +2,7 @@
 ghost use Rattle.std.specs.Prelude.{ℕ, ◌≡◌, ◌<◌, ◌+◌, ◌^◌, IfSome, IfOk, Some, None, option_and_then, option_map, slice_get};
 ghost use Rattle.event_book.specs.Members.{server_of};
 ghost use Rattle.cluster_model.specs.Messages.{receiver_of};
-ghost use Rattle.cluster_model.specs.Orders.{told_of, declared_member, following_of, hold_taken, is_same_required, promotion_of, require_of, required_names, stop_kind, stop_of, upstream_of};
+ghost use Rattle.cluster_model.specs.Orders.{arming, declared_member, feeding, following_of, hold_taken, is_same_required, require_of, required_names, stop_kind, stop_of, told_of, upstream_of};
 ghost use Rattle.cluster_model.specs.State.{Cluster};
 ghost use Rattle.pat_world.specs.Comes.{MayCome};
 
@@ -39,22 +39,6 @@ pub fn member_at(members: &[Member], id: MemberId) -> Option<Member>
 {
     let member = members.get(id.number as usize)?;
     Some(*member)
-}
-
-/// A promotion by the agent: what happens where the server is a replica.
-pub fn promotion_of(servers: &Servers, member: Member) -> Option<EventKind>
-    requires { IfSome (slice_get servers.now member.id.number) (λ s. s.timeline < 2 ^ 60) }
-    ensures kind { result ≡ option_and_then (promotion_of member) (slice_get servers.now member.id.number) }
-    ensures comes { (cluster : Cluster) → cluster.book.servers ≡ servers.now → IfSome result (MayCome cluster) }
-{
-    let server = servers.get(member.id.number as usize)?;
-    match server.state() {
-        State::Replica => Some(EventKind::Server(ServerEvent::Began {
-            server: ServerOf::of(member),
-            timeline: server.timeline() + 1,
-        })),
-        _ => None,
-    }
 }
 
 /// A server follows this leader's: what happens where there is such a member.
@@ -179,24 +163,38 @@ pub fn hold_of_request(
     }))
 }
 
-/// What an agent tells of its watchdog, on the message that it heard.
-pub fn told_of(member: Member, heard: HeardMessage, output: &Output) -> Option<EventKind>
-    ensures kind { result ≡ told_of member heard output.now }
+/// The first deadline of a watchdog, on the message that was heard.
+pub fn arming(member: Member, until: Ticks, heard: HeardMessage) -> EventKind
+    ensures kind { result ≡ arming member until heard }
+    ensures comes { (cluster : Cluster) → MayCome cluster result }
+{
+    EventKind::Watchdog(WatchdogEvent::Armed {
+        member,
+        until,
+        answer: heard.number,
+    })
+}
+
+/// A new deadline of one, on the message that was heard.
+pub fn feeding(member: Member, until: Ticks, heard: HeardMessage) -> EventKind
+    ensures kind { result ≡ feeding member until heard }
+    ensures comes { (cluster : Cluster) → MayCome cluster result }
+{
+    EventKind::Watchdog(WatchdogEvent::Fed {
+        member,
+        until,
+        basis: Basis::Grant {
+            answer: heard.number,
+        },
+    })
+}
+
+/// What an agent tells of its watchdog, but for its feeds.
+pub fn told_of(member: Member, output: &Output) -> Option<EventKind>
+    ensures kind { result ≡ told_of member output.now }
     ensures comes { (cluster : Cluster) → IfSome result (MayCome cluster) }
 {
     match output {
-        Output::Armed { until } => Some(EventKind::Watchdog(WatchdogEvent::Armed {
-            member,
-            until: *until,
-            answer: heard.number,
-        })),
-        Output::Fed { until } => Some(EventKind::Watchdog(WatchdogEvent::Fed {
-            member,
-            until: *until,
-            basis: Basis::Grant {
-                answer: heard.number,
-            },
-        })),
         Output::Disarmed => Some(EventKind::Watchdog(WatchdogEvent::Disarmed { member })),
         Output::CannotArm => Some(EventKind::Note(Note::CannotArm { member })),
         _ => None,

@@ -2,17 +2,25 @@
 ghost use Rattle.std.specs.Prelude.{◌≡◌, ◌<◌, ◌^◌, true, false, IfSome};
 ghost use Rattle.event_book.specs.Agents.{agents_by, agents_by_watchdog, ended_process, with_member_changed, running_in};
 ghost use Rattle.cluster_model.specs.Commands.{hold_of, resume_of, kill_of, restarted};
+ghost use Rattle.cluster_model.specs.Inputs.{may_act};
 ghost use Rattle.cluster_model.specs.State.{Cluster};
 ghost use Rattle.pat_world.specs.Comes.{MayCome};
 
 use event_book::{AgentEvent, AgentProcess, EventKind, Member, Note, WatchdogEvent};
+
+/// Whether an agent runs and isn't suspended.
+pub fn may_act(process: AgentProcess) -> bool
+    ensures { result ≡ may_act process }
+{
+    process.running && !process.suspended
+}
 
 /// The suspension of an agent: what happens where it runs and isn't suspended already.
 pub fn hold_of(member: Member, process: AgentProcess) -> Option<EventKind>
     ensures kind { result ≡ hold_of member process }
     ensures comes { (cluster : Cluster) → IfSome result (MayCome cluster) }
 {
-    if process.running && !process.suspended {
+    if may_act(process) {
         Some(EventKind::Agent(AgentEvent::Suspended {
             agent: member,
         }))

@@ -4,7 +4,8 @@ ghost use Rattle.pg_model.specs.Servers.{entry_for};
 ghost use Rattle.cluster_model.specs.State.{Cluster};
 ghost use Rattle.cluster_model.specs.Ticking.{completion_of};
 ghost use Rattle.pat_world.specs.Comes.{MayCome};
-ghost use Rattle.cluster_model.specs.ServerCommands.{promoted_timeline, is_gone, commit_of, crash_of, freezing_of, slow_by, slow_of};
+ghost use Rattle.pat_world.specs.Promoting.{promoted_timeline};
+ghost use Rattle.cluster_model.specs.ServerCommands.{is_gone, commit_of, crash_of, freezing_of, slow_by, slow_of};
 
 use cluster_script::{Delay, SlowedCall};
 use event_book::{EventKind, LogEvent, Member, Note, ServerEvent, ServerOf};

@@ -261,7 +261,7 @@ impl World {
         ensures { OnOk result (Emits self.old self.new events.old.items events.new.items (command_events self.old command.now) command_cost) }
     {
         match *command {
-            Command::Turn(id) => self.wake(self.declared(id), events),
+            Command::Turn(id) => self.turn(self.declared(id), events),
             Command::Deliver(number) => self.deliver(number, events),
             Command::Lose(number) => self.lose(number, events),
             Command::Restart(id) => self.restart(self.declared(id), events),

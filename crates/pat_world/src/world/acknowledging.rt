@@ -1,11 +1,14 @@
-//! Commits whose clients are told that they are stored.
-ghost use Rattle.std.specs.Prelude.{◌≡◌, ◌+◌, OnOk, length};
+//! Commits whose clients are told that they are stored, and servers that lack one.
+ghost use Rattle.std.specs.Prelude.{ℕ, ◌≡◌, ◌+◌, ◌++◌, OnOk, IfSome, length, slice_get};
+ghost use Rattle.event_book.specs.declared.event.Event.{Event};
 ghost use Rattle.cluster_model.specs.Acknowledging.{AreAcknowledged};
+ghost use Rattle.cluster_model.specs.Losing.{loss_of, losses_of};
 ghost use Rattle.cluster_model.specs.Next.{acknowledge_events};
-ghost use Rattle.cluster_model.specs.Parts.{each};
+ghost use Rattle.cluster_model.specs.Parts.{each, events_at};
 ghost use Rattle.pat_world.specs.Emits.{Emits};
 
 use super::{World, note};
+use crate::losing::loss_at;
 use event_book::{Event, EventKind, Member, ReplicationEvent, ServerOf};
 use std::alloc::AllocError;
 
@@ -34,7 +37,33 @@ impl World {
                 self.clock,
                 EventKind::Replication(ReplicationEvent::Acknowledged { server, commit }),
             )?;
+            self.note_losses(commit, events)?;
         }
         Ok(())
+    }
+
+    /// Writes down which servers that accept writes lack this commit, in script order.
+    fn note_losses(&self, commit: u64, events: &mut Vec<Event>) -> Result<(), AllocError>
+        ensures { OnOk result (events.new.items ≡ events.old.items ++ events_at (record { 0 = self.now.book.clock }) (losses_of commit self.now.book.servers self.now.book.members)) }
+    {
+        for place in 0..self.members.len() {
+            self.note_loss(self.member(place), commit, events)?;
+        }
+        Ok(())
+    }
+
+    /// That of a member does, where it is so.
+    fn note_loss(
+        &self,
+        member: Member,
+        commit: u64,
+        events: &mut Vec<Event>,
+    ) -> Result<(), AllocError>
+        ensures { OnOk result (events.new.items ≡ events.old.items ++ events_at (record { 0 = self.now.book.clock }) (loss_of commit member (slice_get self.now.book.servers member.id.number))) }
+    {
+        match loss_at(&self.servers, member, commit) {
+            None => Ok(()),
+            Some(loss) => note(events, self.clock, loss),
+        }
     }
 }

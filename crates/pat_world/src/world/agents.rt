@@ -8,7 +8,7 @@ ghost use Rattle.cluster_model.specs.Cluster.{agent_facts_with};
 ghost use Rattle.cluster_model.specs.Hearing.{heard_from};
 ghost use Rattle.cluster_model.specs.Inputs.{moment_of, outcome_of, outcome_of_heard, outputs_of, has_work, is_to_wake, standing_of};
 ghost use Rattle.cluster_model.specs.Machines.{hosts_of, machine_of};
-ghost use Rattle.cluster_model.specs.Messages.{wake_events, wake_events_of};
+ghost use Rattle.cluster_model.specs.Messages.{turn_events, wake_events, wake_events_of};
 ghost use Rattle.cluster_model.specs.Next.{restart_events};
 ghost use Rattle.cluster_model.specs.Parts.{each, event_of};
 ghost use Rattle.pat_world.specs.Emits.{Emits};
@@ -19,7 +19,7 @@ use super::{World, note};
 use crate::flight::InFlight;
 use crate::machines::{item_at, machine_from};
 use crate::places;
-use crate::processes::restarted;
+use crate::processes::{may_act, restarted};
 use crate::streaming::source_of;
 use crate::watchdogs::disarm_at_start;
 use cluster_config::{AgentView, Snapshot};
@@ -27,7 +27,7 @@ use cluster_model::HeardMessage;
 use event_book::{AgentEvent, AgentProcess, Body, Event, EventKind, Member};
 use ha_loop::{Heard, Machine, Outputs};
 use lease_store::{Key, KeyEntry};
-use pat_base::MemberId;
+use pat_base::{MemberId, Ticks};
 use std::alloc::AllocError;
 use std::mem;
 
@@ -35,7 +35,11 @@ use std::mem;
 const MOST_OUTPUTS: usize = 40;
 
 /// No message is heard by an agent that is woken.
-const NO_MESSAGE: HeardMessage = HeardMessage { number: 0, run: 0 };
+const NO_MESSAGE: HeardMessage = HeardMessage {
+    number: 0,
+    run: 0,
+    sent: Ticks(0),
+};
 
 impl World {
     /// The agents are woken where they have something to do, in script order.
@@ -63,11 +67,25 @@ impl World {
         self.awaken(member, events)
     }
 
+    /// A script wakes the agent of a member, where it runs and isn't suspended: one with nothing else to do takes note of its server.
+    pub fn turn(&mut self, member: Member, events: &mut Vec<Event>) -> Result<(), AllocError>
+        requires { HasRoom self.old input_cost }
+        ensures { OnOk result (Emits self.old self.new events.old.items events.new.items (turn_events self.old member) input_cost) }
+    {
+        let Some(process) = self.process(member) else {
+            return Ok(());
+        };
+        if !may_act(process) {
+            return Ok(());
+        }
+        self.awaken(member, events)
+    }
+
     /// Whether the agent of a member runs, isn't suspended and has something to do.
     fn is_to_wake(&self, member: Member, process: AgentProcess) -> bool
         ensures { result ≡ is_to_wake (moment_of self.now) process (standing_of self.now member) }
     {
-        process.running && !process.suspended && self.has_work(member)
+        may_act(process) && self.has_work(member)
     }
 
     /// Whether there is something to do for the agent of a member.

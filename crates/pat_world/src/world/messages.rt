@@ -143,6 +143,7 @@ impl World {
         ensures { OnOk result (Emits (reached_by self.old member carried) self.new (events.old.items ++ record { tick = record { 0 = self.old.book.clock }; kind = EventKind.Message (MessageEvent.Delivered number) } ∷ []) events.new.items (input_events (reached_by self.old member carried) member (heard_message number carried) (outcome_of_heard self.old member (heard_from self.old carried))) outputs_cost) }
     {
         let run = carried.message.run;
+        let sent = carried.sent;
         let heard = self.heard_from(carried)?;
         let mut outputs = self.take_outputs()?;
         self.hear_if(member, heard, &mut outputs);
@@ -151,7 +152,12 @@ impl World {
             self.clock,
             EventKind::Message(MessageEvent::Delivered { number }),
         )?;
-        self.carry_out(member, HeardMessage { number, run }, &mut outputs, events)?;
+        self.carry_out(
+            member,
+            HeardMessage { number, run, sent },
+            &mut outputs,
+            events,
+        )?;
         self.outputs = outputs;
         Ok(())
     }

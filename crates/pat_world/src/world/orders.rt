@@ -2,20 +2,21 @@
 ghost use Rattle.std.specs.Prelude.{◌≡◌, ◌≤◌, ◌+◌, ◌*◌, [], All, OnOk, IfOk, IfSome, length, slice_get};
 ghost use Rattle.ha_loop.specs.Outputs.{most_outputs};
 ghost use Rattle.cluster_model.specs.Messages.{output_events, sending_events};
-ghost use Rattle.cluster_model.specs.Orders.{order_kind};
-ghost use Rattle.cluster_model.specs.Parts.{each};
+ghost use Rattle.cluster_model.specs.Orders.{feed_kinds, order_kind};
+ghost use Rattle.cluster_model.specs.Parts.{each, events_of};
+ghost use Rattle.cluster_model.specs.State.{Cluster};
 ghost use Rattle.pat_world.specs.Comes.{MayCome};
 ghost use Rattle.pat_world.specs.Emits.{Emits};
-ghost use Rattle.pat_world.specs.Room.{HasRoom, output_cost, outputs_cost, sending_cost};
+ghost use Rattle.pat_world.specs.Room.{HasRoom, feeding_cost, output_cost, outputs_cost, sending_cost};
 ghost use Rattle.pat_world.specs.Short.{AsksShortly, IsAsked};
 
 use super::World;
 use crate::orders::{
-    declared_member, hold_of_request, member_at, promotion_of, receiver_of, require_of, told_of,
+    arming, declared_member, feeding, hold_of_request, member_at, receiver_of, require_of, told_of,
     upstream_of,
 };
 use cluster_model::HeardMessage;
-use event_book::{Body, Event, EventKind, LinkEnd, Member, Message};
+use event_book::{Body, Event, EventKind, LinkEnd, Member, Message, WatchdogEvent};
 use ha_loop::{Output, Outputs};
 use std::alloc::AllocError;
 
@@ -57,6 +58,13 @@ impl World {
                 let to = receiver_of(&self.members, to);
                 self.write(member, to, sequence, body, events)
             }
+            Output::Promote => self.begin(member, events),
+            Output::Armed { until } => {
+                self.feed(member, heard, arming(member, until, heard), events)
+            }
+            Output::Fed { until } => {
+                self.feed(member, heard, feeding(member, until, heard), events)
+            }
             Output::StartReplica { leader } => {
                 let leader = declared_member(&self.members, leader);
                 self.start_replica(member, leader, events)
@@ -67,6 +75,25 @@ impl World {
                 self.happen_if(kind, events)
             }
         }
+    }
+
+    /// The watchdog of a member is armed or fed, on the message that was heard; that counts from its sending.
+    fn feed(
+        &mut self,
+        member: Member,
+        heard: HeardMessage,
+        feed: EventKind,
+        events: &mut Vec<Event>,
+    ) -> Result<(), AllocError>
+        requires room { HasRoom self.old feeding_cost }
+        requires comes { (cluster : Cluster) → MayCome cluster feed }
+        ensures { OnOk result (Emits self.old self.new events.old.items events.new.items (events_of self.old (feed_kinds member heard feed)) feeding_cost) }
+    {
+        let measured = WatchdogEvent::Measured {
+            member,
+            since: heard.sent,
+        };
+        self.happen_then(EventKind::Watchdog(measured), Some(feed), events)
     }
 
     /// The agent of a member sends this, if there is a receiver.
@@ -110,7 +137,6 @@ impl World {
         ensures comes { IfOk result (λ kind. IfSome kind (MayCome self.now)) }
     {
         match output {
-            Output::Promote => Ok(promotion_of(&self.servers, member)),
             Output::Follow { leader } => {
                 let leader = member_at(&self.members, *leader);
                 Ok(upstream_of(&self.servers, member, leader))
@@ -130,7 +156,7 @@ impl World {
                 let from = member_at(&self.members, *from);
                 Ok(hold_of_request(member, *until, heard.run, *sequence, from))
             }
-            _ => Ok(told_of(member, heard, output)),
+            _ => Ok(told_of(member, output)),
         }
     }
 }

@@ -1,12 +1,13 @@
 //! What commands and agents do to servers.
 ghost use Rattle.std.specs.Prelude.{◌≡◌, ◌+◌, OnOk, Some, option_map};
-ghost use Rattle.cluster_model.specs.Messages.{replica_start_events, stop_events};
+ghost use Rattle.cluster_model.specs.Messages.{promotion_events, replica_start_events, stop_events};
 ghost use Rattle.cluster_model.specs.Next.{promote_events};
 ghost use Rattle.cluster_model.specs.Orders.{server_at};
 ghost use Rattle.pat_world.specs.Emits.{Emits};
-ghost use Rattle.pat_world.specs.Room.{HasRoom, promotion_cost, replica_start_cost, stopping_cost};
+ghost use Rattle.pat_world.specs.Room.{HasRoom, beginning_cost, promotion_cost, replica_start_cost, stopping_cost};
 
 use super::World;
+use crate::losing::loss_of_any;
 use crate::orders::{following_of, stop_of};
 use crate::server_changes::is_down;
 use crate::server_commands::promoted_timeline;
@@ -15,18 +16,33 @@ use pat_base::State;
 use std::alloc::AllocError;
 
 impl World {
-    /// The server of a member is promoted by its operator, where it is a replica.
+    /// The server of a member is promoted by its operator, where it is a replica, and begins.
     pub fn promote(&mut self, member: Member, events: &mut Vec<Event>) -> Result<(), AllocError>
         requires { HasRoom self.old promotion_cost }
         ensures { OnOk result (Emits self.old self.new events.old.items events.new.items (promote_events self.old member) promotion_cost) }
     {
+        if promoted_timeline(&self.servers, member).is_none() {
+            return Ok(());
+        }
+        let server = ServerOf::of(member);
+        self.happen(EventKind::Server(ServerEvent::Promoted { server }), events)?;
+        self.begin(member, events)
+    }
+
+    /// The server of a member begins to accept writes on the next timeline, where it is a replica. That it lacks an acknowledged
+    /// commit then is told.
+    pub fn begin(&mut self, member: Member, events: &mut Vec<Event>) -> Result<(), AllocError>
+        requires { HasRoom self.old beginning_cost }
+        ensures { OnOk result (Emits self.old self.new events.old.items events.new.items (promotion_events self.old member) beginning_cost) }
+    {
         let Some(timeline) = promoted_timeline(&self.servers, member) else {
             return Ok(());
         };
+        let loss = loss_of_any(self.alloc, &self.servers, member, &self.acknowledged)?;
         let server = ServerOf::of(member);
         self.happen_then(
-            EventKind::Server(ServerEvent::Promoted { server }),
-            Some(EventKind::Server(ServerEvent::Began { server, timeline })),
+            EventKind::Server(ServerEvent::Began { server, timeline }),
+            loss,
             events,
         )
     }

@@ -2,7 +2,7 @@ use Rattle.std.proofs.Common.{◌≡◌, arith, rules}
 use Rattle.std.proofs.lemmas.Result.{on_ok_weaker}
 use Rattle.cluster_script.specs.declared.line.Command.TheVariants as commands
 use Rattle.cluster_model.specs.Commands.{kinds_of}
-use Rattle.cluster_model.specs.Messages.{wake_events}
+use Rattle.cluster_model.specs.Messages.{turn_events}
 use Rattle.cluster_model.specs.Next.{command_events, command_kind, promote_events, receive_events_at_most, restart_events}
 use Rattle.cluster_model.specs.Parts.{events_of}
 use Rattle.pat_world.specs.Room.{input_cost, promotion_cost, restart_cost, streaming_cost}
@@ -12,9 +12,9 @@ use Rattle.pat_world.proofs.world.World.command.Goals as goal
 
 pub returns-in-Turn : goal.returns-in-Turn
 returns-in-Turn c =
-    on_ok_weaker c.wake.result
-    (λ took. commanded _ _ _ _ _ (commands.Turn c.in-Turn.id) input_cost c.in-Turn.is (found-took _ _ _ _ _ (wake_events c.args.self.now) _ _ input_cost c.declared.ensures took) (omega arith))
-    c.wake.ensures
+    on_ok_weaker c.turn.result
+    (λ took. commanded _ _ _ _ _ (commands.Turn c.in-Turn.id) input_cost c.in-Turn.is (found-took _ _ _ _ _ (turn_events c.args.self.now) _ _ input_cost c.declared.ensures took) (omega arith))
+    c.turn.ensures
 
 pub returns-in-Restart : goal.returns-in-Restart
 returns-in-Restart c =

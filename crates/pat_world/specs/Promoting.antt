@@ -1,0 +1,19 @@
+-- Replicas that begin to accept writes, and what they lack.
+use Rattle.std.specs.Prelude.{ℕ, ◌+◌, if◌then◌else◌, List, Option, Some, None}
+use Rattle.pg_model.specs.Facts.{ServerFacts, entries_of, is_replica}
+use Rattle.event_book.specs.declared.event.EventKind.{EventKind}
+use Rattle.event_book.specs.declared.member.Member.{Member}
+use Rattle.summary.specs.Lacking.{lacks_in}
+use Rattle.cluster_model.specs.Losing.{is_lacking, loss_if}
+
+-- a replica may be promoted, to the next timeline
+abbrev pub promoted_timeline : ServerFacts → Option ℕ
+promoted_timeline s = if is_replica s.state then Some (s.timeline + 1) else None
+
+-- that a server lacks one of these commits is told
+abbrev pub loss_of_any : List ℕ → Member → ServerFacts → Option EventKind
+loss_of_any commits member s = loss_if member (lacks_in (entries_of s.log) commits)
+
+-- that one that accepts writes lacks this commit is told
+abbrev pub loss_at : ℕ → Member → ServerFacts → Option EventKind
+loss_at commit member s = loss_if member (is_lacking commit s)
