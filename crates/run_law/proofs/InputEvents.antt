@@ -33,11 +33,11 @@ use Rattle.lease_law.specs.Premises.{AllAre}
 use Rattle.run_law.proofs.Lists.{AllKinds, HoldsIf, all-kinds, one-kind}
 use Rattle.run_law.specs.InputEvents.{IsOfInput}
 
-holds-then : {X : Type 0} (P : EventKind → Type 0) (f : X → Option EventKind) (found : Option X) → ((x : X) → HoldsIf P (f x)) → HoldsIf P (option_and_then f found)
+pub holds-then : {X : Type 0} (P : EventKind → Type 0) (f : X → Option EventKind) (found : Option X) → ((x : X) → HoldsIf P (f x)) → HoldsIf P (option_and_then f found)
 holds-then P f None all = tt
 holds-then P f (Some x) all = all x
 
-holds-if : (P : EventKind → Type 0) (test : Bool) (kind : EventKind) → P kind → HoldsIf P (if test then Some kind else None)
+pub holds-if : (P : EventKind → Type 0) (test : Bool) (kind : EventKind) → P kind → HoldsIf P (if test then Some kind else None)
 holds-if P true kind is = is
 holds-if P false kind is = tt
 

@@ -131,7 +131,7 @@ module _ (member : Member) (run : ℕ) (message : HeardMessage) where
   other-numbered cluster output runs table silent =
       unnumbered-all member run message.number cluster.book.sent (Brings cluster output) (output-mine member run message.number no_message cluster message refl runs output table silent)
 
-  output-numbered : (cluster : Cluster) (output : Output) → Runs cluster.book.agents → IsOfTable output → AreNumberedAbove cluster.book.sent (Brings cluster output)
+  pub output-numbered : (cluster : Cluster) (output : Output) → Runs cluster.book.agents → IsOfTable output → AreNumberedAbove cluster.book.sent (Brings cluster output)
   output-numbered cluster (outputs.Send targets.Store sequence body) runs table = send-numbered cluster sequence body (slice_get cluster.book.agents member.id.number)
   output-numbered cluster (outputs.Send (targets.Member id) sequence body) runs table = absurd table
   output-numbered cluster outputs.Promote runs table = other-numbered cluster outputs.Promote runs table tt
