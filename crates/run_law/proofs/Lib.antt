@@ -37,3 +37,4 @@ pub mod Unfed
 pub mod Measuring
 pub mod MeasuredParts
 pub mod MeasuredInputs
+pub mod MeasuredRuns
