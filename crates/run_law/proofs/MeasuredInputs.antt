@@ -1,5 +1,5 @@
 -- Each input of an agent tells before each feed from when it is measured.
-use Rattle.std.proofs.Common.{ℕ, ◌≡◌, ◌≢◌, ◌≤◌, ◌<◌, ◌++◌, Bool, List, [], ◌∷◌, slice_get, Option, Some, None, All, refl, ◌∙◌, ap, sym, subst, arith}
+use Rattle.std.proofs.Common.{ℕ, ◌≡◌, ◌≢◌, ◌≤◌, ◌<◌, List, [], ◌∷◌, slice_get, Option, Some, None, All, refl, ◌∙◌, ap, sym, subst, arith}
 use Rattle.std.proofs.lemmas.List.Elements.{All-head, All-tail}
 use Rattle.pat_base.specs.declared.ticks.Ticks.{Ticks}
 use Rattle.event_book.specs.declared.agent_process.AgentProcess.{AgentProcess}
@@ -10,13 +10,13 @@ use Rattle.event_book.specs.declared.event.EventKind.TheVariants as kinds
 use Rattle.event_book.specs.declared.event.MessageEvent.TheVariants as messages
 use Rattle.event_book.specs.declared.event.WatchdogEvent.TheVariants as watchdogs
 use Rattle.event_book.specs.declared.member.Member.{Member}
-use Rattle.event_book.specs.Flight.{InFlightFacts, in_flight, sent_after}
+use Rattle.event_book.specs.Flight.{InFlightFacts, in_flight}
 use Rattle.ha_loop.specs.declared.heard.Heard.{Heard}
 use Rattle.ha_loop.specs.declared.heard.Heard.TheVariants.{Wake}
 use Rattle.ha_loop.specs.declared.machine.Machine.{Machine}
 use Rattle.ha_loop.specs.declared.output.Output.{Output}
 use Rattle.ha_loop.specs.declared.output.Output.TheVariants as outputs
-use Rattle.ha_loop.specs.Agents.{AgentFacts, Outcome, made}
+use Rattle.ha_loop.specs.Agents.{AgentFacts, made}
 use Rattle.ha_loop.specs.Orders.{IsOfTable}
 use Rattle.ha_loop.specs.Table.{step}
 use Rattle.ha_loop.proofs.Orders.{step-carried-out}
@@ -28,10 +28,9 @@ use Rattle.cluster_model.specs.Machines.{machine_of, points_of}
 use Rattle.cluster_model.specs.Messages.{hear_events, heard_message, input_events, no_message, output_events, wake_events_of}
 use Rattle.cluster_model.specs.Parts.{each}
 use Rattle.cluster_model.specs.State.{Cluster}
-use Rattle.lease_law.specs.Premises.{AllAre, Moments, moments_after}
+use Rattle.lease_law.specs.Premises.{Moments, moments_after}
 use Rattle.lease_law.proofs.Tools.{put-there}
 use Rattle.bridge_law.specs.Groups.{AreNumberedAbove, IsNumberedAbove}
-use Rattle.summary.specs.Sights.{since_after}
 use Rattle.summary.specs.Telling.{AreMeasured}
 use Rattle.run_law.specs.InputEvents.{IsOfInput}
 use Rattle.run_law.specs.Machines.{run_in, run_now}
@@ -39,7 +38,7 @@ use Rattle.run_law.proofs.InputEvents.{output-mine}
 use Rattle.run_law.proofs.InputOutputs.{each-numbered, output-numbered, stays-output}
 use Rattle.run_law.proofs.InputStays.{each-mine}
 use Rattle.run_law.proofs.Lists.{all-more}
-use Rattle.run_law.proofs.Measuring.{IsUnfed, Measures, measured-both, tells-none, unfed-measured}
+use Rattle.run_law.proofs.Measuring.{IsUnfed, Measures, measured-both, unfed-measured}
 use Rattle.run_law.proofs.Moments.{KnowsSending, moments_over}
 use Rattle.run_law.proofs.Unfed.{FeedsNone, wakes-feed-none}
 
@@ -157,8 +156,11 @@ module _ (moments : Moments) (cluster : Cluster) (number : ℕ) (message : InFli
       let table = (step-carried-out (moment_of cluster) (points_of cluster member) heard agent.role agent.knows machine).kinds in
       let run : ℕ = run_in cluster.book.agents member.id.number in
       record {
-        measured = λ since. (tt, each-measured member run (heard_message number message) (moments_after moments Arrived) since (cluster_after cluster Arrived) outs (runs-in cluster member.id.number) table
-            (record { known = knows.known number message found; old = knows.flown number message found }));
+        measured = λ since. (
+          tt,
+          each-measured member run (heard_message number message) (moments_after moments Arrived) since (cluster_after cluster Arrived) outs (runs-in cluster member.id.number) table
+              (record { known = knows.known number message found; old = knows.flown number message found }),
+        );
         numbered = (tt, each-numbered member run (heard_message number message) (cluster_after cluster Arrived) outs (runs-in cluster member.id.number) table);
       }
 

@@ -1,15 +1,11 @@
 -- Each step of a run tells before each feed from when it is measured.
-use Rattle.std.proofs.Common.{ℕ, ◌≡◌, ◌≢◌, ◌≤◌, ◌<◌, ◌+◌, ◌++◌, nat_le, Bool, true, false, cond, List, [], ◌∷◌, length, slice_get, Option, Some, None, All, option_and_then, zero, suc, refl, ◌∙◌, ap, sym, subst, arith, inl, inr}
-use Rattle.std.specs.Map.{keys_of}
-use Rattle.std.proofs.lemmas.List.Elements.{All-head, All-tail}
-use Rattle.pat_base.specs.declared.member_id.MemberId.{MemberId}
-use Rattle.pat_base.specs.declared.name.Name.{Name}
+use Rattle.std.proofs.Common.{ℕ, ◌+◌, ◌++◌, Bool, true, false, cond, List, [], ◌∷◌, slice_get, Option, Some, None}
 use Rattle.pat_base.specs.declared.ticks.Ticks.{Ticks}
 use Rattle.lease_store.specs.declared.txn.Txn.{Txn}
 use Rattle.lease_store.specs.Decision.{Decision, Grant, Refusal, decision_on}
 use Rattle.pg_model.specs.declared.answers.Streamed.{Streamed}
 use Rattle.pg_model.specs.declared.answers.Streamed.TheVariants as streams
-use Rattle.pg_model.specs.Facts.{ServerFacts, entries_of, is_replica}
+use Rattle.pg_model.specs.Facts.{ServerFacts, is_replica}
 use Rattle.pg_model.specs.Servers.{news_at}
 use Rattle.event_book.specs.declared.agent_process.AgentProcess.{AgentProcess}
 use Rattle.event_book.specs.declared.event.AgentEvent.TheVariants as agents
@@ -18,7 +14,6 @@ use Rattle.event_book.specs.declared.event.EventKind.{EventKind}
 use Rattle.event_book.specs.declared.event.EventKind.TheVariants as kinds
 use Rattle.event_book.specs.declared.event.MessageEvent.TheVariants as messages
 use Rattle.event_book.specs.declared.event.ServerEvent.TheVariants as servers
-use Rattle.event_book.specs.declared.event.StoreEvent.TheVariants as stores
 use Rattle.event_book.specs.declared.event.WatchdogEvent.TheVariants as watchdogs
 use Rattle.event_book.specs.declared.link.LinkEnd.{LinkEnd}
 use Rattle.event_book.specs.declared.link.LinkEnd.TheVariants as ends
@@ -30,32 +25,26 @@ use Rattle.event_book.specs.Members.{server_of}
 use Rattle.event_book.specs.declared.event.Note.TheVariants.{AlreadyRunning}
 use Rattle.ha_loop.specs.declared.machine.Machine.{Machine}
 use Rattle.cluster_model.specs.Machines.{machine_of}
-use Rattle.event_book.specs.Flight.{InFlightFacts, in_flight}
+use Rattle.event_book.specs.Flight.{InFlightFacts}
 use Rattle.cluster_script.specs.declared.line.Command.{Command}
 use Rattle.cluster_script.specs.declared.line.Command.TheVariants as commands
-use Rattle.cluster_script.specs.declared.line.Step.{Step}
-use Rattle.cluster_script.specs.declared.line.Step.TheVariants as steps
-use Rattle.cluster_model.specs.declared.delivery.Delivery.{Delivery}
-use Rattle.cluster_model.specs.declared.delivery.Delivery.TheVariants as deliveries
 use Rattle.cluster_model.specs.Acknowledging.{acknowledge_kinds}
-use Rattle.cluster_model.specs.Cluster.{cluster_after, cluster_over}
+use Rattle.cluster_model.specs.Cluster.{cluster_after}
 use Rattle.cluster_model.specs.Commands.{disarm_at_start, disarm_if, disarm_of, kill_of, kinds_of, restarted}
-use Rattle.cluster_model.specs.Deliveries.{delivery_of}
-use Rattle.cluster_model.specs.Limits.{most_rounds}
 use Rattle.cluster_model.specs.Losing.{beginning_kinds, loss_if}
-use Rattle.cluster_model.specs.Messages.{answer_events_by, answer_message, decision_body, decision_kind, send_events, arrival_events_at, decision_events, deliver_events, deliver_events_by, lose_events, message_events, message_events_by}
+use Rattle.cluster_model.specs.Messages.{answer_events_by, answer_message, decision_body, decision_kind, send_events, arrival_events_at, decision_events, lose_events}
 use Rattle.cluster_model.specs.Next.{acknowledge_events, all_entries, command_kind, confirm_events, declared, promote_events, receive_events, receive_events_at_most, receive_events_of, restart_events}
-use Rattle.cluster_model.specs.Parts.{each, event_of, events_of, events_then, for_some}
+use Rattle.cluster_model.specs.Parts.{event_of, events_of, for_some}
 use Rattle.cluster_model.specs.ServerCommands.{crash_of, is_gone, promote_kinds}
 use Rattle.cluster_model.specs.State.{Cluster}
 use Rattle.cluster_model.specs.Streaming.{confirm_of, source_of, unconfirmed_end}
 use Rattle.cluster_model.specs.Ticking.{tick_events}
 use Rattle.lease_law.specs.Premises.{AllAre, Moments}
 use Rattle.run_law.specs.Asides.{IsAside, IsQuiet}
-use Rattle.run_law.proofs.Commands.{IsQuietCommand, command-quiet}
+use Rattle.run_law.proofs.Commands.{command-quiet}
 use Rattle.run_law.proofs.InputEvents.{holds-if, holds-then}
-use Rattle.run_law.proofs.Lists.{AllKinds, HoldsIf, all-both, all-kinds, one-kind}
-use Rattle.run_law.proofs.Measuring.{IsPlain, Measures, Tells, tells-each, tells-none, tells-send, tells-then, told-for_some, told-if, told-plain, told-then}
+use Rattle.run_law.proofs.Lists.{AllKinds, HoldsIf, all-kinds, one-kind}
+use Rattle.run_law.proofs.Measuring.{IsPlain, Measures, Tells, tells-none, tells-send, told-for_some, told-if, told-plain, told-then}
 use Rattle.run_law.proofs.Moments.{KnowsSending}
 use Rattle.run_law.proofs.Streams.{IsQuietIf, acknowledge-quiet, confirm-quiet}
 use Rattle.run_law.proofs.Ticks.{IsBeside, Rest, rest-beside}

@@ -1,12 +1,11 @@
 -- The moment at which each message in flight was sent is known to the premises.
-use Rattle.std.proofs.Common.{ℕ, ◌≡◌, ◌≤◌, ◌<◌, ◌+◌, ◌++◌, Bool, List, [], ◌∷◌, Option, Some, None, refl, ◌∙◌, ap, sym, subst, arith, inl, inr}
-use Rattle.pat_base.specs.declared.ticks.Ticks.{Ticks}
+use Rattle.std.proofs.Common.{ℕ, ◌≡◌, ◌≤◌, ◌<◌, ◌+◌, List, [], ◌∷◌, Option, Some, ◌∙◌, ap, sym, arith, inl, inr}
 use Rattle.event_book.specs.declared.event.Event.{Event}
 use Rattle.event_book.specs.declared.event.EventKind.{EventKind}
 use Rattle.event_book.specs.declared.event.EventKind.TheVariants as kinds
 use Rattle.event_book.specs.declared.event.MessageEvent.TheVariants.{Sent, Delivered, Lost}
 use Rattle.event_book.specs.Facts.{Facts, facts_after}
-use Rattle.event_book.specs.Flight.{InFlightFacts, in_flight, launched, sent_after}
+use Rattle.event_book.specs.Flight.{InFlightFacts, in_flight, launched}
 use Rattle.event_book.specs.Functions.{put_at}
 use Rattle.cluster_model.specs.Cluster.{cluster_after, cluster_over}
 use Rattle.cluster_model.specs.State.{Cluster}

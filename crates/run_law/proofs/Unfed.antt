@@ -1,7 +1,6 @@
 -- An agent that is woken feeds nothing.
-use Rattle.std.proofs.Common.{Bool, true, false, cond, List, [], ◌∷◌, Option, Some, None, All}
+use Rattle.std.proofs.Common.{Bool, true, false, cond, List, [], Option, Some, None, All}
 use Rattle.std.proofs.lemmas.List.Elements.{All-nil, All-push}
-use Rattle.pat_base.specs.declared.server_state.State.{State}
 use Rattle.pat_base.specs.ServerState.{live}
 use Rattle.pat_base.specs.declared.ticks.Ticks.{Ticks}
 use Rattle.wal_model.specs.declared.entry.HistoryPoint.{HistoryPoint}
@@ -19,7 +18,7 @@ use Rattle.ha_loop.specs.Acting.{disarmed, waiting_no_more}
 use Rattle.ha_loop.specs.Agents.{RoleFacts, Follower, Holder, Ready, Leader, Ending, Stray, Outcome, made}
 use Rattle.ha_loop.specs.Before.{before, before_as, has_ended}
 use Rattle.ha_loop.specs.Table.{step}
-use Rattle.ha_loop.specs.Wake.{has_turn, is_due, is_overdue, is_stopping, out_of_reach, out_of_reach_as, overdue, overdue_for, turn_as, turn_begins, turn_noted, turned, unanswered, woken}
+use Rattle.ha_loop.specs.Wake.{has_turn, is_due, is_overdue, is_stopping, out_of_reach_as, overdue, overdue_for, turn_as, turn_begins, turn_noted, turned, unanswered, woken}
 
 -- an output that feeds no watchdog
 abbrev pub FeedsNone : Output → Type 0
