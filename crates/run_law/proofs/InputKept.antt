@@ -82,12 +82,12 @@ pub record IsBegun (m : ℕ) (cluster later : Cluster) : Type 0 where
   pub holds : later.book.holds ≡ cluster.book.holds
   pub sent : later.book.sent ≡ cluster.book.sent
 
-begun-by : (m : ℕ) (cluster : Cluster) (heard : Option ℕ) (kind : EventKind) → IsOpening heard kind → IsBegun m cluster (cluster_after cluster kind)
+pub begun-by : (m : ℕ) (cluster : Cluster) (heard : Option ℕ) (kind : EventKind) → IsOpening heard kind → IsBegun m cluster (cluster_after cluster kind)
 begun-by m cluster heard (kinds.Agent (agents.Woken by)) is = record { processes = refl; clock = refl; servers = refl; deadlines = refl; holds = refl; sent = refl }
 begun-by m cluster heard (kinds.Message (Delivered number)) is = record { processes = refl; clock = refl; servers = refl; deadlines = refl; holds = refl; sent = refl }
 begun-by m cluster heard _ is = absurd is
 
-opening-addressed : (heard : Option ℕ) (kind : EventKind) → IsOpening heard kind → SendsAddressed kind
+pub opening-addressed : (heard : Option ℕ) (kind : EventKind) → IsOpening heard kind → SendsAddressed kind
 opening-addressed heard (kinds.Agent (agents.Woken by)) is = tt
 opening-addressed heard (kinds.Message (Delivered number)) is = tt
 opening-addressed heard _ is = absurd is
@@ -114,7 +114,7 @@ kept-if-works head book cluster events kept = record {
   bridged = λ meets. (kept meets.hands_off.watched).bridged meets;
 }
 
-volatile-same : (a b : Bool) (x y : Option _) → a ≡ b → x ≡ y → ◌≡◌ {A = VolatileState} (record { live = a; agent = x }) (record { live = b; agent = y })
+pub volatile-same : (a b : Bool) (x y : Option _) → a ≡ b → x ≡ y → ◌≡◌ {A = VolatileState} (record { live = a; agent = x }) (record { live = b; agent = y })
 volatile-same a b x y p q = cc
 
 -- what is in an input's outputs
