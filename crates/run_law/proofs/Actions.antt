@@ -24,7 +24,7 @@ use Rattle.lease_law.proofs.Timely.{transition-allowed, front-timely}
 use Rattle.bridge_law.proofs.Groups.{begins-front}
 use Rattle.run_law.specs.Asides.{IsAside}
 use Rattle.run_law.specs.Bridged.{Bridged, IsMatched}
-use Rattle.run_law.specs.Declaring.{declared_of, member_count}
+use Rattle.run_law.specs.Declaring.{declared_of}
 use Rattle.run_law.specs.Kept.{MeetsPremises, IsKept, TellsAction}
 use Rattle.run_law.specs.LocalActions.{machines_by_action}
 use Rattle.run_law.specs.Machines.{live_now}

@@ -10,15 +10,15 @@ use Rattle.cluster_model.specs.Next.{run_events}
 use Rattle.cluster_model.specs.Starting.{cluster_of}
 use Rattle.lease_law.specs.Premises.{IsTimely, IsHandsOff}
 use Rattle.run_law.specs.Declaring.{declared_of, works_of}
-use Rattle.run_law.specs.Inputs.{InputsKeep}
+use Rattle.run_law.proofs.EveryInput.{inputs-keep}
 use Rattle.run_law.proofs.First.{bridged-first}
 use Rattle.run_law.proofs.Steps.{keeps-run}
 
 few-names : (head : HeadText) → IsHead head → length (names_of head) ≤ 16
 few-names head is = rw (length-map head.members _) is.few
 
-pub runs-one : (head : HeadText) → IsHead head → InputsKeep head → (steps : List Step) (front rest : List Event) → front ++ rest ≡ run_events (cluster_of head) steps
+pub runs-one : (head : HeadText) → IsHead head → (steps : List Step) (front rest : List Event) → front ++ rest ≡ run_events (cluster_of head) steps
     → IsTimely (declared_of head).margin front → IsHandsOff default_settings (works_of head) front → HasOneWriter front
-runs-one head is inputs steps front rest whole timely hands_off =
+runs-one head is steps front rest whole timely hands_off =
     let few = few-names head is in
-    (keeps-run head few inputs steps [] (cluster_of head) (bridged-first head few)).sole front rest whole (record { timely = timely; hands_off = hands_off })
+    (keeps-run head few (inputs-keep head) steps [] (cluster_of head) (bridged-first head few)).sole front rest whole (record { timely = timely; hands_off = hands_off })

@@ -1,7 +1,7 @@
 -- What a past and a cluster keep of one another, event by event, where agents aren't looked at.
-use Rattle.std.proofs.Common.{◌≡◌, ◌≢◌, ◌⊎◌, ◌+◌, ◌++◌, ◌≤◌, ◌<◌, ℕ, Bool, true, false, cond, List, [], ◌∷◌, Option, Some, None, length, slice_get, refl, sym, subst, ap, ◌∙◌, arith, inl, inr}
+use Rattle.std.proofs.Common.{◌≡◌, ℕ, Bool, true, false, cond, List, [], ◌∷◌, Option, Some, None, length, sym, subst, ◌∙◌}
 use Rattle.std.specs.FinMap.{find}
-use Rattle.lease_store.specs.Keys.{Keys, is_present, present}
+use Rattle.lease_store.specs.Keys.{is_present, present}
 use Rattle.lease_store.specs.Answers.{present_pairs}
 use Rattle.lease_store.specs.declared.key.Key.{Key}
 use Rattle.lease_store.specs.declared.key.Key.TheVariants as keys
@@ -13,8 +13,8 @@ use Rattle.event_book.specs.declared.event.EventKind.TheVariants as kinds
 use Rattle.event_book.specs.declared.event.MessageEvent.TheVariants.{Sent, Delivered, Lost}
 use Rattle.event_book.specs.declared.message.Body.{Body}
 use Rattle.event_book.specs.declared.message.Body.TheVariants as bodies
-use Rattle.event_book.specs.Facts.{Facts, facts_after}
-use Rattle.event_book.specs.Flight.{InFlightFacts, Flight, flight_after, in_flight, launched, snapshot_for, without_message}
+use Rattle.event_book.specs.Facts.{Facts}
+use Rattle.event_book.specs.Flight.{InFlightFacts, flight_after, in_flight, launched, snapshot_for}
 use Rattle.cluster_model.specs.Cluster.{cluster_after, cluster_over}
 use Rattle.cluster_script.specs.Script.{HeadText}
 use Rattle.cluster_model.specs.Starting.{options_of}
@@ -22,7 +22,7 @@ use Rattle.cluster_model.specs.State.{Cluster}
 use Rattle.lease_law.specs.Past.{Past, past_after, past_over}
 use Rattle.lease_law.specs.Pauses.{NobodyPauses}
 use Rattle.lease_law.specs.Premises.{AllAre, IsHandsOffKind}
-use Rattle.lease_law.specs.Stores.{IsLeased, IsSameStore}
+use Rattle.lease_law.specs.Stores.{IsLeased}
 use Rattle.lease_law.proofs.Tools.{dropped, put-all, some-is}
 use Rattle.lease_law.proofs.Unpaused.{pauses-by}
 use Rattle.bridge_law.specs.Flights.{IsSameBook, AreCausal}

@@ -1,45 +1,36 @@
 -- What an input of an agent brings, event by event.
-use Rattle.std.proofs.Common.{◌≡◌, ◌+◌, ◌++◌, ◌==◌, ◌&&◌, ◌≤◌, ◌<◌, nat_le, ℕ, Bool, true, false, if◌then◌else◌, List, [], ◌∷◌, Option, Some, None, All, length, slice_get, option_and_then, refl, sym, subst, ap, ◌∙◌, arith}
-use Rattle.std.proofs.lemmas.List.Elements.{All-head, All-tail}
-use Rattle.pat_base.specs.declared.member_id.MemberId.{MemberId}
-use Rattle.pat_base.specs.declared.ticks.Ticks.{Ticks}
+use Rattle.std.proofs.Common.{◌≡◌, ◌+◌, ◌++◌, ◌==◌, ◌&&◌, nat_le, ℕ, Bool, true, false, if◌then◌else◌, List, [], ◌∷◌, Option, Some, None, length, slice_get, option_and_then, refl, ap}
 use Rattle.pg_model.specs.Facts.{ServerFacts, entries_of, is_down, is_replica, is_up}
 use Rattle.pg_model.specs.Running.{is_primary}
 use Rattle.event_book.specs.declared.agent_process.AgentProcess.{AgentProcess}
 use Rattle.event_book.specs.declared.event.Event.{Event}
 use Rattle.event_book.specs.declared.event.EventKind.{EventKind}
 use Rattle.event_book.specs.declared.event.EventKind.TheVariants as kinds
-use Rattle.event_book.specs.declared.event.MessageEvent.TheVariants.{Sent, Lost}
-use Rattle.event_book.specs.declared.event.Note.TheVariants as notes
+use Rattle.event_book.specs.declared.event.MessageEvent.TheVariants.{Sent}
 use Rattle.event_book.specs.declared.event.ReplicationEvent.TheVariants as replications
 use Rattle.event_book.specs.declared.event.ServerEvent.TheVariants as servers
-use Rattle.event_book.specs.declared.event.WatchdogEvent.TheVariants as watchdogs
 use Rattle.event_book.specs.declared.link.LinkEnd.TheVariants as ends
 use Rattle.event_book.specs.declared.member.Member.{Member}
 use Rattle.event_book.specs.declared.message.Body.{Body}
-use Rattle.event_book.specs.declared.message.Message.{Message}
 use Rattle.event_book.specs.declared.reason.Basis.TheVariants as bases
 use Rattle.event_book.specs.declared.reason.Reason.{Reason}
-use Rattle.event_book.specs.Flight.{sent_after}
 use Rattle.event_book.specs.Members.{server_of}
 use Rattle.ha_loop.specs.declared.output.Output.{Output}
 use Rattle.ha_loop.specs.declared.output.Output.TheVariants as outputs
 use Rattle.ha_loop.specs.declared.output.Target.TheVariants as targets
 use Rattle.ha_loop.specs.Orders.{IsOfTable}
 use Rattle.cluster_model.specs.declared.heard_message.HeardMessage.{HeardMessage}
-use Rattle.cluster_model.specs.Cluster.{cluster_after, cluster_over}
+use Rattle.cluster_model.specs.Cluster.{cluster_after}
 use Rattle.cluster_model.specs.Commands.{kinds_of}
 use Rattle.cluster_model.specs.Limits.{most_in_flight}
 use Rattle.summary.specs.Lacking.{lacks_in}
 use Rattle.cluster_model.specs.Losing.{beginning_kinds, loss_if}
-use Rattle.cluster_model.specs.Messages.{agent_message, lost_at_once, send_events, sending_events, replica_start_events, stop_events, output_events}
+use Rattle.cluster_model.specs.Messages.{agent_message, lost_at_once, sending_events, output_events}
 use Rattle.cluster_model.specs.Orders.{declared_member, following_of, is_same_required, order_kind, promotion_kinds, arming, feeding, feed_kinds, replica_start_kinds, require_of, required_names, server_at, stop_kind, stop_kinds, stop_of, upstream_of}
-use Rattle.cluster_model.specs.Parts.{each, event_of, events_of, events_then, for_some}
+use Rattle.cluster_model.specs.Parts.{events_of, for_some}
 use Rattle.cluster_model.specs.State.{Cluster}
 use Rattle.lease_law.specs.Premises.{AllAre}
-use Rattle.bridge_law.specs.Groups.{IsNumberedAbove, AreNumberedAbove}
-use Rattle.run_law.specs.InputEvents.{IsQuestionOf, IsOfInput}
-use Rattle.run_law.proofs.Composing.{over-append}
+use Rattle.run_law.specs.InputEvents.{IsOfInput}
 
 -- ---- lists of events and of kinds
 abbrev pub AllKinds : (EventKind → Type 0) → List EventKind → Type 0

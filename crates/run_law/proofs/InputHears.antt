@@ -1,16 +1,15 @@
 -- What an agent hears by a message that comes is what the law has of it.
-use Rattle.std.proofs.Common.{◌≡◌, ◌≢◌, ◌+◌, ◌==◌, ◌&&◌, ◌≤◌, ◌<◌, ℕ, Bool, true, false, List, [], ◌∷◌, Option, Some, None, length, slice_get, option_map, refl, sym, subst, ap, ◌∙◌, arith}
+use Rattle.std.proofs.Common.{◌≡◌, ◌==◌, ◌&&◌, ℕ, Bool, true, false, [], Option, Some, None, slice_get, option_map, refl, sym, subst, ap, ◌∙◌, arith}
 use Rattle.std.specs.FinMap.{find}
 use Rattle.std.proofs.lemmas.Bool.Decides.{nat_tests}
 use Rattle.pat_base.specs.declared.ticks.Ticks.{Ticks}
 use Rattle.lease_store.specs.declared.granted.Granted.{Granted}
-use Rattle.lease_store.specs.declared.key.Key.{Key}
 use Rattle.lease_store.specs.declared.key.Key.TheVariants as keys
 use Rattle.lease_store.specs.declared.value.KeyEntry.{KeyEntry}
 use Rattle.lease_store.specs.declared.value.Value.{Value}
 use Rattle.lease_store.specs.declared.value.Value.TheVariants as values
 use Rattle.lease_store.specs.KeyOrder.{key_cmp}
-use Rattle.cluster_config.specs.Snapshots.{SnapshotFacts, leader_held, failsafe_by}
+use Rattle.cluster_config.specs.Snapshots.{leader_held}
 use Rattle.event_book.specs.declared.link.LinkEnd.{LinkEnd}
 use Rattle.event_book.specs.declared.link.LinkEnd.TheVariants as ends
 use Rattle.event_book.specs.declared.member.Member.{Member}
@@ -21,28 +20,24 @@ use Rattle.event_book.specs.Flight.{InFlightFacts, in_flight}
 use Rattle.cluster_script.specs.Script.{HeadText}
 use Rattle.ha_loop.specs.declared.heard.Heard.{Heard}
 use Rattle.ha_loop.specs.declared.heard.Heard.TheVariants as heards
-use Rattle.ha_loop.specs.declared.knowledge.Knowledge.{Knowledge}
 use Rattle.ha_loop.specs.declared.knowledge.Waited.{Waited}
 use Rattle.ha_loop.specs.declared.machine.Machine.{Machine}
 use Rattle.ha_loop.specs.Agents.{AgentFacts, made}
 use Rattle.ha_loop.specs.Decisions.{asks_lease, is_decision, is_lease_of}
-use Rattle.ha_loop.specs.Lawful.{HearsAnswer, HearsGrant, TellsLease, Hears}
-use Rattle.ha_loop.specs.Powers.{IsAwaitedLease}
-use Rattle.ha_loop.specs.Seen.{leader_entry_seen, leader_seen, failsafe_seen, failsafe_entry_seen}
+use Rattle.ha_loop.specs.Lawful.{HearsAnswer, HearsGrant, Hears}
+use Rattle.ha_loop.specs.Seen.{leader_entry_seen, failsafe_entry_seen}
 use Rattle.cluster_model.specs.Hearing.{heard_in, snapshot_in}
 use Rattle.cluster_model.specs.State.{Cluster}
-use Rattle.lease_law.specs.Leases.{FailsafeKey, Grant, Question}
 use Rattle.lease_law.specs.Outcomes.{seen_of}
 use Rattle.lease_law.specs.Past.{Past, VolatileState, state_of}
 use Rattle.lease_law.specs.States.{Declared, State}
 use Rattle.lease_law.specs.Stores.{IsLeased, leader_key_of, failsafe_key_of}
 use Rattle.lease_law.proofs.Tools.{and-first, both, none-some, some-is}
-use Rattle.bridge_law.specs.Flights.{IsSameFlight}
-use Rattle.bridge_law.specs.Groups.{CarriesGrant, grant_if}
+use Rattle.bridge_law.specs.Groups.{grant_if}
 use Rattle.bridge_law.proofs.Hearing.{heard-snapshot, heard-granted}
 use Rattle.run_law.specs.Bridged.{IsMatched}
 use Rattle.run_law.specs.Declaring.{works_of}
-use Rattle.run_law.specs.Waiting.{IsAnswer, IsAwaited}
+use Rattle.run_law.specs.Waiting.{IsAnswer}
 use Rattle.run_law.proofs.InputSeen.{IsFound, armable-of, has-margin, is-young}
 
 -- ---- the keys of a snapshot, as agents and as the law see them
@@ -125,6 +120,7 @@ module _ (head : HeadText) (past : Past) (cluster : Cluster) (matched : IsMatche
         where
           no-way : false ≡ true → ⊥
           no-way e = cc
+
       same : (a b : ℕ) → (a == b) ≡ true → a ≡ b
       same a b e = grind (arith, nat_tests)
 

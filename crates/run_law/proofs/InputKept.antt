@@ -1,5 +1,5 @@
 -- An input of an agent keeps the law of one writer.
-use Rattle.std.proofs.Common.{◌≡◌, ◌≢◌, ◌⊎◌, ◌+◌, ◌++◌, ◌==◌, ◌≤◌, ◌<◌, ℕ, Bool, true, false, cond, List, [], ◌∷◌, Option, Some, None, All, Contains, length, slice_get, refl, sym, subst, ap, ◌∙◌, arith, inl, inr}
+use Rattle.std.proofs.Common.{◌≡◌, ◌≢◌, ◌⊎◌, ◌++◌, ◌≤◌, ◌<◌, ℕ, Bool, true, false, List, [], ◌∷◌, Option, Some, None, All, Contains, length, slice_get, refl, sym, subst, ap, ◌∙◌, inl, inr}
 use Rattle.std.proofs.lemmas.List.Elements.{All-contains_itself}
 use Rattle.std.proofs.Math.Path.{fun_ext}
 use Rattle.pat_base.specs.Changes.{changed_by}
@@ -11,11 +11,9 @@ use Rattle.event_book.specs.declared.event.Event.{Event}
 use Rattle.event_book.specs.declared.event.EventKind.{EventKind}
 use Rattle.event_book.specs.declared.event.EventKind.TheVariants as kinds
 use Rattle.event_book.specs.declared.event.MessageEvent.TheVariants.{Sent, Delivered, Lost}
-use Rattle.event_book.specs.declared.link.LinkEnd.TheVariants as ends
 use Rattle.event_book.specs.declared.member.Member.{Member}
 use Rattle.event_book.specs.declared.message.Body.{Body}
 use Rattle.event_book.specs.declared.message.Message.{Message}
-use Rattle.event_book.specs.Clock.{now_after}
 use Rattle.event_book.specs.Functions.{put_at}
 use Rattle.cluster_script.specs.Script.{HeadText}
 use Rattle.ha_loop.specs.declared.heard.Heard.{Heard}
@@ -24,8 +22,8 @@ use Rattle.ha_loop.specs.declared.output.Output.{Output}
 use Rattle.ha_loop.specs.declared.output.Output.TheVariants as outputs
 use Rattle.ha_loop.specs.declared.output.Target.TheVariants as targets
 use Rattle.ha_loop.specs.Agents.{AgentFacts, Outcome, made}
-use Rattle.ha_loop.specs.Lawful.{StandsIn, Hears, query_in, IsSentBy, IsInputOf, MayPromote, IsLawfulAnd}
-use Rattle.ha_loop.specs.Orders.{IsOfTable, machine_after_outputs}
+use Rattle.ha_loop.specs.Lawful.{StandsIn, Hears, IsSentBy, IsInputOf, MayPromote, IsLawfulAnd}
+use Rattle.ha_loop.specs.Orders.{IsOfTable}
 use Rattle.ha_loop.specs.Outputs.{is_arming, is_feeding, has_one}
 use Rattle.ha_loop.specs.Seen.{machine_seen}
 use Rattle.ha_loop.specs.Table.{step}
@@ -34,12 +32,12 @@ use Rattle.ha_loop.proofs.Orders.{step-carried-out}
 use Rattle.cluster_model.specs.declared.heard_message.HeardMessage.{HeardMessage}
 use Rattle.cluster_model.specs.Cluster.{agent_after, agent_facts_after, cluster_after, cluster_over}
 use Rattle.cluster_model.specs.Inputs.{moment_of}
-use Rattle.cluster_model.specs.Machines.{machine_of, points_of}
-use Rattle.cluster_model.specs.Messages.{output_events, input_events}
-use Rattle.cluster_model.specs.Parts.{each, event_of, events_then}
+use Rattle.cluster_model.specs.Machines.{points_of}
+use Rattle.cluster_model.specs.Messages.{output_events}
+use Rattle.cluster_model.specs.Parts.{each}
 use Rattle.cluster_model.specs.State.{Cluster}
 use Rattle.lease_law.specs.Leases.{Flying, Query, Requested, Taking}
-use Rattle.lease_law.specs.Actions.{Action, Input}
+use Rattle.lease_law.specs.Actions.{Input}
 use Rattle.lease_law.specs.Books.{IsShown}
 use Rattle.lease_law.specs.Claims.{BeginsBehind, MayBeginBehind, ShowsIt}
 use Rattle.lease_law.specs.Inputs.{AgentInput}
@@ -55,18 +53,18 @@ use Rattle.bridge_law.proofs.Groups.{own-causal}
 use Rattle.bridge_law.proofs.Sends.{old-or-sent, heard-gone}
 use Rattle.run_law.specs.Bridged.{Bridged, IsMatched}
 use Rattle.run_law.specs.Declaring.{declared_of, member_count, works_of}
-use Rattle.run_law.specs.InputEvents.{IsQuestionOf, IsOfInput}
-use Rattle.run_law.specs.Kept.{MeetsPremises, IsKept, TellsAction}
+use Rattle.run_law.specs.InputEvents.{IsOfInput}
+use Rattle.run_law.specs.Kept.{IsKept}
 use Rattle.run_law.specs.Machines.{live_now, run_in}
 use Rattle.run_law.specs.Questions.{IsQuestion, SendsBetween, AsksAnew}
-use Rattle.run_law.specs.Volatile.{agent_now, machine_in, volatile_of}
+use Rattle.run_law.specs.Volatile.{agent_now, volatile_of}
 use Rattle.run_law.specs.Waiting.{IsAddressed}
 use Rattle.run_law.proofs.Actions.{action-kept, machine-is}
 use Rattle.run_law.proofs.Fitting.{Fits, IsFitting, SendsAddressed, fits-of, fits-over, matched-from}
 use Rattle.run_law.proofs.InputEvents.{all-more}
 use Rattle.run_law.proofs.InputKinds.{IsOpening, opening-own, opening-taken, opening-sends, opening-from, opening-above, opening-members, opening-hands_off, opening-moments, mine-own, mine-taken, mine-from, mine-hands_off, mine-members, mine-sends, asked-over}
-use Rattle.run_law.proofs.InputMachines.{Mirrors, IsServer}
-use Rattle.run_law.proofs.InputOutputs.{each-begins, each-fed, each-mirrors, each-numbered, armed-more, moments-all, FedIn}
+use Rattle.run_law.proofs.InputMachines.{Mirrors}
+use Rattle.run_law.proofs.InputOutputs.{each-begins, each-fed, each-mirrors, each-numbered, armed-more, moments-all}
 use Rattle.run_law.proofs.InputSeen.{IsFound, margin-of, seen-of}
 use Rattle.run_law.proofs.InputStays.{Stays, each-mine, item-here, stays-over}
 use Rattle.run_law.proofs.InputWaiting.{agents-after, knows-after, runs-after}
@@ -82,12 +80,12 @@ pub record IsBegun (m : ℕ) (cluster later : Cluster) : Type 0 where
   pub holds : later.book.holds ≡ cluster.book.holds
   pub sent : later.book.sent ≡ cluster.book.sent
 
-pub begun-by : (m : ℕ) (cluster : Cluster) (heard : Option ℕ) (kind : EventKind) → IsOpening heard kind → IsBegun m cluster (cluster_after cluster kind)
+begun-by : (m : ℕ) (cluster : Cluster) (heard : Option ℕ) (kind : EventKind) → IsOpening heard kind → IsBegun m cluster (cluster_after cluster kind)
 begun-by m cluster heard (kinds.Agent (agents.Woken by)) is = record { processes = refl; clock = refl; servers = refl; deadlines = refl; holds = refl; sent = refl }
 begun-by m cluster heard (kinds.Message (Delivered number)) is = record { processes = refl; clock = refl; servers = refl; deadlines = refl; holds = refl; sent = refl }
 begun-by m cluster heard _ is = absurd is
 
-pub opening-addressed : (heard : Option ℕ) (kind : EventKind) → IsOpening heard kind → SendsAddressed kind
+opening-addressed : (heard : Option ℕ) (kind : EventKind) → IsOpening heard kind → SendsAddressed kind
 opening-addressed heard (kinds.Agent (agents.Woken by)) is = tt
 opening-addressed heard (kinds.Message (Delivered number)) is = tt
 opening-addressed heard _ is = absurd is
@@ -114,7 +112,7 @@ kept-if-works head book cluster events kept = record {
   bridged = λ meets. (kept meets.hands_off.watched).bridged meets;
 }
 
-pub volatile-same : (a b : Bool) (x y : Option _) → a ≡ b → x ≡ y → ◌≡◌ {A = VolatileState} (record { live = a; agent = x }) (record { live = b; agent = y })
+volatile-same : (a b : Bool) (x y : Option _) → a ≡ b → x ≡ y → ◌≡◌ {A = VolatileState} (record { live = a; agent = x }) (record { live = b; agent = y })
 volatile-same a b x y p q = cc
 
 -- what is in an input's outputs
@@ -191,8 +189,10 @@ module _ (head : HeadText) (book : List Event) (cluster : Cluster) (good : Bridg
   all-events P first rest = (first, all-more (IsOfInput member agent.knows.run message.number Q) P Rest rest mine)
 
   numbers : AreNumberedAbove cluster.book.sent Events
-  numbers = (opening-above cluster.book.sent hn opening opens,
-    subst (λ (n : ℕ). AreNumberedAbove n Rest) (begun.sent ∙ sym (opening-sent hn opening cluster.book.sent opens)) (each-numbered member agent.knows.run message First After.outputs runs table))
+  numbers = (
+    opening-above cluster.book.sent hn opening opens,
+    subst (λ (n : ℕ). AreNumberedAbove n Rest) (begun.sent ∙ sym (opening-sent hn opening cluster.book.sent opens)) (each-numbered member agent.knows.run message First After.outputs runs table),
+  )
 
   sends : AllAre (SendsOnly (IsSentBy M agent.knows.run Told.clock After.outputs) Told.clock) Events
   sends = all-events (SendsOnly (IsSentBy M agent.knows.run Told.clock After.outputs) Told.clock) (opening-sends (IsSentBy M agent.knows.run Told.clock After.outputs) Told.clock hn opening opens)
@@ -311,17 +311,23 @@ module _ (head : HeadText) (book : List Event) (cluster : Cluster) (good : Bridg
     May before n = MayBeginBehind S (Input M Theirs) before n
 
     grow : (before more : List Event) → May before M → May (before ++ more) M
-    grow before more may = (may.0, elim may.1 [
-      | inl acts ↦ inl acts
-      | inr armed ↦ inr (record { fed = armed.fed; free = armed.free; armed = armed-more member agent.knows.run message M armed.fed.hears.number before more armed.armed })
-    ])
+    grow before more may = (
+      may.0,
+      elim may.1 [
+        | inl acts ↦ inl acts
+        | inr armed ↦ inr (record { fed = armed.fed; free = armed.free; armed = armed-more member agent.knows.run message M armed.fed.hears.number before more armed.armed })
+      ],
+    )
 
     makes : (outs : List Output) (before : List Event) → MayPromote S M Theirs outs → (has_one is_arming outs ≡ true → Rattle.lease_law.specs.Claims.IsArmedIn M message.number before) → May before M
-    makes outs before may armed = (refl, inr (record {
-      fed = may.fed;
-      free = may.free;
-      armed = subst (λ (n : ℕ). Rattle.lease_law.specs.Claims.IsArmedIn M n before) (numbered may.fed.hears.number may.fed.hears.heard_is).0 (armed may.armed);
-    }))
+    makes outs before may armed = (
+      refl,
+      inr (record {
+        fed = may.fed;
+        free = may.free;
+        armed = subst (λ (n : ℕ). Rattle.lease_law.specs.Claims.IsArmedIn M n before) (numbered may.fed.hears.number may.fed.hears.heard_is).0 (armed may.armed);
+      }),
+    )
 
     no-one : (e : has_one is_arming [] ≡ true) → ⊥
     no-one e = cc
@@ -332,9 +338,11 @@ module _ (head : HeadText) (book : List Event) (cluster : Cluster) (good : Bridg
     opening-begins R o _ is = absurd is
 
     begins-all : IsLawfulAnd S M After Theirs → BeginsBehind (MayBeginBehind S (Input M Theirs)) [] Events
-    begins-all lawful = (opening-begins (May []) hn opening opens,
+    begins-all lawful = (
+      opening-begins (May []) hn opening opens,
       each-begins member agent.knows.run message (MayPromote S M Theirs) May grow makes First [] (record { tick = record { 0 = First.book.clock }; kind = opening } ∷ []) After.outputs runs table
-      (opening-moments message.number hn opening opens, tt) kept (λ e. absurd (no-one e)) lawful.begins)
+          (opening-moments message.number hn opening opens, tt) kept (λ e. absurd (no-one e)) lawful.begins,
+    )
 
     all-front : (xs ys : List Event) → AllAre (KeepsMomentOf message.number) (xs ++ ys) → AllAre (KeepsMomentOf message.number) xs
     all-front [] ys all = tt
@@ -345,14 +353,21 @@ module _ (head : HeadText) (book : List Event) (cluster : Cluster) (good : Bridg
     shows-if true is =
         let fed = each-fed member agent.knows.run message First After.outputs is in
         let first : Event = record { tick = record { 0 = First.book.clock }; kind = opening } in
-        inr (first ∷ fed.front, fed.event, fed.rest, ap (λ (l : List Event). first ∷ l) fed.is, record {
-          by_grant = λ _ _ number e.
-              let same = (numbered number e).0 in
-              (subst (λ (n : ℕ). AllAre (KeepsMomentOf n) (first ∷ fed.front)) same
-                (opening-moments message.number hn opening opens, all-front fed.front (fed.event ∷ fed.rest) (subst (AllAre (KeepsMomentOf message.number)) (sym fed.is) kept)),
-                subst (λ (n : ℕ). Rattle.lease_law.specs.Premises.IsFedBy M n fed.event.kind) same fed.fed);
-          by_failsafe = λ _ failsafe _ _ _ _. absurd (Rattle.lease_law.proofs.Tools.not-false _ (ap (λ (x : MachineSeen). x.by_failsafe) machine-later) failsafe);
-        })
+        inr (
+          first ∷ fed.front,
+          fed.event,
+          fed.rest,
+          ap (λ (l : List Event). first ∷ l) fed.is,
+          record {
+            by_grant = λ _ _ number e.
+                let same = (numbered number e).0 in (
+                  subst (λ (n : ℕ). AllAre (KeepsMomentOf n) (first ∷ fed.front)) same
+                      (opening-moments message.number hn opening opens, all-front fed.front (fed.event ∷ fed.rest) (subst (AllAre (KeepsMomentOf message.number)) (sym fed.is) kept)),
+                  subst (λ (n : ℕ). Rattle.lease_law.specs.Premises.IsFedBy M n fed.event.kind) same fed.fed,
+                );
+            by_failsafe = λ _ failsafe _ _ _ _. absurd (Rattle.lease_law.proofs.Tools.not-false _ (ap (λ (x : MachineSeen). x.by_failsafe) machine-later) failsafe);
+          },
+        )
 
     -- ---- the action
     volatile-put : (n : ℕ) → volatile_of Later n ≡ put_at (volatile_of cluster) M (volatile_of Later M) n
@@ -362,6 +377,7 @@ module _ (head : HeadText) (book : List Event) (cluster : Cluster) (good : Bridg
         other-way n other = volatile-same _ _ _ _
             (ap live_now (stays.servers n other ∙ ap (λ (l : List ServerFacts). slice_get l n) begun.servers))
             (ap agent_now (ap (λ (l : List (Option AgentFacts)). slice_get l n) agents-are ∙ get-elsewhere cluster.agents M n (agent_after (Some After)) other))
+
         by : (n : ℕ) → volatile_of Later n ≡ put_at (volatile_of cluster) M (volatile_of Later M) n
         by n = elim (Rattle.lease_law.proofs.Tools.decide-eq n M) [
           | inl same ↦ ap (volatile_of Later) same ∙ sym (put-here (volatile_of cluster) M (volatile_of Later M)) ∙ ap (put_at (volatile_of cluster) M (volatile_of Later M)) (sym same)
@@ -378,7 +394,7 @@ module _ (head : HeadText) (book : List Event) (cluster : Cluster) (good : Bridg
     input-kept hears = kept-if-works head book cluster Events (λ works.
         let sound = good.matched.waiting.agents M agent here in
         let lawful = input-lawful-from Now (points_of cluster member) heard agent.role agent.knows machine (λ waited is. (sound.waits waited is).span) sound.ends
-            S M (run_in cluster.book.agents M) Theirs stands (hears works) is-input in
+        S M (run_in cluster.book.agents M) Theirs stands (hears works) is-input in
         action-kept head book cluster Events (Input M Theirs) good (begins-all lawful) (λ meets. record {
           lawful = lawful.lawful;
           shows = shows-if (has_one is_feeding After.outputs) refl;

@@ -1,11 +1,10 @@
 -- What holds of each event that an input of an agent brings.
-use Rattle.std.proofs.Common.{◌≡◌, ◌≢◌, ◌⊎◌, ◌+◌, ◌++◌, ◌≤◌, ◌<◌, ℕ, Bool, true, false, List, [], ◌∷◌, Option, Some, None, All, Contains, length, slice_get, refl, sym, subst, ap, ◌∙◌, arith, inl, inr}
+use Rattle.std.proofs.Common.{◌≡◌, ◌⊎◌, ◌<◌, ℕ, List, [], ◌∷◌, Option, Some, None, refl, sym, subst, ap, ◌∙◌, inl, inr}
 use Rattle.event_book.specs.declared.event.Event.{Event}
 use Rattle.event_book.specs.declared.event.EventKind.{EventKind}
 use Rattle.event_book.specs.declared.event.EventKind.TheVariants as kinds
 use Rattle.event_book.specs.declared.event.AgentEvent.TheVariants as agents
 use Rattle.event_book.specs.declared.event.MessageEvent.TheVariants.{Sent, Delivered, Lost}
-use Rattle.event_book.specs.declared.event.ReplicationEvent.TheVariants as replications
 use Rattle.event_book.specs.declared.event.ServerEvent.TheVariants as servers
 use Rattle.event_book.specs.declared.event.WatchdogEvent.TheVariants as watchdogs
 use Rattle.event_book.specs.declared.link.LinkEnd.{LinkEnd}
@@ -17,11 +16,10 @@ use Rattle.event_book.specs.declared.message.Body.TheVariants as bodies
 use Rattle.event_book.specs.declared.message.Message.{Message}
 use Rattle.event_book.specs.declared.reason.Basis.{Basis}
 use Rattle.event_book.specs.declared.reason.Basis.TheVariants as bases
-use Rattle.event_book.specs.Members.{server_of}
 use Rattle.ha_loop.specs.declared.output.Output.{Output}
 use Rattle.ha_loop.specs.declared.output.Output.TheVariants as outputs
 use Rattle.ha_loop.specs.declared.output.Target.TheVariants as targets
-use Rattle.ha_loop.specs.Lawful.{query_in, IsSentBy}
+use Rattle.ha_loop.specs.Lawful.{query_in}
 use Rattle.cluster_model.specs.Messages.{agent_message}
 use Rattle.lease_law.specs.Leases.{Query, Read, Question, Flying, Requested, Taking}
 use Rattle.lease_law.specs.Past.{Past, first_past, flying_of, past_after, past_over, query_of, taken_after}
@@ -32,7 +30,7 @@ use Rattle.lease_law.proofs.Tools.{some-is, decide-eq}
 use Rattle.bridge_law.specs.Groups.{IsMemberEnd, IsOfMembers as IsFromMembers, IsNumberedAbove}
 use Rattle.bridge_law.specs.Sending.{SendsOnly, flying_from}
 use Rattle.bridge_law.proofs.Flights.{asked-there, asked-new, flying-same}
-use Rattle.run_law.specs.InputEvents.{IsQuestionOf, IsOfInput}
+use Rattle.run_law.specs.InputEvents.{IsOfInput}
 use Rattle.run_law.specs.Machines.{IsWithinMembers, IsByGrant}
 
 -- the event with which an input begins: its agent is woken, or a message comes to it
@@ -141,9 +139,10 @@ module _ (member : Member) (run heard : ℕ) (Q : Output → Type 0) where
   pub mine-sends : (P : Flying → Type 0) (clock : ℕ)
       → ((sequence : ℕ) (body : Body) (query : Query) → Q (outputs.Send targets.Store sequence body) → query_in body ≡ Some query → P (Requested (record { member = member.id.number; run = run; sequence = sequence; sent = clock; query = query })))
       → (kind : EventKind) → Mine kind → SendsOnly P clock kind
-  mine-sends P clock may (kinds.Message (Sent number message)) is =
-      (subst (λ (x : Message). IsMemberEnd x.from) (sym is.is) tt,
-        λ flying e. flying-by P clock is.sequence is.body (λ query here. may is.sequence is.body query is.from here) flying (ap (λ (x : Message). flying_from clock x) (sym is.is) ∙ e))
+  mine-sends P clock may (kinds.Message (Sent number message)) is = (
+    subst (λ (x : Message). IsMemberEnd x.from) (sym is.is) tt,
+    λ flying e. flying-by P clock is.sequence is.body (λ query here. may is.sequence is.body query is.from here) flying (ap (λ (x : Message). flying_from clock x) (sym is.is) ∙ e),
+  )
   mine-sends P clock may (kinds.Message (Delivered number)) is = absurd is
   mine-sends P clock may kinds.Tick is = absurd is
   mine-sends P clock may _ is = tt

@@ -1,7 +1,5 @@
 -- The machine of a member behind what an input of its agent brings.
-use Rattle.std.proofs.Common.{◌≡◌, ◌≢◌, ◌+◌, ◌++◌, ◌==◌, ◌&&◌, ◌||◌, not, ◌≤◌, ◌<◌, nat_le, ℕ, Bool, true, false, if◌then◌else◌, List, [], ◌∷◌, Option, Some, None, All, length, slice_get, option_and_then, refl, sym, subst, ap, ◌∙◌, arith}
-use Rattle.std.proofs.lemmas.List.Elements.{All-head, All-tail}
-use Rattle.pat_base.specs.declared.member_id.MemberId.{MemberId}
+use Rattle.std.proofs.Common.{◌≡◌, ◌+◌, ◌==◌, ◌&&◌, ◌||◌, not, nat_le, ℕ, Bool, true, false, if◌then◌else◌, List, [], ◌∷◌, Option, Some, None, length, slice_get, option_and_then, refl, sym, subst, ap, ◌∙◌}
 use Rattle.pat_base.specs.declared.server_id.ServerId.{ServerId}
 use Rattle.pat_base.specs.declared.server_state.Required.{Required}
 use Rattle.pat_base.specs.declared.server_state.State.{State}
@@ -9,44 +7,39 @@ use Rattle.pat_base.specs.declared.server_state.State.TheVariants as states
 use Rattle.pat_base.specs.declared.ticks.Ticks.{Ticks}
 use Rattle.pg_model.specs.Facts.{ServerFacts, entries_of, is_down, is_replica, is_up}
 use Rattle.pg_model.specs.declared.status.ServerStatus.{ServerStatus}
-use Rattle.pg_model.specs.Running.{is_primary, moment_after, stopping, started}
+use Rattle.pg_model.specs.Running.{is_primary, moment_after, started}
 use Rattle.pg_model.specs.Status.{status_promoted, status_replica_started, status_stopping, status_following}
 use Rattle.event_book.specs.declared.agent_process.AgentProcess.{AgentProcess}
-use Rattle.event_book.specs.declared.event.Event.{Event}
 use Rattle.event_book.specs.declared.event.EventKind.{EventKind}
 use Rattle.event_book.specs.declared.event.EventKind.TheVariants as kinds
-use Rattle.event_book.specs.declared.event.MessageEvent.TheVariants.{Sent, Delivered, Lost}
+use Rattle.event_book.specs.declared.event.MessageEvent.TheVariants.{Sent, Lost}
 use Rattle.event_book.specs.declared.event.ReplicationEvent.TheVariants as replications
 use Rattle.event_book.specs.declared.event.ServerEvent.TheVariants as servers
-use Rattle.event_book.specs.declared.event.ServerEvent.{ServerEvent}
 use Rattle.event_book.specs.declared.event.WatchdogEvent.TheVariants as watchdogs
 use Rattle.event_book.specs.declared.event.Note.TheVariants as notes
-use Rattle.event_book.specs.declared.link.LinkEnd.{LinkEnd}
 use Rattle.event_book.specs.declared.link.LinkEnd.TheVariants as ends
 use Rattle.event_book.specs.declared.member.Member.{Member}
-use Rattle.event_book.specs.declared.member.ServerOf.{ServerOf}
 use Rattle.event_book.specs.declared.message.Body.{Body}
 use Rattle.event_book.specs.declared.reason.Basis.TheVariants as bases
 use Rattle.event_book.specs.declared.reason.Reason.{Reason}
 use Rattle.event_book.specs.Members.{server_of, server_id_of}
-use Rattle.event_book.specs.Servers.{begun_in, starts_as_replica, stops, stops_quietly}
+use Rattle.event_book.specs.Servers.{begun_in, starts_as_replica, stops}
 use Rattle.ha_loop.specs.declared.machine.Machine.{Machine}
 use Rattle.ha_loop.specs.declared.output.Output.{Output}
 use Rattle.ha_loop.specs.declared.output.Output.TheVariants as outputs
 use Rattle.ha_loop.specs.declared.output.Target.TheVariants as targets
 use Rattle.ha_loop.specs.Acting.{upstream_of as upstream_id}
-use Rattle.ha_loop.specs.Orders.{IsOfTable, machine_after_output, machine_after_outputs, with_server}
+use Rattle.ha_loop.specs.Orders.{IsOfTable, machine_after_output, with_server}
 use Rattle.cluster_model.specs.declared.heard_message.HeardMessage.{HeardMessage}
 use Rattle.cluster_model.specs.Cluster.{cluster_after, cluster_over}
 use Rattle.cluster_model.specs.Commands.{kinds_of}
 use Rattle.cluster_model.specs.Limits.{most_in_flight}
-use Rattle.cluster_model.specs.Messages.{agent_message, lost_at_once, send_events, sending_events, output_events}
+use Rattle.cluster_model.specs.Messages.{agent_message, lost_at_once, sending_events, output_events}
 use Rattle.summary.specs.Lacking.{lacks_in}
 use Rattle.cluster_model.specs.Losing.{beginning_kinds, loss_if}
-use Rattle.cluster_model.specs.Orders.{declared_member, following_of, is_same_required, order_kind, promotion_kinds, replica_start_kinds, require_of, required_names, server_at, stop_kind, stop_kinds, stop_of, upstream_of}
-use Rattle.cluster_model.specs.Parts.{each, event_of, events_of, for_some}
+use Rattle.cluster_model.specs.Orders.{declared_member, following_of, is_same_required, promotion_kinds, replica_start_kinds, require_of, required_names, server_at, stop_kind, stop_kinds, upstream_of}
+use Rattle.cluster_model.specs.Parts.{events_of, for_some}
 use Rattle.cluster_model.specs.State.{Cluster}
-use Rattle.run_law.proofs.Composing.{over-append}
 use Rattle.run_law.proofs.InputStays.{item-here}
 
 -- the server of a member is in this state, with these delays of its stops and starts
@@ -107,6 +100,7 @@ status-started now upstream s = by (is_down s.state)
   where
     changed : ServerStatus
     changed = record s { upstream = upstream; was_primary = false }
+
     by : (b : Bool) → let after : ServerStatus = (if b then (if s.start_delay.0 == 0 then record s { upstream = upstream; was_primary = false; state = states.Replica } else record s { upstream = upstream; was_primary = false; state = states.Starting false (moment_after now s.start_delay) }) else s) in
         (after.state ≡ (if b then (if s.start_delay.0 == 0 then states.Replica else states.Starting false (moment_after now s.start_delay)) else s.state)) × (after.stop_delay ≡ s.stop_delay) × (after.start_delay ≡ s.start_delay)
     by true = started-in now (record s { upstream = upstream; was_primary = false })
@@ -334,8 +328,8 @@ module _ (member : Member) where
       ordered cluster later member.id.number machine (status_stopping now machine.server) (state_stopping now machine.server.stop_delay machine.server.state) refl refl made.0 made.1 made.2
       (moves cluster later member.id.number (stops cluster.book.clock) machine.server.state (state_stopping now machine.server.stop_delay machine.server.state) machine.server.stop_delay machine.server.start_delay refl
       (λ s st stop start.
-        let it = stops-is cluster.book.clock s (ap (λ (x : State). is_primary x && s.stop_delay.0 == 0) st ∙ ap (λ (x : Ticks). is_primary machine.server.state && x.0 == 0) stop ∙ is) in
-        (it.0 ∙ ap (λ (x : Ticks). state_stopping now x s.state) stop ∙ ap (state_stopping now machine.server.stop_delay) st, it.1 ∙ stop, it.2 ∙ start)) old.server)
+      let it = stops-is cluster.book.clock s (ap (λ (x : State). is_primary x && s.stop_delay.0 == 0) st ∙ ap (λ (x : Ticks). is_primary machine.server.state && x.0 == 0) stop ∙ is) in
+      (it.0 ∙ ap (λ (x : Ticks). state_stopping now x s.state) stop ∙ ap (state_stopping now machine.server.stop_delay) st, it.1 ∙ stop, it.2 ∙ start)) old.server)
       old
 
   stop-by : (cluster : Cluster) (machine : Machine) (s : ServerFacts) (b : Bool) → s.state ≡ machine.server.state → s.stop_delay ≡ machine.server.stop_delay → is_up machine.server.state ≡ b → Here cluster machine

@@ -1,6 +1,6 @@
 -- All outputs of an input, one after another: the numbers of its messages, the machine that they leave, who begins in them, and what they
 -- feed.
-use Rattle.std.proofs.Common.{◌≡◌, ◌≢◌, ◌⊎◌, ◌+◌, ◌++◌, ◌||◌, ◌≤◌, ◌<◌, nat_le, ℕ, Bool, true, false, List, [], ◌∷◌, Option, Some, None, All, length, slice_get, refl, sym, subst, ap, ◌∙◌, arith, inl, inr}
+use Rattle.std.proofs.Common.{◌≡◌, ◌⊎◌, ◌+◌, ◌++◌, ◌||◌, ◌≤◌, ◌<◌, nat_le, ℕ, Bool, true, false, List, [], ◌∷◌, Option, Some, None, All, length, slice_get, refl, sym, subst, ap, ◌∙◌, arith, inl, inr}
 use Rattle.std.proofs.lemmas.List.Elements.{All-head, All-tail}
 use Rattle.pat_base.specs.declared.ticks.Ticks.{Ticks}
 use Rattle.event_book.specs.declared.agent_process.AgentProcess.{AgentProcess}
@@ -8,18 +8,14 @@ use Rattle.event_book.specs.declared.event.Event.{Event}
 use Rattle.event_book.specs.declared.event.EventKind.{EventKind}
 use Rattle.event_book.specs.declared.event.EventKind.TheVariants as kinds
 use Rattle.event_book.specs.declared.event.MessageEvent.TheVariants.{Sent, Delivered, Lost}
-use Rattle.event_book.specs.declared.event.ReplicationEvent.TheVariants as replications
 use Rattle.event_book.specs.declared.event.ServerEvent.TheVariants as servers
 use Rattle.event_book.specs.declared.event.WatchdogEvent.TheVariants as watchdogs
 use Rattle.event_book.specs.declared.link.LinkEnd.TheVariants as ends
 use Rattle.event_book.specs.declared.member.Member.{Member}
 use Rattle.event_book.specs.declared.member.ServerOf.{ServerOf}
 use Rattle.event_book.specs.declared.message.Body.{Body}
-use Rattle.event_book.specs.declared.message.Message.{Message}
-use Rattle.event_book.specs.declared.reason.Basis.{Basis}
 use Rattle.event_book.specs.declared.reason.Basis.TheVariants as bases
 use Rattle.event_book.specs.Flight.{sent_after}
-use Rattle.event_book.specs.Members.{server_of}
 use Rattle.event_book.specs.Writers.{BeginsKind}
 use Rattle.ha_loop.specs.declared.machine.Machine.{Machine}
 use Rattle.ha_loop.specs.declared.output.Output.{Output}
@@ -37,8 +33,8 @@ use Rattle.lease_law.specs.Claims.{BeginsBehind, IsArmedIn}
 use Rattle.lease_law.specs.Premises.{AllAre, KeepsMomentOf, IsFedBy}
 use Rattle.lease_law.proofs.Runs.{assoc}
 use Rattle.bridge_law.specs.Groups.{IsNumberedAbove, AreNumberedAbove}
-use Rattle.run_law.specs.InputEvents.{IsQuestionOf, IsOfInput}
-use Rattle.run_law.proofs.InputEvents.{all-both, all-more, output-mine}
+use Rattle.run_law.specs.InputEvents.{IsOfInput}
+use Rattle.run_law.proofs.InputEvents.{all-both, output-mine}
 use Rattle.run_law.proofs.InputMachines.{Mirrors, output-here}
 use Rattle.run_law.proofs.InputStays.{Stays, stays-over}
 

@@ -1,7 +1,6 @@
 -- What the law sees of a machine is what its agent finds of it.
-use Rattle.std.proofs.Common.{◌≡◌, ◌≢◌, ◌+◌, ◌*◌, ◌≤◌, ◌<◌, ℕ, Bool, true, false, List, [], ◌∷◌, Option, Some, None, IfSome, length, slice_get, option_map, is_some, refl, sym, subst, ap, ◌∙◌, arith}
+use Rattle.std.proofs.Common.{◌≡◌, ◌*◌, ◌≤◌, ℕ, Bool, true, false, List, Option, Some, None, IfSome, slice_get, option_map, is_some, refl, sym, subst, ap, ◌∙◌, arith}
 use Rattle.std.proofs.lemmas.Option.{slice_get-map}
-use Rattle.pat_base.specs.declared.server_state.State.{State}
 use Rattle.pat_base.specs.declared.ticks.Ticks.{Ticks}
 use Rattle.pat_base.specs.ServerState.{live}
 use Rattle.cluster_script.specs.declared.head.MemberOptions.{MemberOptions}
@@ -10,23 +9,20 @@ use Rattle.pg_model.specs.Facts.{ServerFacts}
 use Rattle.leader_key.specs.Watchdog.{HasMargin, is_armable}
 use Rattle.event_book.specs.declared.member.Member.{Member}
 use Rattle.ha_loop.specs.declared.machine.Machine.{Machine}
-use Rattle.ha_loop.specs.Agents.{AgentFacts, made}
-use Rattle.ha_loop.specs.Lawful.{StandsIn, IsYoung}
+use Rattle.ha_loop.specs.Agents.{AgentFacts}
+use Rattle.ha_loop.specs.Lawful.{IsYoung}
 use Rattle.ha_loop.specs.Seen.{moment_seen, hold_seen, machine_seen}
 use Rattle.ha_loop.specs.declared.knowledge.Waited.{Waited}
-use Rattle.cluster_model.specs.Inputs.{moment_of}
-use Rattle.cluster_model.specs.Machines.{machine_from, machine_of, ticks_of_second, watchdog_of}
-use Rattle.cluster_model.specs.Starting.{options_of}
+use Rattle.cluster_model.specs.Machines.{machine_from, machine_of, ticks_of_second}
 use Rattle.cluster_model.specs.State.{Cluster}
 use Rattle.cluster_model.specs.Streaming.{source_of}
 use Rattle.lease_law.specs.Past.{Past}
-use Rattle.lease_law.specs.States.{Machine as MachineSeen}
 use Rattle.lease_law.proofs.Tools.{none-some, some-is}
 use Rattle.run_law.specs.Bridged.{IsMatched}
 use Rattle.run_law.specs.Declaring.{declared_of, margin_said, works_of, works_said}
-use Rattle.run_law.specs.Machines.{deadline_in, deadline_now, hold_in, hold_now, live_in, live_now, run_in}
-use Rattle.run_law.specs.Volatile.{agent_now, machine_in, volatile_of}
-use Rattle.run_law.proofs.InputMachines.{Mirrors, IsServer}
+use Rattle.run_law.specs.Machines.{deadline_now, hold_now, live_now, run_in}
+use Rattle.run_law.specs.Volatile.{agent_now, machine_in}
+use Rattle.run_law.proofs.InputMachines.{Mirrors}
 use Rattle.run_law.proofs.SameMachine.{machine-same}
 
 -- ---- the machine that an agent finds

@@ -1,5 +1,5 @@
 -- What an input of an agent leaves as it was, beside its member's machine.
-use Rattle.std.proofs.Common.{◌≡◌, ◌≢◌, ◌+◌, ◌++◌, ◌==◌, ◌≤◌, ◌<◌, nat_le, ℕ, Bool, true, false, cond, List, [], ◌∷◌, Option, Some, None, All, length, slice_get, option_map, refl, sym, subst, ap, ◌∙◌, arith}
+use Rattle.std.proofs.Common.{◌≡◌, ◌≢◌, ℕ, List, [], ◌∷◌, Some, All, slice_get, option_map, refl, sym, subst, ap, ◌∙◌}
 use Rattle.std.proofs.lemmas.List.Elements.{All-head, All-tail}
 use Rattle.pat_base.specs.Changes.{changed_by}
 use Rattle.pg_model.specs.Facts.{ServerFacts}
@@ -12,32 +12,22 @@ use Rattle.event_book.specs.declared.event.ReplicationEvent.TheVariants as repli
 use Rattle.event_book.specs.declared.event.ServerEvent.TheVariants as servers
 use Rattle.event_book.specs.declared.event.ServerEvent.{ServerEvent}
 use Rattle.event_book.specs.declared.event.WatchdogEvent.TheVariants as watchdogs
-use Rattle.event_book.specs.declared.link.LinkEnd.TheVariants as ends
 use Rattle.event_book.specs.declared.member.Member.{Member}
 use Rattle.event_book.specs.declared.member.ServerOf.{ServerOf}
-use Rattle.event_book.specs.declared.message.Body.{Body}
 use Rattle.event_book.specs.Agents.{agents_after}
 use Rattle.event_book.specs.Clock.{now_after}
-use Rattle.event_book.specs.Flight.{sent_after}
 use Rattle.event_book.specs.Members.{server_of}
 use Rattle.event_book.specs.Servers.{servers_after}
-use Rattle.event_book.specs.Watchdogs.{holds_after}
 use Rattle.ha_loop.specs.declared.output.Output.{Output}
-use Rattle.ha_loop.specs.declared.output.Output.TheVariants as outputs
-use Rattle.ha_loop.specs.declared.output.Target.TheVariants as targets
-use Rattle.ha_loop.specs.Agents.{AgentFacts}
 use Rattle.ha_loop.specs.Orders.{IsOfTable}
 use Rattle.cluster_model.specs.declared.heard_message.HeardMessage.{HeardMessage}
 use Rattle.cluster_model.specs.Cluster.{agent_facts_after, cluster_after, cluster_over}
-use Rattle.cluster_model.specs.Limits.{most_in_flight}
-use Rattle.cluster_model.specs.Messages.{agent_message, lost_at_once, send_events, sending_events, output_events}
-use Rattle.cluster_model.specs.Parts.{each, events_of}
+use Rattle.cluster_model.specs.Messages.{output_events}
+use Rattle.cluster_model.specs.Parts.{each}
 use Rattle.cluster_model.specs.State.{Cluster}
 use Rattle.lease_law.specs.Premises.{AllAre}
-use Rattle.bridge_law.specs.Groups.{IsNumberedAbove, AreNumberedAbove}
-use Rattle.run_law.specs.InputEvents.{IsQuestionOf, IsOfInput}
-use Rattle.run_law.proofs.Composing.{over-append}
-use Rattle.run_law.proofs.InputEvents.{all-both, all-more, output-mine}
+use Rattle.run_law.specs.InputEvents.{IsOfInput}
+use Rattle.run_law.proofs.InputEvents.{all-both, output-mine}
 use Rattle.run_law.proofs.Places.{get-here, get-elsewhere}
 
 -- what stays as it was beside the machine of the member of this number, but for messages

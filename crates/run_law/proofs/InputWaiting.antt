@@ -1,14 +1,11 @@
 -- What agents wait for, behind an input of one of them.
-use Rattle.std.proofs.Common.{◌≡◌, ◌≢◌, ◌⊎◌, ◌+◌, ◌++◌, ◌==◌, ◌≤◌, ◌<◌, ℕ, Bool, true, false, cond, List, [], ◌∷◌, Option, Some, None, All, Contains, length, slice_get, option_map, refl, sym, subst, ap, ◌∙◌, arith, inl, inr}
+use Rattle.std.proofs.Common.{◌≡◌, ◌≢◌, ◌⊎◌, ◌==◌, ◌≤◌, ◌<◌, ℕ, Bool, true, false, cond, List, Option, Some, None, All, Contains, slice_get, option_map, refl, sym, subst, ap, ◌∙◌, arith, inl, inr}
 use Rattle.std.specs.Option.{ForSome}
 use Rattle.std.proofs.lemmas.List.Elements.{All-contains}
 use Rattle.pat_base.specs.declared.ticks.Ticks.{Ticks}
 use Rattle.pat_base.specs.Changes.{changed_by}
 use Rattle.leader_key.specs.Watchdog.{IsLeaseSpan}
 use Rattle.event_book.specs.declared.agent_process.AgentProcess.{AgentProcess}
-use Rattle.event_book.specs.declared.event.Event.{Event}
-use Rattle.event_book.specs.declared.event.EventKind.{EventKind}
-use Rattle.event_book.specs.declared.member.Member.{Member}
 use Rattle.event_book.specs.declared.message.Body.{Body}
 use Rattle.event_book.specs.declared.message.Body.TheVariants as bodies
 use Rattle.ha_loop.specs.declared.knowledge.Knowledge.{Knowledge}
@@ -17,7 +14,6 @@ use Rattle.ha_loop.specs.declared.output.Output.{Output}
 use Rattle.ha_loop.specs.declared.output.Output.TheVariants as outputs
 use Rattle.ha_loop.specs.declared.output.Target.TheVariants as targets
 use Rattle.ha_loop.specs.Agents.{AgentFacts, Outcome, EndsAlone}
-use Rattle.ha_loop.specs.Decisions.{asks_lease}
 use Rattle.ha_loop.specs.Lawful.{query_in, IsSentBy}
 use Rattle.cluster_model.specs.Cluster.{agent_after}
 use Rattle.lease_law.specs.Leases.{Query, Read, Question, Flying, Requested}
@@ -25,9 +21,9 @@ use Rattle.lease_law.specs.Past.{lease_span, query_of}
 use Rattle.lease_law.proofs.Tools.{eq-from, ne-from, none-some, some-is}
 use Rattle.bridge_law.specs.Waiting.{IsLastAsked, IsLastRun}
 use Rattle.run_law.specs.Bridged.{KnowsItself, KnowThemselves}
-use Rattle.run_law.specs.Machines.{run_in, run_now}
+use Rattle.run_law.specs.Machines.{run_in}
 use Rattle.run_law.specs.Questions.{span_asked, SendsBetween, AsksFor, WaitsOn, Same, Nothing, New, AsksAnew}
-use Rattle.run_law.specs.Waiting.{IsAskedAs, IsAwaited, IsAgentSound, AreAgentsSound}
+use Rattle.run_law.specs.Waiting.{IsAwaited, IsAgentSound, AreAgentsSound}
 use Rattle.run_law.proofs.Places.{get-changed}
 
 requested-is : (a b : Question) → ◌≡◌ {A = Flying} (Requested a) (Requested b) → a ≡ b
@@ -98,9 +94,10 @@ module _ (m clock : ℕ) (now : Ticks) (known knows : Knowledge) (outs : List Ou
       | inl was ↦ let low = last i q was member (run ∙ anew.run) in absurd (omega (arith, low, sequence, later))
       | inr sent ↦
           let new = new-of m known.run clock outs q sent in
-          let for-it = All-contains (AsksFor waited) outs (outputs.Send targets.Store new.sequence new.body) asks new.among in
-          (ap (λ (x : Question). x.sent) new.is ∙ sym at ∙ sym (ap (λ (t : Ticks). t.0) sent-at),
-            ap (λ (x : Question). lease_span x.query) new.is ∙ span-is new.body new.query new.query_is ∙ for-it (sym (ap (λ (x : Question). x.sequence) new.is) ∙ sequence) leasing)
+          let for-it = All-contains (AsksFor waited) outs (outputs.Send targets.Store new.sequence new.body) asks new.among in (
+            ap (λ (x : Question). x.sent) new.is ∙ sym at ∙ sym (ap (λ (t : Ticks). t.0) sent-at),
+            ap (λ (x : Question). lease_span x.query) new.is ∙ span-is new.body new.query new.query_is ∙ for-it (sym (ap (λ (x : Question). x.sequence) new.is) ∙ sequence) leasing,
+          )
     ];
   }
 

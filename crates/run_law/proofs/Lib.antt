@@ -30,4 +30,4 @@ pub mod InputSeen
 pub mod InputHears
 pub mod InputKept
 pub mod StoreArrivals
-pub mod Inputs
+pub mod EveryInput

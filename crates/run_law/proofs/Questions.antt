@@ -1,5 +1,5 @@
 -- Each input of the decision table asks under new numbers, and waits on as it should.
-use Rattle.std.proofs.Common.{◌≡◌, ◌+◌, ◌*◌, ◌++◌, ◌≤◌, ◌<◌, ℕ, Bool, true, false, if◌then◌else◌, List, [], ◌∷◌, Option, Some, None, All, refl, sym, subst, ap, ◌∙◌, arith}
+use Rattle.std.proofs.Common.{◌≡◌, ◌+◌, ◌++◌, ◌≤◌, ◌<◌, ℕ, true, List, [], ◌∷◌, Option, Some, None, All, refl, ◌∙◌, arith}
 use Rattle.std.proofs.lemmas.List.Elements.{All-push, All-nil}
 use Rattle.pat_base.specs.declared.member_id.MemberId.{MemberId}
 use Rattle.pat_base.specs.declared.ticks.Ticks.{Ticks}
@@ -23,14 +23,14 @@ use Rattle.ha_loop.specs.declared.output.Output.TheVariants as outputs
 use Rattle.ha_loop.specs.declared.output.Target.TheVariants as targets
 use Rattle.ha_loop.specs.declared.role.Why.{Why}
 use Rattle.ha_loop.specs.declared.role.Why.TheVariants.{HandOver, Lost}
-use Rattle.ha_loop.specs.Acting.{seconds_after, lease_span, counted, waiting, arming, feeding, armed, fed_until, disarmed, disarming, sending, asking, touching, ending_server, starting_replica, following_server, promoting, is_refusing, deadline_after}
+use Rattle.ha_loop.specs.Acting.{seconds_after, lease_span, counted, arming, feeding, armed, fed_until, disarmed, disarming, sending, asking, touching, starting_replica, following_server, is_refusing, deadline_after}
 use Rattle.ha_loop.specs.Agents.{RoleFacts, Follower, Leader, Outcome, made}
 use Rattle.ha_loop.specs.Before.{has_ended, before}
 use Rattle.ha_loop.specs.Decisions.{asks_lease, is_start_too_long, leader_renewed, takes_over, stray_renewed, may_take, gives_back, begins, arms, takes_key, granted, refused}
 use Rattle.ha_loop.specs.Outputs.{listed}
-use Rattle.ha_loop.specs.Snapshots.{informed, renewing, follows, creating, finds_free, read_noted, got}
+use Rattle.ha_loop.specs.Snapshots.{informed, follows, finds_free, read_noted, got}
 use Rattle.ha_loop.specs.Table.{step}
-use Rattle.ha_loop.specs.Wake.{reading, turn_noted, overdue, turned, woken}
+use Rattle.ha_loop.specs.Wake.{turn_noted, overdue, turned, woken}
 use Rattle.ha_loop.proofs.Rows.{if-cases, before-by, overdue-by, turn-by, wake-by, got-by, refused-by, follow-by, free-by, granted-by}
 use Rattle.run_law.specs.Questions.{IsQuestion, span_asked, SendsBetween, AsksFor, WaitsOn, Same, Nothing, New, AsksAnew}
 

@@ -21,7 +21,6 @@ use Rattle.lease_law.specs.Actions.{Note}
 use Rattle.lease_law.specs.Showing.{IsLocal}
 use Rattle.run_law.specs.Asides.{IsAside, IsQuiet}
 use Rattle.run_law.specs.Bridged.{Bridged}
-use Rattle.run_law.specs.Declaring.{member_count}
 use Rattle.run_law.specs.Kept.{IsKept}
 use Rattle.run_law.specs.Machines.{live_in, live_now, run_now}
 use Rattle.run_law.specs.Volatile.{machine_in}

@@ -21,7 +21,7 @@ use Rattle.cluster_model.specs.Cluster.{cluster_after, cluster_over}
 use Rattle.cluster_model.specs.Commands.{disarm_of, disarm_if, kinds_of}
 use Rattle.cluster_model.specs.Machines.{machine_from, machine_of, who_of}
 use Rattle.cluster_model.specs.Next.{restart_events, restart_events_of}
-use Rattle.cluster_model.specs.Parts.{event_of, events_of, events_then}
+use Rattle.cluster_model.specs.Parts.{event_of, events_of}
 use Rattle.cluster_model.specs.Starting.{options_of}
 use Rattle.cluster_model.specs.State.{Cluster}
 use Rattle.lease_law.specs.Actions.{Start}

@@ -1,5 +1,5 @@
 -- A message that comes to the key store keeps the law: the store's decision and its answer are one action.
-use Rattle.std.proofs.Common.{ℕ, ◌≡◌, ◌<◌, ◌+◌, ◌++◌, nat_le, Bool, true, false, List, [], ◌∷◌, length, slice_get, Option, Some, None, refl, ◌∙◌, ap, sym, subst, arith}
+use Rattle.std.proofs.Common.{ℕ, ◌≡◌, ◌<◌, ◌+◌, ◌++◌, nat_le, Bool, true, false, List, [], length, slice_get, Option, Some, refl, ◌∙◌, ap, sym, subst, arith}
 use Rattle.pat_base.specs.declared.ticks.Ticks.{Ticks}
 use Rattle.lease_store.specs.declared.txn.Txn.{Txn}
 use Rattle.lease_store.specs.Decision.{Decision, Grant, Refusal, decision_on}
@@ -46,20 +46,20 @@ use Rattle.run_law.proofs.Ending.{kept-loss}
 use Rattle.run_law.proofs.Fitting.{IsFitting, fits-of, fits-over, matched-from}
 use Rattle.run_law.proofs.Promoting.{hands-off-back}
 
--- what the key store does leaves agents and servers, and asks nothing
-record LeavesMembers (past : Past) (cluster : Cluster) (events : List Event) : Type 0 where
-  agents : (cluster_over cluster events).agents ≡ cluster.agents
-  servers : (cluster_over cluster events).book.servers ≡ cluster.book.servers
-  processes : (cluster_over cluster events).book.agents ≡ cluster.book.agents
-  asked : (past_over past events).asked ≡ past.asked
+-- these events leave agents and servers, and ask nothing
+pub record LeavesMembers (past : Past) (cluster : Cluster) (events : List Event) : Type 0 where
+  pub agents : (cluster_over cluster events).agents ≡ cluster.agents
+  pub servers : (cluster_over cluster events).book.servers ≡ cluster.book.servers
+  pub processes : (cluster_over cluster events).book.agents ≡ cluster.book.agents
+  pub asked : (past_over past events).asked ≡ past.asked
 
-same-volatile : (before after : Cluster) → after.agents ≡ before.agents → after.book.servers ≡ before.book.servers → volatile_of after ≡ volatile_of before
+pub same-volatile : (before after : Cluster) → after.agents ≡ before.agents → after.book.servers ≡ before.book.servers → volatile_of after ≡ volatile_of before
 same-volatile before after agents servers =
     ap (λ (xs : List (Option AgentFacts)). volatile_of (record { scope = after.scope; options = after.options; book = after.book; agents = xs })) agents
     ∙ ap (λ ss. λ (m : ℕ). let state : VolatileState = record { live = live_in ss m; agent = agent_now (slice_get before.agents m) } in state) servers
 
 -- what agents know is the same
-matched-after : (head : HeadText) (past : Past) (cluster : Cluster) (events : List Event) → AreCausal past cluster.book events → AllAre (IsFitting (member_count head)) events
+pub matched-after : (head : HeadText) (past : Past) (cluster : Cluster) (events : List Event) → AreCausal past cluster.book events → AllAre (IsFitting (member_count head)) events
     → LeavesMembers past cluster events → IsMatched head past cluster → IsMatched head (past_over past events) (cluster_over cluster events)
 matched-after head past cluster events causal all leaves old =
     let later : Cluster = cluster_over cluster events in

@@ -1,5 +1,5 @@
 -- What agents that wait know of their questions is kept by events at which none acts, and by the start of one.
-use Rattle.std.proofs.Common.{ℕ, ◌≡◌, ◌≢◌, ◌<◌, ◌==◌, Bool, true, false, cond, List, [], length, slice_get, Option, Some, None, option_map, refl, ◌∙◌, ap, sym, subst, arith}
+use Rattle.std.proofs.Common.{ℕ, ◌≡◌, ◌<◌, ◌==◌, Bool, true, false, cond, List, length, slice_get, Option, Some, None, option_map, refl, ◌∙◌, sym, subst, arith}
 use Rattle.std.proofs.lemmas.Option.{slice_get-map}
 use Rattle.pat_base.specs.declared.name.Name.{Name}
 use Rattle.pat_base.specs.Changes.{changed_by}
@@ -9,12 +9,9 @@ use Rattle.event_book.specs.declared.event.EventKind.{EventKind}
 use Rattle.event_book.specs.declared.event.EventKind.TheVariants as kinds
 use Rattle.event_book.specs.declared.event.MessageEvent.TheVariants as messages
 use Rattle.event_book.specs.declared.event.ServerEvent.TheVariants as servers
-use Rattle.event_book.specs.declared.event.StoreEvent.TheVariants as stores
 use Rattle.event_book.specs.declared.event.WatchdogEvent.TheVariants as watchdogs
 use Rattle.event_book.specs.declared.member.Member.{Member}
 use Rattle.event_book.specs.Agents.{agents_after}
-use Rattle.event_book.specs.Flight.{InFlightFacts}
-use Rattle.event_book.specs.Functions.{put_at}
 use Rattle.ha_loop.specs.Agents.{AgentFacts}
 use Rattle.cluster_model.specs.Cluster.{agent_facts_after, cluster_after}
 use Rattle.cluster_model.specs.Inputs.{starting_agent}
@@ -24,14 +21,14 @@ use Rattle.cluster_model.specs.Starting.{cluster_of, first_agent}
 use Rattle.cluster_model.specs.State.{Cluster}
 use Rattle.lease_law.specs.Leases.{Question}
 use Rattle.lease_law.specs.Past.{Past, first_past, past_after, runs_after}
-use Rattle.lease_law.proofs.Tools.{eq-from, ne-from, none-some, put-all, some-is}
-use Rattle.bridge_law.specs.Waiting.{IsLastAsked, IsLastRun}
+use Rattle.lease_law.proofs.Tools.{eq-from, none-some, put-all, some-is}
+use Rattle.bridge_law.specs.Waiting.{IsLastRun}
 use Rattle.bridge_law.proofs.Waits.{run-new}
 use Rattle.run_law.specs.Asides.{IsAside}
 use Rattle.run_law.specs.Bridged.{IsMatched}
 use Rattle.run_law.specs.Declaring.{declared_members, member_count}
 use Rattle.run_law.specs.Machines.{IsWithinMembers, run_in}
-use Rattle.run_law.specs.Waiting.{AgentsAreSound, AreAgentsSound, IsAgentSound}
+use Rattle.run_law.specs.Waiting.{AgentsAreSound, IsAgentSound}
 use Rattle.run_law.proofs.Fitting.{SendsAddressed, carried-by}
 use Rattle.run_law.proofs.Machines.{runs-of}
 use Rattle.run_law.proofs.Places.{get-changed}

@@ -1,5 +1,4 @@
 -- Events at which no agent acts, and the key store decides nothing.
-use Rattle.std.specs.Prelude.{ℕ, ◌<◌}
 use Rattle.event_book.specs.declared.event.AgentEvent.TheVariants as agents
 use Rattle.event_book.specs.declared.event.EventKind.{EventKind}
 use Rattle.event_book.specs.declared.event.EventKind.TheVariants as kinds

@@ -1,5 +1,5 @@
 -- What an input of an agent asks, and what the agent waits for after it.
-use Rattle.std.specs.Prelude.{ℕ, ◌≡◌, ◌≤◌, ◌<◌, Bool, true, List, Option, Some, None, All}
+use Rattle.std.specs.Prelude.{ℕ, ◌≡◌, ◌≤◌, ◌<◌, true, List, Some, None, All}
 use Rattle.pat_base.specs.declared.ticks.Ticks.{Ticks}
 use Rattle.leader_key.specs.Watchdog.{IsLeaseSpan}
 use Rattle.event_book.specs.declared.message.Body.{Body}
@@ -8,7 +8,6 @@ use Rattle.ha_loop.specs.declared.knowledge.Knowledge.{Knowledge}
 use Rattle.ha_loop.specs.declared.knowledge.Waited.{Waited}
 use Rattle.ha_loop.specs.declared.output.Output.{Output}
 use Rattle.ha_loop.specs.declared.output.Output.TheVariants as outputs
-use Rattle.ha_loop.specs.Agents.{Outcome}
 use Rattle.ha_loop.specs.Decisions.{asks_lease}
 use Rattle.lease_law.specs.Past.{lease_span, query_of}
 use Rattle.lease_law.specs.Stores.{IsSpannedTxn}

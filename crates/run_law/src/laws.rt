@@ -9,12 +9,11 @@ ghost use Rattle.cluster_model.specs.Next.{run_events};
 ghost use Rattle.cluster_model.specs.Starting.{cluster_of};
 ghost use Rattle.lease_law.specs.Premises.{IsTimely, IsHandsOff};
 ghost use Rattle.run_law.specs.Declaring.{declared_of, works_of};
-ghost use Rattle.run_law.specs.Inputs.{InputsKeep};
 
-/// At most one server accepts writes, in every run of every script, at each moment up to which feeds keep the margin and nobody pauses or
-/// promotes by hand: also inside a step, whatever it asks for.
+/// At most one server accepts writes, in every run of every script, at each moment up to which feeds keep the margin, each watchdog is on
+/// and works, and nobody pauses or promotes by hand: also inside a step, whatever it asks for.
 pub fn runs_have_one_writer()
     ensures { (head : HeadText) (steps : List Step) (front rest : List Event)
-        → IsHead head → InputsKeep head → front ++ rest ≡ run_events (cluster_of head) steps
+        → IsHead head → front ++ rest ≡ run_events (cluster_of head) steps
         → IsTimely (declared_of head).margin front → IsHandsOff default_settings (works_of head) front → HasOneWriter front }
 {}
