@@ -123,7 +123,8 @@ HasRoom-acknowledged cluster member commit events room = record {
   revision = room.revision;
   sent = room.sent;
   runs = room.runs;
-  agent_states = room.agent_states;
+  numbers = room.numbers;
+  agents = room.agents;
   timelines = with-all (HasTimeline events) (HasTimeline events) cluster.book.servers member.id.number one_told room.timelines (λ s has. has) (λ s has. has);
   commits = room.commits;
 }

@@ -1,10 +1,14 @@
+pub mod Acting
 pub mod Acknowledgements
+pub mod Carrying
 pub mod Changing
 pub mod Comings
 pub mod Deciding
 pub mod Declaring
 pub mod Expiring
 pub mod Flights
+pub mod Hearing
+pub mod Reaching
 pub mod Rest
 pub mod Rooms
 pub mod Sending

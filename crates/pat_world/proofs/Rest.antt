@@ -11,7 +11,8 @@ use Rattle.cluster_model.specs.State.{Cluster}
 use Rattle.cluster_model.specs.Messages.{message_events, wake_events}
 use Rattle.cluster_model.specs.Next.{round_events, rounds_events, step_events}
 use Rattle.cluster_model.specs.Parts.{each, events_then, is_empty}
-use Rattle.pat_world.specs.Room.{HasRoom, message_cost, most_in_flight, most_rounds, round_cost, step_cost, wakes_cost}
+use Rattle.cluster_model.specs.Limits.{most_in_flight, most_rounds}
+use Rattle.pat_world.specs.Room.{HasRoom, message_cost, round_cost, step_cost, wakes_cost}
 use Rattle.pat_world.specs.Emits.{Emits}
 use Rattle.pat_world.proofs.Rooms.{HasRoom-fewer}
 use Rattle.pat_world.proofs.Starting.{drop-get}

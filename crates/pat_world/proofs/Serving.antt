@@ -18,7 +18,7 @@ use Rattle.pat_world.proofs.Taking.{Emits-one}
 
 -- a cluster with other servers, other frozen ones, another last commit and other acknowledged ones
 abbrev pub serving : Cluster → List ServerFacts → List Bool → ℕ → List ℕ → Cluster
-serving cluster servers frozen commits acknowledged = record { book = record cluster.book { servers = servers; frozen = frozen; commits = commits; acknowledged = acknowledged }; agent_states = cluster.agent_states }
+serving cluster servers frozen commits acknowledged = record cluster { book = record cluster.book { servers = servers; frozen = frozen; commits = commits; acknowledged = acknowledged } }
 
 -- what concerns servers, their logs and their replication, and notes
 abbrev pub IsServing : EventKind → Type 0

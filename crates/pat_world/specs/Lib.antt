@@ -3,6 +3,7 @@ pub mod Book
 pub mod Comes
 pub mod Emits
 pub mod Launches
+pub mod Reached
 pub mod Room
 pub mod Settled
 pub mod Short

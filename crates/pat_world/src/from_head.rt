@@ -1,9 +1,10 @@
 //! What there is before the first step.
-ghost use Rattle.std.specs.Prelude.{ℕ, ◌≡◌, ◌<◌, length, IfOk, Some, slice_get};
+ghost use Rattle.std.specs.Prelude.{ℕ, ◌≡◌, ◌≤◌, ◌<◌, length, IfOk, Some, slice_get};
 ghost use Rattle.pat_base.specs.MemberId.{member_of};
 ghost use Rattle.cluster_script.specs.Script.{names_of};
 ghost use Rattle.event_book.specs.Agents.{first_agents};
 ghost use Rattle.event_book.specs.Members.{members_from};
+ghost use Rattle.cluster_model.specs.Limits.{most_members};
 ghost use Rattle.cluster_model.specs.Machines.{hosts_of};
 ghost use Rattle.cluster_model.specs.Starting.{options_of};
 
@@ -14,7 +15,8 @@ use std::alloc::{AllocError, Global};
 
 /// The declared members, numbered in order.
 pub fn members_of(alloc: Global, head: &Head) -> Result<Vec<Member>, AllocError>
-    ensures { IfOk result (λ members. members.items ≡ members_from 0 (names_of head.now)) }
+    ensures members { IfOk result (λ members. members.items ≡ members_from 0 (names_of head.now)) }
+    ensures few { IfOk result (λ members. length members.items ≤ most_members) }
 {
     let mut members = Vec::new(alloc);
     for place in 0..head.member_count() {

@@ -1,5 +1,5 @@
 //! The machines of members, as their agents find them.
-ghost use Rattle.std.specs.Prelude.{◌≡◌, ◌≤◌, ◌<◌, ◌^◌, IfSome, option_map, option_copied, length};
+ghost use Rattle.std.specs.Prelude.{◌≡◌, ◌≤◌, ◌<◌, ◌^◌, IfSome, option_map, option_copied, length, slice_get};
 ghost use Rattle.pg_model.specs.Servers.{without_spare};
 ghost use Rattle.ha_loop.specs.Agents.{IsWithin};
 ghost use Rattle.cluster_model.specs.Limits.{most_members};
@@ -76,4 +76,12 @@ fn no_tags() -> Tags
         noloadbalance: false,
         failover_priority: 1,
     }
+}
+
+/// What is at a place. `None` exactly past the last one.
+pub fn item_at<T: Copy>(items: &[T], place: usize) -> Option<T>
+    ensures { result ≡ slice_get items.now place }
+{
+    let item = items.get(place)?;
+    Some(*item)
 }

@@ -3,7 +3,7 @@
 #![tactic(auto)]
 
 use pat_base::{ReaderSource, WriterSink, write_all};
-use patroni_top::{Status, run};
+use patroni_top::{Ended, Status, run};
 use std::process::ExitCode;
 use std::rt::Env;
 use std::{env, io};
@@ -16,7 +16,10 @@ fn main(rt: HostRuntime) -> ExitCode {
     };
     let mut input = ReaderSource::new(rt.stdin());
     let mut out = WriterSink::new(rt.stdout());
-    let status = run(rt.alloc(), &words, &mut input, &mut out, &mut err);
+    let Ended { status, world } = run(rt.alloc(), &words, &mut input, &mut out, &mut err);
+    if let Some(world) = world {
+        world.close();
+    }
     ExitCode::from(status.code())
 }
 

@@ -37,6 +37,10 @@ faulty-bytes bytes fault none is = record { limit = none; fault = rw is refl }
 pub script-bytes : (bytes : List ℕ) (script : ScriptText) → limit_of bytes ≡ None → script_of bytes ≡ Ok script → AreScript bytes
 script-bytes bytes script none is = record { limit = none; script = rw is refl }
 
+-- bytes are one script
+pub same-script : (bytes : List ℕ) (one other : ScriptText) → script_of bytes ≡ Ok one → script_of bytes ≡ Ok other → one ≡ other
+same-script bytes one other is so = cc
+
 pub output-is : (bytes : List ℕ) (script : ScriptText) → limit_of bytes ≡ None → script_of bytes ≡ Ok script → output_in bytes ≡ output_of script
 output-is bytes script none is = rw (none, is) refl
 
@@ -79,7 +83,7 @@ module _ {S K : Type 0} (source : SourceGhosts S) (sink : SinkGhosts K) where
 
   -- a script that was printed, or a front of it
   module _ {input left : S} {out then : K} (output : List ℕ → List ℕ) (text : List ℕ) (are : Known (source.rest input) AreScript) (is : Known (source.rest input) (λ bytes. output bytes ≡ text)) (taken : Consumed (source.rest input) (source.rest left) 1048577) where
-    pub Ends-done : Known (source.rest input) (λ bytes. source.rest left ≡ Some []) → Prints {X = Unit {0}} sink out then prints.Write (Ok tt) text → Ends source sink input left out then output statuses.Done
+    pub Ends-done : {X : Type 0} {x : X} → Known (source.rest input) (λ bytes. source.rest left ≡ Some []) → Prints sink out then prints.Write (Ok x) text → Ends source sink input left out then output statuses.Done
     Ends-done end printed = record {
       means = λ bytes told. (are bytes told, subst (λ (t : List ℕ). Grew (sink.content out) (sink.content then) t) (sym (is bytes told)) printed.ok, end bytes told);
       past_limit = λ asked reliable bytes told limit. absurd (limit-and-none (limit_of bytes) limit (are bytes told).limit);
@@ -88,7 +92,7 @@ module _ {S K : Type 0} (source : SourceGhosts S) (sink : SinkGhosts K) where
       consumed = taken;
     }
 
-    pub Ends-unprinted : (error : PrintError) → Prints {X = Unit {0}} sink out then prints.Write (Err error) text → Ends source sink input left out then output (status_of (ending_of_print error))
+    pub Ends-unprinted : {X : Type 0} (error : PrintError) → Prints {X = X} sink out then prints.Write (Err error) text → Ends source sink input left out then output (status_of (ending_of_print error))
     Ends-unprinted prints.Write printed = record {
       means = (printed.write refl, λ bytes told. (are bytes told, subst (λ (t : List ℕ). GrewByPrefix (sink.content out) (sink.content then) t) (sym (is bytes told)) printed.part));
       past_limit = λ asked reliable bytes told limit. absurd (limit-and-none (limit_of bytes) limit (are bytes told).limit);

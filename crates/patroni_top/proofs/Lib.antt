@@ -1,5 +1,7 @@
+pub mod Books
 pub mod Endings
 pub mod Input
 pub mod Played
 pub mod Telling
+pub mod Watching
 pub mod Whole

@@ -5,15 +5,17 @@ use Rattle.pat_base.specs.declared.name.Name.{Name}
 use Rattle.std.specs.Prelude.{slice_get}
 use Rattle.pat_base.specs.declared.outside.Sink.{Ghosts}
 use Rattle.pat_base.specs.Prints.{Prints}
-use Rattle.pat_base.proofs.Printing.{Prints-ok, IsPrinting, IsPrinting-start, IsPrinting-more, IsPrinting-end, IsPrinting-stop}
+use Rattle.pat_base.proofs.Printing.{Prints-none, Prints-ok, IsPrinting, IsPrinting-start, IsPrinting-more, IsPrinting-end, IsPrinting-stop}
 use Rattle.event_book.specs.declared.event.Event.{Event}
 use Rattle.event_book.specs.Text.{lines_of}
 use Rattle.cluster_script.specs.declared.line.Line.{Line}
 use Rattle.cluster_script.specs.declared.line.Step.{Step}
 use Rattle.cluster_script.specs.Script.{AllAreLines, IsLine}
 use Rattle.cluster_script.specs.Steps.{steps_of, steps_of_line}
-use Rattle.pat_world.specs.Cluster.{Cluster, cluster_over}
-use Rattle.pat_world.specs.Next.{next_events, run_events}
+use Rattle.cluster_model.specs.Cluster.{cluster_over}
+use Rattle.cluster_model.specs.Next.{next_events, run_events}
+use Rattle.cluster_model.specs.State.{Cluster}
+use Rattle.summary.specs.Sights.{SummaryFacts, noted_step}
 use Rattle.pat_world.specs.Room.{HasRoomFor, step_cost}
 use Rattle.pat_world.specs.Emits.{Emits}
 use Rattle.pat_world.proofs.Rooms.{HasRoom-fewer}
@@ -21,9 +23,16 @@ use Rattle.pat_world.proofs.Starting.{drop-get}
 use Rattle.pat_world.proofs.Taking.{members-stay, cluster_over-append}
 use Rattle.patroni_top.specs.declared.playing.Player.{Player}
 use Rattle.patroni_top.specs.declared.print_error.PrintError.{PrintError}
-use Rattle.patroni_top.specs.declared.print_error.PrintError.TheVariants.{Write}
+use Rattle.patroni_top.specs.declared.print_error.PrintError.TheVariants.{Memory, Write}
 use Rattle.patroni_top.specs.Playing.{Plays}
-use Rattle.patroni_top.specs.Run.{printed_from, traced_after, traced_over}
+use Rattle.patroni_top.specs.Run.{noted_from, printed_from, traced_after, traced_over}
+
+-- a call that stops says the same of its sink, whatever it would have answered
+pub Prints-err : {K X Y E : Type 0} {sink : Ghosts K} {a b : K} {fault error : E} {bytes : List ℕ} → Prints {X = X} sink a b fault (Err error) bytes → Prints {X = Y} sink a b fault (Err error) bytes
+Prints-err p = record { ok = tt; part = p.part; write = λ e. p.write (ap Err cc); grows = p.grows; room = p.room }
+
+pub memory-is-no-write : Memory ≡ Write → ⊥
+memory-is-no-write e = cc
 
 -- fewer steps have room too
 pub HasRoomFor-fewer : (cluster : Cluster) (n m : ℕ) → HasRoomFor cluster n → m ≤ n → HasRoomFor cluster m
@@ -40,11 +49,12 @@ step-text : (before : Player) (next : Cluster) (step : Step) (had has : List Eve
 step-text before next step had has took empty =
     ap (lines_of before.trace) (took.event ∙ ap (λ l. l ++ next_events before.world step) empty) ∙ sym (append-nil (lines_of before.trace (next_events before.world step)))
 
-pub Plays-step : {K X : Type 0} {sink : Ghosts K} {before after : Player} {out then : K} {step : Step} {had has text : List Event} {x : X} → Emits before.world after.world had has (next_events before.world step) step_cost → had ≡ [] → text ≡ has
-    → after.trace ≡ traced_after before.trace step → Prints sink out then Write (Ok x) (lines_of before.trace text) → Plays {X = Unit {0}} sink before after out then (Ok tt) (step ∷ [])
-Plays-step {sink = sink} {before = before} {after = after} {out = out} {then = then} {step = step} {had = had} {has = has} took empty same traced printed = record {
+pub Plays-step : {K X : Type 0} {sink : Ghosts K} {before after : Player} {out then : K} {step : Step} {had has seen text : List Event} {x : X} → Emits before.world after.world had has (next_events before.world step) step_cost → had ≡ [] → seen ≡ has
+    → after.summary ≡ noted_step before.summary seen → text ≡ has → after.trace ≡ traced_after before.trace step → Prints sink out then Write (Ok x) (lines_of before.trace text) → Plays {X = Unit {0}} sink before after out then (Ok tt) (step ∷ [])
+Plays-step {sink = sink} {before = before} {after = after} {out = out} {then = then} {step = step} {had = had} {has = has} took empty sees noted same traced printed = record {
   world = took.state ∙ ap (cluster_over before.world) (sym (append-nil (next_events before.world step)));
   trace = traced;
+  summary = noted ∙ ap (noted_step before.summary) (sees ∙ took.event ∙ ap (λ l. l ++ next_events before.world step) empty);
   room = λ more room. HasRoomFor-step before.world after.world had has (next_events before.world step) more took room;
   printed = subst (λ (t : List ℕ). Prints {X = Unit {0}} sink out then Write (Ok tt) t) (ap (lines_of before.trace) same ∙ step-text before after.world step had has took empty) (Prints-ok Write tt printed);
 }
@@ -55,9 +65,20 @@ pub Plays-step-stop : {K X Y : Type 0} {sink : Ghosts K} {before after : Player}
 Plays-step-stop {Y = Y} {sink = sink} {before = before} {after = after} {out = out} {then = then} {step = step} {had = had} {has = has} {error = error} final took empty same printed stops = rw stops (record {
   world = tt;
   trace = tt;
+  summary = tt;
   room = tt;
   printed = subst (λ (t : List ℕ). Prints {X = Y} sink out then Write (Err error) t) (ap (lines_of before.trace) same ∙ step-text before after.world step had has took empty)
       (record { ok = tt; part = printed.part; write = λ e. printed.write (ap Err cc); grows = printed.grows; room = printed.room });
+})
+
+-- a step for which memory is wanting prints nothing
+pub Plays-none : {K X : Type 0} {sink : Ghosts K} {before after : Player} {out : K} (final : Result X PrintError) (steps : List Step) → final ≡ Err Memory → Plays sink before after out out final steps
+Plays-none {X = X} {sink = sink} {before = before} {out = out} final steps stops = rw stops (record {
+  world = tt;
+  trace = tt;
+  summary = tt;
+  room = tt;
+  printed = Prints-none {X = X} sink out Write Memory (Err Memory) (printed_from before.world before.trace steps) refl memory-is-no-write;
 })
 
 -- some steps, and then others: what they leave, and what they print
@@ -85,11 +106,21 @@ printed_from-append world trace (step ∷ steps) rest =
     ∙ sym (append_assoc lines (printed_from next (traced_after trace step) steps) (printed_from (cluster_over next (run_events next steps)) (traced_over (traced_after trace step) steps) rest))
     ∙ ap (λ c. (lines ++ printed_from next (traced_after trace step) steps) ++ printed_from c (traced_over (traced_after trace step) steps) rest) (sym (cluster_over-append world events (run_events next steps)))
 
+noted_from-append : (summary : SummaryFacts) (world : Cluster) (steps rest : List Step)
+    → noted_from (noted_from summary world steps) (cluster_over world (run_events world steps)) rest ≡ noted_from summary world (steps ++ rest)
+noted_from-append summary world [] rest = refl
+noted_from-append summary world (step ∷ steps) rest =
+    let events = next_events world step in
+    let next = cluster_over world events in
+    let noted = noted_step summary events in
+    ap (λ c. noted_from (noted_from noted next steps) c rest) (cluster_over-append world events (run_events next steps)) ∙ noted_from-append noted next steps rest
+
 -- of the steps of a whole, these are left
 pub record Playing {K : Type 0} (sink : Ghosts K) (start now : Player) (out then : K) (whole left : List Step) : Type 0 where
   pub text : IsPrinting sink out then Write (printed_from start.world start.trace whole) (printed_from now.world now.trace left)
   pub state : cluster_over now.world (run_events now.world left) ≡ cluster_over start.world (run_events start.world whole)
   pub traced : traced_over now.trace left ≡ traced_over start.trace whole
+  pub noted : noted_from now.summary now.world left ≡ noted_from start.summary start.world whole
   pub room : (more : ℕ) → HasRoomFor start.world (length whole + more) → HasRoomFor now.world (length left + more)
 
 pub Playing-start : {K : Type 0} (sink : Ghosts K) (start : Player) (out : K) (whole : List Step) → Playing sink start start out out whole whole
@@ -97,6 +128,7 @@ Playing-start sink start out whole = record {
   text = IsPrinting-start sink out Write (printed_from start.world start.trace whole);
   state = refl;
   traced = refl;
+  noted = refl;
   room = λ more room. room;
 }
 
@@ -128,6 +160,8 @@ pub Playing-more : {K X : Type 0} {sink : Ghosts K} {start before after : Player
 Playing-more {start = start} {before = before} {after = after} {whole = whole} {left = left} {piece = piece} rest p is q = record {
   text = IsPrinting-more (printed_from after.world after.trace rest) p.text (ap (λ s. printed_from before.world before.trace s) is ∙ next-text before after piece rest q.world q.trace) q.printed;
   state = ap (λ c. cluster_over c (run_events c rest)) q.world ∙ run_events-append before.world piece rest ∙ ap (λ s. cluster_over before.world (run_events before.world s)) (sym is) ∙ p.state;
+  noted = ap (λ s. noted_from s after.world rest) q.summary ∙ ap (λ c. noted_from (noted_from before.summary before.world piece) c rest) q.world ∙ noted_from-append before.summary before.world piece rest
+      ∙ ap (noted_from before.summary before.world) (sym is) ∙ p.noted;
   traced = ap (λ t. traced_over t rest) q.trace ∙ sym (traced_over-append before.trace piece rest) ∙ ap (traced_over before.trace) (sym is) ∙ p.traced;
   room = λ more room. q.room (length rest + more)
       (HasRoomFor-fewer before.world (length left + more) (length piece + (length rest + more)) (p.room more room) (omega (arith, ap length is, length-append piece rest)));
@@ -137,6 +171,7 @@ pub Playing-end : {K : Type 0} {sink : Ghosts K} {start now : Player} {out then 
 Playing-end {start = start} {now = now} {whole = whole} p none = record {
   world = ap (λ s. cluster_over now.world (run_events now.world s)) (sym none) ∙ p.state;
   trace = ap (traced_over now.trace) (sym none) ∙ p.traced;
+  summary = ap (noted_from now.summary now.world) (sym none) ∙ p.noted;
   room = λ more room. HasRoomFor-fewer now.world _ more (p.room more room) (omega arith);
   printed = IsPrinting-end p.text (ap (printed_from now.world now.trace) none);
 }
@@ -147,6 +182,7 @@ pub Playing-stop : {K X Y : Type 0} {sink : Ghosts K} {start before after : Play
 Playing-stop {before = before} {piece = piece} final rest p is q stops = rw stops (record {
   world = tt;
   trace = tt;
+  summary = tt;
   room = tt;
   printed = IsPrinting-stop _ _ p.text (ap (λ s. printed_from before.world before.trace s) is ∙ printed_from-append before.world before.trace piece rest) q.printed refl;
 })

@@ -3,18 +3,19 @@ use Rattle.std.specs.Prelude.{ℕ, ◌≡◌, ◌+◌, List, length, Result, OnO
 use Rattle.pat_base.specs.declared.outside.Sink.{Ghosts}
 use Rattle.pat_base.specs.Prints.{Prints}
 use Rattle.cluster_script.specs.declared.line.Step.{Step}
-use Rattle.pat_world.specs.Cluster.{cluster_over}
-use Rattle.pat_world.specs.Next.{run_events}
+use Rattle.cluster_model.specs.Cluster.{cluster_over}
+use Rattle.cluster_model.specs.Next.{run_events}
 use Rattle.pat_world.specs.Room.{HasRoomFor}
 use Rattle.patroni_top.specs.declared.playing.Player.{Player}
 use Rattle.patroni_top.specs.declared.print_error.PrintError.{PrintError}
 use Rattle.patroni_top.specs.declared.print_error.PrintError.TheVariants.{Write}
-use Rattle.patroni_top.specs.Run.{printed_from, traced_over}
+use Rattle.patroni_top.specs.Run.{noted_from, printed_from, traced_over}
 
--- the player took these steps: its world and its trace are what they leave, with room for all but so many steps fewer,
--- and their lines were printed
+-- the player took these steps: its world, its trace and its summary are what they leave, with room for all but so many steps
+-- fewer, and their lines were printed
 pub record Plays {K X : Type 0} (sink : Ghosts K) (before after : Player) (out then : K) (result : Result X PrintError) (steps : List Step) : Type 0 where
   pub world : OnOk result (after.world ≡ cluster_over before.world (run_events before.world steps))
   pub trace : OnOk result (after.trace ≡ traced_over before.trace steps)
+  pub summary : OnOk result (after.summary ≡ noted_from before.summary before.world steps)
   pub room : OnOk result ((more : ℕ) → HasRoomFor before.world (length steps + more) → HasRoomFor after.world more)
   pub printed : Prints sink out then Write result (printed_from before.world before.trace steps)

@@ -1,7 +1,7 @@
 -- The run of a script, and its text.
 use Rattle.std.specs.Prelude.{ℕ, ◌≤◌, Bool, false, List, [], ◌∷◌, ◌++◌, Option, Some, None, Result, Ok, Err, length}
 use Rattle.event_book.specs.declared.event.Event.{Event}
-use Rattle.event_book.specs.Text.{lines_of, summary_at}
+use Rattle.event_book.specs.Text.{lines_of}
 use Rattle.cluster_script.specs.declared.fault.Fault.{Fault}
 use Rattle.cluster_script.specs.declared.limits.Limit.{Limit}
 use Rattle.cluster_script.specs.Limits.{limit_of}
@@ -12,8 +12,14 @@ use Rattle.cluster_script.specs.declared.line.Command.{Command}
 use Rattle.cluster_script.specs.declared.line.Command.TheVariants as commands
 use Rattle.cluster_script.specs.declared.line.Step.{Step}
 use Rattle.cluster_script.specs.declared.line.Step.TheVariants as steps
-use Rattle.pat_world.specs.Cluster.{Cluster, cluster_of, cluster_over}
-use Rattle.pat_world.specs.Next.{next_events, run_events}
+use Rattle.cluster_model.specs.Cluster.{cluster_over}
+use Rattle.cluster_model.specs.Next.{next_events, run_events}
+use Rattle.cluster_model.specs.Starting.{cluster_of}
+use Rattle.cluster_model.specs.State.{Cluster}
+use Rattle.summary.specs.declared.answers.Closing.{Closing}
+use Rattle.summary.specs.Sights.{SummaryFacts, noted_steps}
+use Rattle.summary.specs.SummaryText.{closing_text}
+use Rattle.patroni_top.specs.Watches.{first_summary}
 
 -- a body of a script within the limits
 pub record KeepsLimits (script : ScriptText) : Type 0 where
@@ -46,11 +52,24 @@ printed_from cluster trace (step ∷ more) =
     let events = next_events cluster step in
     lines_of trace events ++ printed_from (cluster_over cluster events) (traced_after trace step) more
 
+-- the events of each of these steps, from a cluster on
+abbrev pub events_by_step : Cluster → List Step → List (List Event)
+events_by_step cluster [] = []
+events_by_step cluster (step ∷ more) =
+    let events = next_events cluster step in
+    events ∷ events_by_step (cluster_over cluster events) more
+
+-- what the summary keeps after these steps, from a cluster on
+abbrev pub noted_from : SummaryFacts → Cluster → List Step → SummaryFacts
+noted_from summary cluster steps = noted_steps summary (events_by_step cluster steps)
+
+-- how the run of a script closes
+abbrev pub closing_of_run : ScriptText → Closing
+closing_of_run script = (noted_from (first_summary script.head) (cluster_of script.head) (steps_of script.body)).watch.closing
+
 -- the printed run of a script: its lines, those of messages only while they are traced, and then the summary
 abbrev pub output_of : ScriptText → List ℕ
-output_of script =
-    let start = cluster_of script.head in
-    printed_from start false (steps_of script.body) ++ summary_at (cluster_over start (run_of script)).book.clock
+output_of script = printed_from (cluster_of script.head) false (steps_of script.body) ++ closing_text (closing_of_run script)
 
 -- the printed run of a script that was read, or nothing where its bytes pass a limit or are none
 abbrev pub output_or_none : Option Limit → Result ScriptText (ℕ × Fault) → List ℕ

@@ -1,31 +1,48 @@
 //! Steps, and what they print.
-ghost use Rattle.std.specs.Prelude.{◌≡◌, ◌<◌, ◌∷◌, [], false, length, IfOk, replicate, slice_get, Some};
+ghost use Rattle.std.specs.Prelude.{◌≡◌, ◌<◌, ◌∷◌, ◌++◌, [], false, length, IfOk, OnOk, replicate, slice_get, Some};
 ghost use Rattle.pat_base.specs.Prints.{Prints};
-ghost use Rattle.cluster_script.specs.Script.{IsLine};
+ghost use Rattle.cluster_script.specs.Script.{IsLine, names_of};
 ghost use Rattle.cluster_script.specs.Steps.{steps_of_line, steps_of};
+ghost use Rattle.cluster_model.specs.Cluster.{cluster_over};
+ghost use Rattle.cluster_model.specs.Next.{run_events};
 ghost use Rattle.cluster_model.specs.Starting.{cluster_of};
-ghost use Rattle.pat_world.specs.Room.{HasRoomFor};
 ghost use Rattle.cluster_model.specs.Steps.{IsStep, names_in};
+ghost use Rattle.summary.specs.Sights.{noted_step};
+ghost use Rattle.summary.specs.SummaryText.{closing_text};
+ghost use Rattle.pat_world.specs.Room.{HasRoomFor};
+ghost use Rattle.patroni_top.specs.Ended.{IsLeftBy};
 ghost use Rattle.patroni_top.specs.Playing.{Plays};
-ghost use Rattle.patroni_top.specs.Run.{KeepsLimits, output_of, traced_after};
+ghost use Rattle.patroni_top.specs.Run.{KeepsLimits, noted_from, output_of, printed_from, traced_after};
+ghost use Rattle.patroni_top.specs.Watches.{first_summary};
 
 use crate::print_error::PrintError;
-use crate::printing::{print_events, print_summary};
+use crate::printing::{print_closing, print_events};
+use crate::watches::first_summary;
 use cluster_script::{Command, Head, Line, Script, Step};
 use event_book::Event;
 use pat_base::Sink;
 use pat_world::World;
 use std::alloc::{AllocError, Global};
+use summary::Summary;
 
-/// Takes the steps of a script from its head on, and prints what happens and the closing summary.
-pub fn play<K: Sink>(alloc: Global, script: &Script, out: &mut K) -> Result<(), PrintError>
+/// The most that a summary counts, of ticks and of commits.
+const MOST_COUNTED: u64 = 1 << 60;
+
+/// Takes the steps of a script from its head on, and prints what happens and the closing summary. On Ok it answers the world
+/// after the last step; on Err the world is closed.
+pub fn play<K: Sink>(alloc: Global, script: &Script, out: &mut K) -> Result<World, PrintError>
     requires { KeepsLimits script.now }
-    ensures { Prints K.Sink out.old out.new PrintError.Write result (output_of script.now) }
+    ensures printed { Prints K.Sink out.old out.new PrintError.Write result (output_of script.now) }
+    ensures world { IfOk result (IsLeftBy script.now) }
 {
     let mut player = Player::new(alloc, script.head())?;
-    let played = player.play(script, out);
-    player.close();
-    played
+    match player.play(script, out) {
+        Ok(()) => Ok(player.into_world()),
+        Err(error) => {
+            player.into_world().close();
+            Err(error)
+        }
+    }
 }
 
 /// Takes steps in a world, and prints what happens. It can't be dropped, since a world can't.
@@ -34,6 +51,7 @@ struct Player {
     world: World,
     /// Whether messages are traced.
     trace: bool,
+    summary: Summary,
     /// A buffer for the events of one step.
     events: Vec<Event>,
 }
@@ -42,37 +60,50 @@ impl Player {
     fn new(alloc: Global, head: &Head) -> Result<Player, AllocError>
         ensures world { IfOk result (λ player. player.world ≡ cluster_of head.now) }
         ensures trace { IfOk result (λ player. player.trace ≡ false) }
+        ensures summary { IfOk result (λ player. player.summary ≡ first_summary head.now) }
     {
+        let summary = first_summary(alloc, head)?;
+        // the world comes last, since nothing that fails may leave it behind
         let world = World::new(alloc, head)?;
         Ok(Player {
             alloc,
             world,
             trace: false,
+            summary,
             events: Vec::new(alloc),
         })
     }
 
-    /// Ends a player, and with it its world.
-    fn close(self) {
+    /// The world after the steps that were taken.
+    fn into_world(self) -> World
+        ensures { result ≡ self.world }
+    {
         let Player {
             alloc: _,
             world,
             trace: _,
+            summary: _,
             events: _,
         } = self;
-        world.close();
+        world
     }
 
-    /// The steps of a script, and then the closing summary.
-    fn play<K: Sink>(&mut self, script: &Script, out: &mut K) -> Result<(), PrintError> {
+    /// The lines of a script, one after another, and then the closing summary.
+    fn play<K: Sink>(&mut self, script: &Script, out: &mut K) -> Result<(), PrintError>
+        requires room { HasRoomFor self.old.world (length (steps_of script.now.body)) }
+        requires members { names_in self.old.world.book.members ≡ names_of script.now.head }
+        ensures world { OnOk result (self.new.world ≡ cluster_over self.old.world (run_events self.old.world (steps_of script.now.body))) }
+        ensures printed { Prints K.Sink out.old out.new PrintError.Write result
+            (printed_from self.old.world self.old.trace (steps_of script.now.body) ++ closing_text (noted_from self.old.summary self.old.world (steps_of script.now.body)).watch.closing) }
+    {
         self.play_body(script, out)?;
-        print_summary(self.alloc, self.world.clock(), out)
+        print_closing(self.alloc, &self.summary.closing(), out)
     }
 
     /// The lines of a body, one after another.
     fn play_body<K: Sink>(&mut self, script: &Script, out: &mut K) -> Result<(), PrintError>
         requires room { HasRoomFor self.old.world (length (steps_of script.now.body)) }
-        requires members { names_in self.old.world.book.members ≡ script.now.head.members }
+        requires members { names_in self.old.world.book.members ≡ names_of script.now.head }
         ensures { Plays K.Sink self.old self.new out.old out.new result (steps_of script.now.body) }
     {
         for place in 0..script.len() {
@@ -118,10 +149,24 @@ impl Player {
     {
         self.events.clear();
         self.world.step(step, &mut self.events)?;
+        note(&mut self.summary, &self.events)?;
         print_events(self.alloc, &self.events, self.trace, out)?;
         self.trace = traced_after(self.trace, step);
         Ok(())
     }
+}
+
+/// Notes the events of one step. What the summary counts never gets near its most in a run that memory can hold, so that is told
+/// as want of memory.
+fn note(summary: &mut Summary, events: &[Event]) -> Result<(), AllocError>
+    ensures { OnOk result (summary.new ≡ noted_step summary.old events.now) }
+{
+    let closing = summary.closing();
+    if closing.end.0 > MOST_COUNTED || closing.acknowledged > MOST_COUNTED {
+        return Err(AllocError);
+    }
+    summary.note_all(events);
+    Ok(())
 }
 
 fn line_at(script: &Script, place: usize) -> Line

@@ -1,15 +1,17 @@
 //! The top call.
-ghost use Rattle.std.specs.Prelude.{◌≡◌, ◌≢◌, ◌↔◌, [], ◌∷◌, map, codes, string_bytes, IsTrue};
+ghost use Rattle.std.specs.Prelude.{◌≡◌, ◌≢◌, ◌↔◌, [], ◌∷◌, map, codes, string_bytes, IfErr, IfOk, IsTrue};
 ghost use Rattle.pat_base.specs.Outside.{Known};
+ghost use Rattle.patroni_top.specs.Ended.{IsLeftByBytes, LeavesWorld, ending_in};
 ghost use Rattle.patroni_top.specs.Ends.{Ends};
 ghost use Rattle.patroni_top.specs.Run.{output_in};
 ghost use Rattle.patroni_top.specs.Status.{status_of, message_of, Says, IsReported};
 
-use crate::Status;
 use crate::ending::{Ending, message};
 use crate::playing::play;
 use crate::reading::script_from;
+use crate::{Ended, Status};
 use pat_base::{Sink, Source, write_all};
+use pat_world::World;
 use std::alloc::Global;
 
 /// The program: all that it does with its words, its input and its two outputs.
@@ -18,41 +20,67 @@ use std::alloc::Global;
 /// The whole script is read before anything is written. Judged are first the words, then the input, then the limits of
 /// scripts, then the lines, and then the output. Each line is written in one piece. What isn't done is said in one line
 /// on `err`; that `err` fails changes nothing else.
+///
+/// What is answered has the world after the last step, exactly where the status is `Done`. On every other path the world that was
+/// made is closed.
 pub fn run<S: Source, K: Sink, E: Sink>(
     alloc: Global,
     words: &[String],
     input: &mut S,
     out: &mut K,
     err: &mut E,
-) -> Status
-    ensures usage { (result ≡ Status.Usage) ↔ (map string_bytes words.now ≢ codes "run" ∷ []) }
-    ensures ends { Ends S.Source K.Sink input.old input.new out.old out.new output_in result }
+) -> Ended
+    ensures usage { (result.status ≡ Status.Usage) ↔ (map string_bytes words.now ≢ codes "run" ∷ []) }
+    ensures ends { Ends S.Source K.Sink input.old input.new out.old out.new output_in result.status }
+    ensures world { LeavesWorld S.Source input.old result }
 
     // The line told is that of the status; the fault with its line, or the limit, that it names is the input's.
-    ensures reported { (ending : Ending) × (status_of ending ≡ result) × Known (S.rest input.old) (λ bytes. Says ending bytes)
+    ensures reported { (ending : Ending) × (status_of ending ≡ result.status) × Known (S.rest input.old) (λ bytes. Says ending bytes)
         × IsReported E.Sink err.old err.new (message_of ending) }
 {
     if !is_run(words) {
         report(err, Ending::Usage);
-        return Status::Usage;
+        return Ended {
+            status: Status::Usage,
+            world: None,
+        };
     }
-    let ending = run_script(alloc, input, out);
-    report(err, ending);
-    ending.status()
+    match run_script(alloc, input, out) {
+        Ok(world) => {
+            report(err, Ending::Done);
+            Ended {
+                status: Status::Done,
+                world: Some(world),
+            }
+        }
+        Err(ending) => {
+            report(err, ending);
+            Ended {
+                status: ending.status(),
+                world: None,
+            }
+        }
+    }
 }
 
-/// Reads a script and writes its printed run.
-fn run_script<S: Source, K: Sink>(alloc: Global, input: &mut S, out: &mut K) -> Ending
-    ensures usage { status_of result ≢ Status.Usage }
-    ensures ends { Ends S.Source K.Sink input.old input.new out.old out.new output_in (status_of result) }
-    ensures says { Known (S.rest input.old) (Says result) }
+/// Reads a script and writes its printed run. On Ok it answers the world after the last step.
+fn run_script<S: Source, K: Sink>(
+    alloc: Global,
+    input: &mut S,
+    out: &mut K,
+) -> Result<World, Ending>
+    ensures usage { status_of (ending_in result) ≢ Status.Usage }
+    ensures unfinished { IfErr result (λ ending. status_of ending ≢ Status.Done) }
+    ensures ends { Ends S.Source K.Sink input.old input.new out.old out.new output_in (status_of (ending_in result)) }
+    ensures says { Known (S.rest input.old) (Says (ending_in result)) }
+    ensures world { IfOk result (λ world. Known (S.rest input.old) (IsLeftByBytes world)) }
 {
     match script_from(alloc, input) {
         Ok(script) => match play(alloc, &script, out) {
-            Ok(()) => Ending::Done,
-            Err(error) => Ending::from(error),
+            Ok(world) => Ok(world),
+            Err(error) => Err(Ending::from(error)),
         },
-        Err(ending) => ending,
+        Err(ending) => Err(ending),
     }
 }
 

@@ -30,36 +30,8 @@ use Rattle.cluster_model.specs.Orders.{declared_member, following_of, is_same_re
 use Rattle.cluster_model.specs.Parts.{events_of, for_some}
 use Rattle.cluster_model.specs.State.{Cluster}
 use Rattle.lease_law.specs.Premises.{AllAre}
+use Rattle.run_law.proofs.Lists.{AllKinds, HoldsIf, all-kinds, one-kind}
 use Rattle.run_law.specs.InputEvents.{IsOfInput}
-
--- ---- lists of events and of kinds
-abbrev pub AllKinds : (EventKind → Type 0) → List EventKind → Type 0
-AllKinds P [] = Unit {0}
-AllKinds P (kind ∷ more) = P kind × AllKinds P more
-
-abbrev pub HoldsIf : (EventKind → Type 0) → Option EventKind → Type 0
-HoldsIf P None = Unit {0}
-HoldsIf P (Some kind) = P kind
-
-pub all-kinds : (P : EventKind → Type 0) (cluster : Cluster) (list : List EventKind) → AllKinds P list → AllAre P (events_of cluster list)
-all-kinds P cluster [] all = tt
-all-kinds P cluster (kind ∷ more) all = (all.0, all-kinds P (cluster_after cluster kind) more all.1)
-
-pub one-kind : (P : EventKind → Type 0) (found : Option EventKind) → HoldsIf P found → AllKinds P (kinds_of found)
-one-kind P None is = tt
-one-kind P (Some kind) is = (is, tt)
-
-pub all-both : (P : EventKind → Type 0) (xs ys : List Event) → AllAre P xs → AllAre P ys → AllAre P (xs ++ ys)
-all-both P [] ys first second = second
-all-both P (x ∷ xs) ys first second = (first.0, all-both P xs ys first.1 second)
-
-pub all-more : (P Q : EventKind → Type 0) (xs : List Event) → ((kind : EventKind) → P kind → Q kind) → AllAre P xs → AllAre Q xs
-all-more P Q [] more all = tt
-all-more P Q (x ∷ xs) more all = (more x.kind all.0, all-more P Q xs more all.1)
-
-pub all-front : (P : EventKind → Type 0) (xs ys : List Event) → AllAre P (xs ++ ys) → AllAre P xs
-all-front P [] ys all = tt
-all-front P (x ∷ xs) ys all = (all.0, all-front P xs ys all.1)
 
 holds-then : {X : Type 0} (P : EventKind → Type 0) (f : X → Option EventKind) (found : Option X) → ((x : X) → HoldsIf P (f x)) → HoldsIf P (option_and_then f found)
 holds-then P f None all = tt

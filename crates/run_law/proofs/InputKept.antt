@@ -51,6 +51,7 @@ use Rattle.bridge_law.specs.Groups.{IsOfMembers as IsFromMembers, AreNumberedAbo
 use Rattle.bridge_law.specs.Sending.{SendsOnly}
 use Rattle.bridge_law.proofs.Groups.{own-causal}
 use Rattle.bridge_law.proofs.Sends.{old-or-sent, heard-gone}
+use Rattle.run_law.proofs.Lists.{all-more}
 use Rattle.run_law.specs.Bridged.{Bridged, IsMatched}
 use Rattle.run_law.specs.Declaring.{declared_of, member_count, works_of}
 use Rattle.run_law.specs.InputEvents.{IsOfInput}
@@ -61,7 +62,6 @@ use Rattle.run_law.specs.Volatile.{agent_now, volatile_of}
 use Rattle.run_law.specs.Waiting.{IsAddressed}
 use Rattle.run_law.proofs.Actions.{action-kept, machine-is}
 use Rattle.run_law.proofs.Fitting.{Fits, IsFitting, SendsAddressed, fits-of, fits-over, matched-from}
-use Rattle.run_law.proofs.InputEvents.{all-more}
 use Rattle.run_law.proofs.InputKinds.{IsOpening, opening-own, opening-taken, opening-sends, opening-from, opening-above, opening-members, opening-hands_off, opening-moments, mine-own, mine-taken, mine-from, mine-hands_off, mine-members, mine-sends, asked-over}
 use Rattle.run_law.proofs.InputMachines.{Mirrors}
 use Rattle.run_law.proofs.InputOutputs.{each-begins, each-fed, each-mirrors, each-numbered, armed-more, moments-all}

@@ -33,8 +33,9 @@ use Rattle.lease_law.specs.Claims.{BeginsBehind, IsArmedIn}
 use Rattle.lease_law.specs.Premises.{AllAre, KeepsMomentOf, IsFedBy}
 use Rattle.lease_law.proofs.Runs.{assoc}
 use Rattle.bridge_law.specs.Groups.{IsNumberedAbove, AreNumberedAbove}
+use Rattle.run_law.proofs.Lists.{all-both, all-front, all-back}
 use Rattle.run_law.specs.InputEvents.{IsOfInput}
-use Rattle.run_law.proofs.InputEvents.{all-both, output-mine}
+use Rattle.run_law.proofs.InputEvents.{output-mine}
 use Rattle.run_law.proofs.InputMachines.{Mirrors, output-here}
 use Rattle.run_law.proofs.InputStays.{Stays, stays-over}
 
@@ -171,14 +172,6 @@ module _ (member : Member) (run : ℕ) (message : HeardMessage) where
 
   abbrev ArmedIn : List Event → Type 0
   ArmedIn events = IsArmedIn member.id.number message.number events
-
-  all-back : (P : EventKind → Type 0) (xs ys : List Event) → AllAre P (xs ++ ys) → AllAre P ys
-  all-back P [] ys all = all
-  all-back P (x ∷ xs) ys all = all-back P xs ys all.1
-
-  all-front : (P : EventKind → Type 0) (xs ys : List Event) → AllAre P (xs ++ ys) → AllAre P xs
-  all-front P [] ys all = tt
-  all-front P (x ∷ xs) ys all = (all.0, all-front P xs ys all.1)
 
   pub armed-more : (m number : ℕ) (events more : List Event) → IsArmedIn m number events → IsArmedIn m number (events ++ more)
   armed-more m number events more old = record {

@@ -26,8 +26,9 @@ use Rattle.cluster_model.specs.Messages.{output_events}
 use Rattle.cluster_model.specs.Parts.{each}
 use Rattle.cluster_model.specs.State.{Cluster}
 use Rattle.lease_law.specs.Premises.{AllAre}
+use Rattle.run_law.proofs.Lists.{all-both}
 use Rattle.run_law.specs.InputEvents.{IsOfInput}
-use Rattle.run_law.proofs.InputEvents.{all-both, output-mine}
+use Rattle.run_law.proofs.InputEvents.{output-mine}
 use Rattle.run_law.proofs.Places.{get-here, get-elsewhere}
 
 -- what stays as it was beside the machine of the member of this number, but for messages

@@ -1,4 +1,5 @@
 pub mod Places
+pub mod Lists
 pub mod Machines
 pub mod SameMachine
 pub mod Composing

@@ -19,6 +19,7 @@ use Rattle.cluster_model.specs.Parts.{event_of, events_of}
 use Rattle.cluster_model.specs.State.{Cluster}
 use Rattle.lease_law.specs.Actions.{Note}
 use Rattle.lease_law.specs.Showing.{IsLocal}
+use Rattle.run_law.proofs.Lists.{AllKinds}
 use Rattle.run_law.specs.Asides.{IsAside, IsQuiet}
 use Rattle.run_law.specs.Bridged.{Bridged}
 use Rattle.run_law.specs.Kept.{IsKept}
@@ -108,18 +109,8 @@ pub kept-quiet : (head : HeadText) (book : List Event) (cluster : Cluster) (kind
 kept-quiet head book cluster kind is good =
     local-kept head book cluster (event_of cluster kind) Note good tt (quiet-aside kind is, tt) (quiet-local kind is, tt) (quiet-machine cluster kind is)
 
--- what holds of each kind
-abbrev pub AllKinds : (EventKind → Type 0) → List EventKind → Type 0
-AllKinds P [] = Unit {0}
-AllKinds P (kind ∷ more) = P kind × AllKinds P more
-
 -- such events, one after another
 pub kept-quietly : (head : HeadText) (kinds : List EventKind) → AllKinds IsQuiet kinds → (book : List Event) (cluster : Cluster) → Bridged head book cluster → IsKept head book cluster (events_of cluster kinds)
 kept-quietly head [] all book cluster good = kept-none head book cluster good
 kept-quietly head (kind ∷ more) all book cluster good =
     kept-then head book cluster (event_of cluster kind) (events_of (cluster_after cluster kind) more) (kept-quiet head book cluster kind all.0 good) (λ later. kept-quietly head more all.1 (book ++ event_of cluster kind) (cluster_after cluster kind) later)
-
--- and one list of them behind another is one
-pub quiet-append : (xs ys : List EventKind) → AllKinds IsQuiet xs → AllKinds IsQuiet ys → AllKinds IsQuiet (xs ++ ys)
-quiet-append [] ys first second = second
-quiet-append (x ∷ xs) ys first second = (first.0, quiet-append xs ys first.1 second)

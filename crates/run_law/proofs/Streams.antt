@@ -21,11 +21,12 @@ use Rattle.cluster_model.specs.Next.{acknowledge_events, all_entries, confirm_ev
 use Rattle.cluster_model.specs.Parts.{event_of, events_of}
 use Rattle.cluster_model.specs.State.{Cluster}
 use Rattle.cluster_model.specs.Streaming.{confirm_of, source_of}
+use Rattle.run_law.proofs.Lists.{AllKinds, kinds-both}
 use Rattle.run_law.specs.Asides.{IsQuiet}
 use Rattle.run_law.specs.Bridged.{Bridged}
 use Rattle.run_law.specs.Kept.{IsKept, Keeps}
 use Rattle.run_law.proofs.Composing.{kept-for_some, kept-if, kept-none, kept-then}
-use Rattle.run_law.proofs.Quiet.{AllKinds, kept-quiet, kept-quietly, quiet-append}
+use Rattle.run_law.proofs.Quiet.{kept-quiet, kept-quietly}
 
 -- one such event, if one happens
 abbrev pub IsQuietIf : Option EventKind → Type 0
@@ -76,12 +77,12 @@ loss-now commit member (Some s) = loss-quiet member (is_lacking commit s)
 losses-quiet : (commit : ℕ) (known : List ServerFacts) (members : List Member) → AllKinds IsQuiet (losses_of commit known members)
 losses-quiet commit known [] = tt
 losses-quiet commit known (member ∷ members) =
-    quiet-append (loss_of commit member (slice_get known member.id.number)) (losses_of commit known members) (loss-now commit member (slice_get known member.id.number)) (losses-quiet commit known members)
+    kinds-both IsQuiet (loss_of commit member (slice_get known member.id.number)) (losses_of commit known members) (loss-now commit member (slice_get known member.id.number)) (losses-quiet commit known members)
 
 acknowledged-quiet : (known : List ServerFacts) (members : List Member) (member : Member) (commits : List ℕ) → AllKinds IsQuiet (acknowledgements known members member commits)
 acknowledged-quiet known members member [] = tt
 acknowledged-quiet known members member (commit ∷ commits) =
-    (tt, quiet-append (losses_of commit known members) (acknowledgements known members member commits) (losses-quiet commit known members) (acknowledged-quiet known members member commits))
+    (tt, kinds-both IsQuiet (losses_of commit known members) (acknowledgements known members member commits) (losses-quiet commit known members) (acknowledged-quiet known members member commits))
 
 acknowledge-quiet : (known : List ServerFacts) (members : List Member) (member : Member) (s : Option ServerFacts) → AllKinds IsQuiet (acknowledge_kinds known members member s)
 acknowledge-quiet known members member None = tt

@@ -31,6 +31,7 @@ use Rattle.lease_law.specs.Premises.{AllAre}
 use Rattle.lease_law.specs.Showing.{IsLocal}
 use Rattle.lease_law.specs.States.{Machine, is_due, tick_machine}
 use Rattle.lease_law.proofs.LocalActions.{tick-shown}
+use Rattle.run_law.proofs.Lists.{AllKinds, all-both, kinds-both}
 use Rattle.run_law.specs.Asides.{IsAside, IsQuiet}
 use Rattle.run_law.specs.Declaring.{declared_members, declared_of, member_count}
 use Rattle.run_law.specs.Kept.{Keeps}
@@ -41,20 +42,16 @@ use Rattle.run_law.proofs.Actions.{action-kept, machine-is}
 use Rattle.run_law.proofs.Asides.{asides-begin, matched-behind}
 use Rattle.run_law.proofs.Composing.{Each, over-append}
 use Rattle.run_law.proofs.Members.{declared-within, each-declared, listed}
-use Rattle.run_law.proofs.Quiet.{AllKinds, quiet-append, quiet-aside, quiet-local}
+use Rattle.run_law.proofs.Quiet.{quiet-aside, quiet-local}
 use Rattle.run_law.proofs.TickMachines.{ends, quiet-machines, resets, stops_seen, ticked-machine}
 
 -- events of a tick beside the clock's
 abbrev IsBeside : EventKind → Type 0
 IsBeside kind = IsAside kind × IsLocal kind
 
-all-append : (P : EventKind → Type 0) (xs ys : List Event) → AllAre P xs → AllAre P ys → AllAre P (xs ++ ys)
-all-append P [] ys first second = second
-all-append P (x ∷ xs) ys first second = (first.0, all-append P xs ys first.1 second)
-
 all-each : {X : Type 0} (P : EventKind → Type 0) (part : Cluster → X → List Event) → ((cluster : Cluster) (x : X) → AllAre P (part cluster x)) → (cluster : Cluster) (xs : List X) → AllAre P (each part cluster xs)
 all-each P part all cluster [] = tt
-all-each P part all cluster (x ∷ xs) = all-append P (part cluster x) (each part (cluster_over cluster (part cluster x)) xs) (all cluster x) (all-each P part all (cluster_over cluster (part cluster x)) xs)
+all-each P part all cluster (x ∷ xs) = all-both P (part cluster x) (each part (cluster_over cluster (part cluster x)) xs) (all cluster x) (all-each P part all (cluster_over cluster (part cluster x)) xs)
 
 reset-beside : (cluster : Cluster) (now : ℕ) (x : Member) (found : Option (Option Ticks)) → AllAre IsBeside (events_of cluster (kinds_of (option_and_then (reset_of now x) found)))
 reset-beside cluster now x None = tt
@@ -87,7 +84,7 @@ expiry-quiet holder _ = (tt, tt)
 
 expiries-quiet : (holder : Option Member) (keys : List Key) → AllKinds IsQuiet (expiries_of holder keys)
 expiries-quiet holder [] = tt
-expiries-quiet holder (key ∷ more) = quiet-append (expiry_of holder key) (expiries_of holder more) (expiry-quiet holder key) (expiries-quiet holder more)
+expiries-quiet holder (key ∷ more) = kinds-both IsQuiet (expiry_of holder key) (expiries_of holder more) (expiry-quiet holder key) (expiries-quiet holder more)
 
 next-quiet : (cluster : Cluster) → AllKinds IsQuiet (next_expiries cluster)
 next-quiet cluster = expiries-quiet (declared_member cluster.book.members (expired_holder cluster.book.keys (cluster.book.clock + 1))) (expired_keys cluster.book.keys (cluster.book.clock + 1))
@@ -121,9 +118,9 @@ Rest cluster = Resets cluster ++ (Expiries cluster ++ Ends cluster)
 
 rest-beside : (cluster : Cluster) → AllAre IsBeside (Rest cluster)
 rest-beside cluster =
-    all-append IsBeside (Resets cluster) (Expiries cluster ++ Ends cluster)
+    all-both IsBeside (Resets cluster) (Expiries cluster ++ Ends cluster)
     (all-each IsBeside reset_events (λ c x. reset-beside c c.book.clock x (slice_get c.book.deadlines x.id.number)) (Ticked cluster) (Ticked cluster).book.members)
-    (all-append IsBeside (Expiries cluster) (Ends cluster) (quiet-beside (Reset cluster) (next_expiries cluster) (next-quiet cluster))
+    (all-both IsBeside (Expiries cluster) (Ends cluster) (quiet-beside (Reset cluster) (next_expiries cluster) (next-quiet cluster))
     (all-each IsBeside completion_events (λ c x. ends-beside c c.book.clock x (slice_get c.book.servers x.id.number)) (Expired cluster) (Expired cluster).book.members))
 
 beside-aside : (events : List Event) → AllAre IsBeside events → AllAre IsAside events

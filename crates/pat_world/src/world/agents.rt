@@ -17,7 +17,7 @@ ghost use Rattle.pat_world.specs.Short.{IsSent};
 
 use super::{World, note};
 use crate::flight::InFlight;
-use crate::machines::machine_from;
+use crate::machines::{item_at, machine_from};
 use crate::places;
 use crate::processes::restarted;
 use crate::streaming::source_of;
@@ -244,9 +244,9 @@ impl World {
         let from = source_of(&self.members, &self.servers, &self.cuts, member);
         machine_from(
             from.is_some(),
-            self.options.get(place).copied(),
-            self.deadlines.get(place).copied(),
-            self.holds.get(place).copied(),
+            item_at(&self.options, place),
+            item_at(&self.deadlines, place),
+            item_at(&self.holds, place),
             self.servers.get(place),
         )
     }

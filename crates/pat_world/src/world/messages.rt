@@ -1,13 +1,16 @@
 //! Messages: how they are sent, move and come, and what the key store decides.
-ghost use Rattle.std.specs.Prelude.{◌≡◌, ◌≤◌, ◌+◌, ◌*◌, ◌^◌, ◌++◌, length, OnOk, IfOk, option_map};
+ghost use Rattle.std.specs.Prelude.{◌≡◌, ◌≤◌, ◌+◌, ◌*◌, ◌^◌, ◌++◌, ◌∷◌, [], length, OnOk, IfOk, option_map};
 ghost use Rattle.lease_store.specs.Answers.{present_pairs};
 ghost use Rattle.lease_store.specs.Decision.{decision_on};
 ghost use Rattle.lease_store.specs.Writes.{ttl_of};
 ghost use Rattle.event_book.specs.Flight.{in_flight, snapshot_for, grant_for};
-ghost use Rattle.cluster_model.specs.Messages.{lost_at_once, send_events, answer_message, answer_events, arrival_events, decision_events, deliver_events, lose_events, message_events};
+ghost use Rattle.cluster_model.specs.Hearing.{heard_from};
+ghost use Rattle.cluster_model.specs.Inputs.{outcome_of_heard};
+ghost use Rattle.cluster_model.specs.Messages.{heard_message, input_events, lost_at_once, send_events, answer_message, answer_events, arrival_events, decision_events, deliver_events, lose_events, message_events};
 ghost use Rattle.cluster_model.specs.Parts.{event_of, events_at, each, for_some};
-ghost use Rattle.pat_world.specs.Room.{HasRoom, decision_cost, message_cost, sending_cost};
-ghost use Rattle.pat_world.specs.Short.{CarriesRead, IsShort};
+ghost use Rattle.pat_world.specs.Room.{HasRoom, decision_cost, message_cost, outputs_cost, sending_cost};
+ghost use Rattle.pat_world.specs.Reached.{reached_by};
+ghost use Rattle.pat_world.specs.Short.{CarriesRead, IsSent, IsShort};
 ghost use Rattle.pat_world.specs.Emits.{Emits};
 ghost use Rattle.cluster_model.specs.Deliveries.{delivery_of};
 
@@ -133,6 +136,9 @@ impl World {
         member: Member,
         events: &mut Vec<Event>,
     ) -> Result<(), AllocError>
+        requires room { HasRoom self.old message_cost }
+        requires sent { IsSent carried }
+        ensures { OnOk result (Emits (reached_by self.old member carried) self.new (events.old.items ++ record { tick = record { 0 = self.old.book.clock }; kind = EventKind.Message (MessageEvent.Delivered number) } ∷ []) events.new.items (input_events (reached_by self.old member carried) member (heard_message number carried) (outcome_of_heard self.old member (heard_from self.old carried))) outputs_cost) }
     {
         let run = carried.message.run;
         let heard = self.heard_from(carried)?;

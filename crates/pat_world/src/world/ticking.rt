@@ -27,7 +27,7 @@ impl World {
         let holder = declared_member(&self.members, holder);
         self.happen(EventKind::Tick, events)?;
         self.resets(events)?;
-        note_expiries(events, now, holder, &expired)?;
+        note_expiries(events, self.clock, holder, &expired)?;
         self.completions(events)
     }
 
@@ -47,7 +47,8 @@ impl World {
         requires { HasRoom self.old 1 }
         ensures { OnOk result (Emits self.old self.new events.old.items events.new.items (reset_events self.old member) 1) }
     {
-        self.happen_if(reset_of(&self.deadlines, self.clock, member), events)
+        let reset = reset_of(&self.deadlines, self.clock, member);
+        self.happen_if(reset, events)
     }
 
     /// The stops of primaries whose moment has come are complete, in script order.
@@ -66,7 +67,8 @@ impl World {
         requires { HasRoom self.old 1 }
         ensures { OnOk result (Emits self.old self.new events.old.items events.new.items (completion_events self.old member) 1) }
     {
-        self.happen_if(completion_of(&self.servers, self.clock, member), events)
+        let completion = completion_of(&self.servers, self.clock, member);
+        self.happen_if(completion, events)
     }
 }
 

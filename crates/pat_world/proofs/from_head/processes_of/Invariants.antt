@@ -3,4 +3,4 @@ use Rattle.event_book.specs.Agents.{first_agents}
 use Rattle.pat_world.proofs.from_head.processes_of.Given as goal
 
 abbrev pub invariant-loop-made : goal.invariant-loop-made
-invariant-loop-made l = l.agents.items ++ first_agents (l.count - l.made) ≡ first_agents l.count
+invariant-loop-made l = l.processes.items ++ first_agents (l.count - l.made) ≡ first_agents l.count

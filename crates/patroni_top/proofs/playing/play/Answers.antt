@@ -1,41 +1,59 @@
-use Rattle.std.proofs.Common.{ℕ, List, ap, ◌∙◌, Err, refl, subst}
-use Rattle.std.proofs.lemmas.Result.{err_from_is_err_and}
+use Rattle.std.proofs.Common.{ℕ, List, ap, ◌∙◌, Err, Ok, subst}
+use Rattle.std.proofs.lemmas.List.{length-map}
 use Rattle.pat_base.specs.Prints.{Prints}
-use Rattle.pat_base.proofs.Printing.{Prints-then, Prints-stop}
-use Rattle.event_book.specs.Text.{summary_at}
+use Rattle.std.proofs.lemmas.Result.{err_from_is_err_and}
+use Rattle.pat_base.proofs.Printing.{Prints-none, Prints-ok}
 use Rattle.cluster_script.specs.Steps.{steps_of}
-use Rattle.pat_world.specs.Cluster.{Cluster, cluster_of, cluster_over}
-use Rattle.pat_world.specs.Next.{run_events}
-use Rattle.pat_world.specs.Steps.{names_in}
+use Rattle.cluster_model.specs.Cluster.{cluster_over}
+use Rattle.cluster_model.specs.Next.{run_events}
+use Rattle.cluster_model.specs.Starting.{cluster_of}
+use Rattle.cluster_model.specs.State.{Cluster}
+use Rattle.cluster_model.specs.Steps.{names_in}
 use Rattle.pat_world.proofs.Declaring.{names-start}
-use Rattle.patroni_top.specs.declared.print_error.PrintError.TheVariants.{Write}
+use Rattle.pat_world.proofs.Standing.{is-stands}
+use Rattle.patroni_top.specs.declared.print_error.PrintError.TheVariants.{Memory, Write}
+use Rattle.patroni_top.specs.Run.{run_of}
+use Rattle.patroni_top.specs.Watches.{first_summary}
+use Rattle.patroni_top.proofs.Played.{Prints-err, memory-is-no-write}
 use Rattle.patroni_top.proofs.Whole.{has-room, text-is}
 use Rattle.patroni_top.proofs.playing.play.Goals as goal
 
-pub play_body-requires-clause-room : goal.play_body-requires-clause-room
-play_body-requires-clause-room g c = has-room c.args.script.now c.in_ok-player.player.world c.requires (c.in_ok-player.ensures.world ∙ ap (λ h. cluster_of h) c.head.ensures.value)
+pub play-requires-clause-room : goal.play-requires-clause-room
+play-requires-clause-room g c = has-room c.args.script.now c.in_ok-player.player.world c.requires (c.in_ok-player.ensures.world ∙ ap (λ h. cluster_of h) c.head.ensures.value)
 
-pub play_body-requires-clause-members : goal.play_body-requires-clause-members
-play_body-requires-clause-members g c =
+pub play-requires-clause-members : goal.play-requires-clause-members
+play-requires-clause-members g c =
     let start = c.in_ok-player.ensures.world ∙ ap (λ h. cluster_of h) c.head.ensures.value in
-    ap (λ (w : Cluster). names_in w.book.members) start ∙ names-start c.args.script.now.head (c.head.ensures.script).head.few
+    ap (λ (w : Cluster). names_in w.book.members) start ∙ names-start c.args.script.now.head (rw length-map (c.head.ensures.script).head.few)
 
-pub returns-in_err-play_body : goal.returns-in_err-play_body
-returns-in_err-play_body g c =
+pub returns-in_err-player-clause-printed : goal.returns-in_err-player-clause-printed
+returns-in_err-player-clause-printed g c =
+    let p = err_from_is_err_and c.from_residual.result c.from_residual.ensures.1 in
+    Prints-none g.K.Sink c.args.out.now Write Memory c.from_residual.result _ (p.1 ∙ ap Err p.2) memory-is-no-write
+
+pub returns-in-Ok-clause-printed : goal.returns-in-Ok-clause-printed
+returns-in-Ok-clause-printed g c =
     let script = c.args.script.now in
     let player = c.in_ok-player.player in
-    let end = (cluster_over player.world (run_events player.world (steps_of script.body))).book.clock in
-    let final = c.from_residual-in_err-play_body.result in
-    let p = err_from_is_err_and final c.from_residual-in_err-play_body.ensures.1 in
-    subst (λ (t : List ℕ). Prints g.K.Sink c.args.out.now c.play_body.new.out Write final t)
-    (text-is script player.world player.trace end (c.in_ok-player.ensures.world ∙ ap (λ h. cluster_of h) c.head.ensures.value) c.in_ok-player.ensures.trace refl)
-    (Prints-stop Write _ final (summary_at end) c.in_err-play_body.ensures.printed (p.1 ∙ ap Err p.2) (λ e. e))
+    let first = c.in_ok-player.ensures in
+    Prints-ok Write c.into_world.result
+    (subst (λ (t : List ℕ). Prints {X = Unit {0}} g.K.Sink c.args.out.now c.play.new.out Write (Ok tt) t)
+    (text-is script player.world player.trace player.summary (first.world ∙ ap (λ h. cluster_of h) c.head.ensures.value) first.trace (first.summary ∙ ap (λ h. first_summary h) c.head.ensures.value))
+    c.in-Ok.ensures.printed)
 
-pub returns : goal.returns
-returns g c =
+pub returns-in-Ok-clause-world : goal.returns-in-Ok-clause-world
+returns-in-Ok-clause-world g c =
+    let script = c.args.script.now in
+    let steps = steps_of script.body in
+    let start = c.in_ok-player.ensures.world ∙ ap (λ h. cluster_of h) c.head.ensures.value in
+    is-stands (cluster_of script.head) (run_of script) c.into_world.result (c.into_world.ensures ∙ c.in-Ok.ensures.world ∙ ap (λ (w : Cluster). cluster_over w (run_events w steps)) start)
+
+pub returns-in-Err-clause-printed : goal.returns-in-Err-clause-printed
+returns-in-Err-clause-printed g c =
     let script = c.args.script.now in
     let player = c.in_ok-player.player in
-    subst (λ (t : List ℕ). Prints g.K.Sink c.args.out.now c.print_summary.new.out Write c.print_summary.result t)
-    (text-is script player.world player.trace c.clock.result.0 (c.in_ok-player.ensures.world ∙ ap (λ h. cluster_of h) c.head.ensures.value) c.in_ok-player.ensures.trace
-    (c.clock.ensures ∙ ap (λ w. w.book.clock) c.in_ok-play_body.ensures.world))
-    (Prints-then c.print_summary.result c.in_ok-play_body.ensures.printed c.print_summary.ensures)
+    let first = c.in_ok-player.ensures in
+    Prints-err
+    (subst (λ (t : List ℕ). Prints {X = Unit {0}} g.K.Sink c.args.out.now c.play.new.out Write (Err c.in-Err.error) t)
+    (text-is script player.world player.trace player.summary (first.world ∙ ap (λ h. cluster_of h) c.head.ensures.value) first.trace (first.summary ∙ ap (λ h. first_summary h) c.head.ensures.value))
+    c.in-Err.ensures.printed)

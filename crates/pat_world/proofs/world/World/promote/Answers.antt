@@ -10,7 +10,7 @@ use Rattle.pat_world.proofs.world.World.promote.Goals as goal
 pub promoted_timeline-requires : goal.promoted_timeline-requires
 promoted_timeline-requires c = timeline-below (seen c.self.inside) c.args.member.id.number (subst (λ (b : Cluster). HasRoom b 2) (sym c.self.view_is) c.requires)
 
-pub happen_both-requires-clause-second : goal.happen_both-requires-clause-second
-happen_both-requires-clause-second c =
+pub happen_then-requires-clause-second : goal.happen_then-requires-clause-second
+happen_then-requires-clause-second c =
     let is = ap (λ (b : Cluster). option_and_then promoted_timeline (slice_get b.book.servers c.args.member.id.number)) (sym c.self.view_is) ∙ sym c.promoted_timeline.ensures ∙ c.in-Some.is in
     promoted-comes c.args.self.now c.args.member c.in-Some.timeline c.of-server.result c.of-server.ensures is c.requires

@@ -9,4 +9,4 @@ pub invariant_of-self : goal.invariant_of-self
 invariant_of-self c =
     let before = seen c.self.inside in
     let still : round_events before ≡ [] = subst (λ (b : Cluster). round_events b ≡ []) (sym c.self.view_is) c.requires.still in
-    (c.self.invariant.0, omega arith, λ n message below is. round_events-kept before still n message is)
+    (c.self.invariant.0, omega arith, λ n message below is. round_events-kept before still n message is, c.self.invariant.3, c.self.invariant.4)

@@ -4,7 +4,7 @@ use Rattle.std.proofs.lemmas.Result.{err_from_is_err_and}
 use Rattle.pat_base.specs.declared.name.Name.{Name}
 use Rattle.cluster_script.specs.Script.{IsLine}
 use Rattle.cluster_script.specs.Steps.{steps_of}
-use Rattle.pat_world.specs.Steps.{names_in}
+use Rattle.cluster_model.specs.Steps.{names_in}
 use Rattle.patroni_top.proofs.Played.{line-declared, Playing-members, Playing-room, Playing-more, Playing-stop, Playing-end, body-next}
 use Rattle.patroni_top.proofs.playing.Player.play_body.Goals as goal
 

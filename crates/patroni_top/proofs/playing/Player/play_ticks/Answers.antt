@@ -4,7 +4,7 @@ use Rattle.std.proofs.lemmas.Result.{err_from_is_err_and}
 use Rattle.cluster_script.specs.declared.line.Step.{Step}
 use Rattle.event_book.specs.declared.member.Member.{Member}
 use Rattle.pat_world.specs.Room.{HasRoomFor}
-use Rattle.pat_world.specs.Steps.{IsStep}
+use Rattle.cluster_model.specs.Steps.{IsStep}
 use Rattle.patroni_top.proofs.Played.{Playing-members, Playing-room, Playing-more, Playing-stop, Playing-end, ticks-next}
 use Rattle.patroni_top.proofs.playing.Player.play_ticks.Goals as goal
 

@@ -1,0 +1,32 @@
+-- The world that a run leaves.
+use Rattle.std.specs.Prelude.{ℕ, ◌≡◌, ◌↔◌, List, Ok, Err, Result, IsSome, IfSome}
+use Rattle.pat_base.specs.declared.outside.Source.{Ghosts}
+use Rattle.pat_base.specs.Outside.{Known}
+use Rattle.cluster_script.specs.Reading.{script_of}
+use Rattle.cluster_script.specs.Script.{ScriptText}
+use Rattle.cluster_model.specs.Starting.{cluster_of}
+use Rattle.cluster_model.specs.State.{Cluster}
+use Rattle.pat_world.specs.Book.{StandsFor}
+use Rattle.patroni_top.specs.declared.ended.Ended.{Ended}
+use Rattle.patroni_top.specs.declared.ending.Ending.{Ending}
+use Rattle.patroni_top.specs.declared.ending.Ending.TheVariants as endings
+use Rattle.patroni_top.specs.declared.status.Status.TheVariants as statuses
+use Rattle.patroni_top.specs.Run.{run_of}
+
+-- how a run ended that leaves something where all is done
+abbrev pub ending_in : {A : Type 0} → Result A Ending → Ending
+ending_in (Ok left) = endings.Done
+ending_in (Err ending) = ending
+
+-- the world took all steps of this script: it stands for the book of them
+abbrev pub IsLeftBy : ScriptText → Cluster → Type 0
+IsLeftBy script world = StandsFor (cluster_of script.head) (run_of script) world
+
+-- the world took all steps of the script that these bytes are
+abbrev pub IsLeftByBytes : Cluster → List ℕ → Type 0
+IsLeftByBytes world bytes = (script : ScriptText) → script_of bytes ≡ Ok script → IsLeftBy script world
+
+-- a world is there exactly where all is done, and where the source tells its bytes, it took all steps of the script that they are
+pub record LeavesWorld {S : Type 0} (source : Ghosts S) (input : S) (ended : Ended) : Type 0 where
+  pub done : IsSome ended.world ↔ (ended.status ≡ statuses.Done)
+  pub stands : IfSome ended.world (λ world. Known (source.rest input) (IsLeftByBytes world))

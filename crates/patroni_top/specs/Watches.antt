@@ -1,0 +1,31 @@
+-- What a head says of the watchdogs of its members, as the summary of a run reads it.
+use Rattle.std.specs.Prelude.{◌*◌, Bool, true, false, List, Some, map}
+use Rattle.lease_store.specs.Defaults.{default_config}
+use Rattle.leader_key.specs.declared.watchdog.Mode.{Mode}
+use Rattle.leader_key.specs.declared.watchdog.Mode.TheVariants as modes
+use Rattle.cluster_script.specs.Script.{HeadText, MemberText}
+use Rattle.cluster_model.specs.Machines.{ticks_of_second}
+use Rattle.summary.specs.declared.answers.WatchOf.{WatchOf}
+use Rattle.summary.specs.Sights.{SummaryFacts, summary_of}
+
+-- no watchdog is used
+abbrev pub is_off : Mode → Bool
+is_off modes.Off = true
+is_off _ = false
+
+-- the watchdog of a member, with its margin in ticks
+abbrev pub declared_watch : MemberText → WatchOf
+declared_watch member = record {
+  name = member.name;
+  mode_off = is_off member.options.watchdog;
+  device_works = member.options.device_works;
+  margin = Some (record { 0 = ticks_of_second * member.options.margin.seconds });
+}
+
+-- the watchdogs of a head's members, in order
+abbrev pub watches_of : HeadText → List WatchOf
+watches_of head = map declared_watch head.members
+
+-- what the summary keeps of a script of this head before the first event
+abbrev pub first_summary : HeadText → SummaryFacts
+first_summary head = summary_of (watches_of head) default_config
