@@ -1,33 +1,25 @@
--- Agents that a message reaches, and messages that can't be delivered.
+-- Agents that a message reaches.
 use Rattle.std.proofs.Common.{◌≡◌, ℕ, ◌+◌, List, [], ◌∷◌, ◌++◌, Option, Some, None, option_map, arith, refl, ◌∙◌, ap, sym, subst}
-use Rattle.std.proofs.lemmas.Option.{none-some, same_Some}
 use Rattle.pat_base.specs.declared.ticks.Ticks.{Ticks}
 use Rattle.event_book.specs.declared.event.Event.{Event}
-use Rattle.event_book.specs.declared.event.EventKind.{EventKind}
 use Rattle.event_book.specs.declared.event.EventKind.TheVariants as kinds
 use Rattle.event_book.specs.declared.event.MessageEvent.TheVariants.{Delivered}
-use Rattle.event_book.specs.declared.event.Note.TheVariants.{Undeliverable}
 use Rattle.event_book.specs.declared.member.Member.{Member}
 use Rattle.event_book.specs.Flight.{InFlightFacts}
 use Rattle.ha_loop.specs.declared.heard.Heard.{Heard}
 use Rattle.ha_loop.specs.declared.output.Output.{Output}
-use Rattle.cluster_model.specs.declared.delivery.Delivery.{Delivery}
-use Rattle.cluster_model.specs.declared.delivery.Delivery.TheVariants as deliveries
 use Rattle.cluster_model.specs.declared.heard_message.HeardMessage.{HeardMessage}
 use Rattle.cluster_model.specs.Cluster.{agent_facts_with}
-use Rattle.cluster_model.specs.Deliveries.{delivery_of}
 use Rattle.cluster_model.specs.Hearing.{heard_from}
 use Rattle.cluster_model.specs.Inputs.{outcome_of_heard, outputs_of}
-use Rattle.cluster_model.specs.Messages.{deliver_events, deliver_events_by, heard_message, input_events, output_events}
-use Rattle.cluster_model.specs.Parts.{each, event_of}
+use Rattle.cluster_model.specs.Messages.{heard_message, input_events, output_events}
+use Rattle.cluster_model.specs.Parts.{each}
 use Rattle.cluster_model.specs.State.{Cluster}
 use Rattle.pat_world.specs.Emits.{Emits}
 use Rattle.pat_world.specs.Reached.{reached_by}
 use Rattle.pat_world.specs.Room.{HasRoom, message_cost, outputs_cost}
-use Rattle.pat_world.proofs.Comings.{Emits-told}
 use Rattle.pat_world.proofs.Hearing.{with_agents}
 use Rattle.pat_world.proofs.Rooms.{HasRoom-heard}
-use Rattle.pat_world.proofs.Taking.{Emits-weaker}
 
 -- there is room for what the agent does
 pub reached-room : (cluster same heard_so : Cluster) (member : Member) (heard : Option Heard) → same ≡ cluster → heard_so ≡ record same { agents = agent_facts_with same.agents member (outcome_of_heard same member heard) } → HasRoom cluster message_cost → HasRoom heard_so outputs_cost
@@ -51,23 +43,3 @@ reached-took cluster same heard_so after member number message heard told output
     (subst (λ (h : HeardMessage). Emits (reached_by cluster member message) after mid has (each (output_events member h) (reached_by cluster member message) (outputs_of (outcome_of_heard cluster member (heard_from cluster message)))) outputs_cost) told_is
     (subst (λ (os : List Output). Emits (reached_by cluster member message) after mid has (each (output_events member told) (reached_by cluster member message) os) outputs_cost) done
     (subst (λ (c : Cluster). Emits c after mid has (each (output_events member told) c outputs) outputs_cost) there took)))
-
-noted : (cluster after : Cluster) (number : ℕ) (tick : Ticks) (had has : List Event) → after ≡ cluster → tick.0 ≡ cluster.book.clock → has ≡ had ++ record { tick = tick; kind = kinds.Note (Undeliverable number) } ∷ []
-    → Emits cluster after had has (event_of cluster (kinds.Note (Undeliverable number))) message_cost
-noted cluster after number tick had has is at told =
-    Emits-weaker cluster after had has (event_of cluster (kinds.Note (Undeliverable number))) 1 message_cost
-    (Emits-told cluster after tick (kinds.Note (Undeliverable number)) had has tt is (at ∙ ap (λ (c : Cluster). c.book.clock) (sym is)) told) (omega arith)
-
--- a message whose link is cut can't be delivered
-pub cut-took : (cluster after : Cluster) (number : ℕ) (found : Option InFlightFacts) (tick : Ticks) (had has : List Event) → Some deliveries.Cut ≡ option_map (λ (m : InFlightFacts). delivery_of cluster.book.cuts cluster.book.agents m.message) found
-    → after ≡ cluster → tick.0 ≡ cluster.book.clock → has ≡ had ++ record { tick = tick; kind = kinds.Note (Undeliverable number) } ∷ [] → Emits cluster after had has (deliver_events cluster number found) message_cost
-cut-took cluster after number None tick had has is same at told = absurd (none-some deliveries.Cut (sym is))
-cut-took cluster after number (Some message) tick had has is same at told =
-    subst (λ (d : Delivery). Emits cluster after had has (deliver_events_by cluster number message d) message_cost) (same_Some deliveries.Cut _ is) (noted cluster after number tick had has same at told)
-
--- nor can one whose receiver is suspended
-pub suspended-took : (cluster after : Cluster) (number : ℕ) (found : Option InFlightFacts) (tick : Ticks) (had has : List Event) → Some deliveries.Suspended ≡ option_map (λ (m : InFlightFacts). delivery_of cluster.book.cuts cluster.book.agents m.message) found
-    → after ≡ cluster → tick.0 ≡ cluster.book.clock → has ≡ had ++ record { tick = tick; kind = kinds.Note (Undeliverable number) } ∷ [] → Emits cluster after had has (deliver_events cluster number found) message_cost
-suspended-took cluster after number None tick had has is same at told = absurd (none-some deliveries.Suspended (sym is))
-suspended-took cluster after number (Some message) tick had has is same at told =
-    subst (λ (d : Delivery). Emits cluster after had has (deliver_events_by cluster number message d) message_cost) (same_Some deliveries.Suspended _ is) (noted cluster after number tick had has same at told)

@@ -117,6 +117,14 @@ impl World {
         ensures cluster { IfOk result (λ world. world ≡ cluster_of head.now) }
         ensures book { IfOk result (λ world. StandsFor (cluster_of head.now) [] world) }
     {
+        let world = World::first(alloc, head)?;
+        Ok(world)
+    }
+
+    /// The world of a script's head, before the first step. It fails only for want of memory.
+    fn first(alloc: Global, head: &Head) -> Result<World, AllocError>
+        ensures { IfOk result (λ world. world ≡ cluster_of head.now) }
+    {
         let count = head.member_count();
         let members = members_of(alloc, head)?;
         let hosts = hosts_of(alloc, &members)?;

@@ -66,14 +66,16 @@ impl World {
             ),
             Some(Delivery::Open) => self.arrive(number, events),
             Some(Delivery::Gone) => self.drop_message(number, events),
-            Some(Delivery::Cut | Delivery::Suspended) => {
-                note(
-                    events,
-                    self.clock,
-                    EventKind::Note(Note::Undeliverable { number }),
-                )
-            }
+            Some(Delivery::Cut | Delivery::Suspended) => self.leave(number, events),
         }
+    }
+
+    /// A message that can't come to its receiver now stays in flight, and that is noted.
+    fn leave(&mut self, number: u64, events: &mut Vec<Event>) -> Result<(), AllocError>
+        requires { HasRoom self.old 1 }
+        ensures { OnOk result (Emits self.old self.new events.old.items events.new.items (event_of self.old (EventKind.Note (Note.Undeliverable number))) 1) }
+    {
+        self.happen(EventKind::Note(Note::Undeliverable { number }), events)
     }
 
     /// A script loses a message, where it is in flight.
