@@ -84,12 +84,12 @@ join-quiet : (cuts : CutLinks) (link : Link) → IsQuietIf (join_of cuts link)
 join-quiet cuts link = quiet-cond (is_cut cuts link) _ None tt tt
 
 -- of these commands each event is quiet
-abbrev IsQuietCommand : Command → Type 0
+abbrev pub IsQuietCommand : Command → Type 0
 IsQuietCommand (commands.Kill id) = ⊥
 IsQuietCommand (commands.Crash id) = ⊥
 IsQuietCommand command = Unit {0}
 
-command-quiet : (cluster : Cluster) (command : Command) → IsQuietCommand command → IsQuietIf (command_kind cluster command)
+pub command-quiet : (cluster : Cluster) (command : Command) → IsQuietCommand command → IsQuietIf (command_kind cluster command)
 command-quiet cluster (commands.Hold id) is = process-quiet hold_of hold-quiet cluster id
 command-quiet cluster (commands.Resume id) is = process-quiet resume_of resume-quiet cluster id
 command-quiet cluster (commands.Kill id) is = absurd is

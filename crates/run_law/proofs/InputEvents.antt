@@ -1,9 +1,8 @@
 -- What an input of an agent brings, event by event.
-use Rattle.std.proofs.Common.{◌≡◌, ◌+◌, ◌++◌, ◌==◌, ◌&&◌, nat_le, ℕ, Bool, true, false, if◌then◌else◌, List, [], ◌∷◌, Option, Some, None, length, slice_get, option_and_then, refl, ap}
+use Rattle.std.proofs.Common.{◌≡◌, ◌+◌, ◌==◌, ◌&&◌, nat_le, ℕ, Bool, true, false, if◌then◌else◌, List, [], ◌∷◌, Option, Some, None, length, slice_get, option_and_then, refl, ap}
 use Rattle.pg_model.specs.Facts.{ServerFacts, entries_of, is_down, is_replica, is_up}
 use Rattle.pg_model.specs.Running.{is_primary}
 use Rattle.event_book.specs.declared.agent_process.AgentProcess.{AgentProcess}
-use Rattle.event_book.specs.declared.event.Event.{Event}
 use Rattle.event_book.specs.declared.event.EventKind.{EventKind}
 use Rattle.event_book.specs.declared.event.EventKind.TheVariants as kinds
 use Rattle.event_book.specs.declared.event.MessageEvent.TheVariants.{Sent}
@@ -20,7 +19,6 @@ use Rattle.ha_loop.specs.declared.output.Output.TheVariants as outputs
 use Rattle.ha_loop.specs.declared.output.Target.TheVariants as targets
 use Rattle.ha_loop.specs.Orders.{IsOfTable}
 use Rattle.cluster_model.specs.declared.heard_message.HeardMessage.{HeardMessage}
-use Rattle.cluster_model.specs.Cluster.{cluster_after}
 use Rattle.cluster_model.specs.Commands.{kinds_of}
 use Rattle.cluster_model.specs.Limits.{most_in_flight}
 use Rattle.summary.specs.Lacking.{lacks_in}
@@ -33,11 +31,11 @@ use Rattle.lease_law.specs.Premises.{AllAre}
 use Rattle.run_law.proofs.Lists.{AllKinds, HoldsIf, all-kinds, one-kind}
 use Rattle.run_law.specs.InputEvents.{IsOfInput}
 
-holds-then : {X : Type 0} (P : EventKind → Type 0) (f : X → Option EventKind) (found : Option X) → ((x : X) → HoldsIf P (f x)) → HoldsIf P (option_and_then f found)
+pub holds-then : {X : Type 0} (P : EventKind → Type 0) (f : X → Option EventKind) (found : Option X) → ((x : X) → HoldsIf P (f x)) → HoldsIf P (option_and_then f found)
 holds-then P f None all = tt
 holds-then P f (Some x) all = all x
 
-holds-if : (P : EventKind → Type 0) (test : Bool) (kind : EventKind) → P kind → HoldsIf P (if test then Some kind else None)
+pub holds-if : (P : EventKind → Type 0) (test : Bool) (kind : EventKind) → P kind → HoldsIf P (if test then Some kind else None)
 holds-if P true kind is = is
 holds-if P false kind is = tt
 

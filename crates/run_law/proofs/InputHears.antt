@@ -29,7 +29,7 @@ use Rattle.ha_loop.specs.Seen.{leader_entry_seen, failsafe_entry_seen}
 use Rattle.cluster_model.specs.Hearing.{heard_in, snapshot_in}
 use Rattle.cluster_model.specs.State.{Cluster}
 use Rattle.lease_law.specs.Outcomes.{seen_of}
-use Rattle.lease_law.specs.Past.{Past, VolatileState, state_of}
+use Rattle.lease_law.specs.Past.{Past, VolatileState, state_of, lease_span}
 use Rattle.lease_law.specs.States.{Declared, State}
 use Rattle.lease_law.specs.Stores.{IsLeased, leader_key_of, failsafe_key_of}
 use Rattle.lease_law.proofs.Tools.{and-first, both, none-some, some-is}
@@ -149,7 +149,7 @@ module _ (head : HeadText) (past : Past) (cluster : Cluster) (matched : IsMatche
             let as_asked = known.as_asked asks.0 request question told.answers.is told.answers.asker (told.answers.in_run ∙ run) (told.answers.numbered ∙ sym asks.1) in
             let leases : leased_is ≡ true = sym (ap (λ (g : Granted). g.leased) same) ∙ is-leased grant awaited.mine in
             record {
-              told = record { revision = told.revision; sent = question.sent; moment = carried.sent.0; ttl = Rattle.lease_law.specs.Past.lease_span question.query; failsafe = failsafe_key_of (find key_cmp keys.Failsafe carried.snapshot) };
+              told = record { revision = told.revision; sent = question.sent; moment = carried.sent.0; ttl = lease_span question.query; failsafe = failsafe_key_of (find key_cmp keys.Failsafe carried.snapshot) };
               is = ap (λ (b : Bool). grant_if b told.revision carried.sent.0 question (failsafe_key_of (find key_cmp keys.Failsafe carried.snapshot))) leases;
               revision = sym (ap (λ (g : Granted). g.revision) same);
               ttl = as_asked.1;

@@ -1,4 +1,8 @@
 -- An input of an agent keeps the law of one writer.
+use Rattle.event_book.specs.Flight.{sent_after}
+use Rattle.bridge_law.specs.Waiting.{IsLastRun}
+use Rattle.event_book.specs.Writers.{BeginsKind}
+use Rattle.std.proofs.lemmas.Option.{slice_get_within}
 use Rattle.std.proofs.Common.{◌≡◌, ◌≢◌, ◌⊎◌, ◌++◌, ◌≤◌, ◌<◌, ℕ, Bool, true, false, List, [], ◌∷◌, Option, Some, None, All, Contains, length, slice_get, refl, sym, subst, ap, ◌∙◌, inl, inr}
 use Rattle.std.proofs.lemmas.List.Elements.{All-contains_itself}
 use Rattle.std.proofs.Math.Path.{fun_ext}
@@ -21,7 +25,7 @@ use Rattle.ha_loop.specs.declared.machine.Machine.{Machine}
 use Rattle.ha_loop.specs.declared.output.Output.{Output}
 use Rattle.ha_loop.specs.declared.output.Output.TheVariants as outputs
 use Rattle.ha_loop.specs.declared.output.Target.TheVariants as targets
-use Rattle.ha_loop.specs.Agents.{AgentFacts, Outcome, made}
+use Rattle.ha_loop.specs.Agents.{AgentFacts, Outcome, made, EndsAlone}
 use Rattle.ha_loop.specs.Lawful.{StandsIn, Hears, IsSentBy, IsInputOf, MayPromote, IsLawfulAnd}
 use Rattle.ha_loop.specs.Orders.{IsOfTable}
 use Rattle.ha_loop.specs.Outputs.{is_arming, is_feeding, has_one}
@@ -36,30 +40,30 @@ use Rattle.cluster_model.specs.Machines.{points_of}
 use Rattle.cluster_model.specs.Messages.{output_events}
 use Rattle.cluster_model.specs.Parts.{each}
 use Rattle.cluster_model.specs.State.{Cluster}
-use Rattle.lease_law.specs.Leases.{Flying, Query, Requested, Taking}
+use Rattle.lease_law.specs.Leases.{Requested, Taking, Question}
 use Rattle.lease_law.specs.Actions.{Input}
 use Rattle.lease_law.specs.Books.{IsShown}
-use Rattle.lease_law.specs.Claims.{BeginsBehind, MayBeginBehind, ShowsIt}
+use Rattle.lease_law.specs.Claims.{BeginsBehind, MayBeginBehind, ShowsIt, IsArmedIn}
 use Rattle.lease_law.specs.Inputs.{AgentInput}
 use Rattle.lease_law.specs.Past.{Past, VolatileState, first_past, past_after, past_of, past_over, state_of, machine_of as machine_told, taken_after}
-use Rattle.lease_law.specs.Premises.{AllAre, KeepsMomentOf}
+use Rattle.lease_law.specs.Premises.{AllAre, KeepsMomentOf, IsFedBy}
 use Rattle.lease_law.specs.Showing.{IsOwn, input_of}
 use Rattle.lease_law.specs.States.{Machine as MachineSeen, State}
 use Rattle.lease_law.proofs.Showing.{input-shown-of, past-append}
-use Rattle.lease_law.proofs.Tools.{none-some, some-is, put-here}
+use Rattle.lease_law.proofs.Tools.{none-some, some-is, put-here, not-false, decide-eq, put-there}
 use Rattle.bridge_law.specs.Groups.{IsOfMembers as IsFromMembers, AreNumberedAbove}
 use Rattle.bridge_law.specs.Sending.{SendsOnly}
 use Rattle.bridge_law.proofs.Groups.{own-causal}
 use Rattle.bridge_law.proofs.Sends.{old-or-sent, heard-gone}
 use Rattle.run_law.proofs.Lists.{all-more}
-use Rattle.run_law.specs.Bridged.{Bridged, IsMatched}
+use Rattle.run_law.specs.Bridged.{Bridged, IsMatched, KnowThemselves, KnowsItself}
 use Rattle.run_law.specs.Declaring.{declared_of, member_count, works_of}
 use Rattle.run_law.specs.InputEvents.{IsOfInput}
 use Rattle.run_law.specs.Kept.{IsKept}
-use Rattle.run_law.specs.Machines.{live_now, run_in}
+use Rattle.run_law.specs.Machines.{live_now, run_in, run_now}
 use Rattle.run_law.specs.Questions.{IsQuestion, SendsBetween, AsksAnew}
 use Rattle.run_law.specs.Volatile.{agent_now, volatile_of}
-use Rattle.run_law.specs.Waiting.{IsAddressed}
+use Rattle.run_law.specs.Waiting.{IsAddressed, AreAgentsSound}
 use Rattle.run_law.proofs.Actions.{action-kept, machine-is}
 use Rattle.run_law.proofs.Fitting.{Fits, IsFitting, SendsAddressed, fits-of, fits-over, matched-from}
 use Rattle.run_law.proofs.InputKinds.{IsOpening, opening-own, opening-taken, opening-sends, opening-from, opening-above, opening-members, opening-hands_off, opening-moments, mine-own, mine-taken, mine-from, mine-hands_off, mine-members, mine-sends, asked-over}
@@ -90,7 +94,7 @@ opening-addressed heard (kinds.Agent (agents.Woken by)) is = tt
 opening-addressed heard (kinds.Message (Delivered number)) is = tt
 opening-addressed heard _ is = absurd is
 
-opening-sent : (heard : Option ℕ) (kind : EventKind) (last : ℕ) → IsOpening heard kind → Rattle.event_book.specs.Flight.sent_after last kind ≡ last
+opening-sent : (heard : Option ℕ) (kind : EventKind) (last : ℕ) → IsOpening heard kind → sent_after last kind ≡ last
 opening-sent heard (kinds.Agent (agents.Woken by)) last is = refl
 opening-sent heard (kinds.Message (Delivered number)) last is = refl
 opening-sent heard _ last is = absurd is
@@ -168,7 +172,7 @@ module _ (head : HeadText) (book : List Event) (cluster : Cluster) (good : Bridg
   begun : IsBegun M cluster First
   begun = begun-by M cluster hn opening opens
 
-  knows-it : Rattle.run_law.specs.Bridged.KnowsItself M (slice_get cluster.book.agents M) agent
+  knows-it : KnowsItself M (slice_get cluster.book.agents M) agent
   knows-it = good.matched.agents M agent here
 
   same-process : (a b process : AgentProcess) (o : Option AgentProcess) → o ≡ Some a → o ≡ Some process → a ≡ process
@@ -203,7 +207,7 @@ module _ (head : HeadText) (book : List Event) (cluster : Cluster) (good : Bridg
   asks sequence body is = is.1.2
 
   small : M < member_count head
-  small = subst (λ (n : ℕ). M < n) good.matched.agents_sized (Rattle.std.proofs.lemmas.Option.slice_get_within cluster.agents M (Some agent) here)
+  small = subst (λ (n : ℕ). M < n) good.matched.agents_sized (slice_get_within cluster.agents M (Some agent) here)
 
   fitting : AllAre (IsFitting (member_count head)) Events
   fitting = all-events (IsFitting (member_count head)) (opening-hands_off hn opening opens, opening-members (member_count head) hn opening opens, opening-addressed hn opening opens)
@@ -218,11 +222,11 @@ module _ (head : HeadText) (book : List Event) (cluster : Cluster) (good : Bridg
   clock-is : Now.0 ≡ Told.clock
   clock-is = sym good.matched.store.clock
 
-  questions : (i : ℕ) (q : Rattle.lease_law.specs.Leases.Question) → (past_over Told Events).asked i ≡ Some q → (Told.asked i ≡ Some q) ⊎ IsSentBy M agent.knows.run Told.clock After.outputs (Requested q)
+  questions : (i : ℕ) (q : Question) → (past_over Told Events).asked i ≡ Some q → (Told.asked i ≡ Some q) ⊎ IsSentBy M agent.knows.run Told.clock After.outputs (Requested q)
   questions = asked-over (IsSentBy M agent.knows.run Told.clock After.outputs) Told.clock Told Events refl sends
 
   run-is : agent.knows.run ≡ run_in cluster.book.agents M
-  run-is = knows-it.run ∙ sym (ap Rattle.run_law.specs.Machines.run_now knows-it.is)
+  run-is = knows-it.run ∙ sym (ap run_now knows-it.is)
 
   module _ (acts : agent_facts_after cluster opening ≡ changed_by cluster.agents M (agent_after (Some After))) where
     agents-are : Later.agents ≡ changed_by cluster.agents M (agent_after (Some After))
@@ -231,7 +235,7 @@ module _ (head : HeadText) (book : List Event) (cluster : Cluster) (good : Bridg
     processes-are : Later.book.agents ≡ cluster.book.agents
     processes-are = stays.processes ∙ begun.processes
 
-    ends-alone : Rattle.ha_loop.specs.Agents.EndsAlone After.role After.knows.waited
+    ends-alone : EndsAlone After.role After.knows.waited
     ends-alone = input-ends Now (points_of cluster member) heard Before (good.matched.waiting.agents M agent here).ends
 
     after-here : slice_get Later.agents M ≡ Some (Some (record { role = After.role; knows = After.knows }))
@@ -240,12 +244,12 @@ module _ (head : HeadText) (book : List Event) (cluster : Cluster) (good : Bridg
     matched-over : IsMatched head (past_over Told Events) Later
     matched-over = matched-from head (past_over Told Events) Later fits
         (ap (λ (l : List (Option AgentFacts)). length l) agents-are ∙ length-changed cluster.agents M (agent_after (Some After)) ∙ good.matched.agents_sized)
-        (subst (λ (p : List AgentProcess). Rattle.run_law.specs.Bridged.KnowThemselves p Later.agents) (sym processes-are)
-        (subst (Rattle.run_law.specs.Bridged.KnowThemselves cluster.book.agents) (sym agents-are)
+        (subst (λ (p : List AgentProcess). KnowThemselves p Later.agents) (sym processes-are)
+        (subst (KnowThemselves cluster.book.agents) (sym agents-are)
         (knows-after M agent After cluster.book.agents cluster.agents here anew.who anew.run good.matched.agents)))
-        (λ n. subst (λ (p : List AgentProcess). Rattle.bridge_law.specs.Waiting.IsLastRun (past_over Told Events).asked n (run_in p n)) (sym processes-are)
+        (λ n. subst (λ (p : List AgentProcess). IsLastRun (past_over Told Events).asked n (run_in p n)) (sym processes-are)
         (runs-after M Told.clock agent.knows.run After.outputs Told.asked (past_over Told Events).asked cluster.book.agents run-is questions good.matched.waiting.runs n))
-        (subst (Rattle.run_law.specs.Waiting.AreAgentsSound (past_over Told Events).asked) (sym agents-are)
+        (subst (AreAgentsSound (past_over Told Events).asked) (sym agents-are)
         (agents-after M Told.clock Now agent After Told.asked (past_over Told Events).asked cluster.agents here questions anew clock-is ends-alone good.matched.waiting.agents))
 
     behind : past_of (book ++ Events) ≡ past_over Told Events
@@ -319,20 +323,20 @@ module _ (head : HeadText) (book : List Event) (cluster : Cluster) (good : Bridg
       ],
     )
 
-    makes : (outs : List Output) (before : List Event) → MayPromote S M Theirs outs → (has_one is_arming outs ≡ true → Rattle.lease_law.specs.Claims.IsArmedIn M message.number before) → May before M
+    makes : (outs : List Output) (before : List Event) → MayPromote S M Theirs outs → (has_one is_arming outs ≡ true → IsArmedIn M message.number before) → May before M
     makes outs before may armed = (
       refl,
       inr (record {
         fed = may.fed;
         free = may.free;
-        armed = subst (λ (n : ℕ). Rattle.lease_law.specs.Claims.IsArmedIn M n before) (numbered may.fed.hears.number may.fed.hears.heard_is).0 (armed may.armed);
+        armed = subst (λ (n : ℕ). IsArmedIn M n before) (numbered may.fed.hears.number may.fed.hears.heard_is).0 (armed may.armed);
       }),
     )
 
     no-one : (e : has_one is_arming [] ≡ true) → ⊥
     no-one e = cc
 
-    opening-begins : (R : ℕ → Type 0) (o : Option ℕ) (kind : EventKind) → IsOpening o kind → Rattle.event_book.specs.Writers.BeginsKind R kind
+    opening-begins : (R : ℕ → Type 0) (o : Option ℕ) (kind : EventKind) → IsOpening o kind → BeginsKind R kind
     opening-begins R o (kinds.Agent (agents.Woken by)) is = tt
     opening-begins R o (kinds.Message (Delivered n)) is = tt
     opening-begins R o _ is = absurd is
@@ -363,9 +367,9 @@ module _ (head : HeadText) (book : List Event) (cluster : Cluster) (good : Bridg
                 let same = (numbered number e).0 in (
                   subst (λ (n : ℕ). AllAre (KeepsMomentOf n) (first ∷ fed.front)) same
                       (opening-moments message.number hn opening opens, all-front fed.front (fed.event ∷ fed.rest) (subst (AllAre (KeepsMomentOf message.number)) (sym fed.is) kept)),
-                  subst (λ (n : ℕ). Rattle.lease_law.specs.Premises.IsFedBy M n fed.event.kind) same fed.fed,
+                  subst (λ (n : ℕ). IsFedBy M n fed.event.kind) same fed.fed,
                 );
-            by_failsafe = λ _ failsafe _ _ _ _. absurd (Rattle.lease_law.proofs.Tools.not-false _ (ap (λ (x : MachineSeen). x.by_failsafe) machine-later) failsafe);
+            by_failsafe = λ _ failsafe _ _ _ _. absurd (not-false _ (ap (λ (x : MachineSeen). x.by_failsafe) machine-later) failsafe);
           },
         )
 
@@ -379,9 +383,9 @@ module _ (head : HeadText) (book : List Event) (cluster : Cluster) (good : Bridg
             (ap agent_now (ap (λ (l : List (Option AgentFacts)). slice_get l n) agents-are ∙ get-elsewhere cluster.agents M n (agent_after (Some After)) other))
 
         by : (n : ℕ) → volatile_of Later n ≡ put_at (volatile_of cluster) M (volatile_of Later M) n
-        by n = elim (Rattle.lease_law.proofs.Tools.decide-eq n M) [
+        by n = elim (decide-eq n M) [
           | inl same ↦ ap (volatile_of Later) same ∙ sym (put-here (volatile_of cluster) M (volatile_of Later M)) ∙ ap (put_at (volatile_of cluster) M (volatile_of Later M)) (sym same)
-          | inr other ↦ other-way n other ∙ sym (Rattle.lease_law.proofs.Tools.put-there (volatile_of cluster) M (volatile_of Later M) n other)
+          | inr other ↦ other-way n other ∙ sym (put-there (volatile_of cluster) M (volatile_of Later M) n other)
         ]
 
     shown : IsShown (declared_of head) book (volatile_of cluster) (record { action = Input M Theirs; events = Events; volatile_states = volatile_of Later })

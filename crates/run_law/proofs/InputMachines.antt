@@ -1,4 +1,5 @@
 -- The machine of a member behind what an input of its agent brings.
+use Rattle.pat_base.specs.Changes.{changed_by}
 use Rattle.std.proofs.Common.{◌≡◌, ◌+◌, ◌==◌, ◌&&◌, ◌||◌, not, nat_le, ℕ, Bool, true, false, if◌then◌else◌, List, [], ◌∷◌, Option, Some, None, length, slice_get, option_and_then, refl, sym, subst, ap, ◌∙◌}
 use Rattle.pat_base.specs.declared.server_id.ServerId.{ServerId}
 use Rattle.pat_base.specs.declared.server_state.Required.{Required}
@@ -173,7 +174,7 @@ ended-by now delay state true false z up is = no-both (sym is)
 ended-by now delay state false primary z up is = no-both (sym up)
 
 -- ---- the server behind an event of its own
-moves : (cluster later : Cluster) (m : ℕ) (change : ServerFacts → ServerFacts) (state after : State) (stop start : Ticks) → slice_get later.book.servers m ≡ slice_get (Rattle.pat_base.specs.Changes.changed_by cluster.book.servers m change) m
+moves : (cluster later : Cluster) (m : ℕ) (change : ServerFacts → ServerFacts) (state after : State) (stop start : Ticks) → slice_get later.book.servers m ≡ slice_get (changed_by cluster.book.servers m change) m
     → ((s : ServerFacts) → s.state ≡ state → s.stop_delay ≡ stop → s.start_delay ≡ start → ((change s).state ≡ after) × ((change s).stop_delay ≡ stop) × ((change s).start_delay ≡ start))
     → IsServer cluster m state stop start → IsServer later m after stop start
 moves cluster later m change state after stop start same makes old =

@@ -1,5 +1,6 @@
 -- All outputs of an input, one after another: the numbers of its messages, the machine that they leave, who begins in them, and what they
 -- feed.
+use Rattle.run_law.proofs.Composing.{over-append}
 use Rattle.std.proofs.Common.{◌≡◌, ◌⊎◌, ◌+◌, ◌++◌, ◌||◌, ◌≤◌, ◌<◌, nat_le, ℕ, Bool, true, false, List, [], ◌∷◌, Option, Some, None, All, length, slice_get, refl, sym, subst, ap, ◌∙◌, arith, inl, inr}
 use Rattle.std.proofs.lemmas.List.Elements.{All-head, All-tail}
 use Rattle.pat_base.specs.declared.ticks.Ticks.{Ticks}
@@ -31,7 +32,7 @@ use Rattle.cluster_model.specs.Parts.{each, events_of}
 use Rattle.cluster_model.specs.State.{Cluster}
 use Rattle.lease_law.specs.Claims.{BeginsBehind, IsArmedIn}
 use Rattle.lease_law.specs.Premises.{AllAre, KeepsMomentOf, IsFedBy}
-use Rattle.lease_law.proofs.Runs.{assoc}
+use Rattle.lease_law.proofs.Runs.{assoc, none-more}
 use Rattle.bridge_law.specs.Groups.{IsNumberedAbove, AreNumberedAbove}
 use Rattle.run_law.proofs.Lists.{all-both, all-front, all-back}
 use Rattle.run_law.specs.InputEvents.{IsOfInput}
@@ -131,7 +132,7 @@ module _ (member : Member) (run : ℕ) (message : HeardMessage) where
   other-numbered cluster output runs table silent =
       unnumbered-all member run message.number cluster.book.sent (Brings cluster output) (output-mine member run message.number no_message cluster message refl runs output table silent)
 
-  output-numbered : (cluster : Cluster) (output : Output) → Runs cluster.book.agents → IsOfTable output → AreNumberedAbove cluster.book.sent (Brings cluster output)
+  pub output-numbered : (cluster : Cluster) (output : Output) → Runs cluster.book.agents → IsOfTable output → AreNumberedAbove cluster.book.sent (Brings cluster output)
   output-numbered cluster (outputs.Send targets.Store sequence body) runs table = send-numbered cluster sequence body (slice_get cluster.book.agents member.id.number)
   output-numbered cluster (outputs.Send (targets.Member id) sequence body) runs table = absurd table
   output-numbered cluster outputs.Promote runs table = other-numbered cluster outputs.Promote runs table tt
@@ -161,7 +162,7 @@ module _ (member : Member) (run : ℕ) (message : HeardMessage) where
       let one = All-head IsOfTable output more table in
       let next = Later cluster output in
       let made = output-here member cluster message machine output one old in
-      subst (λ (c : Cluster). Mirrors c member.id.number (machine_after_outputs now (machine_after_output now machine output) more)) (sym (Rattle.run_law.proofs.Composing.over-append cluster (Brings cluster output) (each (output_events member message) next more)))
+      subst (λ (c : Cluster). Mirrors c member.id.number (machine_after_outputs now (machine_after_output now machine output) more)) (sym (over-append cluster (Brings cluster output) (each (output_events member message) next more)))
       (each-mirrors now next (machine_after_output now machine output) more (runs-later cluster output runs one) (All-tail IsOfTable output more table)
       ((stays-output cluster output runs one).clock ∙ clock)
       (subst (λ (n : ℕ). let t : Ticks = record { 0 = n } in Mirrors next member.id.number (machine_after_output t machine output)) clock made))
@@ -184,7 +185,7 @@ module _ (member : Member) (run : ℕ) (message : HeardMessage) where
   }
 
   begins-both : (R : List Event → ℕ → Type 0) (before xs ys : List Event) → BeginsBehind R before xs → BeginsBehind R (before ++ xs) ys → BeginsBehind R before (xs ++ ys)
-  begins-both R before [] ys first second = subst (λ (l : List Event). BeginsBehind R l ys) (Rattle.lease_law.proofs.Runs.none-more before) second
+  begins-both R before [] ys first second = subst (λ (l : List Event). BeginsBehind R l ys) (none-more before) second
   begins-both R before (x ∷ xs) ys first second =
       (first.0, begins-both R (before ++ x ∷ []) xs ys first.1 (subst (λ (l : List Event). BeginsBehind R l ys) (sym (assoc before (x ∷ []) xs)) second))
 

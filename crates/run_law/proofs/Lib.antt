@@ -32,3 +32,9 @@ pub mod InputHears
 pub mod InputKept
 pub mod StoreArrivals
 pub mod EveryInput
+pub mod Moments
+pub mod Unfed
+pub mod Measuring
+pub mod MeasuredParts
+pub mod MeasuredInputs
+pub mod MeasuredRuns

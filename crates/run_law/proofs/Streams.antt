@@ -40,7 +40,7 @@ quiet-if (Some kind) is = (is, tt)
 pub kept-quiet-if : (head : HeadText) (found : Option EventKind) → IsQuietIf found → Keeps head (λ cluster. events_of cluster (kinds_of found))
 kept-quiet-if head found is book cluster good = kept-quietly head (kinds_of found) (quiet-if found is) book cluster good
 
-confirm-quiet : (member from : Member) (end : Option Lsn) → IsQuietIf (confirm_of member from end)
+pub confirm-quiet : (member from : Member) (end : Option Lsn) → IsQuietIf (confirm_of member from end)
 confirm-quiet member from None = tt
 confirm-quiet member from (Some end) = tt
 
@@ -84,7 +84,7 @@ acknowledged-quiet known members member [] = tt
 acknowledged-quiet known members member (commit ∷ commits) =
     (tt, kinds-both IsQuiet (losses_of commit known members) (acknowledgements known members member commits) (losses-quiet commit known members) (acknowledged-quiet known members member commits))
 
-acknowledge-quiet : (known : List ServerFacts) (members : List Member) (member : Member) (s : Option ServerFacts) → AllKinds IsQuiet (acknowledge_kinds known members member s)
+pub acknowledge-quiet : (known : List ServerFacts) (members : List Member) (member : Member) (s : Option ServerFacts) → AllKinds IsQuiet (acknowledge_kinds known members member s)
 acknowledge-quiet known members member None = tt
 acknowledge-quiet known members member (Some s) = acknowledged-quiet known members member (ready_commits s)
 

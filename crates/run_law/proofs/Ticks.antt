@@ -46,7 +46,7 @@ use Rattle.run_law.proofs.Quiet.{quiet-aside, quiet-local}
 use Rattle.run_law.proofs.TickMachines.{ends, quiet-machines, resets, stops_seen, ticked-machine}
 
 -- events of a tick beside the clock's
-abbrev IsBeside : EventKind → Type 0
+abbrev pub IsBeside : EventKind → Type 0
 IsBeside kind = IsAside kind × IsLocal kind
 
 all-each : {X : Type 0} (P : EventKind → Type 0) (part : Cluster → X → List Event) → ((cluster : Cluster) (x : X) → AllAre P (part cluster x)) → (cluster : Cluster) (xs : List X) → AllAre P (each part cluster xs)
@@ -94,29 +94,29 @@ quiet-beside cluster [] all = tt
 quiet-beside cluster (kind ∷ more) all = ((quiet-aside kind all.0, quiet-local kind all.0), quiet-beside (cluster_after cluster kind) more all.1)
 
 -- ---- the parts of a tick
-abbrev Ticked : Cluster → Cluster
+abbrev pub Ticked : Cluster → Cluster
 Ticked cluster = cluster_after cluster kinds.Tick
 
-abbrev Resets : Cluster → List Event
+abbrev pub Resets : Cluster → List Event
 Resets cluster = each reset_events (Ticked cluster) (Ticked cluster).book.members
 
-abbrev Reset : Cluster → Cluster
+abbrev pub Reset : Cluster → Cluster
 Reset cluster = cluster_over (Ticked cluster) (Resets cluster)
 
-abbrev Expiries : Cluster → List Event
+abbrev pub Expiries : Cluster → List Event
 Expiries cluster = events_of (Reset cluster) (next_expiries cluster)
 
-abbrev Expired : Cluster → Cluster
+abbrev pub Expired : Cluster → Cluster
 Expired cluster = cluster_over (Reset cluster) (Expiries cluster)
 
-abbrev Ends : Cluster → List Event
+abbrev pub Ends : Cluster → List Event
 Ends cluster = each completion_events (Expired cluster) (Expired cluster).book.members
 
 -- all but the clock's event
-abbrev Rest : Cluster → List Event
+abbrev pub Rest : Cluster → List Event
 Rest cluster = Resets cluster ++ (Expiries cluster ++ Ends cluster)
 
-rest-beside : (cluster : Cluster) → AllAre IsBeside (Rest cluster)
+pub rest-beside : (cluster : Cluster) → AllAre IsBeside (Rest cluster)
 rest-beside cluster =
     all-both IsBeside (Resets cluster) (Expiries cluster ++ Ends cluster)
     (all-each IsBeside reset_events (λ c x. reset-beside c c.book.clock x (slice_get c.book.deadlines x.id.number)) (Ticked cluster) (Ticked cluster).book.members)

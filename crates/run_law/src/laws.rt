@@ -1,5 +1,5 @@
 //! Laws of every run.
-ghost use Rattle.std.specs.Prelude.{◌≡◌, ◌++◌, List};
+ghost use Rattle.std.specs.Prelude.{ℕ, ◌≡◌, ◌++◌, Bool, List, Option};
 ghost use Rattle.lease_store.specs.Defaults.{default_settings};
 ghost use Rattle.cluster_script.specs.Script.{HeadText, IsHead};
 ghost use Rattle.cluster_script.specs.declared.line.Step.{Step};
@@ -7,13 +7,26 @@ ghost use Rattle.event_book.specs.declared.event.Event.{Event};
 ghost use Rattle.event_book.specs.Writers.{HasOneWriter};
 ghost use Rattle.cluster_model.specs.Next.{run_events};
 ghost use Rattle.cluster_model.specs.Starting.{cluster_of};
-ghost use Rattle.lease_law.specs.Premises.{IsTimely, IsHandsOff};
+ghost use Rattle.lease_law.specs.Premises.{IsTimely, IsHandsOff, first_moments};
+ghost use Rattle.summary.specs.Sights.{first_since};
+ghost use Rattle.summary.specs.Telling.{AreMeasured};
 ghost use Rattle.run_law.specs.Declaring.{declared_of, works_of};
 
 /// At most one server accepts writes, in every run of every script, at each moment up to which feeds keep the margin, each watchdog is on
 /// and works, and nobody pauses or promotes by hand: also inside a step, whatever it asks for.
 pub fn runs_have_one_writer()
-    ensures { (head : HeadText) (steps : List Step) (front rest : List Event)
+    ensures declared { (head : HeadText) (steps : List Step) (front rest : List Event)
         → IsHead head → front ++ rest ≡ run_events (cluster_of head) steps
         → IsTimely (declared_of head).margin front → IsHandsOff default_settings (works_of head) front → HasOneWriter front }
+    // The same where the premises are read with other functions, which say the same of each member.
+    ensures alike { (head : HeadText) (steps : List Step) (front rest : List Event) (margin : ℕ → Option ℕ) (works : ℕ → Bool)
+        → IsHead head → front ++ rest ≡ run_events (cluster_of head) steps
+        → ((m : ℕ) → margin m ≡ (declared_of head).margin m) → ((m : ℕ) → works m ≡ works_of head m)
+        → IsTimely margin front → IsHandsOff default_settings works front → HasOneWriter front }
+{}
+
+/// Each run tells before each feed of a watchdog from when that is measured: from the moment at which the answer was sent that tells the
+/// grant. It needs no premise.
+pub fn runs_tell_measures()
+    ensures { (head : HeadText) (steps : List Step) → AreMeasured first_moments first_since (run_events (cluster_of head) steps) }
 {}

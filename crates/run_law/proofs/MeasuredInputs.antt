@@ -1,0 +1,173 @@
+-- Each input of an agent tells before each feed from when it is measured.
+use Rattle.std.proofs.Common.{ℕ, ◌≡◌, ◌≢◌, ◌≤◌, ◌<◌, List, [], ◌∷◌, slice_get, Option, Some, None, All, refl, ◌∙◌, ap, sym, subst, arith}
+use Rattle.std.proofs.lemmas.List.Elements.{All-head, All-tail}
+use Rattle.pat_base.specs.declared.ticks.Ticks.{Ticks}
+use Rattle.event_book.specs.declared.agent_process.AgentProcess.{AgentProcess}
+use Rattle.event_book.specs.declared.event.AgentEvent.TheVariants as agents
+use Rattle.event_book.specs.declared.event.Event.{Event}
+use Rattle.event_book.specs.declared.event.EventKind.{EventKind}
+use Rattle.event_book.specs.declared.event.EventKind.TheVariants as kinds
+use Rattle.event_book.specs.declared.event.MessageEvent.TheVariants as messages
+use Rattle.event_book.specs.declared.event.WatchdogEvent.TheVariants as watchdogs
+use Rattle.event_book.specs.declared.member.Member.{Member}
+use Rattle.event_book.specs.Flight.{InFlightFacts, in_flight}
+use Rattle.ha_loop.specs.declared.heard.Heard.{Heard}
+use Rattle.ha_loop.specs.declared.heard.Heard.TheVariants.{Wake}
+use Rattle.ha_loop.specs.declared.machine.Machine.{Machine}
+use Rattle.ha_loop.specs.declared.output.Output.{Output}
+use Rattle.ha_loop.specs.declared.output.Output.TheVariants as outputs
+use Rattle.ha_loop.specs.Agents.{AgentFacts, made}
+use Rattle.ha_loop.specs.Orders.{IsOfTable}
+use Rattle.ha_loop.specs.Table.{step}
+use Rattle.ha_loop.proofs.Orders.{step-carried-out}
+use Rattle.cluster_model.specs.declared.heard_message.HeardMessage.{HeardMessage}
+use Rattle.cluster_model.specs.Cluster.{cluster_after, cluster_over}
+use Rattle.cluster_model.specs.Hearing.{heard_from}
+use Rattle.cluster_model.specs.Inputs.{agent_at, moment_of, outcome_at, outcome_of_heard}
+use Rattle.cluster_model.specs.Machines.{machine_of, points_of}
+use Rattle.cluster_model.specs.Messages.{hear_events, heard_message, input_events, no_message, output_events, wake_events_of}
+use Rattle.cluster_model.specs.Parts.{each}
+use Rattle.cluster_model.specs.State.{Cluster}
+use Rattle.lease_law.specs.Premises.{Moments, moments_after}
+use Rattle.lease_law.proofs.Tools.{put-there}
+use Rattle.bridge_law.specs.Groups.{AreNumberedAbove, IsNumberedAbove}
+use Rattle.summary.specs.Telling.{AreMeasured}
+use Rattle.run_law.specs.InputEvents.{IsOfInput}
+use Rattle.run_law.specs.Machines.{run_in, run_now}
+use Rattle.run_law.proofs.InputEvents.{output-mine}
+use Rattle.run_law.proofs.InputOutputs.{each-numbered, output-numbered, stays-output}
+use Rattle.run_law.proofs.InputStays.{each-mine}
+use Rattle.run_law.proofs.Lists.{all-more}
+use Rattle.run_law.proofs.Measuring.{IsUnfed, Measures, measured-both, unfed-measured}
+use Rattle.run_law.proofs.Moments.{KnowsSending, moments_over}
+use Rattle.run_law.proofs.Unfed.{FeedsNone, wakes-feed-none}
+
+-- an input's events that come of no feed
+mine-unfed : (member : Member) (run heard : ℕ) (kind : EventKind) → IsOfInput member run heard FeedsNone kind → IsUnfed kind
+mine-unfed member run heard (kinds.Watchdog (watchdogs.Armed by until answer)) is = absurd is.2
+mine-unfed member run heard (kinds.Watchdog (watchdogs.Fed by until basis)) is = absurd is.2
+mine-unfed member run heard _ is = tt
+
+-- the moment at which this message was sent is known, and its number is none of those to come
+record IsHeardAt (moments : Moments) (cluster : Cluster) (message : HeardMessage) : Type 0 where
+  known : moments.sent message.number ≡ Some message.sent.0
+  old : message.number ≤ cluster.book.sent
+
+later-old : (n last number : ℕ) → n ≤ last → last < number → n ≤ number
+later-old n last number low above = omega (arith, low, above)
+
+not-it : (n last number : ℕ) → n ≤ last → last < number → n ≢ number
+not-it n last number low above = omega (arith, low, above)
+
+heard-one : (moments : Moments) (cluster : Cluster) (message : HeardMessage) (kind : EventKind) → IsNumberedAbove cluster.book.sent kind → IsHeardAt moments cluster message → IsHeardAt (moments_after moments kind) (cluster_after cluster kind) message
+heard-one moments cluster message (kinds.Message (messages.Sent number sent)) above old = record {
+  known = put-there moments.sent number _ message.number (not-it message.number cluster.book.sent number old.old above) ∙ old.known;
+  old = later-old message.number cluster.book.sent number old.old above;
+}
+heard-one moments cluster message (kinds.Message (messages.Delivered number)) above old = record { known = old.known; old = old.old }
+heard-one moments cluster message (kinds.Message (messages.Lost number)) above old = record { known = old.known; old = old.old }
+heard-one moments cluster message _ above old = record { known = old.known; old = old.old }
+
+heard-over : (moments : Moments) (cluster : Cluster) (message : HeardMessage) (events : List Event) → AreNumberedAbove cluster.book.sent events → IsHeardAt moments cluster message → IsHeardAt (moments_over moments events) (cluster_over cluster events) message
+heard-over moments cluster message [] above old = old
+heard-over moments cluster message (event ∷ events) above old =
+    heard-over (moments_after moments event.kind) (cluster_after cluster event.kind) message events above.1 (heard-one moments cluster message event.kind above.0 old)
+
+module _ (member : Member) (run : ℕ) (message : HeardMessage) where
+  abbrev Runs : List AgentProcess → Type 0
+  Runs processes = (process : AgentProcess) → slice_get processes member.id.number ≡ Some process → process.run ≡ run
+
+  abbrev Brings : Cluster → Output → List Event
+  Brings cluster output = output_events member message cluster output
+
+  silent : (moments : Moments) (since : Ticks) (cluster : Cluster) (output : Output) → Runs cluster.book.agents → IsOfTable output → FeedsNone output → AreMeasured moments since (Brings cluster output)
+  silent moments since cluster output runs table none =
+      unfed-measured moments since (Brings cluster output)
+      (all-more (IsOfInput member run message.number FeedsNone) IsUnfed (Brings cluster output) (mine-unfed member run message.number) (output-mine member run message.number FeedsNone cluster message refl runs output table none))
+
+  -- one output
+  output-measured : (moments : Moments) (since : Ticks) (cluster : Cluster) (output : Output) → Runs cluster.book.agents → IsOfTable output → IsHeardAt moments cluster message → AreMeasured moments since (Brings cluster output)
+  output-measured moments since cluster (outputs.Armed until) runs table heard = (tt, (heard.known, tt))
+  output-measured moments since cluster (outputs.Fed until) runs table heard = (tt, (heard.known, tt))
+  output-measured moments since cluster (outputs.Send to sequence body) runs table heard = silent moments since cluster (outputs.Send to sequence body) runs table tt
+  output-measured moments since cluster outputs.Promote runs table heard = silent moments since cluster outputs.Promote runs table tt
+  output-measured moments since cluster (outputs.StartReplica leader) runs table heard = silent moments since cluster (outputs.StartReplica leader) runs table tt
+  output-measured moments since cluster (outputs.Stop reason) runs table heard = silent moments since cluster (outputs.Stop reason) runs table tt
+  output-measured moments since cluster (outputs.Follow leader) runs table heard = silent moments since cluster (outputs.Follow leader) runs table tt
+  output-measured moments since cluster (outputs.Require required) runs table heard = silent moments since cluster (outputs.Require required) runs table tt
+  output-measured moments since cluster outputs.Disarmed runs table heard = silent moments since cluster outputs.Disarmed runs table tt
+  output-measured moments since cluster outputs.CannotArm runs table heard = silent moments since cluster outputs.CannotArm runs table tt
+  output-measured moments since cluster (outputs.HoldTaken until from sequence) runs table heard = absurd table
+
+  -- all of them
+  each-measured : (moments : Moments) (since : Ticks) (cluster : Cluster) (outs : List Output) → Runs cluster.book.agents → All IsOfTable outs → IsHeardAt moments cluster message → AreMeasured moments since (each (output_events member message) cluster outs)
+  each-measured moments since cluster [] runs table heard = tt
+  each-measured moments since cluster (output ∷ more) runs table heard =
+      let one = All-head IsOfTable output more table in
+      let next : Cluster = cluster_over cluster (Brings cluster output) in
+      measured-both moments since (Brings cluster output) (each (output_events member message) next more) (output-measured moments since cluster output runs one heard)
+      (λ later. each-measured (moments_over moments (Brings cluster output)) later next more (subst Runs (sym (stays-output member run message cluster output runs one).processes) runs) (All-tail IsOfTable output more table)
+      (heard-over moments cluster message (Brings cluster output) (output-numbered member run message cluster output runs one) heard))
+
+  -- where nothing is fed
+  each-unfed : (moments : Moments) (since : Ticks) (cluster : Cluster) (outs : List Output) → Runs cluster.book.agents → All IsOfTable outs → All FeedsNone outs → AreMeasured moments since (each (output_events member message) cluster outs)
+  each-unfed moments since cluster outs runs table none =
+      unfed-measured moments since (each (output_events member message) cluster outs)
+      (all-more (IsOfInput member run message.number FeedsNone) IsUnfed (each (output_events member message) cluster outs) (mine-unfed member run message.number)
+      (each-mine member run message.number FeedsNone cluster message refl runs outs table none))
+
+runs-in : (cluster : Cluster) (k : ℕ) (process : AgentProcess) → slice_get cluster.book.agents k ≡ Some process → process.run ≡ run_in cluster.book.agents k
+runs-in cluster k process e = sym (ap run_now e)
+
+-- ---- a wake
+module _ (moments : Moments) (cluster : Cluster) (member : Member) where
+  abbrev Woken : EventKind
+  Woken = kinds.Agent (agents.Woken member)
+
+  abbrev Run : ℕ
+  Run = run_in cluster.book.agents member.id.number
+
+  wake-told : (agent : Option AgentFacts) (machine : Option Machine)
+      → Measures moments cluster (record { tick = record { 0 = cluster.book.clock }; kind = Woken } ∷ input_events (cluster_after cluster Woken) member no_message (outcome_at (moment_of cluster) (points_of cluster member) Wake agent machine))
+  wake-told None machine = record { measured = λ since. (tt, tt); numbered = (tt, tt) }
+  wake-told (Some agent) None = record { measured = λ since. (tt, tt); numbered = (tt, tt) }
+  wake-told (Some agent) (Some machine) =
+      let outs = (step (moment_of cluster) (points_of cluster member) Wake (made agent.role agent.knows machine [])).outputs in
+      let table = (step-carried-out (moment_of cluster) (points_of cluster member) Wake agent.role agent.knows machine).kinds in
+      record {
+        measured = λ since. (tt, each-unfed member Run no_message (moments_after moments Woken) since (cluster_after cluster Woken) outs (runs-in cluster member.id.number) table (wakes-feed-none (moment_of cluster) (points_of cluster member) agent.role agent.knows machine));
+        numbered = (tt, each-numbered member Run no_message (cluster_after cluster Woken) outs (runs-in cluster member.id.number) table);
+      }
+
+  pub told-wake : Measures moments cluster (wake_events_of cluster member)
+  told-wake = wake-told (agent_at cluster.agents member.id.number) (machine_of cluster member)
+
+-- ---- a message that comes
+module _ (moments : Moments) (cluster : Cluster) (number : ℕ) (message : InFlightFacts) (member : Member) (knows : KnowsSending moments cluster.book) (found : in_flight cluster.book.flight number ≡ Some message) where
+  abbrev Arrived : EventKind
+  Arrived = kinds.Message (messages.Delivered number)
+
+  hears-told : (heard : Heard) (agent : Option AgentFacts) (machine : Option Machine)
+      → Measures moments cluster (record { tick = record { 0 = cluster.book.clock }; kind = Arrived } ∷ input_events (cluster_after cluster Arrived) member (heard_message number message) (outcome_at (moment_of cluster) (points_of cluster member) heard agent machine))
+  hears-told heard None machine = record { measured = λ since. (tt, tt); numbered = (tt, tt) }
+  hears-told heard (Some agent) None = record { measured = λ since. (tt, tt); numbered = (tt, tt) }
+  hears-told heard (Some agent) (Some machine) =
+      let outs = (step (moment_of cluster) (points_of cluster member) heard (made agent.role agent.knows machine [])).outputs in
+      let table = (step-carried-out (moment_of cluster) (points_of cluster member) heard agent.role agent.knows machine).kinds in
+      let run : ℕ = run_in cluster.book.agents member.id.number in
+      record {
+        measured = λ since. (
+          tt,
+          each-measured member run (heard_message number message) (moments_after moments Arrived) since (cluster_after cluster Arrived) outs (runs-in cluster member.id.number) table
+              (record { known = knows.known number message found; old = knows.flown number message found }),
+        );
+        numbered = (tt, each-numbered member run (heard_message number message) (cluster_after cluster Arrived) outs (runs-in cluster member.id.number) table);
+      }
+
+  heard-told : (heard : Option Heard)
+      → Measures moments cluster (record { tick = record { 0 = cluster.book.clock }; kind = Arrived } ∷ input_events (cluster_after cluster Arrived) member (heard_message number message) (outcome_of_heard cluster member heard))
+  heard-told None = record { measured = λ since. (tt, tt); numbered = (tt, tt) }
+  heard-told (Some heard) = hears-told heard (agent_at cluster.agents member.id.number) (machine_of cluster member)
+
+  pub told-hearing : Measures moments cluster (hear_events cluster number message member)
+  told-hearing = heard-told (heard_from cluster message)

@@ -1,0 +1,192 @@
+-- Each step of a run tells before each feed from when it is measured.
+use Rattle.std.proofs.Common.{ℕ, ◌+◌, ◌++◌, Bool, true, false, cond, List, [], ◌∷◌, slice_get, Option, Some, None}
+use Rattle.pat_base.specs.declared.ticks.Ticks.{Ticks}
+use Rattle.lease_store.specs.declared.txn.Txn.{Txn}
+use Rattle.lease_store.specs.Decision.{Decision, Grant, Refusal, decision_on}
+use Rattle.pg_model.specs.declared.answers.Streamed.{Streamed}
+use Rattle.pg_model.specs.declared.answers.Streamed.TheVariants as streams
+use Rattle.pg_model.specs.Facts.{ServerFacts, is_replica}
+use Rattle.pg_model.specs.Servers.{news_at}
+use Rattle.event_book.specs.declared.agent_process.AgentProcess.{AgentProcess}
+use Rattle.event_book.specs.declared.event.AgentEvent.TheVariants as agents
+use Rattle.event_book.specs.declared.event.Event.{Event}
+use Rattle.event_book.specs.declared.event.EventKind.{EventKind}
+use Rattle.event_book.specs.declared.event.EventKind.TheVariants as kinds
+use Rattle.event_book.specs.declared.event.MessageEvent.TheVariants as messages
+use Rattle.event_book.specs.declared.event.ServerEvent.TheVariants as servers
+use Rattle.event_book.specs.declared.event.WatchdogEvent.TheVariants as watchdogs
+use Rattle.event_book.specs.declared.link.LinkEnd.{LinkEnd}
+use Rattle.event_book.specs.declared.link.LinkEnd.TheVariants as ends
+use Rattle.event_book.specs.declared.member.Member.{Member}
+use Rattle.event_book.specs.declared.message.Body.{Body}
+use Rattle.event_book.specs.declared.message.Body.TheVariants as bodies
+use Rattle.event_book.specs.declared.message.Message.{Message}
+use Rattle.event_book.specs.Members.{server_of}
+use Rattle.event_book.specs.declared.event.Note.TheVariants.{AlreadyRunning}
+use Rattle.ha_loop.specs.declared.machine.Machine.{Machine}
+use Rattle.cluster_model.specs.Machines.{machine_of}
+use Rattle.event_book.specs.Flight.{InFlightFacts}
+use Rattle.cluster_script.specs.declared.line.Command.{Command}
+use Rattle.cluster_script.specs.declared.line.Command.TheVariants as commands
+use Rattle.cluster_model.specs.Acknowledging.{acknowledge_kinds}
+use Rattle.cluster_model.specs.Cluster.{cluster_after}
+use Rattle.cluster_model.specs.Commands.{disarm_at_start, disarm_if, disarm_of, kill_of, kinds_of, restarted}
+use Rattle.cluster_model.specs.Losing.{beginning_kinds, loss_if}
+use Rattle.cluster_model.specs.Messages.{answer_events_by, answer_message, decision_body, decision_kind, send_events, arrival_events_at, decision_events, lose_events}
+use Rattle.cluster_model.specs.Next.{acknowledge_events, all_entries, command_kind, confirm_events, declared, promote_events, receive_events, receive_events_at_most, receive_events_of, restart_events}
+use Rattle.cluster_model.specs.Parts.{event_of, events_of, for_some}
+use Rattle.cluster_model.specs.ServerCommands.{crash_of, is_gone, promote_kinds}
+use Rattle.cluster_model.specs.State.{Cluster}
+use Rattle.cluster_model.specs.Streaming.{confirm_of, source_of, unconfirmed_end}
+use Rattle.cluster_model.specs.Ticking.{tick_events}
+use Rattle.lease_law.specs.Premises.{AllAre, Moments}
+use Rattle.run_law.specs.Asides.{IsAside, IsQuiet}
+use Rattle.run_law.proofs.Commands.{command-quiet}
+use Rattle.run_law.proofs.InputEvents.{holds-if, holds-then}
+use Rattle.run_law.proofs.Lists.{AllKinds, HoldsIf, all-kinds, one-kind}
+use Rattle.run_law.proofs.Measuring.{IsPlain, Measures, Tells, tells-none, tells-send, told-for_some, told-if, told-plain, told-then}
+use Rattle.run_law.proofs.Moments.{KnowsSending}
+use Rattle.run_law.proofs.Streams.{IsQuietIf, acknowledge-quiet, confirm-quiet}
+use Rattle.run_law.proofs.Ticks.{IsBeside, Rest, rest-beside}
+
+-- ---- what feeds and sends nothing
+aside-plain : (kind : EventKind) → IsAside kind → IsPlain kind
+aside-plain (kinds.Watchdog (watchdogs.Armed member until answer)) is = absurd is
+aside-plain (kinds.Watchdog (watchdogs.Fed member until basis)) is = absurd is
+aside-plain (kinds.Message (messages.Sent number message)) is = absurd is
+aside-plain _ is = tt
+
+quiet-plain : (kind : EventKind) → IsQuiet kind → IsPlain kind
+quiet-plain (kinds.Watchdog happening) is = absurd is
+quiet-plain (kinds.Message happening) is = absurd is
+quiet-plain _ is = tt
+
+quiet-kinds : (list : List EventKind) → AllKinds IsQuiet list → AllKinds IsPlain list
+quiet-kinds [] all = tt
+quiet-kinds (kind ∷ more) all = (quiet-plain kind all.0, quiet-kinds more all.1)
+
+quiet-if : (found : Option EventKind) → IsQuietIf found → HoldsIf IsPlain found
+quiet-if None is = tt
+quiet-if (Some kind) is = quiet-plain kind is
+
+beside-plain : (events : List Event) → AllAre IsBeside events → AllAre IsPlain events
+beside-plain [] all = tt
+beside-plain (event ∷ events) all = (aside-plain event.kind all.0.0, beside-plain events all.1)
+
+plain-if : (cluster : Cluster) (found : Option EventKind) → HoldsIf IsPlain found → AllAre IsPlain (events_of cluster (kinds_of found))
+plain-if cluster found is = all-kinds IsPlain cluster (kinds_of found) (one-kind IsPlain found is)
+
+-- ---- a tick
+pub tells-tick : Tells tick_events
+tells-tick moments cluster knows = told-plain moments cluster (tick_events cluster) (tt, beside-plain (Rest cluster) (rest-beside cluster))
+
+-- ---- streams
+confirm-plain : (cluster : Cluster) (member from : Member) → AllAre IsPlain (confirm_events cluster member from)
+confirm-plain cluster member from =
+    let end = unconfirmed_end member (slice_get cluster.book.servers member.id.number) (slice_get cluster.book.servers from.id.number) in
+    plain-if cluster (confirm_of member from end) (quiet-if (confirm_of member from end) (confirm-quiet member from end))
+
+receive-plain : (cluster : Cluster) (member from : Member) (news : Option Streamed) → AllAre IsPlain (receive_events cluster member from news)
+receive-plain cluster member from None = confirm-plain cluster member from
+receive-plain cluster member from (Some streams.NotConnected) = tt
+receive-plain cluster member from (Some (streams.Diverged at)) = (tt, tt)
+receive-plain cluster member from (Some (streams.Received count)) = (tt, confirm-plain _ member from)
+
+receives-plain : (cluster : Cluster) (most : ℕ) (member : Member) (source : Option Member) → AllAre IsPlain (for_some source (λ from. receive_events cluster member from (news_at cluster.book.servers member.id.number from.id.number most)))
+receives-plain cluster most member None = tt
+receives-plain cluster most member (Some from) = receive-plain cluster member from (news_at cluster.book.servers member.id.number from.id.number most)
+
+most-plain : (cluster : Cluster) (most : ℕ) (member : Member) → AllAre IsPlain (receive_events_at_most cluster most member)
+most-plain cluster most member = receives-plain cluster most member (source_of cluster.book.members cluster.book.servers cluster.book.cuts member)
+
+pub tells-receive-at-most : (most : ℕ) (member : Member) → Tells (λ cluster. receive_events_at_most cluster most member)
+tells-receive-at-most most member moments cluster knows = told-plain moments cluster (receive_events_at_most cluster most member) (most-plain cluster most member)
+
+pub tells-receive : (member : Member) → Tells (λ cluster. receive_events_of cluster member)
+tells-receive member moments cluster knows =
+    told-for_some moments cluster (slice_get cluster.book.frozen member.id.number) _ (λ frozen is.
+    told-if moments cluster frozen [] (receive_events_at_most cluster all_entries member) (tells-none moments cluster) (tells-receive-at-most all_entries member moments cluster knows))
+
+pub tells-acknowledge : (member : Member) → Tells (λ cluster. acknowledge_events cluster member)
+tells-acknowledge member moments cluster knows =
+    let list = acknowledge_kinds cluster.book.servers cluster.book.members member (slice_get cluster.book.servers member.id.number) in
+    told-plain moments cluster (events_of cluster list)
+    (all-kinds IsPlain cluster list (quiet-kinds list (acknowledge-quiet cluster.book.servers cluster.book.members member (slice_get cluster.book.servers member.id.number))))
+
+-- ---- commands
+gone-plain : (test : Bool) (kind : EventKind) → IsPlain kind → HoldsIf IsPlain (cond test None (Some kind))
+gone-plain true kind is = tt
+gone-plain false kind is = is
+
+kind-plain : (cluster : Cluster) (command : Command) → HoldsIf IsPlain (command_kind cluster command)
+kind-plain cluster (commands.Kill id) =
+    holds-then IsPlain _ (declared cluster id) (λ m. holds-then IsPlain (kill_of m) (slice_get cluster.book.agents m.id.number) (λ process. holds-if IsPlain process.running (kinds.Agent (agents.Killed m)) tt))
+kind-plain cluster (commands.Crash id) =
+    holds-then IsPlain _ (declared cluster id) (λ m. holds-then IsPlain (crash_of m) (slice_get cluster.book.servers m.id.number) (λ s. gone-plain (is_gone s.state) _ tt))
+kind-plain cluster command = quiet-if (command_kind cluster command) (command-quiet cluster command tt)
+
+pub tells-kind : (command : Command) → Tells (λ cluster. events_of cluster (kinds_of (command_kind cluster command)))
+tells-kind command moments cluster knows = told-plain moments cluster _ (plain-if cluster (command_kind cluster command) (kind-plain cluster command))
+
+loss-plain : (member : Member) (test : Bool) → AllKinds IsPlain (kinds_of (loss_if member test))
+loss-plain member true = (tt, tt)
+loss-plain member false = tt
+
+promoted-plain : (member : Member) (acknowledged : List ℕ) (s : ServerFacts) (test : Bool)
+    → AllKinds IsPlain (cond test (kinds.Server (servers.Promoted (server_of member)) ∷ beginning_kinds member (s.timeline + 1) acknowledged s.log) [])
+promoted-plain member acknowledged s true = (tt, (tt, loss-plain member _))
+promoted-plain member acknowledged s false = tt
+
+pub tells-promote : (member : Member) → Tells (λ cluster. promote_events cluster member)
+tells-promote member moments cluster knows =
+    told-for_some moments cluster (slice_get cluster.book.servers member.id.number) _ (λ s is.
+    told-plain moments cluster _ (all-kinds IsPlain cluster (promote_kinds member cluster.book.acknowledged s) (promoted-plain member cluster.book.acknowledged s (is_replica s.state))))
+
+restarted-plain : (member : Member) (process : AgentProcess) (test : Bool) → IsPlain (cond test (kinds.Note (AlreadyRunning member)) (kinds.Agent (agents.Started member (process.run + 1))))
+restarted-plain member process true = tt
+restarted-plain member process false = tt
+
+disarm-plain : (member : Member) (deadline : Option Ticks) → HoldsIf IsPlain (disarm_if member deadline)
+disarm-plain member None = tt
+disarm-plain member (Some deadline) = tt
+
+none-or : (test : Bool) (found : Option EventKind) → HoldsIf IsPlain found → HoldsIf IsPlain (cond test None found)
+none-or true found is = tt
+none-or false found is = is
+
+disarms-plain : (member : Member) (machine : Option Machine) → HoldsIf IsPlain (disarm_of member machine)
+disarms-plain member None = tt
+disarms-plain member (Some machine) = none-or _ _ (disarm-plain member machine.watchdog.deadline)
+
+pub tells-restart : (member : Member) → Tells (λ cluster. restart_events cluster member)
+tells-restart member moments cluster knows =
+    told-for_some moments cluster (slice_get cluster.book.agents member.id.number) _ (λ process is.
+    let machine = machine_of cluster member in
+    told-plain moments cluster _ (all-kinds IsPlain cluster (restarted member process ∷ kinds_of (disarm_at_start member process machine))
+    (restarted-plain member process process.running, one-kind IsPlain (disarm_at_start member process machine) (none-or process.running (disarm_of member machine) (disarms-plain member machine)))))
+
+pub told-lose : (moments : Moments) (cluster : Cluster) (number : ℕ) (message : Option InFlightFacts) → Measures moments cluster (lose_events cluster number message)
+told-lose moments cluster number None = told-plain moments cluster _ (tt, tt)
+told-lose moments cluster number (Some message) = told-plain moments cluster _ (tt, tt)
+
+-- ---- the key store
+told-event : (moments : Moments) (cluster : Cluster) (kind : EventKind) (more : Cluster → List Event) → IsPlain kind → KnowsSending moments cluster.book → Tells more → Measures moments cluster (event_of cluster kind ++ more (cluster_after cluster kind))
+told-event moments cluster kind more is knows rest =
+    told-then moments cluster (event_of cluster kind) (more (cluster_after cluster kind)) knows (told-plain moments cluster (event_of cluster kind) (is, tt)) (λ later. rest _ (cluster_after cluster kind) later)
+
+tells-decision : (number : ℕ) (message : Message) (txn : Txn) (decision : Decision) (from : LinkEnd) → Tells (λ cluster. decision_events cluster number message txn decision from)
+tells-decision number message txn decision ends.Store moments cluster knows = tells-none moments cluster
+tells-decision number message txn Grant (ends.Member by) moments cluster knows =
+    let answer : Message = answer_message message (decision_body number txn Grant) in
+    told-event moments cluster (decision_kind number by txn Grant) (λ later. send_events later answer) tt knows (tells-send answer)
+tells-decision number message txn (Refusal key found) (ends.Member by) moments cluster knows =
+    let answer : Message = answer_message message (decision_body number txn (Refusal key found)) in
+    told-event moments cluster (decision_kind number by txn (Refusal key found)) (λ later. send_events later answer) tt knows (tells-send answer)
+
+tells-answer : (number : ℕ) (message : Message) (body : Body) → Tells (λ cluster. answer_events_by cluster number message body)
+tells-answer number message bodies.Read moments cluster knows = tells-send (answer_message message bodies.Snapshot) moments cluster knows
+tells-answer number message (bodies.Request txn) moments cluster knows = tells-decision number message txn (decision_on cluster.book.keys cluster.book.clock txn) message.from moments cluster knows
+tells-answer number message _ moments cluster knows = tells-none moments cluster
+
+pub told-store : (moments : Moments) (cluster : Cluster) (number : ℕ) (message : InFlightFacts) → KnowsSending moments cluster.book → Measures moments cluster (arrival_events_at cluster number message ends.Store)
+told-store moments cluster number message knows = told-event moments cluster (kinds.Message (messages.Delivered number)) (λ later. answer_events_by later number message.message message.message.body) tt knows (tells-answer number message.message message.message.body)

@@ -1,0 +1,81 @@
+-- An agent that is woken feeds nothing.
+use Rattle.std.proofs.Common.{Bool, true, false, cond, List, [], Option, Some, None, All}
+use Rattle.std.proofs.lemmas.List.Elements.{All-nil, All-push}
+use Rattle.pat_base.specs.ServerState.{live}
+use Rattle.pat_base.specs.declared.ticks.Ticks.{Ticks}
+use Rattle.wal_model.specs.declared.entry.HistoryPoint.{HistoryPoint}
+use Rattle.ha_loop.specs.declared.heard.Heard.TheVariants.{Wake}
+use Rattle.ha_loop.specs.declared.knowledge.Knowledge.{Knowledge}
+use Rattle.ha_loop.specs.declared.knowledge.Question.{Question}
+use Rattle.ha_loop.specs.declared.knowledge.Question.TheVariants.{Creating, Reading, Renewing}
+use Rattle.ha_loop.specs.declared.knowledge.Waited.{Waited}
+use Rattle.ha_loop.specs.declared.machine.Machine.{Machine}
+use Rattle.ha_loop.specs.declared.output.Output.{Output}
+use Rattle.ha_loop.specs.declared.output.Output.TheVariants as outputs
+use Rattle.ha_loop.specs.declared.role.Why.{Why}
+use Rattle.ha_loop.specs.declared.role.Why.TheVariants.{HandOver, Lost}
+use Rattle.ha_loop.specs.Acting.{disarmed, waiting_no_more}
+use Rattle.ha_loop.specs.Agents.{RoleFacts, Follower, Holder, Ready, Leader, Ending, Stray, Outcome, made}
+use Rattle.ha_loop.specs.Before.{before, before_as, has_ended}
+use Rattle.ha_loop.specs.Table.{step}
+use Rattle.ha_loop.specs.Wake.{has_turn, is_due, is_overdue, is_stopping, out_of_reach_as, overdue, overdue_for, turn_as, turn_begins, turn_noted, turned, unanswered, woken}
+
+-- an output that feeds no watchdog
+abbrev pub FeedsNone : Output → Type 0
+FeedsNone (outputs.Armed until) = ⊥
+FeedsNone (outputs.Fed until) = ⊥
+FeedsNone _ = Unit {0}
+
+abbrev NoneFed : Outcome → Type 0
+NoneFed o = All FeedsNone o.outputs
+
+none-disarmed : (deadline : Option Ticks) (outs : List Output) → All FeedsNone outs → All FeedsNone (disarmed deadline outs)
+none-disarmed None outs all = all
+none-disarmed (Some deadline) outs all = All-push FeedsNone outs outputs.Disarmed all tt
+
+none-if : (test : Bool) (x y : Outcome) → NoneFed x → NoneFed y → NoneFed (cond test x y)
+none-if true x y first second = first
+none-if false x y first second = second
+
+none-ended : (why : Why) (now : Ticks) (revision : _) (o : Outcome) → NoneFed o → NoneFed (has_ended why revision o)
+none-ended HandOver now revision o all = All-push FeedsNone _ _ (none-disarmed o.machine.watchdog.deadline o.outputs all) tt
+none-ended Lost now revision o all = none-disarmed o.machine.watchdog.deadline o.outputs all
+
+none-before : (now : Ticks) (role : RoleFacts) (o : Outcome) → NoneFed o → NoneFed (before_as now role o)
+none-before now (Leader revision) o all = none-if (live o.machine.server.state) o _ all (none-disarmed o.machine.watchdog.deadline o.outputs all)
+none-before now (Ending revision why) o all = none-if (live o.machine.server.state) o (has_ended why revision o) all (none-ended why now revision o all)
+none-before now Follower o all = none-if (live o.machine.server.state) _ o all all
+none-before now (Holder revision) o all = none-if (live o.machine.server.state) _ o all all
+none-before now (Ready revision) o all = none-if (live o.machine.server.state) _ o (none-disarmed o.machine.watchdog.deadline o.outputs all) all
+none-before now Stray o all = none-if (live o.machine.server.state) o _ all (none-disarmed o.machine.watchdog.deadline o.outputs all)
+
+none-reach : (now : Ticks) (role : RoleFacts) (o : Outcome) → NoneFed o → NoneFed (out_of_reach_as now role o)
+none-reach now (Leader revision) o all = All-push FeedsNone _ _ all tt
+none-reach now Stray o all = All-push FeedsNone _ _ all tt
+none-reach now _ o all = all
+
+none-unanswered : (now : Ticks) (question : Question) (o : Outcome) → NoneFed o → NoneFed (unanswered now question o)
+none-unanswered now Reading o all = none-reach now o.role (waiting_no_more o) all
+none-unanswered now Renewing o all = none-reach now o.role (waiting_no_more o) all
+none-unanswered now Creating o all = all
+
+none-overdue : (now : Ticks) (waited : Option Waited) (o : Outcome) → NoneFed o → NoneFed (overdue_for now waited o)
+none-overdue now None o all = all
+none-overdue now (Some waited) o all = none-if (is_overdue now (Some waited)) (unanswered now waited.question o) o (none-unanswered now waited.question o all) all
+
+none-turn : (now : Ticks) (role : RoleFacts) (o : Outcome) → NoneFed o → NoneFed (turn_as now role o)
+none-turn now (Ending revision why) o all = all
+none-turn now Stray o all = none-if (is_stopping o.machine.server.state) o _ all (All-push FeedsNone _ _ all tt)
+none-turn now _ o all = All-push FeedsNone _ _ all tt
+
+none-turned : (now : Ticks) (o : Outcome) → NoneFed o → NoneFed (turned now o)
+none-turned now o all = none-if (has_turn now o.knows) (turn_begins now o) o (none-turn now o.role (record o { knows = turn_noted now o.knows }) all) all
+
+none-woken : (now : Ticks) (o : Outcome) → NoneFed o → NoneFed (woken now o)
+none-woken now o all =
+    let b : Outcome = before now o in
+    let first : NoneFed b = none-before now o.role o all in
+    none-if (is_due now o.role o.knows o.machine) (turned now (overdue now b)) b (none-turned now (overdue now b) (none-overdue now b.knows.waited b first)) first
+
+pub wakes-feed-none : (now : Ticks) (points : List HistoryPoint) (role : RoleFacts) (knows : Knowledge) (machine : Machine) → All FeedsNone (step now points Wake (made role knows machine [])).outputs
+wakes-feed-none now points role knows machine = none-woken now (made role knows machine []) (All-nil FeedsNone)
