@@ -104,7 +104,7 @@ overdue-row now o = overdue-by (Row o) now o (record {
 })
 
 turn-row : (now : Ticks) (o : Outcome) → Row o (turned now o)
-turn-row now o = turn-by (Row o) now o (record { kept = kept; quiet = kept; reads = said o.knows.sequence (o.knows.sequence + 1) o.outputs _ (omega arith) tt })
+turn-row now o = turn-by (Row o) now o (record { kept = kept; quiet = kept; reads = λ _. said o.knows.sequence (o.knows.sequence + 1) o.outputs _ (omega arith) tt })
 
 follow-row : (now : Ticks) (leader : MemberId) (o : Outcome) → Row o (follows now leader o)
 follow-row now leader o = follow-by (λ (x : Outcome). Row o (touching x)) now leader o.machine.server.state (record o { role = Follower })
@@ -127,7 +127,7 @@ got-row now points sequence snapshot o =
       other = kept;
       leader = λ held _. said o.knows.sequence o.knows.sequence o.outputs _ (omega arith) tt;
       stray = λ _. said o.knows.sequence o.knows.sequence o.outputs _ (omega arith) tt;
-      renews = λ leader _ _. said o.knows.sequence (o.knows.sequence + 1) o.outputs _ (omega arith) (omega (arith, read.knows.settings.ttl_range));
+      renews = λ leader _ _ _. said o.knows.sequence (o.knows.sequence + 1) o.outputs _ (omega arith) (omega (arith, read.knows.settings.ttl_range));
       touches = said o.knows.sequence (o.knows.sequence + 1) o.outputs _ (omega arith) (omega (arith, read.knows.settings.ttl_range));
       follows = λ leader _ _. follow-row now leader.holder read;
       free = λ _ _. free-row now read;
@@ -177,7 +177,7 @@ stray-row now ttl held o = if-cases (Row o) (is_refusing o.machine.watchdog.mode
 granted-row : (now : Ticks) (sequence : ℕ) (grant : Granted) (snapshot : SnapshotFacts) (o : Outcome) → Row o (granted now sequence grant snapshot o)
 granted-row now sequence grant snapshot o =
     let told : Outcome = record o { knows = informed snapshot o.knows } in
-    granted-by (Row o) now sequence grant snapshot o kept kept (λ asked _. record {
+    granted-by (Row o) now sequence grant snapshot o kept kept (λ asked _ _. record {
       other = kept;
       leader = λ held _. renewed-row now asked.ttl grant.revision told;
       stray = λ _. stray-row now asked.ttl grant.revision told;

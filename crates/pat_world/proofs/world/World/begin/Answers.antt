@@ -1,19 +1,15 @@
-use Rattle.std.proofs.Common.{◌≡◌, ◌∙◌, List, Option, ap, sym, subst}
-use Rattle.std.specs.Prelude.{slice_get}
-use Rattle.std.proofs.lemmas.Result.{on_ok_weaker}
-use Rattle.event_book.specs.declared.event.Event.{Event}
-use Rattle.event_book.specs.declared.event.EventKind.TheVariants as kinds
-use Rattle.event_book.specs.declared.event.ServerEvent.TheVariants as servers
-use Rattle.event_book.specs.declared.member.ServerOf.{ServerOf}
-use Rattle.cluster_model.specs.Commands.{kinds_of}
-use Rattle.cluster_model.specs.Parts.{events_of}
-use Rattle.cluster_model.specs.State.{Cluster}
+use Rattle.std.proofs.Common.{rules, ◌≡◌, ◌+◌, OnOk, Some, option_map, ℕ, ◌-◌, ◌*◌, ◌<◌, ◌≤◌, length, ◌/◌, ◌%◌, Bool, true, false, nat_eq, nat_lt, List, [], ◌∷◌, ◌++◌, slice_index_or, slice_set, bit_and, bit_or, Fits, w8, w32, w64, Bor, MutBor}
+use Rattle.cluster_model.specs.Messages.{promotion_events, replica_start_events, stop_events}
+use Rattle.cluster_model.specs.Next.{promote_events}
+use Rattle.cluster_model.specs.Orders.{server_at}
 use Rattle.pat_world.specs.Emits.{Emits}
-use Rattle.pat_world.specs.Room.{HasRoom, beginning_cost}
-use Rattle.pat_world.proofs.Promoting.{begun-is, none-begins}
-use Rattle.pat_world.proofs.ServerCommanding.{begun-comes, timeline-below}
-use Rattle.pat_world.proofs.Worlds.{seen}
+use Rattle.pat_world.specs.Room.{HasRoom, beginning_cost, promotion_cost, replica_start_cost, stopping_cost}
 use Rattle.pat_world.proofs.world.World.begin.Goals as goal
 
+-- src/world/servers.rt:38:30
 pub promoted_timeline-requires : goal.promoted_timeline-requires
-promoted_timeline-requires c = timeline-below (seen c.self.inside) c.args.member.id.number (subst (λ (b : Cluster). HasRoom b 2) (sym c.self.view_is) c.requires)
+promoted_timeline-requires c = ?
+
+-- src/world/servers.rt:43:9
+pub happen_then-requires-clause-first : goal.happen_then-requires-clause-first
+happen_then-requires-clause-first c = ?
