@@ -1,4 +1,4 @@
-use Rattle.std.proofs.Common.{◌∙◌, List, ap, sym, subst}
+use Rattle.std.proofs.Common.{◌∙◌, List, sym, subst}
 use Rattle.std.proofs.lemmas.List.{length-map}
 use Rattle.lease_store.specs.Defaults.{default_settings}
 use Rattle.cluster_script.specs.Steps.{steps_of}
