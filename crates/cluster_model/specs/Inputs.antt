@@ -54,9 +54,13 @@ abbrev pub has_work : Ticks → Option Outcome → Bool
 has_work now None = false
 has_work now (Some o) = is_due now o.role o.knows o.machine
 
--- an agent that runs, isn't suspended and has something to do
+-- an agent that runs and isn't suspended
+abbrev pub may_act : AgentProcess → Bool
+may_act process = process.running && not process.suspended
+
+-- one that has something to do besides
 abbrev pub is_to_wake : Ticks → AgentProcess → Option Outcome → Bool
-is_to_wake now process o = process.running && (not process.suspended && has_work now o)
+is_to_wake now process o = may_act process && has_work now o
 
 -- an agent that starts at this moment, in its run of this number: its first turn is due in the next tick
 abbrev pub starting_agent : Who → ℕ → ℕ → AgentFacts

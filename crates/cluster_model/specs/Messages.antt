@@ -33,7 +33,7 @@ use Rattle.cluster_model.specs.declared.heard_message.HeardMessage.{HeardMessage
 use Rattle.cluster_model.specs.Deliveries.{delivery_of}
 use Rattle.cluster_model.specs.Hearing.{heard_from}
 use Rattle.cluster_model.specs.Commands.{kinds_of}
-use Rattle.cluster_model.specs.Inputs.{moment_of, outcome_of, outcome_of_heard, outputs_of, standing_of, is_to_wake}
+use Rattle.cluster_model.specs.Inputs.{moment_of, outcome_of, outcome_of_heard, may_act, outputs_of, standing_of, is_to_wake}
 use Rattle.cluster_model.specs.Limits.{most_in_flight}
 use Rattle.cluster_model.specs.Orders.{declared_member, order_kind, replica_start_kinds, server_at, stop_kinds, promotion_kinds, feed_kinds, arming, feeding}
 use Rattle.cluster_model.specs.Parts.{event_of, events_of, events_then, for_some, each}
@@ -96,6 +96,14 @@ no_message = record { number = 0; run = 0; sent = record { 0 = 0 } }
 -- the agent of a member is woken, and acts
 abbrev pub wake_events_of : Cluster → Member → List Event
 wake_events_of cluster member = events_then cluster (event_of cluster (kinds.Agent (Woken member))) (λ later. input_events later member no_message (outcome_of cluster member Wake))
+
+-- a script wakes the agent of a member, where it runs and isn't suspended: one with nothing else to do takes note of its server
+abbrev pub turn_events_if : Cluster → Member → AgentProcess → List Event
+turn_events_if cluster member process = if may_act process then wake_events_of cluster member else []
+
+-- a script wakes the agent of a member, where there is one that may act
+abbrev pub turn_events : Cluster → Member → List Event
+turn_events cluster member = for_some (slice_get cluster.book.agents member.id.number) (turn_events_if cluster member)
 
 -- the agent of a member is woken, where it has something to do
 abbrev pub wake_events_if : Cluster → Member → AgentProcess → List Event

@@ -19,10 +19,10 @@ use Rattle.cluster_script.specs.declared.line.Command.TheVariants as commands
 use Rattle.cluster_script.specs.declared.line.Step.{Step}
 use Rattle.cluster_script.specs.declared.line.Step.TheVariants as steps
 use Rattle.cluster_model.specs.Acknowledging.{acknowledge_kinds}
-use Rattle.cluster_model.specs.Commands.{kinds_of, hold_of, resume_of, kill_of, restarted, disarm_of, link_of, cut_of, join_of}
+use Rattle.cluster_model.specs.Commands.{kinds_of, hold_of, resume_of, kill_of, restarted, disarm_at_start, link_of, cut_of, join_of}
 use Rattle.cluster_model.specs.Limits.{most_rounds}
 use Rattle.cluster_model.specs.Machines.{machine_of}
-use Rattle.cluster_model.specs.Messages.{wake_events, message_events, deliver_events, lose_events}
+use Rattle.cluster_model.specs.Messages.{wake_events, turn_events, message_events, deliver_events, lose_events}
 use Rattle.cluster_model.specs.Parts.{event_of, events_of, events_then, for_some, each, is_empty}
 use Rattle.cluster_model.specs.ServerCommands.{promote_kinds, crash_of, freezing_of, slow_of, commit_of}
 use Rattle.cluster_model.specs.State.{Cluster}
@@ -95,8 +95,7 @@ command_kind cluster _ = None
 
 -- the agent of a member starts, where it doesn't run
 abbrev pub restart_events_of : Cluster → Member → AgentProcess → List Event
-restart_events_of cluster member process =
-    events_then cluster (event_of cluster (restarted member process)) (λ later. if process.running then [] else events_of later (kinds_of (disarm_of member (machine_of cluster member))))
+restart_events_of cluster member process = events_of cluster (restarted member process ∷ kinds_of (disarm_at_start member process (machine_of cluster member)))
 
 -- the agent of a member starts, where there is one that doesn't run
 abbrev pub restart_events : Cluster → Member → List Event
@@ -104,7 +103,7 @@ restart_events cluster member = for_some (slice_get cluster.book.agents member.i
 
 -- the events of a command
 abbrev pub command_events : Cluster → Command → List Event
-command_events cluster (commands.Turn id) = for_some (declared cluster id) (wake_events cluster)
+command_events cluster (commands.Turn id) = for_some (declared cluster id) (turn_events cluster)
 command_events cluster (commands.Deliver number) = deliver_events cluster number (in_flight cluster.book.flight number)
 command_events cluster (commands.Lose number) = lose_events cluster number (in_flight cluster.book.flight number)
 command_events cluster (commands.Restart id) = for_some (declared cluster id) (restart_events cluster)

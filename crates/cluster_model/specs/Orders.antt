@@ -98,11 +98,15 @@ require_of members member required s =
 abbrev pub hold_taken : Member → Ticks → ℕ → ℕ → Member → EventKind
 hold_taken member until run sequence from = kinds.Watchdog (watchdogs.HoldTaken member until from run sequence)
 
+-- what an agent tells of its watchdog, but for its feeds
+abbrev pub told_of : Member → Output → Option EventKind
+told_of member outputs.Disarmed = Some (kinds.Watchdog (watchdogs.Disarmed member))
+told_of member outputs.CannotArm = Some (kinds.Note (notes.CannotArm member))
+told_of member _ = None
+
 -- what an order comes to that brings one event at most, at the member's server, on the message that was heard
 abbrev pub order_kind : Cluster → Member → HeardMessage → Output → Option EventKind
 order_kind cluster member heard (outputs.Follow leader) = option_and_then (upstream_of member (slice_get cluster.book.members leader.number)) (server_at cluster member)
 order_kind cluster member heard (outputs.Require required) = option_and_then (require_of cluster.book.members member required) (server_at cluster member)
-order_kind cluster member heard outputs.Disarmed = Some (kinds.Watchdog (watchdogs.Disarmed member))
-order_kind cluster member heard outputs.CannotArm = Some (kinds.Note (notes.CannotArm member))
 order_kind cluster member heard (outputs.HoldTaken until from sequence) = option_map (hold_taken member until heard.run sequence) (slice_get cluster.book.members from.number)
-order_kind cluster member heard _ = None
+order_kind cluster member heard output = told_of member output

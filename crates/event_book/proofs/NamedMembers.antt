@@ -19,7 +19,7 @@ use Rattle.event_book.specs.declared.member.Member.{Member}
 use Rattle.event_book.specs.NameLists.{name_cmp, with_name, with_names, names_of, IsNameIn, IsListOf}
 use Rattle.event_book.proofs.RisingNames.{names_of-rises}
 
-insert-kept : {K : Type 0} (cmp : K → K → Ordering) (k : K) (xs : List K) (y : K) → Contains xs y → Contains (insert_key cmp xs k) y
+pub insert-kept : {K : Type 0} (cmp : K → K → Ordering) (k : K) (xs : List K) (y : K) → Contains xs y → Contains (insert_key cmp xs k) y
 insert-kept cmp k [] y there = Contains-append_right (k ∷ []) [] y there
 insert-kept cmp k (x ∷ xs) y there = go (cmp k x) (insert-kept cmp k xs y)
   where
@@ -28,7 +28,7 @@ insert-kept cmp k (x ∷ xs) y there = go (cmp k x) (insert-kept cmp k xs y)
     go Equal more = there
     go Greater more = elim (Contains-append_cases (x ∷ []) xs y there) [ inl h ↦ Contains-append_left (x ∷ []) (insert_key cmp xs k) y h | inr h ↦ Contains-append_right (x ∷ []) (insert_key cmp xs k) y (more h) ]
 
-insert-there : {K : Type 0} (cmp : K → K → Ordering) → CmpEqualImpliesEq cmp → (k : K) (xs : List K) → Contains (insert_key cmp xs k) k
+pub insert-there : {K : Type 0} (cmp : K → K → Ordering) → CmpEqualImpliesEq cmp → (k : K) (xs : List K) → Contains (insert_key cmp xs k) k
 insert-there cmp exact k [] = Contains-push [] k
 insert-there cmp exact k (x ∷ xs) = go (cmp k x) refl (insert-there cmp exact k xs)
   where
@@ -37,7 +37,7 @@ insert-there cmp exact k (x ∷ xs) = go (cmp k x) refl (insert-there cmp exact 
     go Equal is more = subst (Contains (x ∷ xs)) (sym (exact k x is)) (Contains-append_left (x ∷ []) xs x (Contains-push [] x))
     go Greater is more = Contains-append_right (x ∷ []) (insert_key cmp xs k) k more
 
-name_cmp-exact : CmpEqualImpliesEq name_cmp
+pub name_cmp-exact : CmpEqualImpliesEq name_cmp
 name_cmp-exact a b is = name_bytes-injective a b (exact_bytes (name_bytes a) (name_bytes b) is)
 
 with_name-kept : (test : Bool) (name : Name) (names : List Name) (y : Name) → Contains names y → Contains (with_name test name names) y

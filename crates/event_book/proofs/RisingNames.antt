@@ -28,7 +28,7 @@ all-after : {K : Type 0} (cmp : K → K → Ordering) → IsTotalOrder cmp → (
 all-after cmp total k x [] less below = tt
 all-after cmp total k x (y ∷ ys) less below = (total.trans k x y less below.0, all-after cmp total k x ys less below.1)
 
-rises-insert : {K : Type 0} (cmp : K → K → Ordering) → IsTotalOrder cmp → (k : K) (xs : List K) → IsStrictlySortedBy cmp xs → IsStrictlySortedBy cmp (insert_key cmp xs k)
+pub rises-insert : {K : Type 0} (cmp : K → K → Ordering) → IsTotalOrder cmp → (k : K) (xs : List K) → IsStrictlySortedBy cmp xs → IsStrictlySortedBy cmp (insert_key cmp xs k)
 unfolding IsStrictlySortedBy
 rises-insert cmp total k [] rises = (tt, tt)
 rises-insert cmp total k (x ∷ xs) rises = go (cmp k x) refl (rises-insert cmp total k xs rises.1)

@@ -1,5 +1,5 @@
 -- What a granted request brings an agent.
-use Rattle.std.proofs.Common.{◌≡◌, ℕ, ◌++◌, ◌&&◌, ◌||◌, Bool, true, false, not, if◌then◌else◌, List, [], ◌∷◌, Some, None, refl, sym, inl, inr}
+use Rattle.std.proofs.Common.{◌≡◌, ℕ, ◌&&◌, ◌||◌, Bool, true, false, not, if◌then◌else◌, List, [], ◌∷◌, Some, None, refl, sym, inl, inr}
 use Rattle.pat_base.specs.declared.ticks.Ticks.{Ticks}
 use Rattle.lease_store.specs.declared.granted.Granted.{Granted}
 use Rattle.leader_key.specs.Watchdog.{is_armable}
@@ -22,7 +22,7 @@ use Rattle.ha_loop.proofs.Bringing.{same-role, no-lease}
 use Rattle.ha_loop.proofs.Living.{no-way, stop-live}
 use Rattle.ha_loop.proofs.Rows.{if-cases, granted-by}
 
-take-free : (held replica : Bool) → not held && replica ≡ true → held ≡ false
+pub take-free : (held replica : Bool) → not held && replica ≡ true → held ≡ false
 take-free true replica e = sym e
 take-free false replica e = refl
 
@@ -52,7 +52,7 @@ armed-told : (outs : List Output) (until : Ticks) (armable : Bool) → armable �
 armed-told outs until true is = one-last is_feeding outs (outputs.Armed until) refl
 armed-told outs until false is = absurd (no-way is)
 
-abbrev Told : SnapshotFacts → Outcome → Outcome
+abbrev pub Told : SnapshotFacts → Outcome → Outcome
 Told snapshot o = record o { knows = informed snapshot o.knows }
 
 renewed-may : (now : Ticks) (sequence : ℕ) (grant : Granted) (snapshot : SnapshotFacts) (o : Outcome) (awaited : IsAwaitedLease sequence grant o.knows) → GrantMay now sequence grant snapshot o (leader_renewed now awaited.waited.ttl grant.revision (Told snapshot o))
@@ -74,8 +74,8 @@ arms-may now sequence grant snapshot o awaited free = let back : Outcome = gives
     if-cases (GrantMay now sequence grant snapshot o) (is_refusing o.machine.watchdog.mode o.machine.watchdog.works) back (begins now grant.revision arm)
     (λ _. Nothing (no-lease o back refl refl (λ e. e)) refl)
     (λ ready. Leads awaited refl refl refl refl
-      (λ armable. one-before is_feeding (listed (outputs.Require Nobody) arm.outputs) outputs.Promote (one-before is_feeding arm.outputs (outputs.Require Nobody) (armed-told o.outputs _ (is_armable o.machine.watchdog.mode o.machine.watchdog.works) armable)))
-      (λ _. inr free) (λ _. inr ready))
+    (λ armable. one-before is_feeding (listed (outputs.Require Nobody) arm.outputs) outputs.Promote (one-before is_feeding arm.outputs (outputs.Require Nobody) (armed-told o.outputs _ (is_armable o.machine.watchdog.mode o.machine.watchdog.works) armable)))
+    (λ _. inr free) (λ _. inr ready))
 
 takes-may : (now : Ticks) (sequence : ℕ) (grant : Granted) (snapshot : SnapshotFacts) (o : Outcome) (awaited : IsAwaitedLease sequence grant o.knows) → GrantMay now sequence grant snapshot o (takes_key now awaited.waited.ttl grant.revision (Told snapshot o))
 takes-may now sequence grant snapshot o awaited = let back : Outcome = gives_back grant.revision (Told snapshot o) in

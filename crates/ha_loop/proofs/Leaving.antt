@@ -20,24 +20,24 @@ use Rattle.ha_loop.proofs.Living.{no-way}
 use Rattle.ha_loop.proofs.Rows.{before-by, overdue-by, turn-by, wake-by, got-by, refused-by, follow-by, free-by}
 
 -- neither changes
-record Stays (o after : Outcome) : Type 0 where
-  watchdog : after.machine.watchdog ≡ o.machine.watchdog
-  hold : after.machine.hold ≡ o.machine.hold
+pub record Stays (o after : Outcome) : Type 0 where
+  pub watchdog : after.machine.watchdog ≡ o.machine.watchdog
+  pub hold : after.machine.hold ≡ o.machine.hold
 
 stays : {o : Outcome} → Stays o o
 stays = record { watchdog = refl; hold = refl }
 
 -- nobody acts whose server isn't live and who isn't about to begin
-rests-by : (o : Outcome) → live o.machine.server.state ≡ false → is_ready o.role ≡ false → Acts o → ⊥
+pub rests-by : (o : Outcome) → live o.machine.server.state ≡ false → is_ready o.role ≡ false → Acts o → ⊥
 rests-by o ended unready (inl lives) = no-way (sym ended ∙ lives)
 rests-by o ended unready (inr ready) = no-way (sym unready ∙ ready)
 
-acts-before : (o after : Outcome) → BringsNothing o after → Acts after → Acts o
+pub acts-before : (o after : Outcome) → BringsNothing o after → Acts after → Acts o
 acts-before o after brings (inl lives) = inl (brings.live lives)
 acts-before o after brings (inr ready) = inr (brings.ready ready)
 
 -- what comes behind leaves them as they are
-behind : (o middle after : Outcome) → LeavesMachine o middle → Stays middle after → BringsNothing middle after → LeavesMachine o after
+pub behind : (o middle after : Outcome) → LeavesMachine o middle → Stays middle after → BringsNothing middle after → LeavesMachine o after
 behind o middle after leaves stay brings = record {
   deadline = elim leaves.deadline [
     | Kept same ↦ Kept (stay.watchdog ∙ same)

@@ -6,3 +6,9 @@ pub mod Bringing
 pub mod Leaving
 pub mod Granting
 pub mod Orders
+pub mod Knowing
+pub mod Sending
+pub mod Lawful
+pub mod LawfulGrants
+pub mod LawfulSteps
+pub mod Asking

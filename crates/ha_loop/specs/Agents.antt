@@ -1,5 +1,5 @@
 -- Where an agent stands.
-use Rattle.std.specs.Prelude.{ℕ, ◌≤◌, ◌<◌, ◌^◌, false, List, None}
+use Rattle.std.specs.Prelude.{ℕ, ◌≡◌, ◌≤◌, ◌<◌, ◌^◌, false, List, Option, None}
 use Rattle.std.specs.Option.{ForSome}
 use Rattle.pat_base.specs.declared.ticks.Ticks.{Ticks}
 use Rattle.leader_key.specs.Lease.{lease_revision, armed_revision, writer_revision}
@@ -9,6 +9,7 @@ use Rattle.cluster_config.specs.declared.view.RoleWord.{RoleWord}
 use Rattle.cluster_config.specs.declared.view.RoleWord.TheVariants as words
 use Rattle.pg_model.specs.declared.status.ServerStatus.{ServerStatus}
 use Rattle.ha_loop.specs.declared.knowledge.Knowledge.{Knowledge}
+use Rattle.ha_loop.specs.declared.knowledge.Waited.{Waited}
 use Rattle.ha_loop.specs.declared.machine.Machine.{Machine}
 use Rattle.ha_loop.specs.declared.output.Output.{Output}
 use Rattle.ha_loop.specs.declared.role.Role.{Role}
@@ -60,6 +61,21 @@ most_messages = 2 ^ 60
 pub record IsSound (knows : Knowledge) : Type 0 where
   pub turn : ForSome knows.last_turn (λ moment. moment.0 ≤ latest)
   pub span : ForSome knows.waited (λ waited. IsLeaseSpan waited.ttl.0)
+
+-- who ends its server waits for no answer
+abbrev pub EndsAlone : RoleFacts → Option Waited → Type 0
+EndsAlone (Ending revision why) waited = waited ≡ None
+EndsAlone _ waited = Unit {0}
+
+-- what is waited for has a number that is counted
+abbrev pub HasCounted : Knowledge → Type 0
+HasCounted knows = ForSome knows.waited (λ waited. waited.sequence ≤ knows.sequence)
+
+-- what holds of an agent
+pub record IsSoundAgent (role : RoleFacts) (knows : Knowledge) : Type 0 where
+  pub sound : IsSound knows
+  pub ends : EndsAlone role knows.waited
+  pub counted : HasCounted knows
 
 -- what holds of a server that is reckoned with
 pub record IsWithin (server : ServerStatus) : Type 0 where

@@ -1,12 +1,15 @@
 pub mod Acting
 pub mod Agents
+pub mod Asking
 pub mod Before
 pub mod Decisions
 pub mod Fits
 pub mod Info
+pub mod Lawful
 pub mod Orders
 pub mod Outputs
 pub mod Powers
+pub mod Seen
 pub mod Snapshots
 pub mod Start
 pub mod Table

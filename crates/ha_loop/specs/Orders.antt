@@ -8,7 +8,7 @@ use Rattle.ha_loop.specs.declared.machine.Machine.{Machine}
 use Rattle.ha_loop.specs.declared.output.Output.{Output}
 use Rattle.ha_loop.specs.declared.output.Output.TheVariants as outputs
 use Rattle.ha_loop.specs.declared.output.Target.TheVariants as targets
-use Rattle.ha_loop.specs.Acting.{upstream_of}
+use Rattle.ha_loop.specs.Acting.{upstream_of, without_deadline}
 use Rattle.ha_loop.specs.Agents.{Outcome}
 
 -- the machine with this server
@@ -16,8 +16,8 @@ abbrev pub with_server : ServerStatus → Machine → Machine
 with_server server machine = record machine { server = server }
 
 -- the machine with this deadline of its watchdog
-abbrev pub with_deadline : Option Ticks → Machine → Machine
-with_deadline deadline machine = record machine { watchdog = record machine.watchdog { deadline = deadline } }
+abbrev pub with_deadline : Ticks → Machine → Machine
+with_deadline deadline machine = record machine { watchdog = record machine.watchdog { deadline = Some deadline } }
 
 -- until when a member holds that promises it until this moment: a hold never ends earlier
 abbrev pub later_hold : Ticks → Option Ticks → Ticks
@@ -30,9 +30,9 @@ machine_after_output now machine outputs.Promote = with_server (status_promoted 
 machine_after_output now machine (outputs.StartReplica leader) = with_server (status_replica_started now (upstream_of leader) machine.server) machine
 machine_after_output now machine (outputs.Stop reason) = with_server (status_stopping now machine.server) machine
 machine_after_output now machine (outputs.Follow leader) = with_server (status_following (server_id_of leader) machine.server) machine
-machine_after_output now machine (outputs.Armed until) = with_deadline (Some until) machine
-machine_after_output now machine (outputs.Fed until) = with_deadline (Some until) machine
-machine_after_output now machine outputs.Disarmed = with_deadline None machine
+machine_after_output now machine (outputs.Armed until) = with_deadline until machine
+machine_after_output now machine (outputs.Fed until) = with_deadline until machine
+machine_after_output now machine outputs.Disarmed = without_deadline machine
 machine_after_output now machine (outputs.HoldTaken until from sequence) = record machine { hold = Some (later_hold until machine.hold) }
 machine_after_output now machine _ = machine
 

@@ -1,7 +1,11 @@
 //! Agents.
-ghost use Rattle.std.specs.Prelude.{◌≡◌, ◌≤◌, ◌<◌, ◌+◌, ◌-◌, ◌^◌, Some, None, false, option_copied};
+ghost use Rattle.std.specs.Prelude.{ℕ, Bool, ◌≡◌, ◌≤◌, ◌<◌, ◌+◌, ◌-◌, ◌^◌, [], Some, None, false, option_copied};
+ghost use Rattle.lease_law.specs.States.{start_machine};
+ghost use Rattle.ha_loop.specs.declared.heard.Heard.TheVariants as heards;
 ghost use Rattle.ha_loop.specs.Agents.{AgentFacts, RoleFacts, IsSound, IsWithin, Follower, role_of, word_of, fresh_knowledge, made, latest, most_messages};
+ghost use Rattle.ha_loop.specs.Lawful.{IsLawfulFrom};
 ghost use Rattle.ha_loop.specs.Outputs.{most_outputs};
+ghost use Rattle.ha_loop.specs.Seen.{machine_with, machine_seen};
 ghost use Rattle.ha_loop.specs.Start.{started_machine};
 ghost use Rattle.ha_loop.specs.Table.{step, act};
 ghost use Rattle.ha_loop.specs.Wake.{is_due};
@@ -29,13 +33,13 @@ pub struct Agent {
 }
 
 impl Model for Agent {
-    ghost use Rattle.ha_loop.specs.Agents.{AgentFacts, IsSound, role_of};
+    ghost use Rattle.ha_loop.specs.Agents.{AgentFacts, IsSoundAgent, role_of};
 
     ghost Value = { AgentFacts };
 
     ghost view = { λ a. record { role = role_of a.role; knows = a.knows } };
 
-    ghost invariant = { λ a. IsSound a.knows };
+    ghost invariant = { λ a. IsSoundAgent (role_of a.role) a.knows };
 }
 
 impl Agent {
@@ -45,6 +49,7 @@ impl Agent {
         requires { now.0 ≤ latest }
         ensures agent { result ≡ record { role = Follower; knows = fresh_knowledge who (record { 0 = now.0 + 1 }) run } }
         ensures machine { machine.new ≡ started_machine machine.old }
+        ensures law { (runs : ℕ) (by_failsafe : Bool) → run ≡ runs + 1 → machine_seen result.role result.knows machine.new by_failsafe run ≡ start_machine (machine_with None machine.old by_failsafe runs) }
     {
         if !machine.server.state.live() {
             machine.watchdog.disarm();
@@ -71,7 +76,8 @@ impl Agent {
     }
 
     /// One input, by the decision table. `history` is that of the own server. It takes no memory and refuses nothing; the
-    /// machine is what it reckons with, and who carries out the outputs in their order arrives at the same.
+    /// machine is what it reckons with, and who carries out the outputs in their order arrives at the same. Where no output stood
+    /// before, the input is lawful by the law of the lease.
     pub fn step(
         self,
         now: Ticks,
@@ -85,6 +91,7 @@ impl Agent {
         requires numbers { self.knows.sequence + most_outputs ≤ most_messages }
         requires room { most_outputs ≤ out.old.spare }
         ensures outcome { made result.role result.knows machine.new out.new.outputs ≡ step now history.now.points heard (made self.role self.knows machine.old out.old.outputs) }
+        ensures lawful { out.old.outputs ≡ [] → IsLawfulFrom now heard (made self.role self.knows machine.old []) (made result.role result.knows machine.new out.new.outputs) }
         ensures numbers { result.knows.sequence ≤ self.knows.sequence + most_outputs }
         ensures room { out.old.spare ≤ out.new.spare + most_outputs }
     {
@@ -104,6 +111,7 @@ impl Agent {
         requires numbers { self.knows.sequence + most_outputs ≤ most_messages }
         requires room { most_outputs ≤ out.old.spare }
         ensures outcome { made result.role result.knows machine.new out.new.outputs ≡ act now (made self.role self.knows machine.old out.old.outputs) }
+        ensures lawful { out.old.outputs ≡ [] → IsLawfulFrom now heards.Wake (made self.role self.knows machine.old []) (made result.role result.knows machine.new out.new.outputs) }
         ensures numbers { result.knows.sequence ≤ self.knows.sequence + most_outputs }
         ensures room { out.old.spare ≤ out.new.spare + most_outputs }
     {

@@ -11,7 +11,8 @@ ghost use Rattle.ha_loop.specs.declared.heard.Heard.{Heard};
 ghost use Rattle.ha_loop.specs.declared.heard.Heard.TheVariants as heard;
 ghost use Rattle.ha_loop.specs.declared.knowledge.Knowledge.{Knowledge};
 ghost use Rattle.ha_loop.specs.declared.machine.Machine.{Machine};
-ghost use Rattle.ha_loop.specs.Agents.{RoleFacts, Outcome, made};
+ghost use Rattle.ha_loop.specs.Agents.{RoleFacts, IsSoundAgent, Outcome, made};
+ghost use Rattle.ha_loop.specs.Asking.{AsksAsWaited};
 ghost use Rattle.ha_loop.specs.Before.{before};
 ghost use Rattle.ha_loop.specs.Fits.{Fits};
 ghost use Rattle.ha_loop.specs.Orders.{IsCarriedOut};
@@ -53,4 +54,11 @@ pub fn a_grant_feeds_the_watchdog()
 pub fn outputs_make_the_machine()
     ensures step { (now : Ticks) (points : List HistoryPoint) (heard : Heard) (role : RoleFacts) (knows : Knowledge) (machine : Machine) → IsCarriedOut now machine (step now points heard (made role knows machine [])) }
     ensures action { (now : Ticks) (role : RoleFacts) (knows : Knowledge) (machine : Machine) → IsCarriedOut now machine (act now (made role knows machine [])) }
+{}
+
+/// An input sends under new numbers, and the create or the renewal that its agent waits for after it was waited for before, or is
+/// asked in it: at this moment, and for leases of the span that is noted with it.
+pub fn what_is_asked_is_waited_for()
+    ensures step { (now : Ticks) (points : List HistoryPoint) (heard : Heard) (role : RoleFacts) (knows : Knowledge) (machine : Machine) → IsSoundAgent role knows → AsksAsWaited now (made role knows machine []) (step now points heard (made role knows machine [])) }
+    ensures action { (now : Ticks) (role : RoleFacts) (knows : Knowledge) (machine : Machine) → IsSoundAgent role knows → AsksAsWaited now (made role knows machine []) (act now (made role knows machine [])) }
 {}

@@ -22,7 +22,7 @@ pub use heard::Heard;
 pub use knowledge::{Knowledge, Question, Waited};
 pub use laws::{
     a_grant_feeds_the_watchdog, only_a_grant_lets_lead, only_a_grant_sets_deadlines,
-    outputs_make_the_machine, role_fits_server,
+    outputs_make_the_machine, role_fits_server, what_is_asked_is_waited_for,
 };
 pub use machine::Machine;
 pub use output::{Output, Target};

@@ -20,9 +20,11 @@ use Rattle.event_book.specs.declared.event.ReplicationEvent.TheVariants as repli
 use Rattle.event_book.specs.declared.member.Member.{Member}
 use Rattle.event_book.specs.declared.member.ServerOf.{ServerOf}
 use Rattle.event_book.specs.Members.{server_of}
-use Rattle.pat_world.specs.Acknowledging.{acknowledge_kinds, acknowledgement, confirmed_front, ready_commits, AreAcknowledged, IsDone}
-use Rattle.pat_world.specs.Cluster.{Cluster, cluster_after, cluster_over}
-use Rattle.pat_world.specs.Next.{acknowledge_events, events_of, each, events_then, event_of}
+use Rattle.cluster_model.specs.Acknowledging.{acknowledge_kinds, acknowledgement, confirmed_front, ready_commits, AreAcknowledged, IsDone}
+use Rattle.cluster_model.specs.Cluster.{cluster_after, cluster_over}
+use Rattle.cluster_model.specs.State.{Cluster}
+use Rattle.cluster_model.specs.Next.{acknowledge_events}
+use Rattle.cluster_model.specs.Parts.{events_of, each, events_then, event_of}
 use Rattle.pat_world.specs.Room.{HasRoom}
 use Rattle.pat_world.specs.Emits.{Emits}
 use Rattle.pat_world.proofs.Deciding.{stamped-is}
@@ -121,7 +123,8 @@ HasRoom-acknowledged cluster member commit events room = record {
   revision = room.revision;
   sent = room.sent;
   runs = room.runs;
-  agent_states = room.agent_states;
+  numbers = room.numbers;
+  agents = room.agents;
   timelines = with-all (HasTimeline events) (HasTimeline events) cluster.book.servers member.id.number one_told room.timelines (λ s has. has) (λ s has. has);
   commits = room.commits;
 }

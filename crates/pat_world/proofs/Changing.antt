@@ -3,9 +3,10 @@ use Rattle.std.proofs.Common.{◌≡◌, ℕ, ◌≤◌, List, Option, arith, sy
 use Rattle.event_book.specs.declared.event.Event.{Event}
 use Rattle.event_book.specs.declared.event.EventKind.{EventKind}
 use Rattle.cluster_script.specs.declared.line.Command.{Command}
-use Rattle.pat_world.specs.Cluster.{Cluster}
-use Rattle.pat_world.specs.Commands.{kinds_of}
-use Rattle.pat_world.specs.Next.{events_of, command_events, command_kind}
+use Rattle.cluster_model.specs.State.{Cluster}
+use Rattle.cluster_model.specs.Commands.{kinds_of}
+use Rattle.cluster_model.specs.Next.{command_events, command_kind}
+use Rattle.cluster_model.specs.Parts.{events_of}
 use Rattle.pat_world.specs.Room.{command_cost}
 use Rattle.pat_world.specs.Emits.{Emits}
 use Rattle.pat_world.proofs.Taking.{Emits-weaker}

@@ -5,14 +5,21 @@ use Rattle.event_book.specs.declared.agent_process.AgentProcess.{AgentProcess}
 use Rattle.event_book.specs.declared.event.Event.{Event}
 use Rattle.event_book.specs.declared.event.EventKind.{EventKind}
 use Rattle.event_book.specs.declared.event.EventKind.TheVariants as kinds
+use Rattle.event_book.specs.declared.event.AgentEvent.{AgentEvent}
+use Rattle.event_book.specs.declared.event.AgentEvent.TheVariants as agents
+use Rattle.event_book.specs.declared.event.MessageEvent.{MessageEvent}
 use Rattle.event_book.specs.declared.event.MessageEvent.TheVariants as messages
-use Rattle.event_book.specs.Agents.{agents_after}
+use Rattle.event_book.specs.declared.event.WatchdogEvent.{WatchdogEvent}
+use Rattle.event_book.specs.declared.event.WatchdogEvent.TheVariants as watchdogs
+use Rattle.event_book.specs.Agents.{agents_after, agents_by_watchdog}
 use Rattle.event_book.specs.Flight.{Flight, InFlightFacts, in_flight, sent_after}
 use Rattle.event_book.specs.Links.{CutLinks, cuts_after}
-use Rattle.pat_world.specs.Cluster.{Cluster, cluster_after}
+use Rattle.cluster_model.specs.Cluster.{agent_facts_after, agent_facts_by, agent_facts_by_message, agent_facts_moved, cluster_after}
+use Rattle.cluster_model.specs.State.{Cluster}
+use Rattle.pat_world.specs.Apart.{agents_apart}
 use Rattle.pat_world.specs.Comes.{Counts, IsBare}
-use Rattle.pat_world.specs.Next.{event_of}
-use Rattle.pat_world.specs.Settled.{AreKeptBelow, settled_after}
+use Rattle.cluster_model.specs.Parts.{event_of}
+use Rattle.pat_world.specs.Settled.{AreKeptBelow, settled_by, settled_after}
 use Rattle.pat_world.specs.Emits.{Emits}
 use Rattle.pat_world.proofs.Deciding.{stamped-is}
 use Rattle.pat_world.proofs.Settling.{kept-fewer, kept-nothing}
@@ -34,10 +41,15 @@ cleared mark before after agents states cuts links = record { below = omega arit
 same-mark : (mark : ℕ) (before after : Flight) (agents : List AgentProcess) (cuts : CutLinks) → IsMarked mark mark before after agents agents cuts cuts
 same-mark mark before after agents cuts = record { below = omega arith; kept = λ kept others. kept-fewer mark before after agents cuts kept others }
 
+marked-by : (mark : ℕ) (before after : Flight) (agents : List AgentProcess) (cuts : CutLinks) (happening : WatchdogEvent) → IsMarked mark (settled_by mark happening) before after agents (agents_by_watchdog agents happening) cuts cuts
+marked-by mark before after agents cuts (watchdogs.Reset member) = cleared mark before after agents _ cuts cuts
+marked-by mark before after agents cuts _ = same-mark mark before after agents cuts
+
 -- below the mark all is kept after what sends no message
 pub marked : (mark : ℕ) (before after : Flight) (agents : List AgentProcess) (cuts : CutLinks) (kind : EventKind) → IsMarked mark (settled_after mark kind) before after agents (agents_after agents kind) cuts (cuts_after cuts kind)
 marked mark before after agents cuts (kinds.Agent happening) = cleared mark before after agents _ cuts cuts
 marked mark before after agents cuts (kinds.Link happening) = cleared mark before after agents agents cuts _
+marked mark before after agents cuts (kinds.Watchdog happening) = marked-by mark before after agents cuts happening
 marked mark before after agents cuts _ = same-mark mark before after agents cuts
 
 -- one thing happened, and was written down
@@ -45,3 +57,17 @@ pub Emits-told : (before after : Cluster) (tick : Ticks) (kind : EventKind) (had
     → Emits before after had has (event_of before kind) 1
 Emits-told before after tick kind had has counts state at told =
     Emits-one before after had has kind counts state (told ∙ ap (λ es. had ++ es) (stamped-is before tick kind (at ∙ ap (λ (c : Cluster). c.book.clock) state)))
+
+-- what becomes of agents where nothing is brought that they act on
+agents-apart-by : (cluster : Cluster) (happening : AgentEvent) → IsBare (kinds.Agent happening) → agent_facts_by cluster happening ≡ agent_facts_moved cluster.scope cluster.book.members cluster.book.clock cluster.agents happening
+agents-apart-by cluster (agents.Woken member) bare = absurd bare
+agents-apart-by cluster _ bare = refl
+
+agents-apart-message : (cluster : Cluster) (happening : MessageEvent) → IsBare (kinds.Message happening) → agent_facts_by_message cluster happening ≡ cluster.agents
+agents-apart-message cluster (messages.Delivered number) bare = absurd bare
+agents-apart-message cluster _ bare = refl
+
+pub agents-apart : (cluster : Cluster) (kind : EventKind) → IsBare kind → agent_facts_after cluster kind ≡ agents_apart cluster.scope cluster.book.members cluster.book.clock cluster.agents kind
+agents-apart cluster (kinds.Agent happening) bare = agents-apart-by cluster happening bare
+agents-apart cluster (kinds.Message happening) bare = agents-apart-message cluster happening bare
+agents-apart cluster _ bare = refl

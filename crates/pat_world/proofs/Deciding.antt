@@ -18,10 +18,15 @@ use Rattle.event_book.specs.declared.link.LinkEnd.TheVariants as link_ends
 use Rattle.event_book.specs.declared.member.Member.{Member}
 use Rattle.event_book.specs.declared.message.Body.TheVariants as bodies
 use Rattle.event_book.specs.declared.message.Message.{Message}
-use Rattle.event_book.specs.Flight.{InFlightFacts, in_flight, without_message}
-use Rattle.pat_world.specs.Cluster.{Cluster, cluster_after, agent_states_reached_at}
-use Rattle.pat_world.specs.Next.{event_of, for_some, send_events, answer_message, answer_events, decision_events, reaction_to_message, reaction_events, arrival_events, arrival_events_at}
-use Rattle.pat_world.specs.Room.{decision_cost, message_cost, reaction_cost, sending_cost}
+use Rattle.event_book.specs.Flight.{Flight, InFlightFacts, in_flight, without_message}
+use Rattle.cluster_model.specs.Cluster.{agent_facts_reached_at, cluster_after}
+use Rattle.cluster_model.specs.Hearing.{heard_from}
+use Rattle.cluster_model.specs.Inputs.{outcome_of_heard}
+use Rattle.cluster_model.specs.State.{Cluster}
+use Rattle.cluster_model.specs.Messages.{heard_message, input_events, send_events, answer_message, answer_events, decision_events, arrival_events, arrival_events_at}
+use Rattle.cluster_model.specs.Parts.{event_of, for_some}
+use Rattle.pat_world.specs.Room.{decision_cost, message_cost, outputs_cost, sending_cost}
+use Rattle.ha_loop.specs.Agents.{AgentFacts}
 use Rattle.pat_world.specs.Emits.{Emits}
 use Rattle.pat_world.specs.Comes.{Counts}
 use Rattle.pat_world.proofs.Taking.{Emits-nothing, Emits-one, Emits-then}
@@ -69,11 +74,23 @@ refused-took cluster after number by message txn key found tick had mid has from
     decision_events-is cluster after number by message txn (Refusal key found) had has from decision
     (Emits-after cluster cluster after had mid has tick (kinds.Store (stores.Refused number by (txn_kind_of txn) key found)) (λ later. send_events later (answer_message message (bodies.Refused number key found))) sending_cost decision_cost tt at refl mid_is rest (omega arith))
 
+-- a cluster with these messages in flight, and these agents
+abbrev pub landing : Cluster → Flight → List (Option AgentFacts) → Cluster
+landing cluster flight agents = record cluster { book = record cluster.book { flight = flight }; agents = agents }
+
 -- a message that came isn't in flight any more, and its agent has heard it
 pub arrived : (cluster : Cluster) (number : ℕ) (message : InFlightFacts) → in_flight cluster.book.flight number ≡ Some message
-    → ◌≡◌ {A = Cluster} (record { book = record cluster.book { flight = without_message cluster.book.flight number }; agent_states = agent_states_reached_at cluster.book.clock cluster.agent_states message message.message.to })
-    (cluster_after cluster (kinds.Message (Delivered number)))
+    → landing cluster (without_message cluster.book.flight number) (agent_facts_reached_at cluster message message.message.to) ≡ cluster_after cluster (kinds.Message (Delivered number))
 arrived cluster number message is = rw is refl
+
+-- so it is with this receiver
+pub hearing-is : (cluster : Cluster) (number : ℕ) (message : InFlightFacts) (to : LinkEnd) (flight : Flight) → flight ≡ without_message cluster.book.flight number
+    → message.message.to ≡ to → in_flight cluster.book.flight number ≡ Some message
+    → landing cluster flight (agent_facts_reached_at cluster message to) ≡ cluster_after cluster (kinds.Message (Delivered number))
+hearing-is cluster number message to flight flies receiver found =
+    ap (λ (f : Flight). landing cluster f (agent_facts_reached_at cluster message to)) flies
+    ∙ ap (λ (e : LinkEnd). landing cluster (without_message cluster.book.flight number) (agent_facts_reached_at cluster message e)) (sym receiver)
+    ∙ arrived cluster number message found
 
 pub stored-took : (cluster stored after : Cluster) (number : ℕ) (message : InFlightFacts) (tick : Ticks) (had mid has : List Event)
     → in_flight cluster.book.flight number ≡ Some message → message.message.to ≡ link_ends.Store → tick.0 ≡ cluster.book.clock → stored ≡ cluster_after cluster (kinds.Message (Delivered number))
@@ -83,13 +100,13 @@ stored-took cluster stored after number message tick had mid has is to at state 
     arrival_events-is cluster after number message link_ends.Store had has is to
     (Emits-after cluster stored after had mid has tick (kinds.Message (Delivered number)) (λ later. answer_events later number message.message) decision_cost message_cost tt at state mid_is rest (omega arith))
 
-pub heard-took : (cluster hearing after : Cluster) (number : ℕ) (message : InFlightFacts) (member : Member) (tick : Ticks) (had mid has : List Event)
+pub heard-took : (cluster hearing after : Cluster) (number : ℕ) (message : InFlightFacts) (member : Member) (tick : Ticks) (had has : List Event)
     → in_flight cluster.book.flight number ≡ Some message → message.message.to ≡ link_ends.Member member → tick.0 ≡ cluster.book.clock → hearing ≡ cluster_after cluster (kinds.Message (Delivered number))
-    → mid ≡ had ++ record { tick = tick; kind = kinds.Message (Delivered number) } ∷ [] → Emits hearing after mid has (reaction_events hearing member (reaction_to_message cluster.book.clock cluster.agent_states message member)) reaction_cost
+    → Emits hearing after (had ++ record { tick = tick; kind = kinds.Message (Delivered number) } ∷ []) has (input_events hearing member (heard_message number message) (outcome_of_heard cluster member (heard_from cluster message))) outputs_cost
     → Emits cluster after had has (for_some (in_flight cluster.book.flight number) (arrival_events cluster number)) message_cost
-heard-took cluster hearing after number message member tick had mid has is to at state mid_is rest =
+heard-took cluster hearing after number message member tick had has is to at state rest =
     arrival_events-is cluster after number message (link_ends.Member member) had has is to
-    (Emits-after cluster hearing after had mid has tick (kinds.Message (Delivered number)) (λ later. reaction_events later member (reaction_to_message cluster.book.clock cluster.agent_states message member)) reaction_cost message_cost tt at state mid_is rest (omega arith))
+    (Emits-after cluster hearing after had _ has tick (kinds.Message (Delivered number)) (λ later. input_events later member (heard_message number message) (outcome_of_heard cluster member (heard_from cluster message))) outputs_cost message_cost tt at state refl rest (omega arith))
 
 -- the event of a grant, with what was copied into it
 pub granted-event : (tick : Ticks) (number : ℕ) (by : Member) (copy txn : Txn) (names : List Name) → copy ≡ txn → names ≡ []

@@ -1,13 +1,14 @@
 -- The declared members are those of the script's head.
 use Rattle.std.proofs.Common.{◌≡◌, ℕ, ◌+◌, ◌<◌, ◌≤◌, nat_lt, Bool, true, false, List, [], ◌∷◌, length, arith, refl, ◌∙◌, ap}
 use Rattle.std.proofs.lemmas.Bool.Decides.{nat_tests}
+use Rattle.std.proofs.lemmas.List.{length-map}
 use Rattle.pat_base.specs.declared.name.Name.{Name}
 use Rattle.pat_base.specs.MemberId.{member_by}
-use Rattle.cluster_script.specs.Script.{HeadText}
+use Rattle.cluster_script.specs.Script.{HeadText, MemberText, names_of}
 use Rattle.event_book.specs.declared.member.Member.{Member}
 use Rattle.event_book.specs.Members.{members_from, put_first}
-use Rattle.pat_world.specs.Cluster.{cluster_of}
-use Rattle.pat_world.specs.Steps.{names_in}
+use Rattle.cluster_model.specs.Starting.{cluster_of}
+use Rattle.cluster_model.specs.Steps.{names_in}
 
 not-past : (n : ℕ) → nat_lt n 16 ≡ false → n < 16 → ⊥
 not-past n is below = grind (arith, nat_tests)
@@ -22,5 +23,5 @@ named-from number (name ∷ names) few =
     put-named number (nat_lt number 16) refl name (members_from (number + 1) names) (omega (arith, few)) ∙ ap (λ (ns : List Name). name ∷ ns) (named-from (number + 1) names (omega (arith, few)))
 
 -- before the first event the declared members have the names of the head
-pub names-start : (head : HeadText) → length head.members ≤ 16 → names_in (cluster_of head).book.members ≡ head.members
-names-start head few = named-from 0 head.members (omega (arith, few))
+pub names-start : (head : HeadText) → length head.members ≤ 16 → names_in (cluster_of head).book.members ≡ names_of head
+names-start head few = named-from 0 (names_of head) (omega (arith, few, length-map head.members (λ (m : MemberText). m.name)))

@@ -10,9 +10,13 @@ use Rattle.event_book.specs.declared.event.EventKind.{EventKind}
 use Rattle.event_book.specs.declared.event.EventKind.TheVariants as kinds
 use Rattle.event_book.specs.declared.event.StoreEvent.TheVariants as stores
 use Rattle.event_book.specs.declared.member.Member.{Member}
-use Rattle.pat_world.specs.Cluster.{Cluster, cluster_over}
-use Rattle.pat_world.specs.Next.{events_of, event_of, events_at, expiry_of, expiries_of, declared_member, tick_events}
+use Rattle.cluster_model.specs.Cluster.{cluster_over}
+use Rattle.cluster_model.specs.Orders.{declared_member}
+use Rattle.cluster_model.specs.Parts.{each, event_of, events_at, events_of, events_then}
+use Rattle.cluster_model.specs.State.{Cluster}
+use Rattle.cluster_model.specs.Ticking.{completion_events, expiries_of, expiry_of, next_expiries, reset_events, tick_events}
 use Rattle.pat_world.specs.Emits.{Emits}
+use Rattle.pat_world.specs.Room.{completions_cost, resets_cost, tick_cost}
 use Rattle.pat_world.proofs.Rooms.{HasRoom-fewer}
 use Rattle.pat_world.proofs.Taking.{Emits-then}
 
@@ -77,14 +81,18 @@ expiries-took cluster holder all had =
       room = λ more room. HasRoom-fewer cluster (0 + more) more (omega arith) room;
     }
 
--- a tick, and then the expiries of its moment
-pub tick_events-took : (cluster after : Cluster) (had mid has : List Event) (tick : Ticks) → tick.0 ≡ cluster.book.clock + 1 → Emits cluster after had mid (event_of cluster kinds.Tick) 1
-    → has ≡ mid ++ events_at tick (expiries_of (declared_member cluster.book.members (expired_holder cluster.book.keys (cluster.book.clock + 1))) (expired_keys cluster.book.keys (cluster.book.clock + 1)))
-    → Emits cluster after had has (tick_events cluster) 1
-tick_events-took cluster after had mid has tick at first told =
-    let happenings = expiries_of (declared_member cluster.book.members (expired_holder cluster.book.keys (cluster.book.clock + 1))) (expired_keys cluster.book.keys (cluster.book.clock + 1)) in
-    let moment : ◌≡◌ {A = Ticks} tick (record { 0 = after.book.clock }) = ap (λ (n : ℕ). let t : Ticks = record { 0 = n } in t) (at ∙ ap (λ (c : Cluster). c.book.clock) (sym first.state)) in
-    let events : has ≡ mid ++ events_at (record { 0 = after.book.clock }) happenings = told ∙ ap (λ (t : Ticks). mid ++ events_at t happenings) moment in
-    Emits-then cluster after after had mid has (event_of cluster kinds.Tick) (λ later. events_of later happenings) 1 0 1 first
-    (subst (λ (es : List Event). Emits after after mid es (events_of after happenings) 0) (sym events)
-    (expiries-took after (declared_member cluster.book.members (expired_holder cluster.book.keys (cluster.book.clock + 1))) (expired_keys cluster.book.keys (cluster.book.clock + 1)) mid)) (omega arith)
+-- a tick: the clock, the resets, the expiries of its moment, and the completions
+pub tick-took : (cluster ticked reset after : Cluster) (had a b c has : List Event) (tick : Ticks) → Emits cluster ticked had a (event_of cluster kinds.Tick) 1 → Emits ticked reset a b (each reset_events ticked ticked.book.members) resets_cost
+    → tick.0 ≡ reset.book.clock → c ≡ b ++ events_at tick (next_expiries cluster) → Emits reset after c has (each completion_events reset reset.book.members) completions_cost → Emits cluster after had has (tick_events cluster) tick_cost
+tick-took cluster ticked reset after had a b c has tick first resets at told completions =
+    let holder = declared_member cluster.book.members (expired_holder cluster.book.keys (cluster.book.clock + 1)) in
+    let keys = expired_keys cluster.book.keys (cluster.book.clock + 1) in
+    let events : c ≡ b ++ events_at (record { 0 = reset.book.clock }) (next_expiries cluster) = told ∙ ap (λ (n : ℕ). b ++ events_at (record { 0 = n }) (next_expiries cluster)) at in
+    let expired : Emits reset reset b c (events_of reset (next_expiries cluster)) 0 = subst (λ (es : List Event). Emits reset reset b es (events_of reset (next_expiries cluster)) 0) (sym events) (expiries-took reset holder keys b) in
+    Emits-then cluster ticked after had a has (event_of cluster kinds.Tick)
+    (λ t. events_then t (each reset_events t t.book.members) (λ r. events_then r (events_of r (next_expiries cluster)) (λ e. each completion_events e e.book.members)))
+    1 (resets_cost + completions_cost) tick_cost first
+    (Emits-then ticked reset after a b has (each reset_events ticked ticked.book.members) (λ r. events_then r (events_of r (next_expiries cluster)) (λ e. each completion_events e e.book.members))
+    resets_cost completions_cost (resets_cost + completions_cost) resets
+    (Emits-then reset reset after b c has (events_of reset (next_expiries cluster)) (λ e. each completion_events e e.book.members) 0 completions_cost completions_cost expired completions (omega arith))
+    (omega arith)) (omega arith)

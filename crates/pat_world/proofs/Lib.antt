@@ -1,11 +1,14 @@
+pub mod Acting
 pub mod Acknowledgements
+pub mod Carrying
 pub mod Changing
 pub mod Comings
 pub mod Deciding
 pub mod Declaring
 pub mod Expiring
 pub mod Flights
-pub mod Reacting
+pub mod Hearing
+pub mod Reaching
 pub mod Rest
 pub mod Rooms
 pub mod Sending
@@ -15,9 +18,7 @@ pub mod Serving
 pub mod Settling
 pub mod Standing
 pub mod Starting
-pub mod Staying
 pub mod Streams
 pub mod Taking
-pub mod TurnRooms
 pub mod Waking
 pub mod Worlds

@@ -6,9 +6,13 @@ use Rattle.std.proofs.lemmas.List.{drop_all}
 use Rattle.event_book.specs.declared.event.Event.{Event}
 use Rattle.event_book.specs.declared.member.Member.{Member}
 use Rattle.cluster_script.specs.declared.line.Step.{Step}
-use Rattle.pat_world.specs.Cluster.{Cluster, cluster_over}
-use Rattle.pat_world.specs.Next.{each, events_then, is_empty, message_events, round_events, rounds_events, step_events, wake_events}
-use Rattle.pat_world.specs.Room.{HasRoom, message_cost, most_in_flight, most_rounds, round_cost, step_cost, wakes_cost}
+use Rattle.cluster_model.specs.Cluster.{cluster_over}
+use Rattle.cluster_model.specs.State.{Cluster}
+use Rattle.cluster_model.specs.Messages.{message_events, wake_events}
+use Rattle.cluster_model.specs.Next.{round_events, rounds_events, step_events}
+use Rattle.cluster_model.specs.Parts.{each, events_then, is_empty}
+use Rattle.cluster_model.specs.Limits.{most_in_flight, most_rounds}
+use Rattle.pat_world.specs.Room.{HasRoom, message_cost, round_cost, step_cost, wakes_cost}
 use Rattle.pat_world.specs.Emits.{Emits}
 use Rattle.pat_world.proofs.Rooms.{HasRoom-fewer}
 use Rattle.pat_world.proofs.Starting.{drop-get}

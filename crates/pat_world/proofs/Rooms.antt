@@ -1,9 +1,9 @@
--- Counters, each of which an event counts up by one at most.
-use Rattle.std.proofs.Common.{◌≡◌, ℕ, ◌+◌, ◌^◌, ◌≤◌, ◌<◌, List, All, Option, Some, None, arith, refl, subst}
+-- Counters, each of which an event counts up by one at most, and the numbers of messages, of which an input of an agent takes some.
+use Rattle.std.proofs.Common.{◌≡◌, ℕ, ◌+◌, ◌*◌, ◌^◌, ◌≤◌, ◌<◌, List, [], All, Option, Some, None, arith, refl, ◌∙◌, ap, sym, subst}
 use Rattle.std.specs.Prelude.{option_and_then, slice_get}
-use Rattle.std.proofs.lemmas.Option.{none-some, same_Some}
 use Rattle.std.proofs.lemmas.List.Elements.{All-set}
-use Rattle.pat_base.specs.declared.member_id.MemberId.{MemberId}
+use Rattle.pat_base.specs.declared.name.Name.{Name}
+use Rattle.pat_base.specs.declared.ticks.Ticks.{Ticks}
 use Rattle.pat_base.specs.Changes.{changed_at}
 use Rattle.lease_store.specs.Keys.{Keys}
 use Rattle.pg_model.specs.Facts.{ServerFacts}
@@ -16,21 +16,31 @@ use Rattle.event_book.specs.declared.event.MessageEvent.{MessageEvent}
 use Rattle.event_book.specs.declared.event.MessageEvent.TheVariants as messages
 use Rattle.event_book.specs.declared.event.StoreEvent.{StoreEvent}
 use Rattle.event_book.specs.declared.event.StoreEvent.TheVariants as stores
+use Rattle.event_book.specs.declared.event.WatchdogEvent.{WatchdogEvent}
+use Rattle.event_book.specs.declared.event.WatchdogEvent.TheVariants as watchdogs
 use Rattle.event_book.specs.declared.link.LinkEnd.{LinkEnd}
 use Rattle.event_book.specs.declared.link.LinkEnd.TheVariants as link_ends
 use Rattle.event_book.specs.declared.member.Member.{Member}
-use Rattle.event_book.specs.Agents.{with_member_changed, agents_by, agents_after}
+use Rattle.event_book.specs.Agents.{with_member_changed, agents_by, agents_by_watchdog, agents_after}
 use Rattle.event_book.specs.Clock.{now_after}
 use Rattle.event_book.specs.Flight.{InFlightFacts, Flight, in_flight, sent_after}
 use Rattle.event_book.specs.Keys.{keys_after}
-use Rattle.pat_world.specs.declared.agent_state.AgentState.{AgentState}
-use Rattle.pat_world.specs.declared.agent_state.MemberAgent.{MemberAgent}
-use Rattle.pat_world.specs.Cluster.{Cluster, cluster_after, agent_states_after, agent_states_by, agent_states_reached_at, agent_states_by_message, agent_states_by_delivery}
+use Rattle.ha_loop.specs.declared.heard.Heard.{Heard}
+use Rattle.ha_loop.specs.declared.heard.Heard.TheVariants.{Wake}
+use Rattle.ha_loop.specs.declared.machine.Machine.{Machine}
+use Rattle.ha_loop.specs.Agents.{AgentFacts, Outcome, made, most_messages}
+use Rattle.ha_loop.specs.Outputs.{most_outputs}
+use Rattle.ha_loop.specs.Table.{step}
+use Rattle.wal_model.specs.declared.entry.HistoryPoint.{HistoryPoint}
+use Rattle.cluster_model.specs.Cluster.{agent_after, agent_facts_after, agent_facts_by, agent_facts_by_message, agent_facts_by_watchdog, agent_facts_moved, agent_facts_reached, agent_facts_reached_at, agent_facts_with, cluster_after}
+use Rattle.cluster_model.specs.Hearing.{heard_from}
+use Rattle.cluster_model.specs.Inputs.{agent_at, moment_of, outcome_at, outcome_of, outcome_of_heard}
+use Rattle.cluster_model.specs.Machines.{machine_of, points_of}
+use Rattle.cluster_model.specs.State.{Cluster}
 use Rattle.pat_world.specs.Comes.{Counts, CountsAgent, CountsMessage}
-use Rattle.pat_world.specs.Next.{declared, member_agent_at, member_agent_for, member_agent_of}
-use Rattle.pat_world.specs.Room.{HasRoom, AgentHasRoom}
+use Rattle.pat_world.specs.Room.{HasNumbers, HasRoom}
+use Rattle.pat_world.proofs.Acting.{step-small}
 use Rattle.pat_world.proofs.ServerRooms.{All-at, All-weaker, CountsCommit, HasTimeline, commits-more, servers-room}
-use Rattle.pat_world.proofs.TurnRooms.{wake_reaction-room, message_reaction-room, fresh-room, AgentHasRoom-fewer}
 
 with_member_changed-all_at : (X : Type 0) (P Q : X → Type 0) (xs : List X) (n : ℕ) (change : X → X) (found : Option X) → slice_get xs n ≡ found → All P xs → ((x : X) → P x → Q x)
     → ((x : X) → slice_get xs n ≡ Some x → P x → Q (change x)) → All Q (changed_at xs n change found)
@@ -64,22 +74,14 @@ sent-more cluster _ counts = omega arith
 abbrev HasRun : ℕ → AgentProcess → Type 0
 HasRun events state = state.run + events < 2 ^ 60
 
-run-of : (agents : List AgentProcess) (events : ℕ) (member : Member) (process : Option AgentProcess) (state : Option AgentState) (agent : MemberAgent)
-    → All (HasRun events) agents → slice_get agents member.id.number ≡ process → member_agent_of member process state ≡ Some agent → agent.process.run < 2 ^ 60
-run-of agents events member None state agent all found is = absurd (none-some agent is)
-run-of agents events member (Some process) None agent all found is = absurd (none-some agent is)
-run-of agents events member (Some process) (Some state) agent all found is =
-    let has : HasRun events process = All-at AgentProcess (HasRun events) agents member.id.number process all found in
-    let below : process.run < 2 ^ 60 = omega (arith, has) in
-    subst (λ (a : MemberAgent). a.process.run < 2 ^ 60) (same_Some _ agent is) below
+run-at : (agents : List AgentProcess) (events place : ℕ) (found : Option AgentProcess) (process : AgentProcess) → All (HasRun events) agents → slice_get agents place ≡ found → found ≡ Some process → process.run < 2 ^ 60
+run-at agents events place found process all is there =
+    let has : HasRun events process = All-at AgentProcess (HasRun events) agents place process all (is ∙ there) in
+    omega (arith, has)
 
-run-if : (cluster : Cluster) (events : ℕ) (member : Option Member) (agent : MemberAgent) → All (HasRun events) cluster.book.agents → option_and_then (member_agent_for cluster) member ≡ Some agent → agent.process.run < 2 ^ 60
-run-if cluster events None agent all is = absurd (none-some agent is)
-run-if cluster events (Some member) agent all is = run-of cluster.book.agents events member (slice_get cluster.book.agents member.id.number) (slice_get cluster.agent_states member.id.number) agent all refl is
-
--- the agent of a declared member may begin one more run
-pub run-below : (cluster : Cluster) (events : ℕ) (id : MemberId) (agent : MemberAgent) → HasRoom cluster events → member_agent_at cluster id ≡ Some agent → agent.process.run < 2 ^ 60
-run-below cluster events id agent room is = run-if cluster events (declared cluster id) agent room.runs is
+-- an agent may begin one more run
+pub run-below : (cluster : Cluster) (events place : ℕ) (process : AgentProcess) → HasRoom cluster events → slice_get cluster.book.agents place ≡ Some process → process.run < 2 ^ 60
+run-below cluster events place process room is = run-at cluster.book.agents events place (slice_get cluster.book.agents place) process room.runs refl is
 
 run-fewer : (events : ℕ) (state : AgentProcess) → HasRun (1 + events) state → HasRun events state
 run-fewer events state room = omega (arith, room)
@@ -91,39 +93,84 @@ agents-room states events (agents.Killed agent) counts all = with_member_changed
 agents-room states events (agents.Started agent run) counts all = with_member_changed-all AgentProcess _ _ states agent _ all (run-fewer events) (λ state is room. omega (arith, room, counts state is))
 agents-room states events _ counts all = All-weaker AgentProcess _ _ states (run-fewer events) all
 
+agents-watched : (states : List AgentProcess) (events : ℕ) (happening : WatchdogEvent) → All (HasRun (1 + events)) states → All (HasRun events) (agents_by_watchdog states happening)
+agents-watched states events (watchdogs.Reset member) all = with_member_changed-all AgentProcess _ _ states member _ all (run-fewer events) (λ state is. run-fewer events state)
+agents-watched states events _ all = All-weaker AgentProcess _ _ states (run-fewer events) all
+
 runs-room : (cluster : Cluster) (events : ℕ) (kind : EventKind) → Counts cluster kind → All (HasRun (1 + events)) cluster.book.agents → All (HasRun events) (agents_after cluster.book.agents kind)
 runs-room cluster events (kinds.Agent happening) counts all = agents-room cluster.book.agents events happening counts all
+runs-room cluster events (kinds.Watchdog happening) counts all = agents-watched cluster.book.agents events happening all
 runs-room cluster events _ counts all = All-weaker AgentProcess _ _ cluster.book.agents (run-fewer events) all
 
-abbrev Roomy : ℕ → ℕ → List AgentState → Type 0
-Roomy clock events agent_states = All (AgentHasRoom clock events) agent_states
+abbrev Numbered : ℕ → List (Option AgentFacts) → Type 0
+Numbered events agents = All (HasNumbers events) agents
 
-fewer : (clock later events : ℕ) (agent_states : List AgentState) → clock ≤ later → Roomy clock (1 + events) agent_states → Roomy later events agent_states
-fewer clock later events agent_states h = All-weaker AgentState _ _ agent_states (AgentHasRoom-fewer clock later events h)
+pub numbers-fewer : (more fewer : ℕ) → fewer ≤ more → (agent : Option AgentFacts) → HasNumbers more agent → HasNumbers fewer agent
+numbers-fewer more fewer h None has = tt
+numbers-fewer more fewer h (Some agent) has = omega (arith, h, has)
 
-agent_states-room_by : (now events : ℕ) (agent_states : List AgentState) (happening : AgentEvent) → Roomy now (1 + events) agent_states → Roomy now events (agent_states_by now agent_states happening)
-agent_states-room_by now events agent_states (agents.Woken agent) all = with_member_changed-all AgentState _ _ agent_states agent _ all (AgentHasRoom-fewer now now events (omega arith)) (λ agent_state is. wake_reaction-room now events agent_state)
-agent_states-room_by now events agent_states (agents.Started agent run) all = with_member_changed-all AgentState _ _ agent_states agent _ all (AgentHasRoom-fewer now now events (omega arith)) (λ agent_state is room. fresh-room now events agent_state room)
-agent_states-room_by now events agent_states _ all = fewer now now events agent_states (omega arith) all
+numbered-fewer : (events : ℕ) (agents : List (Option AgentFacts)) → Numbered (1 + events) agents → Numbered events agents
+numbered-fewer events agents = All-weaker (Option AgentFacts) (HasNumbers (1 + events)) (HasNumbers events) agents (numbers-fewer (1 + events) events (omega arith))
 
-agent_states-room_reached_at : (now events : ℕ) (agent_states : List AgentState) (message : InFlightFacts) (to : LinkEnd) → Roomy now (1 + events) agent_states → Roomy now events (agent_states_reached_at now agent_states message to)
-agent_states-room_reached_at now events agent_states message link_ends.Store all = fewer now now events agent_states (omega arith) all
-agent_states-room_reached_at now events agent_states message (link_ends.Member member) all =
-    with_member_changed-all AgentState _ _ agent_states member _ all (AgentHasRoom-fewer now now events (omega arith)) (λ agent_state is. message_reaction-room now events member.id message agent_state)
+stepped : (now : Ticks) (points : List HistoryPoint) (heard : Heard) (events : ℕ) (agent : AgentFacts) (machine : Machine) → agent.knows.sequence + most_outputs * (1 + events) ≤ most_messages
+    → (step now points heard (made agent.role agent.knows machine [])).knows.sequence + most_outputs * events ≤ most_messages
+stepped now points heard events agent machine room = let small = step-small now points heard (made agent.role agent.knows machine []) in omega (arith, room, small.sequence)
 
-agent_states-room_by_message : (now events : ℕ) (agent_states : List AgentState) (found : Option InFlightFacts) → Roomy now (1 + events) agent_states → Roomy now events (agent_states_by_message now agent_states found)
-agent_states-room_by_message now events agent_states None all = fewer now now events agent_states (omega arith) all
-agent_states-room_by_message now events agent_states (Some message) all = agent_states-room_reached_at now events agent_states message message.message.to all
+heard-numbers : (now : Ticks) (points : List HistoryPoint) (heard : Heard) (events : ℕ) (agent : Option AgentFacts) (machine : Option Machine) → HasNumbers (1 + events) agent
+    → (found : Option AgentFacts) → agent ≡ found → HasNumbers events (agent_after (outcome_at now points heard agent machine) found)
+heard-numbers now points heard events None machine has found is = subst (HasNumbers events) is tt
+heard-numbers now points heard events (Some agent) None has found is = subst (HasNumbers events) is (numbers-fewer (1 + events) events (omega arith) (Some agent) has)
+heard-numbers now points heard events (Some agent) (Some machine) has found is = stepped now points heard events agent machine has
 
-agent_states-room_by_delivery : (now events : ℕ) (flight : Flight) (agent_states : List AgentState) (happening : MessageEvent) → Roomy now (1 + events) agent_states → Roomy now events (agent_states_by_delivery now flight agent_states happening)
-agent_states-room_by_delivery now events flight agent_states (messages.Delivered number) all = agent_states-room_by_message now events agent_states (in_flight flight number) all
-agent_states-room_by_delivery now events flight agent_states _ all = fewer now now events agent_states (omega arith) all
+agent-here : (agents : List (Option AgentFacts)) (place : ℕ) (found : Option AgentFacts) → slice_get agents place ≡ Some found → agent_at agents place ≡ found
+agent-here agents place found is = ap (λ (o : Option (Option AgentFacts)). option_and_then (λ (agent : Option AgentFacts). agent) o) is
 
-agent_states-room : (now events : ℕ) (flight : Flight) (agent_states : List AgentState) (kind : EventKind) → Roomy now (1 + events) agent_states → Roomy (now_after now kind) events (agent_states_after now flight agent_states kind)
-agent_states-room now events flight agent_states kinds.Tick all = fewer now (now + 1) events agent_states (omega arith) all
-agent_states-room now events flight agent_states (kinds.Message happening) all = agent_states-room_by_delivery now events flight agent_states happening all
-agent_states-room now events flight agent_states (kinds.Agent happening) all = agent_states-room_by now events agent_states happening all
-agent_states-room now events flight agent_states _ all = fewer now now events agent_states (omega arith) all
+input-numbers : (cluster : Cluster) (member : Member) (heard : Heard) (events : ℕ) → Numbered (1 + events) cluster.agents → Numbered events (agent_facts_with cluster.agents member (outcome_of cluster member heard))
+input-numbers cluster member heard events all =
+    with_member_changed-all (Option AgentFacts) (HasNumbers (1 + events)) (HasNumbers events) cluster.agents member (agent_after (outcome_of cluster member heard)) all (numbers-fewer (1 + events) events (omega arith))
+    (λ found is has. let same = agent-here cluster.agents member.id.number found is in
+    heard-numbers (moment_of cluster) (points_of cluster member) heard events (agent_at cluster.agents member.id.number) (machine_of cluster member) (subst (HasNumbers (1 + events)) (sym same) has) found same)
+
+-- an input of an agent takes the numbers of one
+pub input-numbers-if : (cluster : Cluster) (member : Member) (heard : Option Heard) (events : ℕ) → Numbered (1 + events) cluster.agents → Numbered events (agent_facts_with cluster.agents member (outcome_of_heard cluster member heard))
+input-numbers-if cluster member None events all =
+    with_member_changed-all (Option AgentFacts) (HasNumbers (1 + events)) (HasNumbers events) cluster.agents member (agent_after None) all (numbers-fewer (1 + events) events (omega arith))
+    (λ found is has. numbers-fewer (1 + events) events (omega arith) found has)
+input-numbers-if cluster member (Some heard) events all = input-numbers cluster member heard events all
+
+moved-numbers : (scope : Name) (members : List Member) (now events : ℕ) (known : List (Option AgentFacts)) (happening : AgentEvent) → most_outputs * (1 + events) ≤ most_messages → Numbered (1 + events) known → Numbered events (agent_facts_moved scope members now known happening)
+moved-numbers scope members now events known (agents.Killed member) enough all =
+    with_member_changed-all (Option AgentFacts) (HasNumbers (1 + events)) (HasNumbers events) known member _ all (numbers-fewer (1 + events) events (omega arith)) (λ found is has. tt)
+moved-numbers scope members now events known (agents.Started member run) enough all =
+    with_member_changed-all (Option AgentFacts) (HasNumbers (1 + events)) (HasNumbers events) known member _ all (numbers-fewer (1 + events) events (omega arith)) (λ found is has. omega (arith, enough))
+moved-numbers scope members now events known _ enough all = numbered-fewer events known all
+
+agent-numbers : (cluster : Cluster) (events : ℕ) (happening : AgentEvent) → most_outputs * (1 + events) ≤ most_messages → Numbered (1 + events) cluster.agents → Numbered events (agent_facts_by cluster happening)
+agent-numbers cluster events (agents.Woken member) enough all = input-numbers cluster member Wake events all
+agent-numbers cluster events happening enough all = moved-numbers cluster.scope cluster.book.members cluster.book.clock events cluster.agents happening enough all
+
+reached-numbers_at : (cluster : Cluster) (events : ℕ) (message : InFlightFacts) (to : LinkEnd) → Numbered (1 + events) cluster.agents → Numbered events (agent_facts_reached_at cluster message to)
+reached-numbers_at cluster events message link_ends.Store all = numbered-fewer events cluster.agents all
+reached-numbers_at cluster events message (link_ends.Member member) all = input-numbers-if cluster member (heard_from cluster message) events all
+
+reached-numbers : (cluster : Cluster) (events : ℕ) (found : Option InFlightFacts) → Numbered (1 + events) cluster.agents → Numbered events (agent_facts_reached cluster found)
+reached-numbers cluster events None all = numbered-fewer events cluster.agents all
+reached-numbers cluster events (Some message) all = reached-numbers_at cluster events message message.message.to all
+
+message-numbers : (cluster : Cluster) (events : ℕ) (happening : MessageEvent) → Numbered (1 + events) cluster.agents → Numbered events (agent_facts_by_message cluster happening)
+message-numbers cluster events (messages.Delivered number) all = reached-numbers cluster events (in_flight cluster.book.flight number) all
+message-numbers cluster events _ all = numbered-fewer events cluster.agents all
+
+watched-numbers : (events : ℕ) (agents : List (Option AgentFacts)) (happening : WatchdogEvent) → Numbered (1 + events) agents → Numbered events (agent_facts_by_watchdog agents happening)
+watched-numbers events agents (watchdogs.Reset member) all =
+    with_member_changed-all (Option AgentFacts) (HasNumbers (1 + events)) (HasNumbers events) agents member _ all (numbers-fewer (1 + events) events (omega arith)) (λ found is has. tt)
+watched-numbers events agents _ all = numbered-fewer events agents all
+
+agents-numbers : (cluster : Cluster) (events : ℕ) (kind : EventKind) → most_outputs * (1 + events) ≤ most_messages → Numbered (1 + events) cluster.agents → Numbered events (agent_facts_after cluster kind)
+agents-numbers cluster events (kinds.Message happening) enough all = message-numbers cluster events happening all
+agents-numbers cluster events (kinds.Watchdog happening) enough all = watched-numbers events cluster.agents happening all
+agents-numbers cluster events (kinds.Agent happening) enough all = agent-numbers cluster events happening enough all
+agents-numbers cluster events _ enough all = numbered-fewer events cluster.agents all
 
 commit-counts : (cluster : Cluster) (kind : EventKind) → Counts cluster kind → CountsCommit cluster.book.commits kind
 commit-counts cluster (kinds.Log happening) counts = counts
@@ -136,9 +183,36 @@ HasRoom-cluster_after cluster kind events counts room = record {
   revision = omega (arith, room.revision, revision-more (now_after cluster.book.clock kind) cluster.book.keys kind);
   sent = omega (arith, room.sent, sent-more cluster kind counts);
   runs = runs-room cluster events kind counts room.runs;
-  agent_states = agent_states-room cluster.book.clock events cluster.book.flight cluster.agent_states kind room.agent_states;
+  numbers = omega (arith, room.numbers);
+  agents = agents-numbers cluster events kind room.numbers room.agents;
   timelines = servers-room (now_after cluster.book.clock kind) events cluster.book.servers kind room.timelines;
   commits = omega (arith, room.commits, commits-more cluster.book.commits kind (commit-counts cluster kind counts));
+}
+
+-- an input of an agent takes the room of one event
+pub HasRoom-heard : (cluster : Cluster) (member : Member) (heard : Option Heard) (events : ℕ) → HasRoom cluster (1 + events) → HasRoom (record cluster { agents = agent_facts_with cluster.agents member (outcome_of_heard cluster member heard) }) events
+HasRoom-heard cluster member heard events room = record {
+  clock = omega (arith, room.clock);
+  revision = omega (arith, room.revision);
+  sent = omega (arith, room.sent);
+  runs = All-weaker AgentProcess (HasRun (1 + events)) (HasRun events) cluster.book.agents (run-fewer events) room.runs;
+  numbers = omega (arith, room.numbers);
+  agents = input-numbers-if cluster member heard events room.agents;
+  timelines = All-weaker ServerFacts (HasTimeline (1 + events)) (HasTimeline events) cluster.book.servers (λ s has. omega (arith, has)) room.timelines;
+  commits = omega (arith, room.commits);
+}
+
+-- so it is whatever is in flight
+pub HasRoom-landed : (cluster : Cluster) (flight : Flight) (events : ℕ) → HasRoom cluster events → HasRoom (record cluster { book = record cluster.book { flight = flight } }) events
+HasRoom-landed cluster flight events room = record {
+  clock = room.clock;
+  revision = room.revision;
+  sent = room.sent;
+  runs = room.runs;
+  numbers = room.numbers;
+  agents = room.agents;
+  timelines = room.timelines;
+  commits = room.commits;
 }
 
 -- fewer events have room too
@@ -148,7 +222,8 @@ HasRoom-fewer cluster more fewer h room = record {
   revision = omega (arith, room.revision);
   sent = omega (arith, room.sent);
   runs = All-weaker AgentProcess (HasRun more) (HasRun fewer) cluster.book.agents (λ state has. omega (arith, has, h)) room.runs;
-  agent_states = All-weaker AgentState (AgentHasRoom cluster.book.clock more) (AgentHasRoom cluster.book.clock fewer) cluster.agent_states (λ agent_state has. record { sequence = omega (arith, has.sequence, h); turn = has.turn }) room.agent_states;
+  numbers = omega (arith, room.numbers, h);
+  agents = All-weaker (Option AgentFacts) (HasNumbers more) (HasNumbers fewer) cluster.agents (numbers-fewer more fewer h) room.agents;
   timelines = All-weaker ServerFacts (HasTimeline more) (HasTimeline fewer) cluster.book.servers (λ s has. omega (arith, has, h)) room.timelines;
   commits = omega (arith, room.commits);
 }

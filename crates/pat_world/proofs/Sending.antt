@@ -10,16 +10,18 @@ use Rattle.event_book.specs.declared.event.EventKind.TheVariants as kinds
 use Rattle.event_book.specs.declared.event.MessageEvent.TheVariants.{Sent, Lost}
 use Rattle.event_book.specs.declared.message.Message.{Message}
 use Rattle.event_book.specs.Flight.{Flight, InFlightFacts, launched, snapshot_for, grant_for}
-use Rattle.pat_world.specs.Cluster.{Cluster, cluster_after}
+use Rattle.cluster_model.specs.Cluster.{cluster_after}
+use Rattle.cluster_model.specs.State.{Cluster}
 use Rattle.pat_world.specs.Launches.{launched_into}
-use Rattle.pat_world.specs.Next.{event_of, events_of, events_at, lost_at_once, send_events}
-use Rattle.pat_world.specs.Room.{most_in_flight}
+use Rattle.cluster_model.specs.Messages.{lost_at_once, send_events}
+use Rattle.cluster_model.specs.Parts.{event_of, events_of, events_at}
+use Rattle.cluster_model.specs.Limits.{most_in_flight}
 use Rattle.pat_world.specs.Emits.{Emits}
 use Rattle.pat_world.proofs.Taking.{Emits-nothing, Emits-one, Emits-then}
 
 -- a cluster whose messages in flight are these, of which the last has this number
 abbrev pub with_flight : Cluster → Flight → ℕ → Cluster
-with_flight cluster flight sent = record { book = record cluster.book { flight = flight; sent = sent }; agent_states = cluster.agent_states }
+with_flight cluster flight sent = record cluster { book = record cluster.book { flight = flight; sent = sent } }
 
 abbrev lost-if : Cluster → ℕ → Bool → Cluster
 lost-if cluster number true = cluster_after cluster (kinds.Message (Lost number))
@@ -50,10 +52,11 @@ events_at-lost cluster tick number true e = ap (λ (n : ℕ). let event : Event 
 events_at-lost cluster tick number false e = refl
 
 -- a message with what it carries is what is launched
-pub loaded-is : (cluster : Cluster) (message copy : Message) (snapshot : List (Key × KeyEntry)) (grant : Option Granted) → copy ≡ message
+pub loaded-is : (cluster : Cluster) (message copy : Message) (tick : Ticks) (snapshot : List (Key × KeyEntry)) (grant : Option Granted) → copy ≡ message → tick.0 ≡ cluster.book.clock
     → snapshot ≡ snapshot_for message.body (present_pairs cluster.book.clock cluster.book.keys.pairs) → grant ≡ grant_for message.body message.to cluster.book.keys.revision
-    → ◌≡◌ {A = InFlightFacts} (record { message = copy; snapshot = snapshot; grant = grant }) (launched cluster.book.clock cluster.book.keys message)
-loaded-is cluster message copy snapshot grant same told given = rw (same, told, given) refl
+    → ◌≡◌ {A = InFlightFacts} (record { message = copy; sent = tick; snapshot = snapshot; grant = grant }) (launched cluster.book.clock cluster.book.keys message)
+loaded-is cluster message copy tick snapshot grant same at told given =
+    rw (same, told, given) (ap (λ (n : ℕ). let m : InFlightFacts = record { message = message; sent = record { 0 = n }; snapshot = snapshot_for message.body (present_pairs cluster.book.clock cluster.book.keys.pairs); grant = grant_for message.body message.to cluster.book.keys.revision } in m) at)
 
 -- a message is put among those in flight, and it is written down
 pub send-took : (cluster after : Cluster) (message : Message) (tick : Ticks) (flight : Flight) (lost : Bool) (had mid has : List Event) → tick.0 ≡ cluster.book.clock

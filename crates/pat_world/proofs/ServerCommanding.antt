@@ -9,7 +9,7 @@ use Rattle.wal_model.specs.declared.entry.Entry.{Entry}
 use Rattle.wal_model.specs.Log.{end_of}
 use Rattle.pg_model.specs.Facts.{ServerFacts, entries_of, is_down, is_replica}
 use Rattle.pg_model.specs.Replication.{entry_of}
-use Rattle.pg_model.specs.Running.{replica_started}
+use Rattle.pg_model.specs.Running.{replica_started, stopping}
 use Rattle.pg_model.specs.Servers.{entry_at, entry_for}
 use Rattle.event_book.specs.declared.event.Event.{Event}
 use Rattle.event_book.specs.declared.event.EventKind.TheVariants as kinds
@@ -17,15 +17,13 @@ use Rattle.event_book.specs.declared.event.ServerEvent.TheVariants as servers
 use Rattle.event_book.specs.declared.member.Member.{Member}
 use Rattle.event_book.specs.declared.member.ServerOf.{ServerOf}
 use Rattle.event_book.specs.Members.{server_of}
-use Rattle.event_book.specs.Servers.{starts_as_replica}
-use Rattle.pat_world.specs.declared.follow_row.FollowRow.{FollowRow}
-use Rattle.pat_world.specs.declared.follow_row.FollowRow.TheVariants as rows
-use Rattle.pat_world.specs.Cluster.{Cluster, cluster_after}
+use Rattle.event_book.specs.Servers.{starts_as_replica, stops, stops_quietly}
+use Rattle.cluster_model.specs.Cluster.{cluster_after}
+use Rattle.cluster_model.specs.State.{Cluster}
 use Rattle.pat_world.specs.Comes.{MayCome}
-use Rattle.pat_world.specs.FollowRows.{follow_kinds, follow_row_of}
-use Rattle.pat_world.specs.Next.{events_of, follow_events, for_some, event_of}
+use Rattle.cluster_model.specs.Parts.{events_of, for_some, event_of}
 use Rattle.pat_world.specs.Room.{HasRoom}
-use Rattle.pat_world.specs.ServerCommands.{commit_of, promoted_timeline}
+use Rattle.cluster_model.specs.ServerCommands.{commit_of, promoted_timeline}
 use Rattle.pat_world.specs.Emits.{Emits}
 use Rattle.pat_world.proofs.ServerRooms.{All-at}
 use Rattle.pat_world.proofs.Taking.{Emits-weaker}
@@ -91,12 +89,16 @@ not-down known place now s there up =
     sym (ap (λ (o : Option ServerFacts). changed_at known place (starts_as_replica now) o) there
     ∙ ap (λ (down : Bool). slice_set known place (if down then replica_started (record { 0 = now }) None s else s)) up ∙ set-got known place s there)
 
--- the server of a member, a replica, follows that of a leader
-pub follow-took : (cluster after : Cluster) (read : Option Member) (member leader : Member) (server upstream : ServerOf) (had has : List Event) → read ≡ Some leader → server ≡ server_of member → upstream ≡ server_of leader
-    → option_and_then (follow_row_of leader) (slice_get cluster.book.servers member.id.number) ≡ Some rows.Follow → Emits cluster after had has (event_of cluster (kinds.Server (servers.Follows server upstream))) 1 → Emits cluster after had has (for_some read (follow_events cluster member)) 2
-follow-took cluster after read member leader server upstream had has read_is server_is upstream_is row took =
-    subst (λ (o : Option Member). Emits cluster after had has (for_some o (follow_events cluster member)) 2) (sym read_is)
-    (subst (λ (o : Option FollowRow). Emits cluster after had has (events_of cluster (follow_kinds member leader o)) 2) (sym row)
-    (subst (λ (s : ServerOf). Emits cluster after had has (event_of cluster (kinds.Server (servers.Follows s (server_of leader)))) 2) server_is
-    (subst (λ (u : ServerOf). Emits cluster after had has (event_of cluster (kinds.Server (servers.Follows server u))) 2) upstream_is
-    (Emits-weaker cluster after had has (event_of cluster (kinds.Server (servers.Follows server upstream))) 1 2 took (omega arith)))))
+-- where there is room for one more event, the timeline of no server is at its end
+pub timeline-under : (cluster : Cluster) (place : ℕ) → HasRoom cluster 1 → IfSome (slice_get cluster.book.servers place) (λ s. s.timeline < 2 ^ 60)
+timeline-under cluster place room = roomy-under cluster.book.servers place (slice_get cluster.book.servers place) refl (λ s is. All-at ServerFacts (λ s. s.timeline + 1 < 2 ^ 60) cluster.book.servers place s room.timelines is)
+  where
+    roomy-under : (known : List ServerFacts) (place : ℕ) (found : Option ServerFacts) → slice_get known place ≡ found → ((s : ServerFacts) → slice_get known place ≡ Some s → s.timeline + 1 < 2 ^ 60) → IfSome found (λ s. s.timeline < 2 ^ 60)
+    roomy-under known place None is room = tt
+    roomy-under known place (Some s) is room = omega (arith, room s is)
+
+-- a server that doesn't stop quietly stays as it is where its shutdown is told
+pub not-quiet : (known : List ServerFacts) (place now : ℕ) (s : ServerFacts) → slice_get known place ≡ Some s → stops_quietly s ≡ false → known ≡ changed_by known place (stops now)
+not-quiet known place now s there loud =
+    sym (ap (λ (o : Option ServerFacts). changed_at known place (stops now) o) there
+    ∙ ap (λ (quiet : Bool). slice_set known place (if quiet then stopping (record { 0 = now }) s else s)) loud ∙ set-got known place s there)

@@ -1,5 +1,5 @@
 -- Timelines of servers, and commits, each of which an event counts up by one at most.
-use Rattle.std.proofs.Common.{◌≡◌, ℕ, ◌+◌, ◌^◌, ◌≤◌, ◌<◌, nat_le, ◌==◌, Bool, true, false, List, [], All, Option, Some, None, map, arith, refl, subst}
+use Rattle.std.proofs.Common.{◌≡◌, ℕ, ◌+◌, ◌^◌, ◌≤◌, ◌<◌, nat_le, ◌==◌, ◌&&◌, Bool, true, false, List, [], All, Option, Some, None, map, arith, refl, subst}
 use Rattle.std.specs.Prelude.{slice_get, if◌then◌else◌}
 use Rattle.std.proofs.lemmas.List.Elements.{All-map, All-set}
 use Rattle.std.proofs.lemmas.Option.{slice_get_within, get_or_from_slice_get}
@@ -10,7 +10,7 @@ use Rattle.pat_base.specs.Changes.{changed_at, changed_by}
 use Rattle.pat_base.specs.ServerState.{live}
 use Rattle.pg_model.specs.Facts.{ServerFacts, is_down}
 use Rattle.pg_model.specs.Replication.{received_from}
-use Rattle.pg_model.specs.Running.{completed, replica_started, started, ticked}
+use Rattle.pg_model.specs.Running.{completed, is_primary, primary_started, replica_started, started, stopped, stopping, ticked}
 use Rattle.pg_model.specs.Servers.{ticked_unless_live}
 use Rattle.event_book.specs.declared.event.EventKind.{EventKind}
 use Rattle.event_book.specs.declared.event.EventKind.TheVariants as kinds
@@ -23,7 +23,7 @@ use Rattle.event_book.specs.declared.event.ServerEvent.TheVariants as servers
 use Rattle.event_book.specs.declared.event.WatchdogEvent.{WatchdogEvent}
 use Rattle.event_book.specs.declared.event.WatchdogEvent.TheVariants as watchdogs
 use Rattle.event_book.specs.Acknowledged.{commits_after}
-use Rattle.event_book.specs.Servers.{begun_in, copied_by, received_by, servers_after, servers_by, servers_by_log, servers_by_replication, servers_by_watchdog, starts_as_replica}
+use Rattle.event_book.specs.Servers.{begun_in, copied_by, received_by, servers_after, servers_by, servers_by_log, servers_by_replication, servers_by_watchdog, starts_as_primary, starts_as_replica, starts_slowly, stops, stops_quietly}
 use Rattle.pat_world.specs.Comes.{CountsLog}
 
 -- what holds of each element holds of one
@@ -72,6 +72,18 @@ starts-if : (now : ℕ) (s : ServerFacts) (down : Bool) → (if down then replic
 starts-if now s true = starting-if false (record { 0 = now }) (record s { upstream = None; was_primary = false }) (s.start_delay.0 == 0)
 starts-if now s false = refl
 
+stopping-if : (now : Ticks) (s : ServerFacts) (at_once : Bool) → (if at_once then stopped s else record s { state = states.Stopping (is_primary s.state) (record { 0 = now.0 + s.stop_delay.0 }) }).timeline ≡ s.timeline
+stopping-if now s true = refl
+stopping-if now s false = refl
+
+stops-if : (now : ℕ) (s : ServerFacts) (quiet : Bool) → (if quiet then stopping (record { 0 = now }) s else s).timeline ≡ s.timeline
+stops-if now s true = stopping-if (record { 0 = now }) s (s.stop_delay.0 == 0)
+stops-if now s false = refl
+
+again-if : (now : ℕ) (s : ServerFacts) (slow : Bool) → (if slow then primary_started (record { 0 = now }) s else s).timeline ≡ s.timeline
+again-if now s true = starting-if true (record { 0 = now }) s (s.start_delay.0 == 0)
+again-if now s false = refl
+
 completed-if : (as_primary : Bool) (s : ServerFacts) (due : Bool) → (if due then started as_primary s else s).timeline ≡ s.timeline
 completed-if as_primary s true = started-timeline as_primary s
 completed-if as_primary s false = refl
@@ -104,6 +116,8 @@ room-by now events known (servers.Began server timeline) all =
     with-all (HasTimeline (1 + events)) (HasTimeline events) known server.id.number (λ s. begun_in s.state s) all (timeline-fewer events) (λ s room. omega (arith, room, begun-timeline s.state s))
 room-by now events known (servers.Ended server) all = with-same events known server.id.number _ (λ s. refl) all
 room-by now events known (servers.Crashed server) all = with-same events known server.id.number _ (λ s. refl) all
+room-by now events known (servers.Stops server) all = with-same events known server.id.number (stops now) (λ s. stops-if now s (stops_quietly s)) all
+room-by now events known (servers.StartsAsPrimary server) all = with-same events known server.id.number (starts_as_primary now) (λ s. again-if now s (is_down s.state && starts_slowly s)) all
 room-by now events known (servers.StartsAsReplica server) all = with-same events known server.id.number (starts_as_replica now) (λ s. starts-if now s (is_down s.state)) all
 room-by now events known (servers.Follows server upstream) all = with-same events known server.id.number _ (λ s. refl) all
 room-by now events known (servers.Diverged server upstream at) all = with-same events known server.id.number _ (λ s. refl) all

@@ -8,8 +8,9 @@ use Rattle.event_book.specs.declared.event.EventKind.TheVariants as kinds
 use Rattle.event_book.specs.Acknowledged.{acknowledged_after, commits_after}
 use Rattle.event_book.specs.Frozen.{frozen_after}
 use Rattle.event_book.specs.Servers.{servers_after}
-use Rattle.pat_world.specs.Cluster.{Cluster, cluster_after}
-use Rattle.pat_world.specs.Next.{event_of}
+use Rattle.cluster_model.specs.Cluster.{cluster_after}
+use Rattle.cluster_model.specs.State.{Cluster}
+use Rattle.cluster_model.specs.Parts.{event_of}
 use Rattle.pat_world.specs.Emits.{Emits}
 use Rattle.pat_world.proofs.Deciding.{stamped-is}
 use Rattle.pat_world.specs.Comes.{Counts}
@@ -17,7 +18,7 @@ use Rattle.pat_world.proofs.Taking.{Emits-one}
 
 -- a cluster with other servers, other frozen ones, another last commit and other acknowledged ones
 abbrev pub serving : Cluster → List ServerFacts → List Bool → ℕ → List ℕ → Cluster
-serving cluster servers frozen commits acknowledged = record { book = record cluster.book { servers = servers; frozen = frozen; commits = commits; acknowledged = acknowledged }; agent_states = cluster.agent_states }
+serving cluster servers frozen commits acknowledged = record cluster { book = record cluster.book { servers = servers; frozen = frozen; commits = commits; acknowledged = acknowledged } }
 
 -- what concerns servers, their logs and their replication, and notes
 abbrev pub IsServing : EventKind → Type 0

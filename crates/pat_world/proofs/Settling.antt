@@ -16,12 +16,15 @@ use Rattle.event_book.specs.declared.link.LinkEnd.{LinkEnd}
 use Rattle.event_book.specs.declared.link.LinkEnd.TheVariants as link_ends
 use Rattle.event_book.specs.Flight.{Flight, InFlightFacts, in_flight}
 use Rattle.event_book.specs.Links.{CutLinks}
-use Rattle.pat_world.specs.declared.delivery.Delivery.{Delivery}
-use Rattle.pat_world.specs.declared.delivery.Delivery.TheVariants as deliveries
-use Rattle.pat_world.specs.Cluster.{Cluster, cluster_over}
-use Rattle.pat_world.specs.Next.{arrival_events_at, message_events_by, message_events, for_some, each, round_events, wake_events}
+use Rattle.cluster_model.specs.declared.delivery.Delivery.{Delivery}
+use Rattle.cluster_model.specs.declared.delivery.Delivery.TheVariants as deliveries
+use Rattle.cluster_model.specs.Cluster.{cluster_over}
+use Rattle.cluster_model.specs.State.{Cluster}
+use Rattle.cluster_model.specs.Messages.{arrival_events_at, message_events_by, message_events, wake_events}
+use Rattle.cluster_model.specs.Next.{round_events}
+use Rattle.cluster_model.specs.Parts.{for_some, each}
 use Rattle.pat_world.specs.Settled.{numbers_from, AreKeptBelow}
-use Rattle.pat_world.specs.Deliveries.{delivery_of}
+use Rattle.cluster_model.specs.Deliveries.{delivery_of}
 
 keeps-or-drops : (X : Type 0) (passes : Bool) (x : X) (kept : List X) (n : ℕ) → length kept ≤ n → length (cond passes (x ∷ kept) kept) ≤ n + 1
 keeps-or-drops X true x kept n h = omega (arith, h)

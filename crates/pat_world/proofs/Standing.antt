@@ -9,8 +9,9 @@ use Rattle.event_book.specs.Writers.{writes_in}
 use Rattle.event_book.proofs.Told.{logs-told, writes-told, required-told, confirmed-told, acknowledged-told}
 use Rattle.cluster_script.specs.declared.line.Step.{Step}
 use Rattle.pat_world.specs.Book.{StandsFor, left_by, next_of}
-use Rattle.pat_world.specs.Cluster.{Cluster, cluster_after, cluster_over}
-use Rattle.pat_world.specs.Next.{next_events}
+use Rattle.cluster_model.specs.Cluster.{cluster_after, cluster_over}
+use Rattle.cluster_model.specs.State.{Cluster}
+use Rattle.cluster_model.specs.Next.{next_events}
 use Rattle.pat_world.specs.Emits.{Emits}
 use Rattle.pat_world.proofs.Taking.{cluster_over-append}
 

@@ -1,22 +1,21 @@
 -- The world before the first step.
-use Rattle.std.proofs.Common.{◌≡◌, ℕ, ◌+◌, ◌-◌, ◌≤◌, ◌<◌, List, [], ◌∷◌, ◌++◌, length, drop, get_or, Option, Some, None, arith, append_assoc, refl, ◌∙◌, ap, sym, zero, suc, All, ◌^◌, replicate}
+use Rattle.std.proofs.Common.{◌≡◌, ℕ, ◌+◌, ◌-◌, ◌≤◌, ◌<◌, List, [], ◌∷◌, ◌++◌, length, drop, get_or, Option, Some, None, arith, append_assoc, append-nil, refl, ◌∙◌, ap, sym, zero, suc, All, ◌^◌, map, replicate}
 use Rattle.std.specs.Prelude.{slice_get}
-use Rattle.std.proofs.lemmas.List.{drop_more}
+use Rattle.std.proofs.lemmas.List.{drop_all, drop_more}
 use Rattle.std.proofs.lemmas.List.Elements.{All-nil, All-cons}
 use Rattle.std.proofs.lemmas.Option.{slice_get_within, slice_get-get_or}
 use Rattle.pat_base.specs.declared.member_id.MemberId.{MemberId}
 use Rattle.pat_base.specs.declared.name.Name.{Name}
 use Rattle.pat_base.specs.MemberId.{member_of}
 use Rattle.pg_model.specs.Facts.{fresh}
-use Rattle.cluster_script.specs.Script.{HeadText}
+use Rattle.cluster_script.specs.Script.{HeadText, names_of}
 use Rattle.event_book.specs.declared.member.Member.{Member}
 use Rattle.event_book.specs.declared.agent_process.AgentProcess.{AgentProcess}
 use Rattle.event_book.specs.Agents.{first_agents, running_in}
 use Rattle.event_book.specs.Members.{members_from, put_first}
-use Rattle.pat_world.specs.declared.agent_state.AgentState.{AgentState}
-use Rattle.pat_world.specs.Cluster.{cluster_of, first_agent_states}
-use Rattle.pat_world.specs.Room.{HasRoom, AgentHasRoom}
-use Rattle.pat_world.specs.Turns.{fresh_agent_state}
+use Rattle.ha_loop.specs.Agents.{AgentFacts}
+use Rattle.cluster_model.specs.Starting.{cluster_of, first_agent}
+use Rattle.pat_world.specs.Room.{HasNumbers, HasRoom}
 use Rattle.pat_world.proofs.ServerRooms.{HasTimeline}
 
 -- the list from a place on, where something is at that place
@@ -46,38 +45,54 @@ agents-more done longer place count h so is =
     ∙ ap (λ t. done ++ t) (sym (agents-one (count - place) (count - (place + 1)) (omega arith)))
     ∙ so
 
-agent_states-one : (place n k : ℕ) → n ≡ suc k → first_agent_states place n ≡ fresh_agent_state (place + 1) ∷ first_agent_states (place + 1) k
-agent_states-one place n k e = rw e refl
-
-pub agent_states-more : (done longer : List AgentState) (place count : ℕ) → place < count → done ++ first_agent_states place (count - place) ≡ first_agent_states 0 count → longer ≡ done ++ fresh_agent_state (place + 1) ∷ []
-    → longer ++ first_agent_states (place + 1) (count - (place + 1)) ≡ first_agent_states 0 count
-agent_states-more done longer place count h so is =
-    ap (λ l. l ++ first_agent_states (place + 1) (count - (place + 1))) is
-    ∙ append_assoc done (fresh_agent_state (place + 1) ∷ []) (first_agent_states (place + 1) (count - (place + 1)))
-    ∙ ap (λ t. done ++ t) (sym (agent_states-one place (count - place) (count - (place + 1)) (omega arith)))
+-- one element more of a list that is made from another one, element by element
+pub mapped-more : (X Y : Type 0) (f : X → Y) (all : List X) (at : ℕ) (x : X) (done longer : List Y) → at < length all → x ≡ get_or all at x
+    → done ++ map f (drop at all) ≡ map f all → longer ≡ done ++ f x ∷ [] → longer ++ map f (drop (at + 1) all) ≡ map f all
+mapped-more X Y f all at x done longer h is so more =
+    let next : drop at all ≡ x ∷ drop (at + 1) all = drop_more all at x h ∙ ap (λ k. k ∷ drop (at + 1) all) (sym is) in
+    ap (λ l. l ++ map f (drop (at + 1) all)) more
+    ∙ append_assoc done (f x ∷ []) (map f (drop (at + 1) all))
+    ∙ ap (λ xs. done ++ map f xs) (sym next)
     ∙ so
 
-first-run : (count : ℕ) → All (λ (state : AgentProcess). state.run + 2 ^ 59 < 2 ^ 60) (first_agents count)
-first-run zero = All-nil (λ (state : AgentProcess). state.run + 2 ^ 59 < 2 ^ 60)
-first-run (suc count) = All-cons (λ (state : AgentProcess). state.run + 2 ^ 59 < 2 ^ 60) (running_in 1) (first_agents count) (omega arith) (first-run count)
+-- the last one was made
+pub mapped-end : (X Y : Type 0) (f : X → Y) (all : List X) (at : ℕ) (done : List Y) → length all ≤ at → done ++ map f (drop at all) ≡ map f all → done ≡ map f all
+mapped-end X Y f all at done h so = sym (append-nil done) ∙ ap (λ xs. done ++ map f xs) (sym (drop_all at all h)) ∙ so
 
-first-stand : (place count : ℕ) → All (AgentHasRoom 0 (2 ^ 59)) (first_agent_states place count)
-first-stand place zero = All-nil (AgentHasRoom 0 (2 ^ 59))
-first-stand place (suc count) = All-cons (AgentHasRoom 0 (2 ^ 59)) (fresh_agent_state (place + 1)) (first_agent_states (place + 1) count) (record { sequence = omega arith; turn = omega arith }) (first-stand (place + 1) count)
+-- one element more of a list
+pub rest-more : (X : Type 0) (all done longer : List X) (place : ℕ) (x : X) → done ++ drop place all ≡ all → slice_get all place ≡ Some x → longer ≡ done ++ x ∷ [] → longer ++ drop (place + 1) all ≡ all
+rest-more X all done longer place x so is more =
+    ap (λ l. l ++ drop (place + 1) all) more ∙ append_assoc done (x ∷ []) (drop (place + 1) all) ∙ ap (λ xs. done ++ xs) (sym (drop-get X all place x is)) ∙ so
 
-first-timeline : (base count : ℕ) → All (HasTimeline (2 ^ 59)) (replicate count (fresh base))
-first-timeline base zero = All-nil (HasTimeline (2 ^ 59))
-first-timeline base (suc count) = All-cons (HasTimeline (2 ^ 59)) (fresh base) (replicate count (fresh base)) (omega arith) (first-timeline base count)
+pub rest-end : (X : Type 0) (all done : List X) (place : ℕ) → done ++ drop place all ≡ all → length all ≤ place → done ≡ all
+rest-end X all done place so h = sym (append-nil done) ∙ ap (λ xs. done ++ xs) (sym (drop_all place all h)) ∙ so
+
+-- so many events have room before the first one
+abbrev pub ample : ℕ
+ample = 2 ^ 54
+
+first-run : (count : ℕ) → All (λ (state : AgentProcess). state.run + ample < 2 ^ 60) (first_agents count)
+first-run zero = All-nil (λ (state : AgentProcess). state.run + ample < 2 ^ 60)
+first-run (suc count) = All-cons (λ (state : AgentProcess). state.run + ample < 2 ^ 60) (running_in 1) (first_agents count) (omega arith) (first-run count)
+
+first-numbers : (scope : Name) (members all : List Member) → All (HasNumbers ample) (map (first_agent scope members) all)
+first-numbers scope members [] = All-nil (HasNumbers ample)
+first-numbers scope members (member ∷ more) = All-cons (HasNumbers ample) (first_agent scope members member) (map (first_agent scope members) more) (omega arith) (first-numbers scope members more)
+
+first-timeline : (base count : ℕ) → All (HasTimeline (ample)) (replicate count (fresh base))
+first-timeline base zero = All-nil (HasTimeline (ample))
+first-timeline base (suc count) = All-cons (HasTimeline (ample)) (fresh base) (replicate count (fresh base)) (omega arith) (first-timeline base count)
 
 -- there is ample room before the first event
-pub start-room : (head : HeadText) → HasRoom (cluster_of head) (2 ^ 59)
+pub start-room : (head : HeadText) → HasRoom (cluster_of head) (ample)
 start-room head = record {
   clock = omega arith;
   revision = omega arith;
   sent = omega arith;
-  runs = first-run (length head.members);
-  agent_states = first-stand 0 (length head.members);
-  timelines = first-timeline head.base (length head.members);
+  runs = first-run (length (names_of head));
+  numbers = omega arith;
+  agents = first-numbers head.cluster (cluster_of head).book.members (cluster_of head).book.members;
+  timelines = first-timeline head.base (length (names_of head));
   commits = omega arith;
 }
 

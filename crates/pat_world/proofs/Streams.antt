@@ -19,20 +19,22 @@ use Rattle.event_book.specs.declared.member.Member.{Member}
 use Rattle.event_book.specs.declared.member.ServerOf.{ServerOf}
 use Rattle.event_book.specs.Members.{server_of}
 use Rattle.event_book.specs.Servers.{received_by}
-use Rattle.pat_world.specs.Cluster.{Cluster, cluster_after}
-use Rattle.pat_world.specs.Commands.{kinds_of}
-use Rattle.pat_world.specs.Next.{events_of, confirm_events, receive_events}
+use Rattle.cluster_model.specs.Cluster.{cluster_after}
+use Rattle.cluster_model.specs.State.{Cluster}
+use Rattle.cluster_model.specs.Commands.{kinds_of}
+use Rattle.cluster_model.specs.Next.{confirm_events, receive_events}
+use Rattle.cluster_model.specs.Parts.{events_of}
 use Rattle.pat_world.specs.Room.{HasRoom}
-use Rattle.pat_world.specs.Streaming.{confirm_of, unconfirmed_end}
+use Rattle.cluster_model.specs.Streaming.{confirm_of, unconfirmed_end}
 use Rattle.pat_world.specs.Emits.{Emits}
 use Rattle.pat_world.proofs.Deciding.{Emits-after}
-use Rattle.pat_world.proofs.Rooms.{HasRoom-cluster_after}
+use Rattle.pat_world.proofs.Rooms.{HasRoom-cluster_after, HasRoom-fewer}
 use Rattle.pat_world.proofs.Serving.{serving-cluster_after, serving-took}
 use Rattle.pat_world.proofs.Taking.{Emits-weaker}
 
 -- a cluster with other servers
 abbrev pub with_servers : Cluster → List ServerFacts → Cluster
-with_servers cluster servers = record { book = record cluster.book { servers = servers }; agent_states = cluster.agent_states }
+with_servers cluster servers = record cluster { book = record cluster.book { servers = servers } }
 
 abbrev confirmed : ServerOf → Member → Lsn → EventKind
 confirmed server member end = kinds.Replication (replications.Confirmed server member end)
@@ -55,6 +57,12 @@ quiet-took cluster after member from most known had has none state took =
     let same : known ≡ cluster.book.servers = state ∙ ap (after_news_at cluster.book.servers member.id.number from.id.number) none in
     let confirming : Emits cluster after had has (confirm_events cluster member from) 1 = subst (λ (s : List ServerFacts). Emits (with_servers cluster s) after had has (confirm_events (with_servers cluster s) member from) 1) same took in
     subst (λ (o : Option Streamed). Emits cluster after had has (receive_events cluster member from o) 2) (sym none) (Emits-weaker cluster after had has (confirm_events cluster member from) 1 2 confirming (omega arith))
+
+pub quiet-room : (cluster : Cluster) (member from : Member) (most : ℕ) (known : List ServerFacts) → news_at cluster.book.servers member.id.number from.id.number most ≡ None
+    → known ≡ streamed_at cluster.book.servers member.id.number from.id.number most → HasRoom cluster 2 → HasRoom (with_servers cluster known) 1
+quiet-room cluster member from most known none state room =
+    let same : known ≡ cluster.book.servers = state ∙ ap (after_news_at cluster.book.servers member.id.number from.id.number) none in
+    subst (λ (s : List ServerFacts). HasRoom (with_servers cluster s) 1) (sym same) (HasRoom-fewer cluster 2 1 (omega arith) room)
 
 no-news : (answer : Streamed) → None ≡ Some answer → ⊥
 no-news answer is = cc

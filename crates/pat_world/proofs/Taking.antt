@@ -2,8 +2,9 @@
 use Rattle.std.proofs.Common.{◌≡◌, ℕ, ◌+◌, ◌≤◌, List, [], ◌∷◌, ◌++◌, Option, Some, arith, append_assoc, append-nil, refl, ◌∙◌, ap, sym, subst}
 use Rattle.event_book.specs.declared.event.Event.{Event}
 use Rattle.event_book.specs.declared.event.EventKind.{EventKind}
-use Rattle.pat_world.specs.Cluster.{Cluster, cluster_after, cluster_over}
-use Rattle.pat_world.specs.Next.{events_of, events_then, for_some, event_of}
+use Rattle.cluster_model.specs.Cluster.{cluster_after, cluster_over}
+use Rattle.cluster_model.specs.State.{Cluster}
+use Rattle.cluster_model.specs.Parts.{events_of, events_then, for_some, event_of}
 use Rattle.pat_world.specs.Emits.{Emits}
 use Rattle.pat_world.specs.Comes.{Counts}
 use Rattle.pat_world.proofs.Rooms.{HasRoom-cluster_after, HasRoom-fewer}

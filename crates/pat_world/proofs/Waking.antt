@@ -1,29 +1,61 @@
--- Agents that are woken.
-use Rattle.std.proofs.Common.{◌≡◌, Bool, true, List, [], Option, Some, arith, sym, subst}
-use Rattle.std.specs.Prelude.{if◌then◌else◌}
+-- Agents that are woken, and act.
+use Rattle.std.proofs.Common.{◌≡◌, ℕ, ◌+◌, ◌≤◌, Bool, true, List, [], All, length, Option, Some, None, arith, refl, sym, subst}
+use Rattle.std.specs.Prelude.{if◌then◌else◌, slice_get}
+use Rattle.std.proofs.lemmas.List.Elements.{All-nil}
+use Rattle.pat_base.specs.declared.ticks.Ticks.{Ticks}
+use Rattle.wal_model.specs.declared.entry.HistoryPoint.{HistoryPoint}
+use Rattle.event_book.specs.declared.agent_process.AgentProcess.{AgentProcess}
 use Rattle.event_book.specs.declared.event.Event.{Event}
 use Rattle.event_book.specs.declared.event.EventKind.TheVariants as kinds
 use Rattle.event_book.specs.declared.event.AgentEvent.TheVariants.{Woken}
 use Rattle.event_book.specs.declared.member.Member.{Member}
-use Rattle.pat_world.specs.declared.agent_state.Reaction.{Reaction}
-use Rattle.pat_world.specs.declared.agent_state.MemberAgent.{MemberAgent}
-use Rattle.pat_world.specs.Cluster.{Cluster}
-use Rattle.pat_world.specs.Next.{events_then, event_of, is_to_wake, member_agent_for, reaction_to_wake, reaction_events, wake_events, wake_events_of}
-use Rattle.pat_world.specs.Room.{input_cost, reaction_cost}
+use Rattle.ha_loop.specs.declared.heard.Heard.{Heard}
+use Rattle.ha_loop.specs.declared.heard.Heard.TheVariants.{Wake}
+use Rattle.ha_loop.specs.declared.machine.Machine.{Machine}
+use Rattle.ha_loop.specs.declared.output.Output.{Output}
+use Rattle.ha_loop.specs.Agents.{AgentFacts, made}
+use Rattle.ha_loop.specs.Outputs.{most_outputs}
+use Rattle.cluster_model.specs.Inputs.{agent_at, is_to_wake, moment_of, outcome_at, outcome_of, outcome_of_heard, outputs_of, standing_of}
+use Rattle.cluster_model.specs.Machines.{machine_of, points_of}
+use Rattle.cluster_model.specs.Messages.{input_events, no_message, output_events, wake_events, wake_events_if, wake_events_of}
+use Rattle.cluster_model.specs.Parts.{each, events_then, event_of}
+use Rattle.cluster_model.specs.State.{Cluster}
 use Rattle.pat_world.specs.Emits.{Emits}
+use Rattle.pat_world.specs.Room.{input_cost, outputs_cost}
+use Rattle.pat_world.specs.Short.{AsksShortly}
+use Rattle.pat_world.proofs.Acting.{step-small}
 use Rattle.pat_world.proofs.Taking.{Emits-then, found-took}
 
--- an agent is woken, and does what its reaction says
-pub awaken-took : (cluster rousing after : Cluster) (member : Member) (reaction : Option Reaction) (had mid has : List Event)
-    → Emits cluster rousing had mid (event_of cluster (kinds.Agent (Woken member))) 1 → reaction ≡ reaction_to_wake cluster.book.clock cluster.agent_states member
-    → Emits rousing after mid has (reaction_events rousing member reaction) reaction_cost → Emits cluster after had has (wake_events_of cluster member) input_cost
-awaken-took cluster rousing after member reaction had mid has one is rest =
-    subst (λ (r : Option Reaction). Emits cluster after had has (events_then cluster (event_of cluster (kinds.Agent (Woken member))) (λ later. reaction_events later member r)) input_cost) is
-    (Emits-then cluster rousing after had mid has (event_of cluster (kinds.Agent (Woken member))) (λ later. reaction_events later member reaction) 1 reaction_cost input_cost one rest (omega arith))
+-- what an input did is little, and asks shortly
+pub record AreFew (outputs : List Output) : Type 0 where
+  pub few : length outputs ≤ most_outputs
+  pub short : All AsksShortly outputs
+
+no-outputs : AreFew []
+no-outputs = record { few = omega arith; short = All-nil AsksShortly }
+
+outcome-few : (now : Ticks) (points : List HistoryPoint) (heard : Heard) (agent : Option AgentFacts) (machine : Option Machine) → AreFew (outputs_of (outcome_at now points heard agent machine))
+outcome-few now points heard None machine = no-outputs
+outcome-few now points heard (Some agent) None = no-outputs
+outcome-few now points heard (Some agent) (Some machine) =
+    let small = step-small now points heard (made agent.role agent.knows machine []) in
+    record { few = small.few; short = small.short (All-nil AsksShortly) }
+
+pub input-few : (cluster : Cluster) (member : Member) (heard : Option Heard) → AreFew (outputs_of (outcome_of_heard cluster member heard))
+input-few cluster member None = no-outputs
+input-few cluster member (Some heard) = outcome-few (moment_of cluster) (points_of cluster member) heard (agent_at cluster.agents member.id.number) (machine_of cluster member)
+
+-- an agent is woken, and acts
+pub awaken-took : (cluster rousing after : Cluster) (member : Member) (outputs : List Output) (had mid has : List Event)
+    → Emits cluster rousing had mid (event_of cluster (kinds.Agent (Woken member))) 1 → outputs ≡ outputs_of (outcome_of cluster member Wake)
+    → Emits rousing after mid has (each (output_events member no_message) rousing outputs) outputs_cost → Emits cluster after had has (wake_events_of cluster member) input_cost
+awaken-took cluster rousing after member outputs had mid has one is rest =
+    Emits-then cluster rousing after had mid has (event_of cluster (kinds.Agent (Woken member))) (λ later. input_events later member no_message (outcome_of cluster member Wake)) 1 outputs_cost input_cost one
+    (subst (λ (os : List Output). Emits rousing after mid has (each (output_events member no_message) rousing os) outputs_cost) is rest) (omega arith)
 
 -- so is one that has something to do
-pub wake-took : (cluster after : Cluster) (member : Member) (member_agent : MemberAgent) (had has : List Event) → member_agent_for cluster member ≡ Some member_agent → is_to_wake cluster.book.clock member_agent ≡ true
-    → Emits cluster after had has (wake_events_of cluster member) input_cost → Emits cluster after had has (wake_events cluster member) input_cost
-wake-took cluster after member member_agent had has there ready woken =
-    found-took MemberAgent cluster after had has (λ (s : MemberAgent). if is_to_wake cluster.book.clock s then wake_events_of cluster member else []) (member_agent_for cluster member) member_agent input_cost there
+pub wake-took : (cluster after : Cluster) (member : Member) (process : AgentProcess) (had has : List Event) → slice_get cluster.book.agents member.id.number ≡ Some process
+    → is_to_wake (moment_of cluster) process (standing_of cluster member) ≡ true → Emits cluster after had has (wake_events_of cluster member) input_cost → Emits cluster after had has (wake_events cluster member) input_cost
+wake-took cluster after member process had has there ready woken =
+    found-took AgentProcess cluster after had has (wake_events_if cluster member) (slice_get cluster.book.agents member.id.number) process input_cost there
     (subst (λ (b : Bool). Emits cluster after had has (if b then wake_events_of cluster member else []) input_cost) (sym ready) woken)

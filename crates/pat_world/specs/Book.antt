@@ -6,8 +6,9 @@ use Rattle.event_book.specs.Logs.{logs_in, logs_over}
 use Rattle.event_book.specs.Required.{required_in, required_over, confirmed_in, confirmed_over}
 use Rattle.event_book.specs.Writers.{writes_in, writes_over}
 use Rattle.cluster_script.specs.declared.line.Step.{Step}
-use Rattle.pat_world.specs.Cluster.{Cluster, cluster_over}
-use Rattle.pat_world.specs.Next.{next_events}
+use Rattle.cluster_model.specs.Cluster.{cluster_over}
+use Rattle.cluster_model.specs.State.{Cluster}
+use Rattle.cluster_model.specs.Next.{next_events}
 
 -- what a book that began so determines
 abbrev pub left_by : Cluster → List Event → Cluster

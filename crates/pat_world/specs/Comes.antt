@@ -1,6 +1,9 @@
 -- Which happenings a cluster may take.
-use Rattle.std.specs.Prelude.{ℕ, ◌≡◌, ◌+◌, ◌^◌, ◌<◌, ◌≤◌, List, Some, IfSome, IsTrue, slice_get}
+use Rattle.std.specs.Prelude.{ℕ, ◌≡◌, ◌+◌, ◌^◌, ◌==◌, ◌<◌, ◌≤◌, nat_le, Bool, false, List, Some, IfSome, IsTrue, slice_get}
 use Rattle.std.specs.Option.{ForSome}
+use Rattle.pat_base.specs.declared.server_state.State.{State}
+use Rattle.pat_base.specs.declared.server_state.State.TheVariants as states
+use Rattle.pat_base.specs.declared.ticks.Ticks.{Ticks}
 use Rattle.pg_model.specs.Facts.{ServerFacts, is_replica}
 use Rattle.pg_model.specs.Servers.{entry_for}
 use Rattle.event_book.specs.declared.agent_process.AgentProcess.{AgentProcess}
@@ -17,7 +20,7 @@ use Rattle.event_book.specs.declared.event.ReplicationEvent.TheVariants as repli
 use Rattle.event_book.specs.declared.event.ServerEvent.{ServerEvent}
 use Rattle.event_book.specs.declared.event.ServerEvent.TheVariants as servers
 use Rattle.event_book.specs.declared.event.StoreEvent.TheVariants as stores
-use Rattle.pat_world.specs.Cluster.{Cluster}
+use Rattle.cluster_model.specs.State.{Cluster}
 
 -- what is counted up is counted up by one: a message has the next number, and so have a run and a commit
 abbrev pub CountsMessage : ℕ → MessageEvent → Type 0
@@ -41,7 +44,7 @@ Counts cluster (kinds.Agent happening) = CountsAgent cluster.book.agents happeni
 Counts cluster (kinds.Log happening) = CountsLog cluster.book.commits happening
 Counts cluster _ = Unit {0}
 
--- it brings nothing but itself: a message that is sent has a grant and a snapshot, a grant has an answer, and an agent reacts
+-- it brings nothing but itself: a message that is sent has a grant and a snapshot, a grant has an answer, and an agent acts
 abbrev pub IsBare : EventKind → Type 0
 IsBare (kinds.Message (messages.Sent number message)) = ⊥
 IsBare (kinds.Message (messages.Delivered number)) = ⊥
@@ -49,13 +52,22 @@ IsBare (kinds.Store (stores.Granted number by txn standbys)) = ⊥
 IsBare (kinds.Agent (agents.Woken agent)) = ⊥
 IsBare _ = Unit {0}
 
--- a replica begins, and no delay is longer than servers take. That a server ends, or that its log diverged, doesn't come in this way
-abbrev pub ServerComes : List ServerFacts → ServerEvent → Type 0
-ServerComes known (servers.Began server timeline) = IfSome (slice_get known server.id.number) (λ s. IsTrue (is_replica s.state) × (s.timeline < 2 ^ 60))
-ServerComes known (servers.Slowed server stop start) = ForSome stop (λ delay. delay.0 ≤ 2 ^ 40) × ForSome start (λ delay. delay.0 ≤ 2 ^ 40)
-ServerComes known (servers.Ended server) = ⊥
-ServerComes known (servers.Diverged server upstream at) = ⊥
-ServerComes known _ = Unit {0}
+-- whether a server in this state, whose stops take so long, can accept writes no longer from this moment on: it accepts them, and
+-- stops take no time, or its stop is complete
+abbrev pub ends_at : ℕ → State → Ticks → Bool
+ends_at now states.Primary delay = delay.0 == 0
+ends_at now (states.Stopping was_primary at) delay = nat_le at.0 now
+ends_at now _ delay = false
+
+-- a replica begins, a server ends that can, and no delay is longer than servers take. That a primary starts again, or that a log
+-- diverged, doesn't come in this way
+abbrev pub ServerComes : ℕ → List ServerFacts → ServerEvent → Type 0
+ServerComes now known (servers.Began server timeline) = IfSome (slice_get known server.id.number) (λ s. IsTrue (is_replica s.state) × (s.timeline < 2 ^ 60))
+ServerComes now known (servers.Ended server) = IfSome (slice_get known server.id.number) (λ s. IsTrue (ends_at now s.state s.stop_delay))
+ServerComes now known (servers.Slowed server stop start) = ForSome stop (λ delay. delay.0 ≤ 2 ^ 40) × ForSome start (λ delay. delay.0 ≤ 2 ^ 40)
+ServerComes now known (servers.StartsAsPrimary server) = ⊥
+ServerComes now known (servers.Diverged server upstream at) = ⊥
+ServerComes now known _ = Unit {0}
 
 -- a commit is the one that its server appends. What else changes logs isn't done in this way
 abbrev pub LogComes : List ServerFacts → LogEvent → Type 0
@@ -67,15 +79,15 @@ abbrev pub ReplicationComes : ReplicationEvent → Type 0
 ReplicationComes (replications.Acknowledged server commit) = ⊥
 ReplicationComes _ = Unit {0}
 
--- what happens at servers is what they can do
-abbrev pub ServesAt : List ServerFacts → EventKind → Type 0
-ServesAt known (kinds.Server happening) = ServerComes known happening
-ServesAt known (kinds.Log happening) = LogComes known happening
-ServesAt known (kinds.Replication happening) = ReplicationComes happening
-ServesAt known _ = Unit {0}
+-- what happens at servers at this moment is what they can do
+abbrev pub ServesAt : ℕ → List ServerFacts → EventKind → Type 0
+ServesAt now known (kinds.Server happening) = ServerComes now known happening
+ServesAt now known (kinds.Log happening) = LogComes known happening
+ServesAt now known (kinds.Replication happening) = ReplicationComes happening
+ServesAt now known _ = Unit {0}
 
 -- this may happen next
 pub record MayCome (cluster : Cluster) (kind : EventKind) : Type 0 where
   pub bare : IsBare kind
   pub counts : Counts cluster kind
-  pub serves : ServesAt cluster.book.servers kind
+  pub serves : ServesAt cluster.book.clock cluster.book.servers kind

@@ -1,7 +1,8 @@
 -- What a part of a step owes.
 use Rattle.std.specs.Prelude.{ℕ, ◌≡◌, ◌+◌, ◌++◌, List}
 use Rattle.event_book.specs.declared.event.Event.{Event}
-use Rattle.pat_world.specs.Cluster.{Cluster, cluster_over}
+use Rattle.cluster_model.specs.Cluster.{cluster_over}
+use Rattle.cluster_model.specs.State.{Cluster}
 use Rattle.pat_world.specs.Room.{HasRoom}
 
 -- these events happened: they were handed out behind those that there were, the cluster is what they leave, and it has

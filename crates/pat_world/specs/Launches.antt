@@ -3,7 +3,7 @@ use Rattle.std.specs.Prelude.{ℕ, nat_le, length, if◌then◌else◌}
 use Rattle.std.specs.BTreeMap.{insert_entry}
 use Rattle.std.specs.Ordering.{nat_cmp}
 use Rattle.event_book.specs.Flight.{Flight, InFlightFacts, without_message}
-use Rattle.pat_world.specs.Room.{most_in_flight}
+use Rattle.cluster_model.specs.Limits.{most_in_flight}
 
 -- the messages in flight after one is sent: beyond the most in flight it is lost at once
 abbrev pub launched_into : Flight → ℕ → InFlightFacts → Flight

@@ -1,20 +1,43 @@
--- How long the leases are that messages ask for.
-use Rattle.std.specs.Prelude.{◌≤◌, ◌^◌, Option, All, IfSome}
+-- What messages carry: leases that the key store can write, and entries that were read from it.
+use Rattle.std.specs.Prelude.{◌≤◌, ◌^◌, List, All}
 use Rattle.std.specs.Map.{values_of}
+use Rattle.lease_store.specs.declared.key.Key.{Key}
+use Rattle.lease_store.specs.declared.value.KeyEntry.{KeyEntry}
 use Rattle.lease_store.specs.Writes.{ttl_of}
 use Rattle.event_book.specs.declared.message.Body.{Body}
 use Rattle.event_book.specs.declared.message.Body.TheVariants as bodies
-use Rattle.event_book.specs.Flight.{Flight}
+use Rattle.event_book.specs.Flight.{Flight, InFlightFacts}
+use Rattle.cluster_config.specs.Snapshots.{IsRead}
+use Rattle.ha_loop.specs.declared.output.Output.{Output}
+use Rattle.ha_loop.specs.declared.output.Output.TheVariants as outputs
 
--- a request asks for leases that the store can write
+-- a request asks for leases that the key store can write
 abbrev pub IsShort : Body → Type 0
 IsShort (bodies.Request txn) = ttl_of txn ≤ 2 ^ 40
 IsShort _ = Unit {0}
 
--- what an agent asks, if anything, asks for leases that the store can write
-abbrev pub AsksShortly : Option Body → Type 0
-AsksShortly asks = IfSome asks IsShort
+-- what an agent sends is a question, for leases that the key store can write
+abbrev pub IsAsked : Body → Type 0
+IsAsked bodies.Read = Unit {0}
+IsAsked (bodies.Request txn) = ttl_of txn ≤ 2 ^ 40
+IsAsked _ = ⊥
 
--- so does each message in flight
-abbrev pub AllShort : Flight → Type 0
-AllShort flight = All (λ message. IsShort message.message.body) (values_of flight)
+-- so does an output
+abbrev pub AsksShortly : Output → Type 0
+AsksShortly (outputs.Send to sequence body) = IsAsked body
+AsksShortly _ = Unit {0}
+
+-- the entries that an answer carries were read
+abbrev pub CarriesRead : Body → List (Key × KeyEntry) → Type 0
+CarriesRead bodies.Snapshot entries = IsRead entries
+CarriesRead (bodies.Granted request leased) entries = IsRead entries
+CarriesRead _ entries = Unit {0}
+
+-- what holds of each message that is sent
+pub record IsSent (message : InFlightFacts) : Type 0 where
+  pub short : IsShort message.message.body
+  pub read : CarriesRead message.message.body message.snapshot
+
+-- it holds of all in flight
+abbrev pub AllSent : Flight → Type 0
+AllSent flight = All IsSent (values_of flight)

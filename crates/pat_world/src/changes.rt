@@ -1,5 +1,5 @@
 //! What a happening changes, field by field of what a book determines.
-ghost use Rattle.std.specs.Prelude.{ℕ, ◌≡◌, ◌<◌, ◌+◌, ◌^◌, OnOk, Some};
+ghost use Rattle.std.specs.Prelude.{ℕ, ◌≡◌, ◌≤◌, ◌<◌, ◌+◌, ◌^◌, OnOk, Some, length};
 ghost use Rattle.pat_base.specs.Changes.{changed_by};
 ghost use Rattle.event_book.specs.Acknowledged.{acknowledged_after, commits_after};
 ghost use Rattle.event_book.specs.Agents.{agents_after};
@@ -8,21 +8,27 @@ ghost use Rattle.event_book.specs.Flight.{Flight, InFlightFacts, flight_after, i
 ghost use Rattle.event_book.specs.Frozen.{frozen_after};
 ghost use Rattle.event_book.specs.Keys.{keys_after};
 ghost use Rattle.event_book.specs.Links.{cuts_after};
+ghost use Rattle.event_book.specs.Watchdogs.{deadlines_after, holds_after};
+ghost use Rattle.ha_loop.specs.Agents.{latest};
+ghost use Rattle.cluster_model.specs.Limits.{most_members};
 ghost use Rattle.lease_store.specs.Keys.{Keys};
-ghost use Rattle.pat_world.specs.Cluster.{agent_states_after};
-ghost use Rattle.pat_world.specs.Comes.{IsBare};
-ghost use Rattle.pat_world.specs.Settled.{settled_after};
 
-use crate::agent_state::AgentState;
-use crate::agents::{change_agent, start};
+ghost use Rattle.pat_world.specs.Apart.{agents_apart};
+ghost use Rattle.pat_world.specs.Comes.{IsBare};
+ghost use Rattle.pat_world.specs.Settled.{settled_by, settled_after};
+
 use crate::flight::Flight;
 use crate::links::CutLinks;
+use crate::places::{change_agents_by, reset_agent};
+use crate::processes::{change_process, reset_process};
+use crate::watchdogs::{change_deadline, change_hold};
 use event_book::{
-    AgentEvent, AgentProcess, EventKind, LogEvent, MessageEvent, ReplicationEvent, ServerEvent,
-    ServerOf,
+    AgentProcess, EventKind, LogEvent, Member, MessageEvent, ReplicationEvent, ServerEvent,
+    ServerOf, WatchdogEvent,
 };
+use ha_loop::Agent;
 use lease_store::Store;
-use pat_base::Ticks;
+use pat_base::{Name, Ticks};
 use std::alloc::AllocError;
 
 /// The moment after a happening.
@@ -47,22 +53,50 @@ pub fn change_keys(store: &mut Store, now: Ticks, kind: &EventKind)
 }
 
 /// The processes of agents after a happening.
-pub fn change_agents(agents: &mut Vec<AgentProcess>, kind: &EventKind)
-    ensures { agents.new.items ≡ agents_after agents.old.items kind.now }
+pub fn change_processes(processes: &mut Vec<AgentProcess>, kind: &EventKind)
+    ensures { processes.new.items ≡ agents_after processes.old.items kind.now }
 {
-    if let EventKind::Agent(happening) = kind {
-        change_agent(agents, happening);
+    match kind {
+        EventKind::Agent(happening) => change_process(processes, happening),
+        EventKind::Watchdog(happening) => reset_process(processes, happening),
+        _ => {}
     }
 }
 
-/// Where the agents stand after a happening that is no input of one but its start.
-pub fn change_agent_states(agent_states: &mut Vec<AgentState>, now: Ticks, kind: &EventKind)
-    requires bare { IsBare kind.now }
-    requires moment { now.0 < 2 ^ 61 }
-    ensures { (flight : Flight) → agent_states.new.items ≡ agent_states_after now.0 flight agent_states.old.items kind.now }
+/// The agents of a cluster of this name with these members, after a happening of this moment that is no input of one.
+pub fn change_agents(
+    agents: &mut Vec<Option<Agent>>,
+    scope: Name,
+    members: &[Member],
+    now: Ticks,
+    kind: &EventKind,
+)
+    requires few { length members.now ≤ most_members }
+    requires moment { now.0 ≤ latest }
+    ensures { agents.new.items ≡ agents_apart scope members.now now.0 agents.old.items kind.now }
 {
-    if let EventKind::Agent(AgentEvent::Started { agent, .. }) = kind {
-        start(agent_states, *agent, Ticks(now.0 + 1));
+    match kind {
+        EventKind::Agent(happening) => change_agents_by(agents, scope, members, now, happening),
+        EventKind::Watchdog(happening) => reset_agent(agents, happening),
+        _ => {}
+    }
+}
+
+/// The deadlines of watchdogs after a happening.
+pub fn change_deadlines(deadlines: &mut Vec<Option<Ticks>>, kind: &EventKind)
+    ensures { deadlines.new.items ≡ deadlines_after deadlines.old.items kind.now }
+{
+    if let EventKind::Watchdog(happening) = kind {
+        change_deadline(deadlines, happening);
+    }
+}
+
+/// The holds of members after a happening.
+pub fn change_holds(holds: &mut Vec<Option<Ticks>>, kind: &EventKind)
+    ensures { holds.new.items ≡ holds_after holds.old.items kind.now }
+{
+    if let EventKind::Watchdog(happening) = kind {
+        change_hold(holds, happening);
     }
 }
 
@@ -142,6 +176,16 @@ pub fn settled_after(settled: u64, kind: &EventKind) -> u64
 {
     match kind {
         EventKind::Agent(_) | EventKind::Link(_) => 0,
+        EventKind::Watchdog(happening) => settled_by(settled, happening),
+        _ => settled,
+    }
+}
+
+fn settled_by(settled: u64, happening: &WatchdogEvent) -> u64
+    ensures { result ≡ settled_by settled happening.now }
+{
+    match happening {
+        WatchdogEvent::Reset { .. } => 0,
         _ => settled,
     }
 }

@@ -1,9 +1,9 @@
 //! What stands between a message and its receiver.
 ghost use Rattle.std.specs.Prelude.{◌≡◌, slice_get};
-ghost use Rattle.pat_world.specs.Deliveries.{is_answer, is_stale, delivery_to, delivery_to_agent, delivery_of};
+ghost use Rattle.cluster_model.specs.Deliveries.{is_answer, is_stale, delivery_to, delivery_to_agent, delivery_of};
 
-use crate::delivery::Delivery;
 use crate::links::CutLinks;
+use cluster_model::Delivery;
 use event_book::{AgentProcess, Body, Link, LinkEnd, Message};
 
 /// What stands between a message and its receiver.

@@ -6,12 +6,13 @@ ghost use Rattle.std.specs.List.Sorted.{IsStrictlySortedBy};
 ghost use Rattle.std.specs.Ordering.{nat_cmp};
 ghost use Rattle.event_book.specs.Flight.{InFlightFacts, in_flight, without_message};
 ghost use Rattle.pat_world.specs.Launches.{launched_into};
-ghost use Rattle.pat_world.specs.Room.{most_in_flight};
+ghost use Rattle.cluster_model.specs.Limits.{most_in_flight};
 ghost use Rattle.pat_world.specs.Settled.{numbers_from};
-ghost use Rattle.pat_world.specs.Short.{IsShort};
+ghost use Rattle.pat_world.specs.Short.{IsSent};
 
 use event_book::Message;
 use lease_store::{Granted, Key, KeyEntry};
+use pat_base::Ticks;
 use std::alloc::{AllocError, Global};
 use std::collections::BTreeMap;
 use std::marker::Model;
@@ -24,6 +25,8 @@ const MOST: usize = 65_536;
 #[derive(Drop)]
 pub struct InFlight {
     pub message: Message,
+    /// The moment of its sending.
+    pub sent: Ticks,
     pub snapshot: Vec<(Key, KeyEntry)>,
     pub grant: Option<Granted>,
 }
@@ -33,7 +36,7 @@ impl Model for InFlight {
 
     ghost Value = { InFlightFacts };
 
-    ghost view = { λ m. record { message = m.message; snapshot = m.snapshot.items; grant = m.grant } };
+    ghost view = { λ m. record { message = m.message; sent = m.sent; snapshot = m.snapshot.items; grant = m.grant } };
 }
 
 /// The messages in flight, by their numbers.
@@ -45,14 +48,14 @@ pub struct Flight {
 impl Model for Flight {
     ghost use Rattle.std.specs.Prelude.{◌≤◌, length};
     ghost use Rattle.event_book.specs.Flight.{Flight};
-    ghost use Rattle.pat_world.specs.Room.{most_in_flight};
-    ghost use Rattle.pat_world.specs.Short.{AllShort};
+    ghost use Rattle.cluster_model.specs.Limits.{most_in_flight};
+    ghost use Rattle.pat_world.specs.Short.{AllSent};
 
     ghost Value = { Flight };
 
     ghost view = { λ f. f.messages.entries };
 
-    ghost invariant = { λ f. (length f.messages.entries ≤ most_in_flight) × AllShort f.messages.entries };
+    ghost invariant = { λ f. (length f.messages.entries ≤ most_in_flight) × AllSent f.messages.entries };
 }
 
 impl Flight {
@@ -82,7 +85,7 @@ impl Flight {
     /// Sends a message under a number. It answers whether the message was lost at once, which it is where as many are in
     /// flight as may be. It fails only for want of memory.
     pub fn launch(&mut self, number: u64, message: InFlight) -> Result<bool, AllocError>
-        requires { IsShort message.message.body }
+        requires { IsSent message }
         ensures flight { OnOk result (self.new ≡ launched_into self.old number message) }
         ensures lost { IfOk result (λ lost. lost ≡ nat_le most_in_flight (length self.old)) }
         ensures others { (n : ℕ) (m : InFlightFacts) → n ≢ number → in_flight self.new n ≡ Some m → in_flight self.old n ≡ Some m }
@@ -99,7 +102,7 @@ impl Flight {
     pub fn land(&mut self, number: u64) -> Option<InFlight>
         ensures flight { self.new ≡ without_message self.old number }
         ensures message { result ≡ in_flight self.old number }
-        ensures short { IfSome result (λ m. IsShort m.message.body) }
+        ensures sent { IfSome result IsSent }
         ensures absent { IfNone result (self.new ≡ self.old) }
         ensures others { (n : ℕ) (m : InFlightFacts) → in_flight self.new n ≡ Some m → in_flight self.old n ≡ Some m }
     {

@@ -1,23 +1,20 @@
 //! The world: a cluster at a moment, which takes the steps of a script and hands out what happens.
 #![tactic(auto)]
 
-mod agent;
-mod agent_state;
-mod agents;
 mod changes;
 mod deliveries;
-mod delivery;
 mod flight;
-mod follow_row;
-mod following;
-mod info;
-mod laws;
+mod from_head;
 mod links;
+mod machines;
 mod members;
+mod orders;
+mod places;
+mod processes;
 mod server_changes;
 mod server_commands;
 mod streaming;
+mod watchdogs;
 mod world;
 
-pub use laws::other_concerns_change_nothing;
 pub use world::World;

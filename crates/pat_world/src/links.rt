@@ -2,10 +2,10 @@
 ghost use Rattle.std.specs.Prelude.{◌≡◌, IfOk, IfSome, Some, slice_set};
 ghost use Rattle.cluster_script.specs.Script.{IsEnd};
 ghost use Rattle.event_book.specs.Links.{cuts_after, is_cut, link_place, none_cut};
-ghost use Rattle.pat_world.specs.Cluster.{Cluster};
+ghost use Rattle.cluster_model.specs.State.{Cluster};
 ghost use Rattle.pat_world.specs.Comes.{MayCome};
-ghost use Rattle.pat_world.specs.Commands.{cut_of, join_of, link_end_of, link_of};
-ghost use Rattle.pat_world.specs.Steps.{names_in};
+ghost use Rattle.cluster_model.specs.Commands.{cut_of, join_of, link_end_of, link_of};
+ghost use Rattle.cluster_model.specs.Steps.{names_in};
 
 use crate::members::declared;
 use cluster_script::End;

@@ -1,7 +1,7 @@
 //! Declared members.
 ghost use Rattle.std.specs.Prelude.{◌≡◌, Some, slice_get};
 ghost use Rattle.cluster_script.specs.Script.{IsMember};
-ghost use Rattle.pat_world.specs.Steps.{names_in};
+ghost use Rattle.cluster_model.specs.Steps.{names_in};
 
 use event_book::Member;
 use pat_base::MemberId;

@@ -1,9 +1,10 @@
 //! What a happening changes at servers.
-ghost use Rattle.std.specs.Prelude.{◌≡◌, ◌<◌, ◌^◌, OnOk};
+ghost use Rattle.std.specs.Prelude.{◌≡◌, ◌<◌, ◌^◌, ◌==◌, ◌&&◌, ◌||◌, not, OnOk, IfSome, IsTrue, slice_get};
 ghost use Rattle.pat_base.specs.Changes.{changed_by};
-ghost use Rattle.event_book.specs.Servers.{servers_after, servers_by, servers_by_log, servers_by_replication, servers_by_watchdog, starts_as_replica};
-ghost use Rattle.pg_model.specs.Facts.{is_down};
-ghost use Rattle.pat_world.specs.Comes.{LogComes, ReplicationComes, ServerComes, ServesAt};
+ghost use Rattle.event_book.specs.Servers.{servers_after, servers_by, servers_by_log, servers_by_replication, servers_by_watchdog, starts_as_replica, stops};
+ghost use Rattle.pg_model.specs.Facts.{is_down, is_up};
+ghost use Rattle.pg_model.specs.Running.{is_primary, stopped};
+ghost use Rattle.pat_world.specs.Comes.{ends_at, LogComes, ReplicationComes, ServerComes, ServesAt};
 
 use event_book::{EventKind, LogEvent, ReplicationEvent, ServerEvent, WatchdogEvent};
 use pat_base::{State, Ticks};
@@ -13,7 +14,7 @@ use std::alloc::AllocError;
 /// The servers after a happening of this moment. It fails only for want of memory.
 pub fn change_servers(servers: &mut Servers, now: Ticks, kind: &EventKind) -> Result<(), AllocError>
     requires moment { now.0 < 2 ^ 61 }
-    requires serves { ServesAt servers.old kind.now }
+    requires serves { ServesAt now.0 servers.old kind.now }
     ensures { OnOk result (servers.new ≡ servers_after now.0 servers.old kind.now) }
 {
     match kind {
@@ -41,13 +42,21 @@ fn change_server(
     happening: &ServerEvent,
 ) -> Result<(), AllocError>
     requires moment { now.0 < 2 ^ 61 }
-    requires comes { ServerComes servers.old happening.now }
+    requires comes { ServerComes now.0 servers.old happening.now }
     ensures { OnOk result (servers.new ≡ servers_by now.0 servers.old happening.now) }
 {
     match happening {
         ServerEvent::Began { server, .. } => servers.promote(server.id.number as usize, now),
+        ServerEvent::Ended { server } => {
+            end(servers, now, server.id.number as usize);
+            Ok(())
+        }
         ServerEvent::Crashed { server } => {
             servers.crash(server.id.number as usize);
+            Ok(())
+        }
+        ServerEvent::Stops { server } => {
+            stop(servers, now, server.id.number as usize);
             Ok(())
         }
         ServerEvent::StartsAsReplica { server } => {
@@ -83,7 +92,47 @@ fn start_replica(servers: &mut Servers, now: Ticks, place: usize)
     }
 }
 
-fn is_down(state: State) -> bool
+/// The server at a place ends, which can: it accepts writes, and stops take no time, or its stop is complete.
+fn end(servers: &mut Servers, now: Ticks, place: usize)
+    requires moment { now.0 < 2 ^ 61 }
+    requires ends { IfSome (slice_get servers.old place) (λ s. IsTrue (ends_at now.0 s.state s.stop_delay)) }
+    ensures { servers.new ≡ changed_by servers.old place stopped }
+{
+    let Some(server) = servers.get(place) else {
+        return;
+    };
+    match server.state() {
+        State::Primary => servers.stop(place, now),
+        _ => servers.complete(place, now),
+    }
+}
+
+/// The shutdown of the server at a place begins, where that ends no writing at once.
+fn stop(servers: &mut Servers, now: Ticks, place: usize)
+    requires { now.0 < 2 ^ 61 }
+    ensures { servers.new ≡ changed_by servers.old place (stops now.0) }
+{
+    let Some(server) = servers.get(place) else {
+        return;
+    };
+    if stops_quietly(server.state(), server.stop_delay()) {
+        servers.stop(place, now);
+    }
+}
+
+/// Whether a shutdown of a server in this state, whose stops take so long, ends no writing at once.
+fn stops_quietly(state: State, delay: Ticks) -> bool
+    ensures { result ≡ (is_up state && (not (is_primary state) || not (delay.0 == 0))) }
+{
+    match state {
+        State::Starting { .. } | State::Replica => true,
+        State::Primary => delay.0 != 0,
+        _ => false,
+    }
+}
+
+/// Whether a server in this state is down.
+pub fn is_down(state: State) -> bool
     ensures { result ≡ is_down state }
 {
     matches!(state, State::Stopped | State::Crashed)

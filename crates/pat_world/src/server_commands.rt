@@ -1,9 +1,10 @@
 //! What commands of a script come to at servers.
 ghost use Rattle.std.specs.Prelude.{◌≡◌, ◌<◌, ◌^◌, IfSome, option_and_then, slice_get};
 ghost use Rattle.pg_model.specs.Servers.{entry_for};
-ghost use Rattle.pat_world.specs.Cluster.{Cluster};
+ghost use Rattle.cluster_model.specs.State.{Cluster};
+ghost use Rattle.cluster_model.specs.Ticking.{completion_of};
 ghost use Rattle.pat_world.specs.Comes.{MayCome};
-ghost use Rattle.pat_world.specs.ServerCommands.{promoted_timeline, is_gone, commit_of, crash_of, freezing_of, slow_by, slow_of};
+ghost use Rattle.cluster_model.specs.ServerCommands.{promoted_timeline, is_gone, commit_of, crash_of, freezing_of, slow_by, slow_of};
 
 use cluster_script::{Delay, SlowedCall};
 use event_book::{EventKind, LogEvent, Member, Note, ServerEvent, ServerOf};
@@ -43,6 +44,23 @@ fn is_gone(state: State) -> bool
     ensures { result ≡ is_gone state }
 {
     matches!(state, State::Crashed | State::Creating)
+}
+
+/// The completion of a stop: what happens where it is a primary's and its moment has come.
+pub fn completion_of(servers: &Servers, now: Ticks, member: Member) -> Option<EventKind>
+    ensures kind { result ≡ option_and_then (completion_of now.0 member) (slice_get servers.now member.id.number) }
+    ensures comes { (cluster : Cluster) → cluster.book.servers ≡ servers.now → cluster.book.clock ≡ now.0 → IfSome result (MayCome cluster) }
+{
+    let server = servers.get(member.id.number as usize)?;
+    match server.state() {
+        State::Stopping {
+            was_primary: true,
+            at,
+        } if at <= now => Some(EventKind::Server(ServerEvent::Ended {
+            server: ServerOf::of(member),
+        })),
+        _ => None,
+    }
 }
 
 /// A freeze, or the end of one: what happens where the server is the other.

@@ -1,8 +1,8 @@
 //! From whom servers receive, and what they confirm.
 ghost use Rattle.std.specs.Prelude.{◌≡◌, ◌∷◌, [], IfSome, Some, slice_get, map};
-ghost use Rattle.pat_world.specs.Cluster.{Cluster};
+ghost use Rattle.cluster_model.specs.State.{Cluster};
 ghost use Rattle.pat_world.specs.Comes.{MayCome};
-ghost use Rattle.pat_world.specs.Streaming.{link_of_members, source_at, source_named, source_for, source_of, confirm_of, is_confirmed, unconfirmed_end};
+ghost use Rattle.cluster_model.specs.Streaming.{link_of_members, source_at, source_named, source_for, source_of, confirm_of, is_confirmed, unconfirmed_end};
 
 use crate::links::CutLinks;
 use event_book::{Link, LinkEnd, Member};

@@ -1,38 +1,41 @@
 //! The world: it takes the steps of a script and hands out what happens.
-ghost use Rattle.std.specs.Prelude.{ℕ, List, ◌≡◌, ◌<◌, ◌≤◌, ◌+◌, ◌*◌, ◌^◌, ◌++◌, ◌∷◌, [], length, OnOk, OnErr, IfOk, IfSome, slice_get, Some};
+ghost use Rattle.std.specs.Prelude.{ℕ, List, ◌≡◌, ◌<◌, ◌≤◌, ◌+◌, ◌*◌, ◌^◌, ◌++◌, ◌∷◌, ◌↔◌, [], length, OnOk, OnErr, IfOk, IfSome, IsSome, option_and_then, slice_get, Some};
 ghost use Rattle.pat_base.specs.MemberId.{member_of};
 ghost use Rattle.cluster_script.specs.Script.{IsCommand, IsLink, IsMember};
 ghost use Rattle.event_book.specs.declared.event.Event.{Event};
-ghost use Rattle.event_book.specs.Agents.{first_agents};
-ghost use Rattle.event_book.specs.Members.{members_from};
-ghost use Rattle.pat_world.specs.Acknowledging.{AreAcknowledged};
+ghost use Rattle.cluster_model.specs.Acknowledging.{AreAcknowledged};
+ghost use Rattle.cluster_model.specs.Commands.{link_of};
+ghost use Rattle.cluster_model.specs.Limits.{most_rounds};
+ghost use Rattle.cluster_model.specs.Next.{round_events, rounds_events, declared, command_events, command_kind, scheduled_events, step_events, next_events};
+ghost use Rattle.cluster_model.specs.Starting.{cluster_of};
+ghost use Rattle.cluster_model.specs.State.{Cluster};
+ghost use Rattle.cluster_model.specs.Steps.{IsStep, names_in};
 ghost use Rattle.pat_world.specs.Book.{StandsFor, next_of};
-ghost use Rattle.pat_world.specs.Cluster.{Cluster, cluster_of, first_agent_states};
 ghost use Rattle.pat_world.specs.Comes.{MayCome};
-ghost use Rattle.pat_world.specs.Commands.{link_of};
-ghost use Rattle.pat_world.specs.Steps.{IsStep, names_in};
-ghost use Rattle.pat_world.specs.Next.{events_at, round_events, rounds_events, declared, declared_member, expiry_of, expiries_of, tick_events, command_events, command_kind, scheduled_events, step_events, next_events};
-ghost use Rattle.pat_world.specs.Room.{HasRoom, HasRoomFor, command_cost, most_rounds, round_cost, rounds_cost, schedule_cost, step_cost, tick_cost};
 ghost use Rattle.pat_world.specs.Emits.{Emits};
+ghost use Rattle.pat_world.specs.Room.{HasRoom, HasRoomFor, command_cost, round_cost, rounds_cost, schedule_cost, step_cost};
 
 mod acknowledging;
 mod agents;
 mod happening;
 mod messages;
+mod orders;
 mod servers;
 mod streaming;
+mod ticking;
 
-use crate::agent::fresh_agent_state;
-use crate::agent_state::AgentState;
-use crate::agents::{hold_of, kill_of, restarted, resume_of};
 use crate::flight::Flight;
 use crate::links::{CutLinks, cut_of, join_of, link_of};
 use crate::members;
+use crate::places::{close_all, first_agents};
+use crate::processes::{hold_of, kill_of, resume_of};
 use crate::server_commands::{commit_of, crash_of, freezing_of, slow_of};
-use cluster_script::{Command, End, Head, Step};
-use event_book::{AgentProcess, Event, EventKind, Link, Member, StoreEvent};
-use lease_store::{ConfigValue, Key, Store};
-use pat_base::{MemberId, Ticks};
+use crate::from_head::{hosts_of, members_of, options_of, processes_of};
+use cluster_script::{Command, End, Head, MemberOptions, Step};
+use event_book::{AgentProcess, Event, EventKind, Link, Member};
+use ha_loop::{Agent, Outputs};
+use lease_store::{ConfigValue, Store};
+use pat_base::{Host, MemberId, Name, Ticks};
 use pg_model::Servers;
 use std::alloc::{AllocError, Global};
 use std::marker::Model;
@@ -40,16 +43,25 @@ use std::marker::Model;
 /// The most rounds of one tick.
 const MOST_ROUNDS: usize = 40;
 
-/// A cluster at a moment: the clock, the key store, the declared members with their agents and servers, the links that are
-/// cut, the messages in flight, and the commits.
-#[derive(Drop)]
+/// A cluster at a moment: the clock, the key store, the declared members with their agents, machines and servers, the links that
+/// are cut, the messages in flight, and the commits. It can't be dropped, since an agent can't: `World::close` ends one.
 pub struct World {
     alloc: Global,
+    scope: Name,
+    /// What the script declares of the members beside their names.
+    options: Vec<MemberOptions>,
+    /// Where members are reached, as snapshots tell agents.
+    hosts: Vec<(Name, Host)>,
     clock: Ticks,
     store: Store,
     members: Vec<Member>,
-    agents: Vec<AgentProcess>,
-    agent_states: Vec<AgentState>,
+    processes: Vec<AgentProcess>,
+    /// The agents that run, each at the place of its member.
+    agents: Vec<Option<Agent>>,
+    /// When each watchdog resets its machine, if it is armed.
+    deadlines: Vec<Option<Ticks>>,
+    /// Until when each member promised not to take the leader key, if it did.
+    holds: Vec<Option<Ticks>>,
     cuts: CutLinks,
     flight: Flight,
     sent: u64,
@@ -61,34 +73,41 @@ pub struct World {
     acknowledged: Vec<u64>,
     /// Each message in flight with a number below this one is kept for an agent that is suspended, so no round need look at it.
     settled: u64,
+    /// A buffer for what agents do, empty between two inputs.
+    outputs: Outputs,
 }
 
 impl Model for World {
-    ghost use Rattle.std.specs.Prelude.{◌≤◌, ◌+◌, length};
-    ghost use Rattle.pat_world.specs.Cluster.{Cluster};
-    ghost use Rattle.pat_world.specs.Room.{most_members};
+    ghost use Rattle.std.specs.Prelude.{◌≡◌, ◌≤◌, ◌+◌, [], length};
+    ghost use Rattle.cluster_model.specs.Limits.{most_members};
+    ghost use Rattle.cluster_model.specs.Machines.{hosts_of};
+    ghost use Rattle.cluster_model.specs.State.{Cluster};
     ghost use Rattle.pat_world.specs.Settled.{AreKeptBelow};
 
     ghost Value = { Cluster };
 
     ghost view = { λ w. record {
+      scope = w.scope;
+      options = w.options.items;
       book = record {
         clock = w.clock.0;
         keys = w.store;
         members = w.members.items;
-        agents = w.agents.items;
+        agents = w.processes.items;
         cuts = w.cuts;
         flight = w.flight;
         sent = w.sent;
         servers = w.servers;
         frozen = w.frozen.items;
+        deadlines = w.deadlines.items;
+        holds = w.holds.items;
         commits = w.commits;
         acknowledged = w.acknowledged.items;
       };
-      agent_states = w.agent_states.items;
+      agents = w.agents.items;
     } };
 
-    ghost invariant = { λ w. (length w.members.items ≤ most_members) × (w.settled ≤ w.sent + 1) × AreKeptBelow w.settled w.flight w.agents.items w.cuts };
+    ghost invariant = { λ w. (length w.members.items ≤ most_members) × (w.settled ≤ w.sent + 1) × AreKeptBelow w.settled w.flight w.processes.items w.cuts × (w.hosts.items ≡ hosts_of w.members.items) × (w.outputs.outputs ≡ []) };
 }
 
 impl World {
@@ -98,21 +117,41 @@ impl World {
         ensures cluster { IfOk result (λ world. world ≡ cluster_of head.now) }
         ensures book { IfOk result (λ world. StandsFor (cluster_of head.now) [] world) }
     {
+        let world = World::first(alloc, head)?;
+        Ok(world)
+    }
+
+    /// The world of a script's head, before the first step. It fails only for want of memory.
+    fn first(alloc: Global, head: &Head) -> Result<World, AllocError>
+        ensures { IfOk result (λ world. world ≡ cluster_of head.now) }
+    {
         let count = head.member_count();
         let members = members_of(alloc, head)?;
-        let agents = agents_of(alloc, count)?;
-        let agent_states = agent_states_of(alloc, count)?;
+        let hosts = hosts_of(alloc, &members)?;
+        let options = options_of(alloc, head)?;
+        let processes = processes_of(alloc, count)?;
+        let deadlines = Vec::from_elem(alloc, None, count)?;
+        let holds = Vec::from_elem(alloc, None, count)?;
+        let cuts = CutLinks::none(alloc)?;
         let servers = Servers::new(alloc, count, head.base())?;
         let frozen = Vec::from_elem(alloc, false, count)?;
         let store = Store::new(alloc, ConfigValue::defaults(alloc)?)?;
+        let scope = head.cluster();
+        // the agents come last, since nothing that fails may leave any of them behind
+        let agents = first_agents(alloc, scope, &members)?;
         Ok(World {
             alloc,
+            scope,
+            options,
+            hosts,
             clock: Ticks(0),
             store,
             members,
+            processes,
             agents,
-            agent_states,
-            cuts: CutLinks::none(alloc)?,
+            deadlines,
+            holds,
+            cuts,
             flight: Flight::new(alloc),
             sent: 0,
             servers,
@@ -120,7 +159,35 @@ impl World {
             commits: 0,
             acknowledged: Vec::new(alloc),
             settled: 0,
+            outputs: Outputs::new(alloc),
         })
+    }
+
+    /// Ends a world, and with it all agents that run.
+    pub fn close(self) {
+        let World {
+            alloc: _,
+            scope: _,
+            options: _,
+            hosts: _,
+            clock: _,
+            store: _,
+            members: _,
+            processes: _,
+            agents,
+            deadlines: _,
+            holds: _,
+            cuts: _,
+            flight: _,
+            sent: _,
+            servers: _,
+            frozen: _,
+            commits: _,
+            acknowledged: _,
+            settled: _,
+            outputs: _,
+        } = self;
+        close_all(agents);
     }
 
     /// The moment, in ticks of 100 ms.
@@ -197,6 +264,7 @@ impl World {
             Command::Turn(id) => self.wake(self.declared(id), events),
             Command::Deliver(number) => self.deliver(number, events),
             Command::Lose(number) => self.lose(number, events),
+            Command::Restart(id) => self.restart(self.declared(id), events),
             Command::Promote(id) => self.promote(self.declared(id), events),
             Command::Stream(id, most) => self.receive(self.declared(id), most, events),
             _ => self.happen_if(self.command_kind(command), events),
@@ -211,10 +279,18 @@ impl World {
         ensures comes { IfSome result (MayCome self.now) }
     {
         match *command {
-            Command::Hold(id) => hold_of(self.member_agent_at(id)?),
-            Command::Resume(id) => resume_of(self.member_agent_at(id)?),
-            Command::Kill(id) => kill_of(self.member_agent_at(id)?),
-            Command::Restart(id) => Some(restarted(self.member_agent_at(id)?)),
+            Command::Hold(id) => {
+                let member = self.declared(id);
+                hold_of(member, self.process(member)?)
+            }
+            Command::Resume(id) => {
+                let member = self.declared(id);
+                resume_of(member, self.process(member)?)
+            }
+            Command::Kill(id) => {
+                let member = self.declared(id);
+                kill_of(member, self.process(member)?)
+            }
             Command::Crash(id) => crash_of(&self.servers, self.declared(id)),
             Command::Commit(id, size) => {
                 let member = self.declared(id);
@@ -229,20 +305,6 @@ impl World {
             Command::Join(first, second) => join_of(&self.cuts, self.link(first, second)),
             _ => None,
         }
-    }
-
-    /// The clock grows by one, starts and stops of servers whose moment has come are complete, and the keys that have
-    /// expired are dropped.
-    fn tick(&mut self, events: &mut Vec<Event>) -> Result<(), AllocError>
-        requires { HasRoom self.old tick_cost }
-        ensures { OnOk result (Emits self.old self.new events.old.items events.new.items (tick_events self.old) tick_cost) }
-    {
-        let now = Ticks(self.clock.0 + 1);
-        let expired = self.store.expired(now)?;
-        let holder = self.store.expired_holder(now);
-        let holder = declared_member(&self.members, holder);
-        self.happen(EventKind::Tick, events)?;
-        note_expiries(events, now, holder, &expired)
     }
 
     /// The rounds of a tick. A round in which nothing happens is the last.
@@ -311,97 +373,4 @@ fn note(events: &mut Vec<Event>, tick: Ticks, kind: EventKind) -> Result<(), All
 {
     events.push(Event { tick, kind })?;
     Ok(())
-}
-
-/// Writes down which keys expired, and who held the leader key if that is one of them.
-fn note_expiries(
-    events: &mut Vec<Event>,
-    tick: Ticks,
-    holder: Option<Member>,
-    keys: &[Key],
-) -> Result<(), AllocError>
-    ensures { OnOk result (events.new.items ≡ events.old.items ++ events_at tick (expiries_of holder keys.now)) }
-{
-    for key in keys {
-        note_expiry(events, tick, holder, *key)?;
-    }
-    Ok(())
-}
-
-fn note_expiry(
-    events: &mut Vec<Event>,
-    tick: Ticks,
-    holder: Option<Member>,
-    key: Key,
-) -> Result<(), AllocError>
-    ensures { OnOk result (events.new.items ≡ events.old.items ++ events_at tick (expiry_of holder key)) }
-{
-    match (key, holder) {
-        (Key::Leader, None) => Ok(()),
-        (Key::Leader, Some(holder)) => note(
-            events,
-            tick,
-            EventKind::Store(StoreEvent::LeaderExpired { holder }),
-        ),
-        (key, _) => note(events, tick, EventKind::Store(StoreEvent::Expired { key })),
-    }
-}
-
-/// The declared members, numbered in order.
-fn members_of(alloc: Global, head: &Head) -> Result<Vec<Member>, AllocError>
-    ensures { IfOk result (λ members. members.items ≡ members_from 0 head.now.members) }
-{
-    let mut members = Vec::new(alloc);
-    for place in 0..head.member_count() {
-        members.push(declared_at(head, place))?;
-    }
-    Ok(members)
-}
-
-/// The member at a place of the head.
-fn declared_at(head: &Head, place: usize) -> Member
-    requires few { place < 16 }
-    requires declared { place < length head.now.members }
-    ensures id { member_of place ≡ Some result.id }
-    ensures name { slice_get head.now.members place ≡ Some result.name }
-{
-    match (MemberId::new(place as u8), head.member(place)) {
-        (Some(id), Some(name)) => Member { id, name },
-        _ => unreachable!(),
-    }
-}
-
-/// So many agents, each in its first run.
-fn agents_of(alloc: Global, count: usize) -> Result<Vec<AgentProcess>, AllocError>
-    ensures { IfOk result (λ agents. agents.items ≡ first_agents count) }
-{
-    let mut agents = Vec::new(alloc);
-    for made in 0..count {
-        agents.push(AgentProcess {
-            running: true,
-            suspended: false,
-            run: 1,
-        })?;
-    }
-    Ok(agents)
-}
-
-/// So many agents, each before its first turn.
-fn agent_states_of(alloc: Global, count: usize) -> Result<Vec<AgentState>, AllocError>
-    ensures { IfOk result (λ agent_states. agent_states.items ≡ first_agent_states 0 count) }
-{
-    let mut agent_states = Vec::new(alloc);
-    for place in 0..count {
-        agent_states.push(fresh_agent_state(Ticks(place as u64 + 1)))?;
-    }
-    Ok(agent_states)
-}
-
-/// The declared member of this number, if there is a number.
-fn declared_member(members: &[Member], id: Option<MemberId>) -> Option<Member>
-    ensures { result ≡ declared_member members.now id }
-{
-    let id = id?;
-    let member = members.get(id.number as usize)?;
-    Some(*member)
 }

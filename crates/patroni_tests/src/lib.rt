@@ -5,6 +5,8 @@
 #[cfg(test)]
 mod agents;
 #[cfg(test)]
+mod in_memory;
+#[cfg(test)]
 mod limits;
 #[cfg(test)]
 mod logs;
@@ -12,6 +14,8 @@ mod logs;
 mod runs;
 #[cfg(test)]
 mod runs_of_servers;
+#[cfg(test)]
+mod runs_of_watchdogs;
 #[cfg(test)]
 mod scripts;
 #[cfg(test)]

@@ -7,5 +7,8 @@ pub mod Modes
 pub mod Losing
 pub mod Standing
 pub mod Guarding
+pub mod Keeping
+pub mod Spans
 pub mod Measuring
 pub mod Steps
+pub mod Listing

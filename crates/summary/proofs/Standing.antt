@@ -26,7 +26,7 @@ use Rattle.summary.proofs.Modes.{mode-more, mode-first}
 use Rattle.summary.proofs.Writing.{writers-more, long-more, over-more, two-more}
 
 -- commits are counted
-acknowledged-more : (xs ys : List Event) → acknowledged_in (xs ++ ys) ≡ acknowledged_in xs ++ acknowledged_in ys
+pub acknowledged-more : (xs ys : List Event) → acknowledged_in (xs ++ ys) ≡ acknowledged_in xs ++ acknowledged_in ys
 acknowledged-more [] ys = refl
 acknowledged-more (x ∷ xs) ys = ap (λ l. acknowledged_of x.kind ++ l) (acknowledged-more xs ys) ∙ sym (append_assoc (acknowledged_of x.kind) (acknowledged_in xs) (acknowledged_in ys))
 
@@ -34,7 +34,7 @@ count-kind : (count : ℕ) (kind : EventKind) → count_after count kind ≡ cou
 count-kind count (kinds.Replication (replications.Acknowledged server commit)) = refl
 count-kind count _ = omega arith
 
-count-more : (count : ℕ) (book : List Event) (event : Event) → count ≡ length (acknowledged_in book) → count_after count event.kind ≡ length (acknowledged_in (book ++ event ∷ []))
+pub count-more : (count : ℕ) (book : List Event) (event : Event) → count ≡ length (acknowledged_in book) → count_after count event.kind ≡ length (acknowledged_in (book ++ event ∷ []))
 count-more count book event is =
     let e = count-kind count event.kind in
     let f = ap length (acknowledged-more book (event ∷ [])) in

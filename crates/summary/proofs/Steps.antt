@@ -10,16 +10,17 @@ use Rattle.lease_law.proofs.Runs.{cons-eq, assoc, none-more}
 use Rattle.summary.specs.declared.answers.FirstMoment.{FirstMoment}
 use Rattle.summary.specs.declared.answers.WatchOf.{WatchOf}
 use Rattle.summary.specs.Claims.{IsSummaryOf, WatchStandsFor, ArePremisesMet, IsGuarded}
-use Rattle.summary.specs.Moments.{moments_over, IsToldFirst}
+use Rattle.summary.specs.Moments.{now_over, moments_over, IsToldFirst}
 use Rattle.summary.specs.Noting.{WatchFacts, ticks_after, writers_after, noted}
 use Rattle.summary.specs.Seeing.{WritersHold, IsSeen, events_in, noted_over, AreSeen}
-use Rattle.summary.specs.Sights.{since_after, seen_beside, sightings_of, SummaryFacts, first_since, summary_of, noted_step, noted_steps, book_of}
-use Rattle.summary.specs.Telling.{IsMeasured, AreMeasured, TellLosses, EachTellsLosses, WatchesWriters}
+use Rattle.summary.specs.Sights.{since_after, lateness_at, seen_beside, sightings_of, SummaryFacts, first_since, summary_of, noted_step, noted_steps, book_of}
+use Rattle.summary.specs.Telling.{IsMeasured, AreMeasured, TellLosses, EachTellsLosses, WatchStandsButForLosses}
 use Rattle.summary.proofs.Breaking.{premises-more}
 use Rattle.summary.proofs.Fronts.{now-more}
 use Rattle.summary.proofs.Guarding.{guarded-at}
 use Rattle.summary.proofs.Measuring.{clock-over, measured-behind, measured-front, measured-rest, lateness-right}
-use Rattle.summary.proofs.Standing.{stands-first, stands-more, stands-over}
+use Rattle.summary.proofs.Modes.{mode-more}
+use Rattle.summary.proofs.Standing.{count-more, stands-first, stands-more, stands-over}
 use Rattle.summary.proofs.Writing.{writers-more, long-more, over-more, two-more}
 
 -- the events of sightings
@@ -71,67 +72,71 @@ pub steps-told : (members : List WatchOf) (first : Settings) (logs : Logs) (step
 steps-told members first logs steps within measured told =
     (steps-stand members first logs [] (summary_of members first.config) steps (stands-first members first logs within) measured told).closing
 
--- the same of premises and writers alone
-pub watches-first : (members : List WatchOf) (first : Settings) → length members ≤ 16 → WatchesWriters members first [] (summary_of members first.config).watch
+-- the same without what is told of losses
+pub watches-first : (members : List WatchOf) (first : Settings) → length members ≤ 16 → WatchStandsButForLosses members first [] (summary_of members first.config).watch
 watches-first members first within =
     let stands = stands-first members first [] within in
+    let is = stands.closing in
     record {
       margins = stands.margins;
       places = stands.places;
-      end = stands.closing.end;
-      premises = stands.closing.premises;
-      two_writers = stands.closing.two_writers;
-      writers = stands.closing.writers;
+      closing = record { end = is.end; premises = is.premises; synchronous = is.synchronous; two_writers = is.two_writers; writers = is.writers; acknowledged = is.acknowledged };
     }
 
-watches-more : (members : List WatchOf) (first : Settings) (book : List Event) (watch : WatchFacts) (since : Ticks) (event : Event) (behind : List Event) → WatchesWriters members first book watch
-    → IsMeasured (moments_over first_moments book) since event.kind → WatchesWriters members first (book ++ event ∷ []) (noted watch event.kind (seen_beside (ticks_after watch.closing.end event.kind) since event.kind behind))
+watches-more : (members : List WatchOf) (first : Settings) (book : List Event) (watch : WatchFacts) (since : Ticks) (event : Event) (behind : List Event) → WatchStandsButForLosses members first book watch
+    → IsMeasured (moments_over first_moments book) since event.kind → WatchStandsButForLosses members first (book ++ event ∷ []) (noted watch event.kind (seen_beside (ticks_after watch.closing.end event.kind) since event.kind behind))
 watches-more members first book watch since event behind watches measured =
     let closing = watch.closing in
+    let was = watches.closing in
     let moment : Ticks = ticks_after closing.end event.kind in
-    let end : moment.0 ≡ _ = ap (λ t. (ticks_after (record { 0 = t }) event.kind).0) watches.end ∙ sym (now-more 0 book event) in
-    let span = lateness-right (moments_over first_moments book) closing.end since event.kind (watches.end ∙ sym (clock-over first_moments book)) measured in
-    let are = writers-more closing.writers (writes_over (λ n. false) book) event.kind watches.places (record { same = watches.writers }) in
+    let end : moment.0 ≡ now_over 0 (book ++ event ∷ []) = ap (λ t. (ticks_after (record { 0 = t }) event.kind).0) was.end ∙ sym (now-more 0 book event) in
+    let lateness = lateness_at moment since event.kind in
+    let span = lateness-right (moments_over first_moments book) closing.end since event.kind (was.end ∙ sym (clock-over first_moments book)) measured in
+    let are = writers-more closing.writers (writes_over (λ n. false) book) event.kind watches.places (record { same = was.writers }) in
     record {
       margins = watches.margins;
       places = long-more closing.writers event.kind ∙ watches.places;
-      end = end;
-      premises = premises-more members first watch.margins book event _ moment closing.premises watches.margins span end watches.premises;
-      two_writers = two-more book event closing.two_writers moment (writers_after closing.writers event.kind) watches.two_writers end are;
-      writers = λ n. are.same n ∙ sym (ap (λ (w : ℕ → Bool). w n) (over-more book event));
+      closing = record {
+        end = end;
+        premises = premises-more members first watch.margins book event lateness moment closing.premises watches.margins span end was.premises;
+        synchronous = mode-more first book event moment closing.synchronous end was.synchronous;
+        two_writers = two-more book event closing.two_writers moment (writers_after closing.writers event.kind) was.two_writers end are;
+        writers = λ n. are.same n ∙ sym (ap (λ (w : ℕ → Bool). w n) (over-more book event));
+        acknowledged = count-more closing.acknowledged book event was.acknowledged;
+      };
     }
 
-watches-over : (members : List WatchOf) (first : Settings) (book : List Event) (watch : WatchFacts) (since : Ticks) (events : List Event) → WatchesWriters members first book watch
-    → AreMeasured (moments_over first_moments book) since events → WatchesWriters members first (book ++ events) (noted_over watch (sightings_of watch.closing.end since events))
-watches-over members first book watch since [] watches measured = subst (λ (l : List Event). WatchesWriters members first l watch) (sym (none-more book)) watches
+watches-over : (members : List WatchOf) (first : Settings) (book : List Event) (watch : WatchFacts) (since : Ticks) (events : List Event) → WatchStandsButForLosses members first book watch
+    → AreMeasured (moments_over first_moments book) since events → WatchStandsButForLosses members first (book ++ events) (noted_over watch (sightings_of watch.closing.end since events))
+watches-over members first book watch since [] watches measured = subst (λ (l : List Event). WatchStandsButForLosses members first l watch) (sym (none-more book)) watches
 watches-over members first book watch since (event ∷ events) watches measured =
     let after = noted watch event.kind (seen_beside (ticks_after watch.closing.end event.kind) since event.kind events) in
-    subst (λ (l : List Event). WatchesWriters members first l (noted_over after (sightings_of after.closing.end (since_after since event.kind) events))) (assoc book (event ∷ []) events)
+    subst (λ (l : List Event). WatchStandsButForLosses members first l (noted_over after (sightings_of after.closing.end (since_after since event.kind) events))) (assoc book (event ∷ []) events)
     (watches-over members first (book ++ event ∷ []) after (since_after since event.kind) events (watches-more members first book watch since event events watches measured.0)
     (measured-behind first_moments (since_after since event.kind) book (event ∷ []) events measured.1))
 
-pub step-watches : (members : List WatchOf) (first : Settings) (book : List Event) (facts : SummaryFacts) (events : List Event) → WatchesWriters members first book facts.watch
-    → AreMeasured (moments_over first_moments book) facts.since events → WatchesWriters members first (book ++ events) (noted_step facts events).watch
+pub step-watches : (members : List WatchOf) (first : Settings) (book : List Event) (facts : SummaryFacts) (events : List Event) → WatchStandsButForLosses members first book facts.watch
+    → AreMeasured (moments_over first_moments book) facts.since events → WatchStandsButForLosses members first (book ++ events) (noted_step facts events).watch
 step-watches members first book facts events watches measured = watches-over members first book facts.watch facts.since events watches measured
 
-steps-watch : (members : List WatchOf) (first : Settings) (book : List Event) (facts : SummaryFacts) (steps : List (List Event)) → WatchesWriters members first book facts.watch
-    → AreMeasured (moments_over first_moments book) facts.since (book_of steps) → WatchesWriters members first (book ++ book_of steps) (noted_steps facts steps).watch
-steps-watch members first book facts [] watches measured = subst (λ (l : List Event). WatchesWriters members first l facts.watch) (sym (none-more book)) watches
+steps-watch : (members : List WatchOf) (first : Settings) (book : List Event) (facts : SummaryFacts) (steps : List (List Event)) → WatchStandsButForLosses members first book facts.watch
+    → AreMeasured (moments_over first_moments book) facts.since (book_of steps) → WatchStandsButForLosses members first (book ++ book_of steps) (noted_steps facts steps).watch
+steps-watch members first book facts [] watches measured = subst (λ (l : List Event). WatchStandsButForLosses members first l facts.watch) (sym (none-more book)) watches
 steps-watch members first book facts (step ∷ steps) watches measured =
     let moments = moments_over first_moments book in
-    subst (λ (l : List Event). WatchesWriters members first l (noted_steps (noted_step facts step) steps).watch) (assoc book step (book_of steps))
+    subst (λ (l : List Event). WatchStandsButForLosses members first l (noted_steps (noted_step facts step) steps).watch) (assoc book step (book_of steps))
     (steps-watch members first (book ++ step) (noted_step facts step) steps
     (step-watches members first book facts step watches (measured-front moments facts.since step (book_of steps) measured))
     (measured-behind first_moments (noted_step facts step).since book step (book_of steps) (measured-rest moments facts.since step (book_of steps) measured)))
 
 pub steps-watched : (members : List WatchOf) (first : Settings) (steps : List (List Event)) → length members ≤ 16 → AreMeasured first_moments first_since (book_of steps)
-    → WatchesWriters members first (book_of steps) (noted_steps (summary_of members first.config) steps).watch
+    → WatchStandsButForLosses members first (book_of steps) (noted_steps (summary_of members first.config) steps).watch
 steps-watched members first steps within measured = steps-watch members first [] (summary_of members first.config) steps (watches-first members first within) measured
 
 -- what is watched is guarded
-pub watched-guarded : (members : List WatchOf) (first : Settings) (book : List Event) (facts : WatchFacts) → WatchesWriters members first book facts
+pub watched-guarded : (members : List WatchOf) (first : Settings) (book : List Event) (facts : WatchFacts) → WatchStandsButForLosses members first book facts
     → ((front rest : List Event) → front ++ rest ≡ book → ArePremisesMet members first front → HasOneWriter front) → IsGuarded facts.closing.premises facts.closing.two_writers
-watched-guarded members first book facts watches guards = guarded-at members first book facts.closing.premises facts.closing.two_writers watches.premises watches.two_writers guards
+watched-guarded members first book facts watches guards = guarded-at members first book facts.closing.premises facts.closing.two_writers watches.closing.premises watches.closing.two_writers guards
 
 pub steps-guarded : (members : List WatchOf) (first : Settings) (steps : List (List Event)) → length members ≤ 16 → AreMeasured first_moments first_since (book_of steps)
     → ((front rest : List Event) → front ++ rest ≡ book_of steps → ArePremisesMet members first front → HasOneWriter front)

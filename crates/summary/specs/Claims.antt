@@ -142,8 +142,22 @@ pub record WatchStandsFor (members : List WatchOf) (first : Settings) (logs : Lo
   pub places : length facts.closing.writers ≡ SERVERS
   pub closing : IsSummaryOf members first logs book facts.closing
 
+-- this was not so before the moment
+abbrev pub IsNotBefore : FirstMoment → ℕ → Type 0
+IsNotBefore firsts.Never moment = Unit {0}
+IsNotBefore (firsts.At first) moment = moment ≤ first.0
+
 -- where the premises are met no two servers accepted writes, and where they were broken none did before
 abbrev pub IsGuarded : Premises → FirstMoment → Type 0
-IsGuarded premises.Met first = first ≡ firsts.Never
-IsGuarded (premises.Broken tick why) firsts.Never = Unit {0}
-IsGuarded (premises.Broken tick why) (firsts.At moment) = tick.0 ≤ moment.0
+IsGuarded premises.Met two_writers = two_writers ≡ firsts.Never
+IsGuarded (premises.Broken tick why) two_writers = IsNotBefore two_writers tick.0
+
+-- where the premises are met and synchronous mode is on no commit was lost, and where one of them was broken none was before, or
+-- before the other was; with the mode off nothing is said
+abbrev pub AreCommitsGuarded : Premises → Synchronous → FirstMoment → Type 0
+AreCommitsGuarded premises.Met synchronous.On lost = lost ≡ firsts.Never
+AreCommitsGuarded premises.Met synchronous.Off lost = Unit {0}
+AreCommitsGuarded premises.Met (synchronous.Broken tick) lost = IsNotBefore lost tick.0
+AreCommitsGuarded (premises.Broken tick why) synchronous.On lost = IsNotBefore lost tick.0
+AreCommitsGuarded (premises.Broken tick why) synchronous.Off lost = Unit {0}
+AreCommitsGuarded (premises.Broken tick why) (synchronous.Broken other) lost = IsNotBefore lost tick.0 ⊎ IsNotBefore lost other.0

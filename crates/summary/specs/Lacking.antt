@@ -1,5 +1,5 @@
 -- Logs that lack commits.
-use Rattle.std.specs.Prelude.{ℕ, ◌==◌, ◌||◌, not, Bool, false, List, [], ◌∷◌, Option, Some, None}
+use Rattle.std.specs.Prelude.{◌≡◌, ◌++◌, ℕ, ◌==◌, ◌||◌, not, Bool, false, List, [], ◌∷◌, Option, Some, None}
 use Rattle.wal_model.specs.declared.entry.Entry.{Entry}
 
 -- there is such an entry, and it is that of the commit of this serial
@@ -16,3 +16,11 @@ has_serial (entry ∷ entries) serial = (entry.serial == serial) || has_serial e
 abbrev pub lacks_in : List Entry → List ℕ → Bool
 lacks_in log [] = false
 lacks_in log (serial ∷ serials) = not (has_serial log serial) || lacks_in log serials
+
+-- the log has an entry of the commit of this serial, somewhere
+pub record HasEntryWith (log : List Entry) (serial : ℕ) : Type 0 where
+  pub front : List Entry
+  pub entry : Entry
+  pub rest : List Entry
+  pub whole : log ≡ front ++ entry ∷ rest
+  pub serial_is : entry.serial ≡ serial

@@ -5,5 +5,8 @@ pub mod Lacking
 pub mod Moments
 pub mod Seeing
 pub mod Claims
+pub mod Losses
+pub mod Lateness
 pub mod Sights
 pub mod Telling
+pub mod Listed

@@ -10,13 +10,15 @@ use Rattle.event_book.specs.declared.event.WatchdogEvent.{WatchdogEvent}
 use Rattle.event_book.specs.declared.event.WatchdogEvent.TheVariants as watchdogs
 use Rattle.event_book.specs.declared.reason.Basis.{Basis}
 use Rattle.event_book.specs.declared.reason.Basis.TheVariants as bases
+use Rattle.event_book.specs.Acknowledged.{acknowledged_in}
 use Rattle.event_book.specs.Logs.{Logs}
 use Rattle.event_book.specs.Writers.{HasOneWriter, writes_over}
 use Rattle.lease_law.specs.Past.{set_members}
 use Rattle.lease_law.specs.Premises.{Moments, moments_after}
 use Rattle.summary.specs.declared.answers.TheConstants.{SERVERS}
+use Rattle.summary.specs.declared.answers.Closing.{Closing}
 use Rattle.summary.specs.declared.answers.WatchOf.{WatchOf}
-use Rattle.summary.specs.Claims.{margin_ticks, margin_of, is_writer, IsToldOfPremises}
+use Rattle.summary.specs.Claims.{margin_ticks, margin_of, is_writer, IsToldOfPremises, IsToldOfMode}
 use Rattle.summary.specs.Moments.{now_over, AreAllFronts, IsToldFirst}
 use Rattle.summary.specs.Noting.{WatchFacts, margin_at}
 use Rattle.summary.specs.Seeing.{TookHold, WriterLacks, WritersHold}
@@ -63,11 +65,17 @@ abbrev pub EachTellsLosses : Logs → List Event → List (List Event) → Type 
 EachTellsLosses logs book [] = Unit {0}
 EachTellsLosses logs book (step ∷ steps) = TellLosses logs book step × EachTellsLosses logs (book ++ step) steps
 
--- what the summary keeps of the premises and of writers is what this book makes of it; nothing is said of losses
-pub record WatchesWriters (members : List WatchOf) (first : Settings) (book : List Event) (facts : WatchFacts) : Type 0 where
+-- each answer but that of lost commits is so of this book, over the declared members and the first configuration
+pub record IsSummaryButForLosses (members : List WatchOf) (first : Settings) (book : List Event) (closing : Closing) : Type 0 where
+  pub end : closing.end.0 ≡ now_over 0 book
+  pub premises : IsToldOfPremises members first book closing.premises
+  pub synchronous : IsToldOfMode first book closing.synchronous
+  pub two_writers : IsToldFirst HasOneWriter book closing.two_writers
+  pub writers : (server : ℕ) → is_writer closing.writers server ≡ writes_over (λ n. false) book server
+  pub acknowledged : closing.acknowledged ≡ length (acknowledged_in book)
+
+-- the summary keeps what this book makes of it, but for lost commits
+pub record WatchStandsButForLosses (members : List WatchOf) (first : Settings) (book : List Event) (facts : WatchFacts) : Type 0 where
   pub margins : (m : ℕ) → margin_ticks (margin_at facts.margins m) ≡ margin_of members m
   pub places : length facts.closing.writers ≡ SERVERS
-  pub end : facts.closing.end.0 ≡ now_over 0 book
-  pub premises : IsToldOfPremises members first book facts.closing.premises
-  pub two_writers : IsToldFirst HasOneWriter book facts.closing.two_writers
-  pub writers : (server : ℕ) → is_writer facts.closing.writers server ≡ writes_over (λ n. false) book server
+  pub closing : IsSummaryButForLosses members first book facts.closing

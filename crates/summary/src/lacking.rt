@@ -1,9 +1,11 @@
 //! Whether a log lacks an acknowledged commit.
-ghost use Rattle.std.specs.Prelude.{ℕ, ◌≡◌, ◌||◌, IfOk, OnOk};
+ghost use Rattle.std.specs.Prelude.{ℕ, ◌≡◌, not, ◌||◌, IfOk, OnOk};
 ghost use Rattle.std.specs.BTreeSet.{contains};
 ghost use Rattle.std.specs.Ordering.{nat_cmp};
 ghost use Rattle.summary.specs.Lacking.{is_entry_of, has_serial, lacks_in};
+ghost use Rattle.summary.specs.Losses.{may_lose, may_lose_by_log};
 
+use event_book::{EventKind, LogEvent, ReplicationEvent, ServerEvent};
 use std::alloc::{AllocError, Global};
 use std::collections::BTreeSet;
 use wal_model::{Entry, Wal};
@@ -65,4 +67,23 @@ fn put_serial(serials: &mut BTreeSet<u64>, entry: Option<Entry>) -> Result<(), A
         serials.insert(entry.serial)?;
     }
     Ok(())
+}
+
+/// Whether after this event a server that accepts writes may lack an acknowledged commit where none did before: a server
+/// begins, a commit is acknowledged, or a log doesn't only grow.
+pub fn may_lose(kind: &EventKind) -> bool
+    ensures { result ≡ may_lose kind.now }
+{
+    match kind {
+        EventKind::Server(ServerEvent::Began { .. }) => true,
+        EventKind::Log(happening) => !only_grows(happening),
+        EventKind::Replication(ReplicationEvent::Acknowledged { .. }) => true,
+        _ => false,
+    }
+}
+
+fn only_grows(event: &LogEvent) -> bool
+    ensures { result ≡ not (may_lose_by_log event.now) }
+{
+    matches!(event, LogEvent::Appended { .. } | LogEvent::Received { .. })
 }

@@ -1,17 +1,29 @@
 //! The summary tells what the book says, in its own words.
-ghost use Rattle.std.specs.Prelude.{ℕ, ◌≡◌, ◌≤◌, ◌++◌, List, [], ◌∷◌, length};
+ghost use Rattle.std.specs.Prelude.{ℕ, ◌≡◌, ◌≤◌, ◌++◌, ◌↔◌, true, false, List, [], ◌∷◌, length, replicate, Contains, Option, None};
+ghost use Rattle.pat_base.specs.declared.name.Name.{Name};
 ghost use Rattle.lease_store.specs.Settings.{Settings};
+ghost use Rattle.wal_model.specs.declared.entry.Entry.{Entry};
 ghost use Rattle.event_book.specs.Logs.{Logs};
 ghost use Rattle.event_book.specs.Writers.{HasOneWriter};
 ghost use Rattle.event_book.specs.declared.event.Event.{Event};
+ghost use Rattle.event_book.specs.declared.event.EventKind.{EventKind};
+ghost use Rattle.event_book.specs.declared.event.EventKind.TheVariants.{Server, Replication};
+ghost use Rattle.event_book.specs.declared.event.ReplicationEvent.TheVariants.{Acknowledged};
+ghost use Rattle.event_book.specs.declared.event.ServerEvent.TheVariants.{Began};
+ghost use Rattle.event_book.specs.declared.member.ServerOf.{ServerOf};
+ghost use Rattle.lease_law.specs.Premises.{Moments};
 ghost use Rattle.summary.specs.declared.answers.Closing.{Closing};
 ghost use Rattle.summary.specs.declared.answers.Seen.{Seen};
-ghost use Rattle.summary.specs.declared.answers.TheConstants.{MEMBERS};
+ghost use Rattle.summary.specs.declared.answers.TheConstants.{MEMBERS, SERVERS};
 ghost use Rattle.summary.specs.declared.answers.WatchOf.{WatchOf};
-ghost use Rattle.summary.specs.Claims.{ArePremisesMet, IsGuarded, IsSummaryOf, WatchStandsFor};
+ghost use Rattle.summary.specs.Claims.{AreCommitsGuarded, ArePremisesMet, IsGuarded, IsSummaryOf, KeepMode, WatchStandsFor};
 ghost use Rattle.summary.specs.Heads.{watch_of};
-ghost use Rattle.summary.specs.Noting.{WatchFacts, noted};
-ghost use Rattle.summary.specs.Seeing.{AreSeen, IsSeen, Sighting, events_in, noted_over};
+ghost use Rattle.summary.specs.Lacking.{HasEntryWith, has_serial, lacks_in};
+ghost use Rattle.summary.specs.Noting.{WatchFacts, noted, writers_after};
+ghost use Rattle.summary.specs.Lateness.{lateness_of};
+ghost use Rattle.summary.specs.Listed.{AreListed, AreNamed, NamesServer};
+ghost use Rattle.summary.specs.Losses.{WriterLacksOf, may_lose};
+ghost use Rattle.summary.specs.Seeing.{AreSeen, IsLateness, IsSeen, LacksOne, Sighting, WriterLacks, WritersHold, events_in, noted_over};
 
 /// Each answer of the summary is so of the book whose events were noted, where what was seen beside each was right.
 pub fn summary_tells_the_book()
@@ -34,4 +46,42 @@ pub fn premises_guard_writers()
         → IsSummaryOf members first logs book closing
         → ((front rest : List Event) → front ++ rest ≡ book → ArePremisesMet members first front → HasOneWriter front)
         → IsGuarded closing.premises closing.two_writers }
+{}
+
+/// Where each front of a book that meets the premises, with synchronous mode on, holds its commits, its summary says so of a cluster that
+/// begins with the mode on: with both none was ever lost, and else none was before the first of them was broken.
+pub fn premises_guard_commits()
+    ensures { (members : List WatchOf) (first : Settings) (logs : Logs) (book : List Event) (closing : Closing)
+        → IsSummaryOf members first logs book closing → first.config.synchronous_mode ≡ true
+        → ((front rest : List Event) → front ++ rest ≡ book → ArePremisesMet members first front → KeepMode true front → WritersHold logs front)
+        → AreCommitsGuarded closing.premises closing.synchronous closing.lost }
+{}
+
+/// A commit is looked up by its serial: a log has it that has an entry of that serial, and lacks some that has no entry of one.
+pub fn commits_are_looked_up()
+    ensures has { (log : List Entry) (serial : ℕ) → has_serial log serial ≡ true ↔ HasEntryWith log serial }
+    ensures lacks { (log : List Entry) (serials : List ℕ) → lacks_in log serials ≡ true ↔ ((serial : ℕ) × Contains serials serial × (HasEntryWith log serial → ⊥)) }
+{}
+
+/// Which events may lose a commit where none was lost before, for who keeps track of it: where a server begins, its own log decides;
+/// where a commit is acknowledged, the logs of those that accept writes do; where a log only grows, and in all else, none is lost.
+pub fn few_events_lose()
+    ensures others { (logs : Logs) (book : List Event) (event : Event) → may_lose event.kind ≡ false → WritersHold logs book → WriterLacks logs (book ++ event ∷ []) → ⊥ }
+    ensures began { (logs : Logs) (book : List Event) (event : Event) (server : ServerOf) (timeline : ℕ) → event.kind ≡ Server (Began server timeline)
+        → WritersHold logs book → WriterLacks logs (book ++ event ∷ []) ↔ LacksOne logs book server.id.number }
+    ensures acknowledged { (logs : Logs) (book : List Event) (event : Event) (server : ServerOf) (commit : ℕ) → event.kind ≡ Replication (Acknowledged server commit)
+        → WritersHold logs book → WriterLacks logs (book ++ event ∷ []) ↔ WriterLacksOf logs book commit }
+{}
+
+/// There is one right lateness of each event, which the moments before it give.
+pub fn lateness_is_determined()
+    ensures { (moments : Moments) (kind : EventKind) (lateness : ℕ) → IsLateness moments kind lateness ↔ lateness ≡ lateness_of moments kind }
+{}
+
+/// The names of the writers are listed in byte order; and each is the server's own, where the events in which servers begin have their
+/// names.
+pub fn writers_are_listed()
+    ensures listed { (writers : List (Option Name)) → AreListed writers }
+    ensures first { (names : ℕ → Name) → AreNamed names (replicate SERVERS None) }
+    ensures each { (names : ℕ → Name) (writers : List (Option Name)) (kind : EventKind) → NamesServer names kind → AreNamed names writers → AreNamed names (writers_after writers kind) }
 {}

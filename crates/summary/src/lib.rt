@@ -16,8 +16,11 @@ mod writers;
 pub use answers::{
     Breach, Closing, FirstMoment, MEMBERS, Premises, SERVERS, Seen, Synchronous, WatchOf,
 };
-pub use lacking::{has_serial, lacks};
-pub use laws::{premises_guard_writers, summary_tells_the_book};
-pub use sight_laws::{measured_sights_guard_writers, sights_are_right};
+pub use lacking::{has_serial, lacks, may_lose};
+pub use laws::{
+    commits_are_looked_up, few_events_lose, lateness_is_determined, premises_guard_commits,
+    premises_guard_writers, summary_tells_the_book, writers_are_listed,
+};
+pub use sight_laws::{measured_sights_suffice, sights_are_right};
 pub use summary::Summary;
 pub use watch::Watch;

@@ -12,7 +12,7 @@ ghost use Rattle.summary.specs.Moments.{IsToldFirst, moments_over};
 ghost use Rattle.summary.specs.Noting.{WatchFacts};
 ghost use Rattle.summary.specs.Seeing.{AreSeen};
 ghost use Rattle.summary.specs.Sights.{SummaryFacts, book_of, first_since, noted_step, noted_steps, sightings_of, summary_of};
-ghost use Rattle.summary.specs.Telling.{AreMeasured, EachTellsLosses, TellLosses, WatchesWriters};
+ghost use Rattle.summary.specs.Telling.{AreMeasured, EachTellsLosses, TellLosses, WatchStandsButForLosses};
 
 /// Where the events tell from when each feed is measured, and the first loss, what is seen beside each event is right, and each
 /// answer of the summary is so of the book.
@@ -33,22 +33,22 @@ pub fn sights_are_right()
         → IsSummaryOf members first logs (book_of steps) (noted_steps (summary_of members first.config) steps).watch.closing }
 {}
 
-/// What the summary says of the premises and of two writers rests on the moments alone that feeds are measured from: whether
-/// losses are told doesn't matter.
-pub fn measured_sights_guard_writers()
+/// Whether losses are told matters only to what the summary says of lost commits: each other answer is so where the events tell
+/// from when each feed is measured.
+pub fn measured_sights_suffice()
     // Before the first event, and step by step.
-    ensures first { (members : List WatchOf) (first : Settings) → length members ≤ MEMBERS → WatchesWriters members first [] (summary_of members first.config).watch }
+    ensures first { (members : List WatchOf) (first : Settings) → length members ≤ MEMBERS → WatchStandsButForLosses members first [] (summary_of members first.config).watch }
     ensures each { (members : List WatchOf) (first : Settings) (book : List Event) (facts : SummaryFacts) (events : List Event)
-        → WatchesWriters members first book facts.watch → AreMeasured (moments_over first_moments book) facts.since events
-        → WatchesWriters members first (book ++ events) (noted_step facts events).watch }
+        → WatchStandsButForLosses members first book facts.watch → AreMeasured (moments_over first_moments book) facts.since events
+        → WatchStandsButForLosses members first (book ++ events) (noted_step facts events).watch }
     // After all steps.
     ensures all { (members : List WatchOf) (first : Settings) (steps : List (List Event))
         → length members ≤ MEMBERS → AreMeasured first_moments first_since (book_of steps)
-        → WatchesWriters members first (book_of steps) (noted_steps (summary_of members first.config) steps).watch }
+        → WatchStandsButForLosses members first (book_of steps) (noted_steps (summary_of members first.config) steps).watch }
     // With one writer at each front that meets the premises: with the premises met two servers never accepted writes, and with
     // the premises broken they didn't before.
     ensures watched { (members : List WatchOf) (first : Settings) (book : List Event) (facts : WatchFacts)
-        → WatchesWriters members first book facts
+        → WatchStandsButForLosses members first book facts
         → ((front rest : List Event) → front ++ rest ≡ book → ArePremisesMet members first front → HasOneWriter front)
         → IsGuarded facts.closing.premises facts.closing.two_writers }
     ensures guard { (members : List WatchOf) (first : Settings) (steps : List (List Event))

@@ -1,7 +1,8 @@
 //! Commits whose clients are told that they are stored.
 ghost use Rattle.std.specs.Prelude.{◌≡◌, ◌+◌, OnOk, length};
-ghost use Rattle.pat_world.specs.Acknowledging.{AreAcknowledged};
-ghost use Rattle.pat_world.specs.Next.{acknowledge_events, each};
+ghost use Rattle.cluster_model.specs.Acknowledging.{AreAcknowledged};
+ghost use Rattle.cluster_model.specs.Next.{acknowledge_events};
+ghost use Rattle.cluster_model.specs.Parts.{each};
 ghost use Rattle.pat_world.specs.Emits.{Emits};
 
 use super::{World, note};

@@ -1,20 +1,41 @@
-//! Agents: how they are woken, act and are changed by commands.
-ghost use Rattle.std.specs.Prelude.{◌≡◌, ◌+◌, ◌*◌, OnOk, IfOk, IfSome, slice_get};
-ghost use Rattle.cluster_script.specs.Script.{IsMember};
-ghost use Rattle.pat_world.specs.Steps.{names_in};
-ghost use Rattle.pat_world.specs.Next.{ask_events, does, each, follow_events, for_some, event_of, reaction_events, reaction_to_wake, member_agent_at, member_agent_for, wake_events, wake_events_of};
-ghost use Rattle.pat_world.specs.Room.{HasRoom, input_cost, reaction_cost, sending_cost, wakes_cost};
-ghost use Rattle.pat_world.specs.Short.{AsksShortly};
+//! Agents: how they are woken, hear, and are shown.
+ghost use Rattle.std.specs.Prelude.{◌≡◌, ◌≤◌, ◌+◌, ◌*◌, ◌↔◌, [], Some, OnOk, IfOk, IfSome, IsSome, length, slice_get};
+ghost use Rattle.cluster_config.specs.Snapshots.{IsRead};
+ghost use Rattle.ha_loop.specs.declared.heard.Heard.TheVariants as heards;
+ghost use Rattle.ha_loop.specs.Agents.{IsWithin};
+ghost use Rattle.ha_loop.specs.Outputs.{most_outputs};
+ghost use Rattle.cluster_model.specs.Cluster.{agent_facts_with};
+ghost use Rattle.cluster_model.specs.Hearing.{heard_from};
+ghost use Rattle.cluster_model.specs.Inputs.{moment_of, outcome_of, outcome_of_heard, outputs_of, has_work, is_to_wake, standing_of};
+ghost use Rattle.cluster_model.specs.Machines.{hosts_of, machine_of};
+ghost use Rattle.cluster_model.specs.Messages.{wake_events, wake_events_of};
+ghost use Rattle.cluster_model.specs.Next.{restart_events};
+ghost use Rattle.cluster_model.specs.Parts.{each, event_of};
 ghost use Rattle.pat_world.specs.Emits.{Emits};
+ghost use Rattle.pat_world.specs.Room.{HasRoom, input_cost, restart_cost, wakes_cost};
+ghost use Rattle.pat_world.specs.Short.{IsSent};
 
-use super::{World, declared_member, note};
-use crate::agent_state::{MemberAgent, Reaction};
-use crate::agents::{is_to_wake, member_agent_for, rouse};
-use event_book::{
-    AgentEvent, AgentProcess, Body, Event, EventKind, LinkEnd, Member, Message, Note,
-};
-use pat_base::{MemberId, Ticks};
+use super::{World, note};
+use crate::flight::InFlight;
+use crate::machines::{item_at, machine_from};
+use crate::places;
+use crate::processes::restarted;
+use crate::streaming::source_of;
+use crate::watchdogs::disarm_at_start;
+use cluster_config::{AgentView, Snapshot};
+use cluster_model::HeardMessage;
+use event_book::{AgentEvent, AgentProcess, Body, Event, EventKind, Member};
+use ha_loop::{Heard, Machine, Outputs};
+use lease_store::{Key, KeyEntry};
+use pat_base::MemberId;
 use std::alloc::AllocError;
+use std::mem;
+
+/// How many outputs an input brings at most.
+const MOST_OUTPUTS: usize = 40;
+
+/// No message is heard by an agent that is woken.
+const NO_MESSAGE: HeardMessage = HeardMessage { number: 0, run: 0 };
 
 impl World {
     /// The agents are woken where they have something to do, in script order.
@@ -33,113 +54,208 @@ impl World {
         requires { HasRoom self.old input_cost }
         ensures { OnOk result (Emits self.old self.new events.old.items events.new.items (wake_events self.old member) input_cost) }
     {
-        let Some(member_agent) = self.member_agent_for(member) else {
+        let Some(process) = self.process(member) else {
             return Ok(());
         };
-        if !is_to_wake(self.clock, &member_agent) {
+        if !self.is_to_wake(member, process) {
             return Ok(());
         }
         self.awaken(member, events)
     }
 
+    /// Whether the agent of a member runs, isn't suspended and has something to do.
+    fn is_to_wake(&self, member: Member, process: AgentProcess) -> bool
+        ensures { result ≡ is_to_wake (moment_of self.now) process (standing_of self.now member) }
+    {
+        process.running && !process.suspended && self.has_work(member)
+    }
+
+    /// Whether there is something to do for the agent of a member.
+    fn has_work(&self, member: Member) -> bool
+        ensures { result ≡ has_work (moment_of self.now) (standing_of self.now member) }
+    {
+        let place = member.id.number as usize;
+        match self.machine(member) {
+            None => false,
+            Some(machine) => places::has_work(&self.agents, place, self.clock, &machine),
+        }
+    }
+
     /// The agent of a member is woken, and acts. Apart from the test whether it is to be woken, which most ticks end with: so that
-    /// costs no room for a reaction.
+    /// costs no room for an input.
     #[inline(never)]
     fn awaken(&mut self, member: Member, events: &mut Vec<Event>) -> Result<(), AllocError>
         requires { HasRoom self.old input_cost }
         ensures { OnOk result (Emits self.old self.new events.old.items events.new.items (wake_events_of self.old member) input_cost) }
     {
-        let reaction = self.rouse(member, events)?;
-        self.react(member, reaction, events)
+        let mut outputs = self.take_outputs()?;
+        self.rouse(member, &mut outputs, events)?;
+        self.carry_out(member, NO_MESSAGE, &mut outputs, events)?;
+        self.outputs = outputs;
+        Ok(())
     }
 
-    /// The agent of a member is woken. Answers what it does, where there is one.
+    /// The buffer for what agents do, empty and with room for an input. It fails only for want of memory.
+    pub fn take_outputs(&mut self) -> Result<Outputs, AllocError>
+        ensures world { self.new ≡ self.old }
+        ensures room { IfOk result (λ outputs. most_outputs ≤ outputs.spare) }
+        ensures none { IfOk result (λ outputs. outputs.outputs ≡ []) }
+    {
+        let mut outputs = mem::replace(&mut self.outputs, Outputs::new(self.alloc));
+        outputs.reserve(MOST_OUTPUTS)?;
+        Ok(outputs)
+    }
+
+    /// The agent of a member is woken, and what it does is put into the list.
     fn rouse(
         &mut self,
         agent: Member,
+        outputs: &mut Outputs,
         events: &mut Vec<Event>,
-    ) -> Result<Option<Reaction>, AllocError>
-        requires { HasRoom self.old 1 }
+    ) -> Result<(), AllocError>
+        requires room { HasRoom self.old 1 }
+        requires spare { most_outputs ≤ outputs.old.spare }
+        requires none { outputs.old.outputs ≡ [] }
         ensures emits { OnOk result (Emits self.old self.new events.old.items events.new.items (event_of self.old (EventKind.Agent (AgentEvent.Woken agent))) 1) }
-        ensures reaction { IfOk result (λ reaction. reaction ≡ reaction_to_wake self.old.book.clock self.old.agent_states agent) }
-        ensures short { IfOk result (λ reaction. IfSome reaction (λ r. AsksShortly r.asks)) }
+        ensures outputs { outputs.new.outputs ≡ outputs_of (outcome_of self.old agent heards.Wake) }
     {
-        let reaction = rouse(&mut self.agent_states, self.clock, agent);
+        self.hear(agent, Heard::Wake, outputs);
         note(
             events,
             self.clock,
             EventKind::Agent(AgentEvent::Woken { agent }),
-        )?;
-        Ok(reaction)
+        )
     }
 
-    /// The server of a member follows whom its agent's reaction says, and the agent sends what it asks.
-    pub fn react(
-        &mut self,
-        member: Member,
-        reaction: Option<Reaction>,
-        events: &mut Vec<Event>,
-    ) -> Result<(), AllocError>
-        requires room { HasRoom self.old reaction_cost }
-        requires short { IfSome reaction (λ r. AsksShortly r.asks) }
-        ensures { OnOk result (Emits self.old self.new events.old.items events.new.items (reaction_events self.old member reaction) reaction_cost) }
+    /// The agent of a member acts on what a message says, if it says anything to agents.
+    pub fn hear_if(&mut self, member: Member, heard: Option<Heard>, outputs: &mut Outputs)
+        requires room { HasRoom self.old 1 }
+        requires spare { most_outputs ≤ outputs.old.spare }
+        requires none { outputs.old.outputs ≡ [] }
+        ensures world { self.new ≡ record self.old { agents = agent_facts_with self.old.agents member (outcome_of_heard self.old member heard) } }
+        ensures outputs { outputs.new.outputs ≡ outputs_of (outcome_of_heard self.old member heard) }
     {
-        let Some(reaction) = reaction else {
-            return Ok(());
-        };
-        let leader = declared_member(&self.members, reaction.follows);
-        self.follow(member, leader, events)?;
-        self.ask(member, reaction.agent_state.sequence, reaction.asks, events)
+        match heard {
+            None => {}
+            Some(heard) => self.hear(member, heard, outputs),
+        }
     }
 
-    /// The agent of a member asks the store, if it has a question.
-    pub fn ask(
-        &mut self,
-        member: Member,
-        sequence: u64,
-        asks: Option<Body>,
-        events: &mut Vec<Event>,
-    ) -> Result<(), AllocError>
-        requires room { HasRoom self.old sending_cost }
-        requires short { AsksShortly asks }
-        ensures { OnOk result (Emits self.old self.new events.old.items events.new.items (for_some asks (ask_events self.old member sequence)) sending_cost) }
+    /// The agent of a member acts on what it hears, if there is one: what it does is put into the list.
+    fn hear(&mut self, member: Member, heard: Heard, outputs: &mut Outputs)
+        requires room { HasRoom self.old 1 }
+        requires spare { most_outputs ≤ outputs.old.spare }
+        requires none { outputs.old.outputs ≡ [] }
+        ensures world { self.new ≡ record self.old { agents = agent_facts_with self.old.agents member (outcome_of self.old member heard) } }
+        ensures outputs { outputs.new.outputs ≡ outputs_of (outcome_of self.old member heard) }
     {
-        let Some(body) = asks else {
+        let place = member.id.number as usize;
+        let Some(mut machine) = self.machine(member) else {
+            return;
+        };
+        let Some(server) = self.servers.get(place) else {
+            return;
+        };
+        places::hear(
+            &mut self.agents,
+            place,
+            self.clock,
+            heard,
+            server.history(),
+            &mut machine,
+            outputs,
+        );
+    }
+
+    /// What a message says to an agent. It fails only for want of memory.
+    pub fn heard_from(&self, carried: InFlight) -> Result<Option<Heard>, AllocError>
+        requires { IsSent carried }
+        ensures { IfOk result (λ heard. heard ≡ heard_from self.now carried) }
+    {
+        let InFlight {
+            message,
+            sent: _,
+            snapshot,
+            grant,
+        } = carried;
+        let sequence = message.sequence;
+        match message.body {
+            Body::Snapshot => {
+                let snapshot = self.snapshot(snapshot)?;
+                Ok(Some(Heard::Got { sequence, snapshot }))
+            }
+            Body::Granted { .. } => {
+                let Some(granted) = grant else {
+                    return Ok(None);
+                };
+                let snapshot = self.snapshot(snapshot)?;
+                Ok(Some(Heard::Granted {
+                    sequence,
+                    granted,
+                    snapshot,
+                }))
+            }
+            Body::Refused { key, found, .. } => Ok(Some(Heard::Mismatch {
+                sequence,
+                key,
+                found,
+            })),
+            _ => Ok(None),
+        }
+    }
+
+    /// The snapshot of these entries. It fails only for want of memory.
+    fn snapshot(&self, entries: Vec<(Key, KeyEntry)>) -> Result<Snapshot, AllocError>
+        requires { IsRead entries.items }
+        ensures { IfOk result (λ snapshot. snapshot ≡ record { scope = self.now.scope; members = hosts_of self.now.book.members; entries = entries.items }) }
+    {
+        Snapshot::read(self.alloc, self.scope, &self.hosts, entries)
+    }
+
+    /// The agent of a member starts, where it doesn't run. It removes the deadline of its watchdog, but over a live server
+    /// leaves it.
+    pub fn restart(&mut self, member: Member, events: &mut Vec<Event>) -> Result<(), AllocError>
+        requires { HasRoom self.old restart_cost }
+        ensures { OnOk result (Emits self.old self.new events.old.items events.new.items (restart_events self.old member) restart_cost) }
+    {
+        let Some(process) = self.process(member) else {
             return Ok(());
         };
-        let Some(state) = self.state(member) else {
-            return Ok(());
-        };
-        let question = Message {
-            from: LinkEnd::Member(member),
-            to: LinkEnd::Store,
-            run: state.run,
-            sequence,
-            body,
-        };
-        self.send(question, None, events)
+        let machine = self.machine(member);
+        let disarm = disarm_at_start(member, process, machine.as_ref());
+        self.happen_then(restarted(member, process), disarm, events)
+    }
+
+    /// What the agent of a member shows of itself and of its server. `None` exactly where none runs.
+    pub fn view(&self, id: MemberId) -> Option<AgentView<'_>>
+    {
+        let member = *self.members.get(id.number as usize)?;
+        let machine = self.machine(member)?;
+        let agent = places::agent_at(&self.agents, member.id.number as usize)?;
+        Some(agent.view(self.clock, &machine))
+    }
+
+    /// The machine of a member, as its agent finds it.
+    fn machine(&self, member: Member) -> Option<Machine>
+        ensures machine { result ≡ machine_of self.now member }
+        ensures within { HasRoom self.now 1 → IfSome result (λ machine. IsWithin machine.server) }
+    {
+        let place = member.id.number as usize;
+        let from = source_of(&self.members, &self.servers, &self.cuts, member);
+        machine_from(
+            from.is_some(),
+            item_at(&self.options, place),
+            item_at(&self.deadlines, place),
+            item_at(&self.holds, place),
+            self.servers.get(place),
+        )
     }
 
     /// The process of a member's agent: whether it runs, whether it is suspended, and in which run.
-    pub fn state(&self, member: Member) -> Option<AgentProcess>
+    pub fn process(&self, member: Member) -> Option<AgentProcess>
         ensures { result ≡ slice_get self.now.book.agents member.id.number }
     {
-        let state = self.agents.get(member.id.number as usize)?;
-        Some(*state)
-    }
-
-    /// A member with its agent.
-    pub fn member_agent_for(&self, member: Member) -> Option<MemberAgent>
-        ensures { result ≡ member_agent_for self.now member }
-    {
-        member_agent_for(&self.agents, &self.agent_states, member)
-    }
-
-    /// The declared member of this number, with its agent.
-    pub fn member_agent_at(&self, id: MemberId) -> Option<MemberAgent>
-        requires { IsMember (names_in self.now.book.members) id }
-        ensures { result ≡ member_agent_at self.now id }
-    {
-        self.member_agent_for(self.declared(id))
+        let process = self.processes.get(member.id.number as usize)?;
+        Some(*process)
     }
 }

@@ -1,16 +1,17 @@
 //! What happens changes the world in one place, and is written down there.
 ghost use Rattle.std.specs.Prelude.{◌≡◌, ◌+◌, ◌∷◌, [], OnOk, IfSome};
 ghost use Rattle.pat_world.specs.Comes.{MayCome};
-ghost use Rattle.pat_world.specs.Cluster.{cluster_after};
-ghost use Rattle.pat_world.specs.Commands.{kinds_of};
-ghost use Rattle.pat_world.specs.Next.{events_of, event_of};
+ghost use Rattle.cluster_model.specs.Cluster.{cluster_after};
+ghost use Rattle.cluster_model.specs.Commands.{kinds_of};
+ghost use Rattle.cluster_model.specs.Parts.{events_of, event_of};
 ghost use Rattle.pat_world.specs.Room.{HasRoom};
 ghost use Rattle.pat_world.specs.Emits.{Emits};
 
 use super::{World, note};
 use crate::changes::{
-    change_acknowledged, change_agent_states, change_agents, change_flight, change_frozen,
-    change_keys, change_links, commits_after, now_after, sent_after, settled_after,
+    change_acknowledged, change_agents, change_deadlines, change_flight, change_frozen,
+    change_holds, change_keys, change_links, change_processes, commits_after, now_after,
+    sent_after, settled_after,
 };
 use crate::server_changes::change_servers;
 use event_book::{Event, EventKind};
@@ -43,27 +44,29 @@ impl World {
         self.settled = settled_after(self.settled, kind);
         change_links(&mut self.cuts, kind);
         change_keys(&mut self.store, now, kind);
-        change_agents(&mut self.agents, kind);
-        change_agent_states(&mut self.agent_states, before, kind);
+        change_processes(&mut self.processes, kind);
+        change_agents(&mut self.agents, self.scope, &self.members, before, kind);
+        change_deadlines(&mut self.deadlines, kind);
+        change_holds(&mut self.holds, kind);
         change_flight(&mut self.flight, kind);
         change_frozen(&mut self.frozen, kind);
         Ok(())
     }
 
-    /// Two things happen, one after the other.
-    pub fn happen_both(
+    /// One thing happens, and then another one, if there is one.
+    pub fn happen_then(
         &mut self,
         first: EventKind,
-        second: EventKind,
+        second: Option<EventKind>,
         events: &mut Vec<Event>,
     ) -> Result<(), AllocError>
         requires room { HasRoom self.old 2 }
         requires first { MayCome self.old first }
-        requires second { MayCome (cluster_after self.old first) second }
-        ensures { OnOk result (Emits self.old self.new events.old.items events.new.items (events_of self.old (first ∷ second ∷ [])) 2) }
+        requires second { IfSome second (MayCome (cluster_after self.old first)) }
+        ensures { OnOk result (Emits self.old self.new events.old.items events.new.items (events_of self.old (first ∷ kinds_of second)) 2) }
     {
         self.happen(first, events)?;
-        self.happen(second, events)
+        self.happen_if(second, events)
     }
 
     /// One thing happens, or none.

@@ -1,21 +1,26 @@
 //! Messages: how they are sent, move and come, and what the key store decides.
-ghost use Rattle.std.specs.Prelude.{◌≡◌, ◌≤◌, ◌+◌, ◌*◌, ◌^◌, ◌++◌, length, OnOk, IfOk, option_map};
+ghost use Rattle.std.specs.Prelude.{◌≡◌, ◌≤◌, ◌+◌, ◌*◌, ◌^◌, ◌++◌, ◌∷◌, [], length, OnOk, IfOk, option_map};
 ghost use Rattle.lease_store.specs.Answers.{present_pairs};
 ghost use Rattle.lease_store.specs.Decision.{decision_on};
 ghost use Rattle.lease_store.specs.Writes.{ttl_of};
 ghost use Rattle.event_book.specs.Flight.{in_flight, snapshot_for, grant_for};
-ghost use Rattle.pat_world.specs.Next.{event_of, events_at, lost_at_once, send_events, answer_message, answer_events, arrival_events, decision_events, deliver_events, each, for_some, lose_events, message_events};
-ghost use Rattle.pat_world.specs.Room.{HasRoom, decision_cost, message_cost, sending_cost};
-ghost use Rattle.pat_world.specs.Short.{IsShort};
+ghost use Rattle.cluster_model.specs.Hearing.{heard_from};
+ghost use Rattle.cluster_model.specs.Inputs.{outcome_of_heard};
+ghost use Rattle.cluster_model.specs.Messages.{heard_message, input_events, lost_at_once, send_events, answer_message, answer_events, arrival_events, decision_events, deliver_events, lose_events, message_events};
+ghost use Rattle.cluster_model.specs.Parts.{event_of, events_at, each, for_some};
+ghost use Rattle.pat_world.specs.Room.{HasRoom, decision_cost, message_cost, outputs_cost, sending_cost};
+ghost use Rattle.pat_world.specs.Reached.{reached_by};
+ghost use Rattle.pat_world.specs.Short.{CarriesRead, IsSent, IsShort};
 ghost use Rattle.pat_world.specs.Emits.{Emits};
-ghost use Rattle.pat_world.specs.Deliveries.{delivery_of};
+ghost use Rattle.cluster_model.specs.Deliveries.{delivery_of};
 
 use super::{World, note};
-use crate::agents::listen;
 use crate::deliveries::delivery_of;
-use crate::delivery::Delivery;
 use crate::flight::InFlight;
-use event_book::{Body, Event, EventKind, LinkEnd, Message, MessageEvent, Names, Note, StoreEvent};
+use cluster_model::{Delivery, HeardMessage};
+use event_book::{
+    Body, Event, EventKind, LinkEnd, Member, Message, MessageEvent, Names, Note, StoreEvent,
+};
 use lease_store::{Granted, Key, KeyEntry, StoreRefusal, Txn};
 use pat_base::Ticks;
 use std::alloc::AllocError;
@@ -61,14 +66,16 @@ impl World {
             ),
             Some(Delivery::Open) => self.arrive(number, events),
             Some(Delivery::Gone) => self.drop_message(number, events),
-            Some(Delivery::Cut | Delivery::Suspended) => {
-                note(
-                    events,
-                    self.clock,
-                    EventKind::Note(Note::Undeliverable { number }),
-                )
-            }
+            Some(Delivery::Cut | Delivery::Suspended) => self.leave(number, events),
         }
+    }
+
+    /// A message that can't come to its receiver now stays in flight, and that is noted.
+    fn leave(&mut self, number: u64, events: &mut Vec<Event>) -> Result<(), AllocError>
+        requires { HasRoom self.old 1 }
+        ensures { OnOk result (Emits self.old self.new events.old.items events.new.items (event_of self.old (EventKind.Note (Note.Undeliverable number))) 1) }
+    {
+        self.happen(EventKind::Note(Note::Undeliverable { number }), events)
     }
 
     /// A script loses a message, where it is in flight.
@@ -91,7 +98,7 @@ impl World {
         ensures { result ≡ option_map (λ m. delivery_of self.now.book.cuts self.now.book.agents m.message) (in_flight self.now.book.flight number) }
     {
         let carried = self.flight.get(number)?;
-        Some(delivery_of(&self.cuts, &self.agents, &carried.message))
+        Some(delivery_of(&self.cuts, &self.processes, &carried.message))
     }
 
     /// A message in flight is lost.
@@ -119,16 +126,34 @@ impl World {
                 )?;
                 self.answer(number, &carried.message, events)
             }
-            LinkEnd::Member(member) => {
-                let reaction = listen(&mut self.agent_states, self.clock, &carried, member);
-                note(
-                    events,
-                    self.clock,
-                    EventKind::Message(MessageEvent::Delivered { number }),
-                )?;
-                self.react(member, reaction, events)
-            }
+            LinkEnd::Member(member) => self.deliver_to(number, carried, member, events),
         }
+    }
+
+    /// A message that was in flight comes to the agent of a member, which acts on it.
+    fn deliver_to(
+        &mut self,
+        number: u64,
+        carried: InFlight,
+        member: Member,
+        events: &mut Vec<Event>,
+    ) -> Result<(), AllocError>
+        requires room { HasRoom self.old message_cost }
+        requires sent { IsSent carried }
+        ensures { OnOk result (Emits (reached_by self.old member carried) self.new (events.old.items ++ record { tick = record { 0 = self.old.book.clock }; kind = EventKind.Message (MessageEvent.Delivered number) } ∷ []) events.new.items (input_events (reached_by self.old member carried) member (heard_message number carried) (outcome_of_heard self.old member (heard_from self.old carried))) outputs_cost) }
+    {
+        let run = carried.message.run;
+        let heard = self.heard_from(carried)?;
+        let mut outputs = self.take_outputs()?;
+        self.hear_if(member, heard, &mut outputs);
+        note(
+            events,
+            self.clock,
+            EventKind::Message(MessageEvent::Delivered { number }),
+        )?;
+        self.carry_out(member, HeardMessage { number, run }, &mut outputs, events)?;
+        self.outputs = outputs;
+        Ok(())
     }
 
     /// The store answers a read with a snapshot, and a request with its decision.
@@ -215,6 +240,7 @@ impl World {
         let number = self.sent + 1;
         let carried = InFlight {
             message: message.try_clone()?,
+            sent: self.clock,
             snapshot: self.snapshot_for(&message.body)?,
             grant,
         };
@@ -230,7 +256,8 @@ impl World {
 
     /// What the store holds, for an answer that tells it.
     pub fn snapshot_for(&self, body: &Body) -> Result<Vec<(Key, KeyEntry)>, AllocError>
-        ensures { IfOk result (λ snapshot. snapshot.items ≡ snapshot_for body.now (present_pairs self.now.book.clock self.now.book.keys.pairs)) }
+        ensures entries { IfOk result (λ snapshot. snapshot.items ≡ snapshot_for body.now (present_pairs self.now.book.clock self.now.book.keys.pairs)) }
+        ensures read { IfOk result (λ snapshot. CarriesRead body.now snapshot.items) }
     {
         match body {
             Body::Snapshot | Body::Granted { .. } => self.store.entries(self.clock),

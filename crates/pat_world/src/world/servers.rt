@@ -1,14 +1,17 @@
-//! What commands and leaders do to servers.
-ghost use Rattle.std.specs.Prelude.{◌≡◌, ◌+◌, OnOk, IfSome, slice_get, Some};
-ghost use Rattle.pat_world.specs.Next.{follow_events, for_some, promote_events};
-ghost use Rattle.pat_world.specs.Room.{HasRoom, following_cost, promotion_cost};
+//! What commands and agents do to servers.
+ghost use Rattle.std.specs.Prelude.{◌≡◌, ◌+◌, OnOk, Some, option_map};
+ghost use Rattle.cluster_model.specs.Messages.{replica_start_events, stop_events};
+ghost use Rattle.cluster_model.specs.Next.{promote_events};
+ghost use Rattle.cluster_model.specs.Orders.{server_at};
 ghost use Rattle.pat_world.specs.Emits.{Emits};
+ghost use Rattle.pat_world.specs.Room.{HasRoom, promotion_cost, replica_start_cost, stopping_cost};
 
 use super::World;
-use crate::follow_row::FollowRow;
-use crate::following::follow_row_of;
+use crate::orders::{following_of, stop_of};
+use crate::server_changes::is_down;
 use crate::server_commands::promoted_timeline;
-use event_book::{Event, EventKind, Member, ServerEvent, ServerOf};
+use event_book::{Event, EventKind, Member, Note, Reason, ServerEvent, ServerOf};
+use pat_base::State;
 use std::alloc::AllocError;
 
 impl World {
@@ -21,36 +24,63 @@ impl World {
             return Ok(());
         };
         let server = ServerOf::of(member);
-        self.happen_both(
+        self.happen_then(
             EventKind::Server(ServerEvent::Promoted { server }),
-            EventKind::Server(ServerEvent::Began { server, timeline }),
+            Some(EventKind::Server(ServerEvent::Began { server, timeline })),
             events,
         )
     }
 
-    /// The server of a member follows this leader's, where it doesn't already.
-    pub fn follow(
+    /// The server of a member starts as a replica of a leader's, or of none, where it is down.
+    pub fn start_replica(
         &mut self,
         member: Member,
         leader: Option<Member>,
         events: &mut Vec<Event>,
     ) -> Result<(), AllocError>
-        requires { HasRoom self.old following_cost }
-        ensures { OnOk result (Emits self.old self.new events.old.items events.new.items (for_some leader (follow_events self.old member)) following_cost) }
+        requires { HasRoom self.old replica_start_cost }
+        ensures { OnOk result (Emits self.old self.new events.old.items events.new.items (replica_start_events self.old member leader) replica_start_cost) }
     {
-        let Some(leader) = leader else {
+        let Some(state) = self.server_state(member) else {
             return Ok(());
         };
-        let server = ServerOf::of(member);
-        let upstream = ServerOf::of(leader);
-        let follows = EventKind::Server(ServerEvent::Follows { server, upstream });
-        match follow_row_of(&self.servers, member, leader) {
-            None => Ok(()),
-            Some(FollowRow::Follow) => self.happen(follows, events),
-            Some(FollowRow::Start) => {
-                let starts = EventKind::Server(ServerEvent::StartsAsReplica { server });
-                self.happen_both(starts, follows, events)
-            }
+        if !is_down(state) {
+            return Ok(());
         }
+        let server = ServerOf::of(member);
+        self.happen_then(
+            EventKind::Server(ServerEvent::StartsAsReplica { server }),
+            following_of(member, leader),
+            events,
+        )
+    }
+
+    /// The agent of a member ends its server for this reason: one that runs or starts shuts down.
+    pub fn stop(
+        &mut self,
+        member: Member,
+        reason: Reason,
+        events: &mut Vec<Event>,
+    ) -> Result<(), AllocError>
+        requires { HasRoom self.old stopping_cost }
+        ensures { OnOk result (Emits self.old self.new events.old.items events.new.items (stop_events self.old member reason) stopping_cost) }
+    {
+        if self.server_state(member).is_none() {
+            return Ok(());
+        }
+        let stop = stop_of(&self.servers, member);
+        self.happen_then(
+            EventKind::Note(Note::EndsServer { member, reason }),
+            stop,
+            events,
+        )
+    }
+
+    /// The state of a member's server.
+    fn server_state(&self, member: Member) -> Option<State>
+        ensures { result ≡ option_map (λ s. s.state) (server_at self.now member) }
+    {
+        let server = self.servers.get(member.id.number as usize)?;
+        Some(server.state())
     }
 }

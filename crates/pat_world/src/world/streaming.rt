@@ -2,7 +2,8 @@
 ghost use Rattle.std.specs.Prelude.{◌≡◌, ◌+◌, ◌*◌, OnOk, IfSome, IsTrue, slice_get};
 ghost use Rattle.pg_model.specs.Facts.{is_replica};
 ghost use Rattle.pg_model.specs.Servers.{news_at};
-ghost use Rattle.pat_world.specs.Next.{confirm_events, each, receive_events, receive_events_of, receive_events_at_most};
+ghost use Rattle.cluster_model.specs.Next.{confirm_events, receive_events, receive_events_of, receive_events_at_most};
+ghost use Rattle.cluster_model.specs.Parts.{each};
 ghost use Rattle.pat_world.specs.Room.{HasRoom, receiving_cost, streaming_cost};
 ghost use Rattle.pat_world.specs.Emits.{Emits};
 

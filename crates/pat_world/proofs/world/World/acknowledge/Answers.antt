@@ -13,6 +13,8 @@ loop-commit-preserved c = record {
   members = c.loop-commit.invariant.members;
   settled = c.loop-commit.invariant.settled;
   kept = c.loop-commit.invariant.kept;
+  hosts = c.loop-commit.invariant.hosts;
+  none = c.loop-commit.invariant.none;
 }
 
 pub returns : goal.returns

@@ -1,5 +1,5 @@
 use Rattle.std.proofs.Common.{◌≤◌, arith, ap, length}
-use Rattle.pat_world.specs.Cluster.{Cluster}
+use Rattle.cluster_model.specs.State.{Cluster}
 use Rattle.pat_world.proofs.Acknowledgements.{acknowledged-all}
 use Rattle.pat_world.proofs.Rest.{EachLeft-end, EachLeft-members, EachLeft-more, EachLeft-place}
 use Rattle.pat_world.proofs.Taking.{Emits-weaker}

@@ -1,4 +1,4 @@
-use Rattle.pat_world.specs.Next.{acknowledge_events}
+use Rattle.cluster_model.specs.Next.{acknowledge_events}
 use Rattle.pat_world.proofs.Rest.{EachLeft}
 use Rattle.pat_world.proofs.world.World.acknowledge_all.Given as goal
 

@@ -1,4 +1,4 @@
-use Rattle.pat_world.specs.Next.{receive_events_of}
+use Rattle.cluster_model.specs.Next.{receive_events_of}
 use Rattle.pat_world.specs.Room.{streaming_cost}
 use Rattle.pat_world.proofs.Rest.{EachLeft}
 use Rattle.pat_world.proofs.world.World.all_receive.Given as goal

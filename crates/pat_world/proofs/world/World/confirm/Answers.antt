@@ -1,7 +1,7 @@
 use Rattle.std.proofs.Common.{◌∙◌, refl, sym, subst}
 use Rattle.std.proofs.lemmas.Result.{on_ok_weaker}
-use Rattle.pat_world.specs.Cluster.{Cluster}
-use Rattle.pat_world.specs.Next.{confirm_events}
+use Rattle.cluster_model.specs.State.{Cluster}
+use Rattle.cluster_model.specs.Next.{confirm_events}
 use Rattle.pat_world.specs.Emits.{Emits}
 use Rattle.pat_world.proofs.Streams.{confirm-took, with_servers}
 use Rattle.pat_world.proofs.Worlds.{seen}

@@ -11,8 +11,8 @@ use Rattle.event_book.specs.declared.event.EventKind.TheVariants as kinds
 use Rattle.event_book.specs.declared.event.StoreEvent.TheVariants as stores
 use Rattle.event_book.specs.declared.message.Body.TheVariants as bodies
 use Rattle.event_book.specs.declared.message.Message.{Message}
-use Rattle.pat_world.specs.Cluster.{Cluster}
-use Rattle.pat_world.specs.Next.{decision_events, send_events, answer_message}
+use Rattle.cluster_model.specs.State.{Cluster}
+use Rattle.cluster_model.specs.Messages.{decision_events, send_events, answer_message}
 use Rattle.pat_world.specs.Room.{HasRoom}
 use Rattle.pat_world.specs.Emits.{Emits}
 use Rattle.pat_world.proofs.Deciding.{granted-took, refused-took, granted-event}
@@ -25,14 +25,14 @@ send-requires-clause-room c =
     let before = seen c.self.inside in
     let by = c.in-Member.by in
     let written = c.in-Ok.ensures.written ∙ ap (λ (t : Txn). keys_after_grant before.book.keys before.book.clock by.id t) c.in_ok-try_clone.ensures in
-    let state = ap (λ (keys : Keys). let g : Cluster = record { book = record before.book { keys = keys }; agent_states = before.agent_states } in g) written in
+    let state = ap (λ (keys : Keys). let g : Cluster = record before { book = record before.book { keys = keys } } in g) written in
     let room : HasRoom before 3 = subst (λ (b : Cluster). HasRoom b 3) (sym c.self.view_is) c.requires.room in
     subst (λ (b : Cluster). HasRoom b 2) (sym state) (HasRoom-cluster_after before (kinds.Store (stores.Granted c.args.number by c.args.txn.now [])) 2 tt room)
 
 pub send-requires-in-Err-Mismatch-clause-room : goal.send-requires-in-Err-Mismatch-clause-room
 send-requires-in-Err-Mismatch-clause-room c =
     let before = seen c.self.inside in
-    let state = ap (λ (keys : Keys). let g : Cluster = record { book = record before.book { keys = keys }; agent_states = before.agent_states } in g) c.in-Err-Mismatch.ensures.err in
+    let state = ap (λ (keys : Keys). let g : Cluster = record before { book = record before.book { keys = keys } } in g) c.in-Err-Mismatch.ensures.err in
     let room : HasRoom before 3 = subst (λ (b : Cluster). HasRoom b 3) (sym c.self.view_is) c.requires.room in
     subst (λ (b : Cluster). HasRoom b 2) (sym state) (HasRoom-fewer before 3 2 (omega arith) room)
 
@@ -42,10 +42,10 @@ returns-in_ok-note-in-Ok c =
     let txn = c.args.txn.now in
     let message = c.args.message.now in
     let by = c.in-Member.by in
-    let granting : Cluster = record { book = record before.book { keys = c.apply.new.self }; agent_states = before.agent_states } in
+    let granting : Cluster = record before { book = record before.book { keys = c.apply.new.self } } in
     let decision : decision_on before.book.keys before.book.clock txn ≡ Grant = ap (decision_on before.book.keys before.book.clock) (sym c.in_ok-try_clone.ensures) ∙ c.in-Ok.ensures.granted in
     let written = c.in-Ok.ensures.written ∙ ap (λ (t : Txn). keys_after_grant before.book.keys before.book.clock by.id t) c.in_ok-try_clone.ensures in
-    let state = ap (λ (keys : Keys). let g : Cluster = record { book = record before.book { keys = keys }; agent_states = before.agent_states } in g) written in
+    let state = ap (λ (keys : Keys). let g : Cluster = record before { book = record before.book { keys = keys } } in g) written in
     let leased : c.leased.result ≡ is_lease txn = c.leased.ensures ∙ ap (λ (g : Granted). g.leased) c.in-Ok.ensures.told ∙ ap is_lease c.in_ok-try_clone.ensures in
     let answer = c.answer_message.ensures ∙ ap (λ (l : Bool). answer_message message (bodies.Granted c.args.number l)) leased in
     let mid = c.in_ok-note-in-Ok.ensures ∙ ap (λ es. c.args.events.now.items ++ es) (granted-event c.self.inside.clock c.args.number by _ txn _ c.in_ok-try_clone-in-Ok.ensures c.none.ensures) in
@@ -64,10 +64,10 @@ returns-in_ok-note-in-Err-Mismatch c =
     let by = c.in-Member.by in
     let key = c.in-Err-Mismatch.key in
     let found = c.in-Err-Mismatch.found in
-    let refusing : Cluster = record { book = record before.book { keys = c.apply.new.self }; agent_states = before.agent_states } in
+    let refusing : Cluster = record before { book = record before.book { keys = c.apply.new.self } } in
     let decision : decision_on before.book.keys before.book.clock txn ≡ Refusal key found =
     ap (decision_on before.book.keys before.book.clock) (sym c.in_ok-try_clone.ensures) ∙ (c.in-Err-Mismatch.ensures.refused key found).0 (ap Err c.in-Err-Mismatch.field-0-is) in
-    let state : ◌≡◌ {A = Cluster} refusing before = ap (λ (keys : Keys). let g : Cluster = record { book = record before.book { keys = keys }; agent_states = before.agent_states } in g) c.in-Err-Mismatch.ensures.err in
+    let state : ◌≡◌ {A = Cluster} refusing before = ap (λ (keys : Keys). let g : Cluster = record before { book = record before.book { keys = keys } } in g) c.in-Err-Mismatch.ensures.err in
     let mid = c.in_ok-note-in-Err-Mismatch.ensures ∙ ap (λ (k : TxnKind). let event : Event = record { tick = c.self.inside.clock; kind = kinds.Store (stores.Refused c.args.number by k key found) } in c.args.events.now.items ++ event ∷ []) c.kind.ensures in
     on_ok_weaker c.send-in-Err-Mismatch.result
     (λ took. subst (λ (b : Cluster). Emits b c.send-in-Err-Mismatch.new.self c.args.events.now.items c.send-in-Err-Mismatch.new.events.items (decision_events b c.args.number message txn (decision_on b.book.keys b.book.clock txn) message.from) 3) c.self.view_is

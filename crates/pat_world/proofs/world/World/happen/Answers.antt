@@ -1,6 +1,6 @@
 use Rattle.std.proofs.Common.{ap}
 use Rattle.std.proofs.lemmas.Result.{on_ok_weaker}
-use Rattle.pat_world.specs.Cluster.{Cluster}
+use Rattle.cluster_model.specs.State.{Cluster}
 use Rattle.pat_world.proofs.Comings.{Emits-told}
 use Rattle.pat_world.proofs.world.World.happen.Goals as goal
 

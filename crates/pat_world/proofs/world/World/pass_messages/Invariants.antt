@@ -1,4 +1,4 @@
-use Rattle.pat_world.specs.Next.{message_events}
+use Rattle.cluster_model.specs.Messages.{message_events}
 use Rattle.pat_world.specs.Room.{message_cost}
 use Rattle.pat_world.proofs.Rest.{EachLeft}
 use Rattle.pat_world.proofs.world.World.pass_messages.Given as goal

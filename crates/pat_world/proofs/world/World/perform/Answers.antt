@@ -1,7 +1,8 @@
 use Rattle.std.proofs.Common.{◌+◌, ◌*◌, arith}
 use Rattle.std.proofs.lemmas.Result.{on_ok_weaker}
 use Rattle.cluster_script.specs.declared.line.Step.TheVariants as steps
-use Rattle.pat_world.specs.Next.{tick_events, scheduled_events}
+use Rattle.cluster_model.specs.Next.{scheduled_events}
+use Rattle.cluster_model.specs.Ticking.{tick_events}
 use Rattle.pat_world.specs.Room.{command_cost, schedule_cost, step_cost, tick_cost}
 use Rattle.pat_world.proofs.Rooms.{HasRoom-fewer}
 use Rattle.pat_world.proofs.Rest.{stepped}

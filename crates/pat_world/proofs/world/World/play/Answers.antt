@@ -1,6 +1,7 @@
 use Rattle.std.proofs.Common.{arith}
 use Rattle.std.proofs.lemmas.Result.{on_ok_weaker}
-use Rattle.pat_world.specs.Next.{acknowledge_events, each, step_events}
+use Rattle.cluster_model.specs.Next.{acknowledge_events, step_events}
+use Rattle.cluster_model.specs.Parts.{each}
 use Rattle.pat_world.specs.Room.{step_cost}
 use Rattle.pat_world.proofs.Taking.{Emits-then}
 use Rattle.pat_world.proofs.world.World.play.Goals as goal

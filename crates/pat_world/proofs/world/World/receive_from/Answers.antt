@@ -1,13 +1,19 @@
 use Rattle.std.proofs.Common.{◌∙◌, ap, refl, sym, subst, Some}
 use Rattle.std.proofs.lemmas.Result.{on_ok_weaker}
 use Rattle.pg_model.specs.Servers.{news_at}
-use Rattle.pat_world.specs.Cluster.{Cluster}
-use Rattle.pat_world.specs.Next.{receive_events}
+use Rattle.cluster_model.specs.State.{Cluster}
+use Rattle.cluster_model.specs.Next.{receive_events}
 use Rattle.pat_world.specs.Room.{HasRoom}
 use Rattle.pat_world.specs.Emits.{Emits}
-use Rattle.pat_world.proofs.Streams.{connected, diverged-took, quiet-took, received-room, received-took, with_servers}
+use Rattle.pat_world.proofs.Streams.{connected, diverged-took, quiet-room, quiet-took, received-room, received-took, with_servers}
 use Rattle.pat_world.proofs.Worlds.{seen}
 use Rattle.pat_world.proofs.world.World.receive_from.Goals as goal
+
+pub confirm-requires : goal.confirm-requires
+confirm-requires c =
+    let before = seen c.self.inside in
+    let news = sym c.in_ok-stream.ensures.news ∙ c.in-None.is in
+    quiet-room before c.args.member c.args.from c.args.most c.stream.new.self news c.in_ok-stream.ensures.ok (subst (λ (b : Cluster). HasRoom b 2) (sym c.self.view_is) c.requires.room)
 
 pub confirm-requires-in-Some-Received : goal.confirm-requires-in-Some-Received
 confirm-requires-in-Some-Received c =

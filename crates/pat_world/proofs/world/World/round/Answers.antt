@@ -1,9 +1,11 @@
 use Rattle.std.proofs.Common.{◌≡◌, ◌≤◌, ◌+◌, ◌*◌, ◌∙◌, arith, length, ap, subst, sym}
 use Rattle.std.specs.Map.{keys_of}
 use Rattle.std.proofs.lemmas.Result.{on_ok_weaker}
-use Rattle.pat_world.specs.Cluster.{Cluster}
-use Rattle.pat_world.specs.Next.{each, message_events}
-use Rattle.pat_world.specs.Room.{message_cost, most_in_flight, round_cost, wakes_cost}
+use Rattle.cluster_model.specs.State.{Cluster}
+use Rattle.cluster_model.specs.Messages.{message_events}
+use Rattle.cluster_model.specs.Parts.{each}
+use Rattle.cluster_model.specs.Limits.{most_in_flight}
+use Rattle.pat_world.specs.Room.{message_cost, round_cost, wakes_cost}
 use Rattle.pat_world.specs.Settled.{numbers_from}
 use Rattle.pat_world.proofs.Rest.{round_events-took}
 use Rattle.pat_world.proofs.Rooms.{HasRoom-fewer}

@@ -1,7 +1,8 @@
 use Rattle.std.proofs.Common.{◌+◌, ◌-◌, arith, sym, subst}
-use Rattle.pat_world.specs.Cluster.{Cluster}
-use Rattle.pat_world.specs.Next.{round_events, rounds_events}
-use Rattle.pat_world.specs.Room.{HasRoom, most_rounds, round_cost, rounds_cost}
+use Rattle.cluster_model.specs.State.{Cluster}
+use Rattle.cluster_model.specs.Next.{round_events, rounds_events}
+use Rattle.cluster_model.specs.Limits.{most_rounds}
+use Rattle.pat_world.specs.Room.{HasRoom, round_cost, rounds_cost}
 use Rattle.pat_world.specs.Emits.{Emits}
 use Rattle.pat_world.proofs.Rest.{Left-room, Left-more, Left-end, rounds_events-next, rounds_events-done, rounds_events-end, round_events-still}
 use Rattle.pat_world.proofs.world.World.rounds.Goals as goal

@@ -1,6 +1,7 @@
 use Rattle.std.proofs.Common.{◌-◌, ◌*◌}
-use Rattle.pat_world.specs.Next.{rounds_events}
-use Rattle.pat_world.specs.Room.{most_rounds, round_cost, rounds_cost}
+use Rattle.cluster_model.specs.Next.{rounds_events}
+use Rattle.cluster_model.specs.Limits.{most_rounds}
+use Rattle.pat_world.specs.Room.{round_cost, rounds_cost}
 use Rattle.pat_world.proofs.Rest.{Left}
 use Rattle.pat_world.proofs.world.World.rounds.Given as goal
 

@@ -1,7 +1,9 @@
 use Rattle.std.proofs.Common.{◌+◌, arith}
 use Rattle.std.proofs.lemmas.Result.{on_ok_weaker}
-use Rattle.pat_world.specs.Next.{each, receive_events_of, rounds_events}
-use Rattle.pat_world.specs.Room.{most_rounds, receiving_cost, rounds_cost, schedule_cost}
+use Rattle.cluster_model.specs.Next.{receive_events_of, rounds_events}
+use Rattle.cluster_model.specs.Parts.{each}
+use Rattle.cluster_model.specs.Limits.{most_rounds}
+use Rattle.pat_world.specs.Room.{receiving_cost, rounds_cost, schedule_cost}
 use Rattle.pat_world.proofs.Rooms.{HasRoom-fewer}
 use Rattle.pat_world.proofs.Taking.{Emits-then}
 use Rattle.pat_world.proofs.world.World.scheduled.Goals as goal

@@ -2,9 +2,9 @@ use Rattle.std.proofs.Common.{arith, ◌∙◌, ◌+◌, refl, ap, sym, subst}
 use Rattle.std.proofs.lemmas.Result.{on_ok_weaker}
 use Rattle.lease_store.specs.Answers.{present_pairs}
 use Rattle.event_book.specs.Flight.{grant_for, snapshot_for}
-use Rattle.pat_world.specs.Cluster.{Cluster}
+use Rattle.cluster_model.specs.State.{Cluster}
 use Rattle.pat_world.specs.Launches.{launched_into}
-use Rattle.pat_world.specs.Next.{send_events}
+use Rattle.cluster_model.specs.Messages.{send_events}
 use Rattle.pat_world.specs.Emits.{Emits}
 use Rattle.pat_world.proofs.Sending.{send-took, loaded-is, with_flight}
 use Rattle.pat_world.proofs.Settling.{kept-sent}
@@ -13,26 +13,26 @@ use Rattle.pat_world.proofs.world.World.send.Goals as goal
 
 pub invariant_of-self : goal.invariant_of-self
 invariant_of-self c =
-    let kept = kept-sent c.self.inside.settled (c.self.inside.sent + 1) c.self.inside.flight c.launch.new.self c.self.inside.agents.items c.self.inside.cuts c.self.invariant.1 c.self.invariant.2 c.launch.ensures.others in
-    (c.self.invariant.0, c.self.invariant.1, kept)
+    let kept = kept-sent c.self.inside.settled (c.self.inside.sent + 1) c.self.inside.flight c.launch.new.self c.self.inside.processes.items c.self.inside.cuts c.self.invariant.1 c.self.invariant.2 c.launch.ensures.others in
+    (c.self.invariant.0, c.self.invariant.1, kept, c.self.invariant.3, c.self.invariant.4)
 
 pub invariant_of-self-in_err-note : goal.invariant_of-self-in_err-note
 invariant_of-self-in_err-note c =
-    let kept = kept-sent c.self.inside.settled (c.self.inside.sent + 1) c.self.inside.flight c.launch.new.self c.self.inside.agents.items c.self.inside.cuts c.self.invariant.1 c.self.invariant.2 c.launch.ensures.others in
-    (c.self.invariant.0, omega (arith, c.self.invariant.1), kept)
+    let kept = kept-sent c.self.inside.settled (c.self.inside.sent + 1) c.self.inside.flight c.launch.new.self c.self.inside.processes.items c.self.inside.cuts c.self.invariant.1 c.self.invariant.2 c.launch.ensures.others in
+    (c.self.invariant.0, omega (arith, c.self.invariant.1), kept, c.self.invariant.3, c.self.invariant.4)
 
 pub invariant_of-self-2 : goal.invariant_of-self-2
 invariant_of-self-2 c =
-    let kept = kept-sent c.self.inside.settled (c.self.inside.sent + 1) c.self.inside.flight c.launch.new.self c.self.inside.agents.items c.self.inside.cuts c.self.invariant.1 c.self.invariant.2 c.launch.ensures.others in
-    (c.self.invariant.0, omega (arith, c.self.invariant.1), kept)
+    let kept = kept-sent c.self.inside.settled (c.self.inside.sent + 1) c.self.inside.flight c.launch.new.self c.self.inside.processes.items c.self.inside.cuts c.self.invariant.1 c.self.invariant.2 c.launch.ensures.others in
+    (c.self.invariant.0, omega (arith, c.self.invariant.1), kept, c.self.invariant.3, c.self.invariant.4)
 
 pub returns : goal.returns
 returns c =
     let before = seen c.self.inside in
     let message = c.args.message in
     let grant = c.requires.grant ∙ ap (λ (f : Cluster). grant_for message.body message.to f.book.keys.revision) (sym c.self.view_is) in
-    let told = c.in_ok-snapshot_for.ensures ∙ ap (λ (f : Cluster). snapshot_for message.body (present_pairs f.book.clock f.book.keys.pairs)) (sym c.self.view_is) in
-    let loaded = loaded-is before message c.in_ok-try_clone.field-0 c.in_ok-snapshot_for.field-0.items c.args.grant c.in_ok-try_clone.ensures told grant in
+    let told = c.in_ok-snapshot_for.ensures.entries ∙ ap (λ (f : Cluster). snapshot_for message.body (present_pairs f.book.clock f.book.keys.pairs)) (sym c.self.view_is) in
+    let loaded = loaded-is before message c.in_ok-try_clone.field-0 c.self.inside.clock c.in_ok-snapshot_for.field-0.items c.args.grant c.in_ok-try_clone.ensures refl told grant in
     let after = with_flight before c.launch.new.self (before.book.sent + 1) in
     on_ok_weaker c.note_lost.result
     (λ has. subst (λ (b : Cluster). Emits b after c.args.events.now.items c.note_lost.new.events.items (send_events b message) 2) c.self.view_is

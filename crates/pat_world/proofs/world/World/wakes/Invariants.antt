@@ -1,4 +1,4 @@
-use Rattle.pat_world.specs.Next.{wake_events}
+use Rattle.cluster_model.specs.Messages.{wake_events}
 use Rattle.pat_world.specs.Room.{input_cost}
 use Rattle.pat_world.proofs.Rest.{EachLeft}
 use Rattle.pat_world.proofs.world.World.wakes.Given as goal

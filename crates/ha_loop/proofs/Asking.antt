@@ -1,0 +1,203 @@
+-- What an input asks is what its agent waits for after it.
+use Rattle.std.proofs.Common.{◌≡◌, ◌⊎◌, ℕ, ◌+◌, ◌≤◌, ◌<◌, true, false, List, [], Some, None, All, Contains, refl, sym, subst, ap, ◌∙◌, arith, inl, inr}
+use Rattle.std.proofs.lemmas.List.Elements.{All-push, All-weaker, All-nil}
+use Rattle.pat_base.specs.declared.member_id.MemberId.{MemberId}
+use Rattle.pat_base.specs.declared.ticks.Ticks.{Ticks}
+use Rattle.lease_store.specs.declared.granted.Granted.{Granted}
+use Rattle.lease_store.specs.declared.txn.Txn.{Txn}
+use Rattle.wal_model.specs.declared.entry.HistoryPoint.{HistoryPoint}
+use Rattle.cluster_config.specs.Snapshots.{SnapshotFacts}
+use Rattle.event_book.specs.declared.message.Body.TheVariants as bodies
+use Rattle.event_book.specs.declared.reason.Reason.TheVariants.{StartTooLong, WatchdogNotArmed}
+use Rattle.lease_law.specs.Past.{query_of, lease_span as span_asked}
+use Rattle.lease_law.proofs.Tools.{some-is, none-some}
+use Rattle.ha_loop.specs.declared.heard.Heard.{Heard}
+use Rattle.ha_loop.specs.declared.heard.Heard.TheVariants.{Wake, Got, Granted as HeardGranted, Mismatch}
+use Rattle.ha_loop.specs.declared.knowledge.Knowledge.{Knowledge}
+use Rattle.ha_loop.specs.declared.knowledge.Waited.{Waited}
+use Rattle.ha_loop.specs.declared.machine.Machine.{Machine}
+use Rattle.ha_loop.specs.declared.output.Output.{Output}
+use Rattle.ha_loop.specs.declared.output.Output.TheVariants as outputs
+use Rattle.ha_loop.specs.declared.output.Target.TheVariants as targets
+use Rattle.ha_loop.specs.Acting.{touching, starting_replica, following_server, arming, feeding, ending_server, is_refusing, waiting_no_more}
+use Rattle.ha_loop.specs.Agents.{RoleFacts, Follower, Leader, Ending, IsSoundAgent, Outcome, made}
+use Rattle.ha_loop.specs.Asking.{IsNumbered, IsAskedNow, AsksAsWaited}
+use Rattle.ha_loop.specs.Before.{before}
+use Rattle.ha_loop.specs.Decisions.{asks_lease, is_start_too_long, leader_renewed, takes_over, stray_renewed, may_take, gives_back, begins, arms, takes_key, granted, refused}
+use Rattle.ha_loop.specs.Outputs.{listed}
+use Rattle.ha_loop.specs.Snapshots.{renewing, follows, creating, finds_free, leader_loses_key, stray_loses_key, read_noted, got}
+use Rattle.ha_loop.specs.Table.{step, act}
+use Rattle.ha_loop.specs.Wake.{reading, turn_noted, leader_out_of_reach, stray_out_of_reach, overdue, turned, woken}
+use Rattle.ha_loop.specs.declared.role.Why.TheVariants.{HandOver}
+use Rattle.ha_loop.proofs.Granting.{Told}
+use Rattle.ha_loop.proofs.Knowing.{IsAlone, alone-of, before-onward}
+use Rattle.ha_loop.proofs.LawfulSteps.{before-waits}
+use Rattle.ha_loop.proofs.Living.{no-way}
+use Rattle.ha_loop.proofs.Rows.{if-cases, overdue-by, turn-by, wake-by, got-by, refused-by, follow-by, free-by, granted-by}
+use Rattle.ha_loop.proofs.Sending.{IsSilent, MayPut, AllMay, Fronts, before-fronts, got-none, before-may, wake-may, got-may, refused-may, granted-may}
+use Rattle.ha_loop.proofs.Sending.Fronts.{Silent, Released}
+use Rattle.ha_loop.proofs.Fitting.{before-fits}
+
+-- the create or the renewal that is waited for was waited for before, or is asked
+abbrev Holds : Ticks → Outcome → Outcome → Type 0
+Holds now o after = (waited : Waited) → after.knows.waited ≡ Some waited → asks_lease waited.question ≡ true → (o.knows.waited ≡ Some waited) ⊎ IsAskedNow now o after waited
+
+nothing : (now : Ticks) (o after : Outcome) → after.knows.waited ≡ None → Holds now o after
+nothing now o after none waited is asks = absurd (none-some waited (sym none ∙ is))
+
+as-before : (now : Ticks) (o after : Outcome) → after.knows.waited ≡ o.knows.waited → Holds now o after
+as-before now o after same waited is asks = inl (sym same ∙ is)
+
+-- a read isn't a request for a lease
+only-reads : (now : Ticks) (o after : Outcome) (read : Waited) → after.knows.waited ≡ Some read → asks_lease read.question ≡ false → Holds now o after
+only-reads now o after read is no-lease waited waits asks = let same : read ≡ waited = some-is read waited (sym is ∙ waits) in
+    absurd (no-way (sym no-lease ∙ (ap (λ (w : Waited). asks_lease w.question) same ∙ asks)))
+
+-- a request under this number asks for leases of this span
+abbrev SpansAs : ℕ → ℕ → Output → Type 0
+SpansAs number ttl (outputs.Send targets.Store sequence (bodies.Request txn)) = sequence ≡ number → span_asked (query_of txn) ≡ ttl
+SpansAs number ttl _ = Unit {0}
+
+silent-spans : (number ttl : ℕ) (output : Output) → IsSilent output → SpansAs number ttl output
+silent-spans number ttl (outputs.Send to sequence body) silent = absurd silent
+silent-spans number ttl _ silent = tt
+
+-- one more request behind silent outputs, that is waited for
+asked-now : (now : Ticks) (o after : Outcome) (outs : List Output) (asked : Waited) (txn : Txn) → All IsSilent outs → after.outputs ≡ listed (outputs.Send targets.Store asked.sequence (bodies.Request txn)) outs → after.knows.waited ≡ Some asked → asked.sent ≡ now
+    → span_asked (query_of txn) ≡ asked.ttl.0 → o.knows.sequence < asked.sequence → Holds now o after
+asked-now now o after outs asked txn silent is waits sent span later waited waits-now asks = let same : asked ≡ waited = some-is asked waited (sym waits ∙ waits-now) in
+    let all : All (SpansAs asked.sequence asked.ttl.0) after.outputs = subst (λ (l : List Output). All (SpansAs asked.sequence asked.ttl.0) l) (sym is)
+    (All-push (SpansAs asked.sequence asked.ttl.0) outs (outputs.Send targets.Store asked.sequence (bodies.Request txn)) (All-weaker IsSilent (SpansAs asked.sequence asked.ttl.0) (silent-spans asked.sequence asked.ttl.0) outs silent) (λ _. span)) in
+    inr (subst (λ (w : Waited). IsAskedNow now o after w) same (record {
+      later = later;
+      sent = sent;
+      ttl = λ request among. subst (λ (y : Output). SpansAs asked.sequence asked.ttl.0 y) among.2 (all among.0 (outputs.Send targets.Store asked.sequence (bodies.Request request)) among.1) refl;
+    }))
+
+overdue-holds : (now : Ticks) (o b : Outcome) → b.knows.waited ≡ o.knows.waited → Holds now o (overdue now b)
+overdue-holds now o b same = overdue-by (Holds now o) now b (record {
+  kept = as-before now o b same;
+  quiet = nothing now o (waiting_no_more b) refl;
+  leader = λ held _. nothing now o (leader_out_of_reach now held (waiting_no_more b)) refl;
+  stray = λ _. nothing now o (stray_out_of_reach now (waiting_no_more b)) refl;
+})
+
+turn-holds : (now : Ticks) (o b : Outcome) → Holds now o b → ((x : Outcome) → x.outputs ≡ b.outputs → x.knows.waited ≡ b.knows.waited → Holds now o x) → Holds now o (turned now b)
+turn-holds now o b holds more = let noted : Outcome = record b { knows = turn_noted now b.knows } in
+    turn-by (Holds now o) now b (record {
+      kept = holds;
+      quiet = more noted refl refl;
+      reads = λ _. only-reads now o (reading now noted) _ refl refl;
+    })
+
+-- what holds of an outcome holds of one with the same outputs that waits for the same
+same-holds : (now : Ticks) (o b x : Outcome) → Holds now o b → x.outputs ≡ b.outputs → x.knows.waited ≡ b.knows.waited → Holds now o x
+same-holds now o b x holds outs waits waited is asks = elim (holds waited (sym waits ∙ is) asks) [
+  | inl was ↦ inl was
+  | inr asked ↦ inr (record { later = asked.later; sent = asked.sent; ttl = λ txn among. asked.ttl txn (subst (λ (l : List Output). Contains l (outputs.Send targets.Store waited.sequence (bodies.Request txn))) outs among) })
+]
+
+before-holds : (now : Ticks) (o : Outcome) → Holds now o (before now o)
+before-holds now o = as-before now o (before now o) (before-waits now o)
+
+wake-holds : (now : Ticks) (o : Outcome) → Holds now o (woken now o)
+wake-holds now o = let holds : Holds now o (overdue now (before now o)) = overdue-holds now o (before now o) (before-waits now o) in
+    wake-by (Holds now o) now o (before-holds now o) (turn-holds now o (overdue now (before now o)) holds (λ x outs waits. same-holds now o (overdue now (before now o)) x holds outs waits))
+
+more-than : (a b : ℕ) → a ≤ b → a < b + 1
+more-than a b less = omega (arith, less)
+
+free-holds : (now : Ticks) (o b : Outcome) → o.knows.sequence ≤ b.knows.sequence → b.knows.waited ≡ None → All IsSilent b.outputs → Holds now o (finds_free now b)
+free-holds now o b later none silent = let x : Outcome = record b { role = Follower } in
+    free-by (Holds now o) now b.machine.server.state x
+    (nothing now o (touching x) none) (nothing now o (touching (starting_replica now None x)) none)
+    (asked-now now o (creating now x) b.outputs _ _ silent refl refl refl refl (more-than o.knows.sequence b.knows.sequence later))
+
+follow-holds : (now : Ticks) (leader : MemberId) (o b : Outcome) → b.knows.waited ≡ None → Holds now o (follows now leader b)
+follow-holds now leader o b none = let x : Outcome = record b { role = Follower } in
+    follow-by (λ (y : Outcome). Holds now o (touching y)) now leader b.machine.server.state x
+    (nothing now o (touching x) none) (nothing now o (touching (starting_replica now (Some leader) x)) none) (nothing now o (touching (following_server leader x)) none)
+
+got-silent : (now : Ticks) (points : List HistoryPoint) (sequence : ℕ) (snapshot : SnapshotFacts) (o b : Outcome) → o.knows.sequence ≤ b.knows.sequence → b.knows.waited ≡ o.knows.waited → All IsSilent b.outputs → Holds now o (got now points sequence snapshot b)
+got-silent now points sequence snapshot o b later same silent = let read : Outcome = record b { knows = read_noted now snapshot b.knows } in
+    got-by (Holds now o) now points sequence snapshot b (record {
+      kept = as-before now o b same;
+      quiet = nothing now o (waiting_no_more b) refl;
+      other = nothing now o read refl;
+      leader = λ held _. nothing now o (leader_loses_key now held read) refl;
+      stray = λ _. nothing now o (stray_loses_key now read) refl;
+      renews = λ _ leader some mine. asked-now now o (renewing now points leader.revision read) b.outputs _ _ silent refl refl refl refl (more-than o.knows.sequence b.knows.sequence later);
+      touches = nothing now o (touching read) refl;
+      follows = λ leader _ _. follow-holds now leader.holder o read refl;
+      free = λ _ _. free-holds now o read later refl silent;
+    })
+
+got-fronts : (now : Ticks) (points : List HistoryPoint) (sequence : ℕ) (snapshot : SnapshotFacts) (o b : Outcome) → o.knows.sequence ≤ b.knows.sequence → b.knows.waited ≡ o.knows.waited → Fronts o b → Holds now o (got now points sequence snapshot b)
+got-fronts now points sequence snapshot o b later same (Silent all) = got-silent now points sequence snapshot o b later same all
+got-fronts now points sequence snapshot o b later same (Released revision held alone role ended counted all) =
+    subst (λ (z : Outcome). Holds now o z) (sym (got-none now points sequence snapshot b alone)) (as-before now o b same)
+
+refused-holds : (now : Ticks) (sequence : ℕ) (o b : Outcome) → b.knows.waited ≡ o.knows.waited → Holds now o (refused now sequence b)
+refused-holds now sequence o b same = refused-by (Holds now o) now sequence b (record {
+  kept = as-before now o b same;
+  quiet = nothing now o (waiting_no_more b) refl;
+  leader = λ held _. nothing now o (leader_loses_key now held (waiting_no_more b)) refl;
+  stray = λ _. nothing now o (stray_loses_key now (waiting_no_more b)) refl;
+  follower = λ held _. nothing now o (record (waiting_no_more b) { role = Follower }) refl;
+})
+
+renewed-holds : (now ttl : Ticks) (revision : ℕ) (o b : Outcome) → b.knows.waited ≡ None → Holds now o (leader_renewed now ttl revision b)
+renewed-holds now ttl revision o b none = let fed : Outcome = record (feeding now ttl b) { role = Leader revision } in let ended : Outcome = record (ending_server now StartTooLong fed) { role = Ending revision HandOver } in
+    if-cases (Holds now o) (is_start_too_long now fed.knows fed.machine.server.state) ended fed (λ _. nothing now o ended none) (λ _. nothing now o fed none)
+
+stray-holds : (now ttl : Ticks) (revision : ℕ) (o b : Outcome) → b.knows.waited ≡ None → Holds now o (stray_renewed now ttl revision b)
+stray-holds now ttl revision o b none = let ended : Outcome = ending_server now WatchdogNotArmed b in let over : Outcome = takes_over now revision (arming now ttl b) in
+    if-cases (Holds now o) (is_refusing b.machine.watchdog.mode b.machine.watchdog.works) ended over (λ _. nothing now o ended none) (λ _. nothing now o over none)
+
+takes-holds : (now ttl : Ticks) (revision : ℕ) (o b : Outcome) → b.knows.waited ≡ None → Holds now o (takes_key now ttl revision b)
+takes-holds now ttl revision o b none = let back : Outcome = gives_back revision (record b { outputs = listed outputs.CannotArm b.outputs }) in let begun : Outcome = begins now revision (arming now ttl b) in
+    if-cases (Holds now o) (may_take now b.machine) (arms now ttl revision b) (gives_back revision b)
+    (λ _. if-cases (Holds now o) (is_refusing b.machine.watchdog.mode b.machine.watchdog.works) back begun (λ _. nothing now o back none) (λ _. nothing now o begun none))
+    (λ _. nothing now o (gives_back revision b) none)
+
+granted-holds : (now : Ticks) (sequence : ℕ) (grant : Granted) (snapshot : SnapshotFacts) (o b : Outcome) → b.knows.waited ≡ o.knows.waited → Holds now o (granted now sequence grant snapshot b)
+granted-holds now sequence grant snapshot o b same = granted-by (Holds now o) now sequence grant snapshot b (as-before now o b same) (nothing now o (waiting_no_more b) refl)
+    (λ waited is decision. record {
+      other = nothing now o (Told snapshot b) refl;
+      leader = λ held _. renewed-holds now waited.ttl grant.revision o (Told snapshot b) refl;
+      stray = λ _. stray-holds now waited.ttl grant.revision o (Told snapshot b) refl;
+      takes = λ _. takes-holds now waited.ttl grant.revision o (Told snapshot b) refl;
+    })
+
+step-holds : (now : Ticks) (points : List HistoryPoint) (heard : Heard) (o : Outcome) → IsAlone o → All IsSilent o.outputs → Holds now o (step now points heard o)
+step-holds now points Wake o alone silent = wake-holds now o
+step-holds now points (Got sequence snapshot) o alone silent = got-fronts now points sequence snapshot o (before now o) (before-onward None now o).last (before-waits now o) (before-fronts now o alone silent)
+step-holds now points (HeardGranted sequence grant snapshot) o alone silent = granted-holds now sequence grant snapshot o (before now o) (before-waits now o)
+step-holds now points (Mismatch sequence key found) o alone silent = refused-holds now sequence o (before now o) (before-waits now o)
+
+-- whatever is granted
+abbrev Any : ℕ → Type 0
+Any revision = Unit {0}
+
+step-sends : (now : Ticks) (points : List HistoryPoint) (heard : Heard) (o : Outcome) → IsAlone o → All IsSilent o.outputs → AllMay Any o (step now points heard o)
+step-sends now points Wake o alone silent = wake-may Any now o alone (before-onward None now o).last silent
+step-sends now points (Got sequence snapshot) o alone silent = got-may Any now points sequence snapshot o alone (before-onward None now o).last silent
+step-sends now points (HeardGranted sequence grant snapshot) o alone silent = granted-may Any now sequence grant snapshot o alone (before-onward None now o).last (before-fits now o) (λ _. tt) silent
+step-sends now points (Mismatch sequence key found) o alone silent = refused-may Any now sequence o alone silent
+
+numbered : (o after : Outcome) (output : Output) → MayPut Any o after output → IsNumbered o.knows.sequence after.knows.sequence output
+numbered o after (outputs.Send targets.Store sequence body) may = (may.later, may.counted)
+numbered o after (outputs.Send (targets.Member member) sequence body) may = absurd may
+numbered o after _ may = tt
+
+pub input-asks : (now : Ticks) (points : List HistoryPoint) (heard : Heard) (role : RoleFacts) (knows : Knowledge) (machine : Machine) → IsSoundAgent role knows → AsksAsWaited now (made role knows machine []) (step now points heard (made role knows machine []))
+input-asks now points heard role knows machine sound = let o : Outcome = made role knows machine [] in let alone : IsAlone o = alone-of o sound.ends in let after : Outcome = step now points heard o in record {
+  numbered = All-weaker (MayPut Any o after) (IsNumbered o.knows.sequence after.knows.sequence) (numbered o after) after.outputs (step-sends now points heard o alone (All-nil IsSilent));
+  waits = step-holds now points heard o alone (All-nil IsSilent);
+}
+
+pub action-asks : (now : Ticks) (role : RoleFacts) (knows : Knowledge) (machine : Machine) → IsSoundAgent role knows → AsksAsWaited now (made role knows machine []) (act now (made role knows machine []))
+action-asks now role knows machine sound = let o : Outcome = made role knows machine [] in let after : Outcome = act now o in record {
+  numbered = All-weaker (MayPut Any o after) (IsNumbered o.knows.sequence after.knows.sequence) (numbered o after) after.outputs (before-may Any now o (alone-of o sound.ends) (All-nil IsSilent));
+  waits = before-holds now o;
+}

@@ -1,0 +1,322 @@
+-- What an input makes of what an agent knows: of its questions, and of the keys that a snapshot tells.
+use Rattle.std.proofs.Common.{◌≡◌, ◌⊎◌, ℕ, ◌+◌, ◌≤◌, ◌<◌, ◌==◌, ◌||◌, Bool, true, false, is_some, max, List, Option, Some, None, refl, sym, subst, ap, ◌∙◌, arith, inl, inr}
+use Rattle.std.specs.Int.{bit_at}
+use Rattle.std.specs.Int.Bits.{bit_or}
+use Rattle.std.proofs.lemmas.Nat.Bits.{bit_at_or}
+use Rattle.std.proofs.lemmas.Bool.Decides.{nat_tests}
+use Rattle.pat_base.specs.declared.member_id.MemberId.{MemberId}
+use Rattle.pat_base.specs.declared.member_set.MemberSet.{MemberSet}
+use Rattle.pat_base.specs.declared.ticks.Ticks.{Ticks}
+use Rattle.lease_store.specs.declared.granted.Granted.{Granted}
+use Rattle.lease_store.specs.declared.key.Key.TheVariants as keys
+use Rattle.lease_store.specs.declared.value.KeyEntry.{KeyEntry}
+use Rattle.wal_model.specs.declared.entry.HistoryPoint.{HistoryPoint}
+use Rattle.cluster_config.specs.Snapshots.{SnapshotFacts, held_in, failsafe_by, failsafe_held, failsafe_in}
+use Rattle.event_book.specs.declared.reason.Reason.TheVariants.{StartTooLong, WatchdogNotArmed}
+use Rattle.lease_law.specs.Leases.{LeaderSeen, FailsafeKey}
+use Rattle.lease_law.specs.Past.{set_members}
+use Rattle.lease_law.proofs.Tools.{some-is, none-some}
+use Rattle.ha_loop.specs.declared.heard.Heard.{Heard}
+use Rattle.ha_loop.specs.declared.heard.Heard.TheVariants.{Wake, Got, Granted as HeardGranted, Mismatch}
+use Rattle.ha_loop.specs.declared.knowledge.Waited.{Waited}
+use Rattle.ha_loop.specs.declared.output.Output.TheVariants as outputs
+use Rattle.ha_loop.specs.declared.role.Why.{Why}
+use Rattle.ha_loop.specs.declared.role.Why.TheVariants.{HandOver, Lost}
+use Rattle.ha_loop.specs.Acting.{disarming, arming, feeding, ending_server, touching, starting_replica, following_server, is_refusing, waiting_no_more}
+use Rattle.ha_loop.specs.Agents.{EndsAlone, HasCounted, RoleFacts, Follower, Holder, Ready, Leader, Ending, Stray, Outcome}
+use Rattle.ha_loop.specs.Before.{leader_finds_ended, has_ended, finds_live, stray_finds_ended, before}
+use Rattle.ha_loop.specs.Decisions.{is_start_too_long, leader_renewed, takes_over, stray_renewed, may_take, gives_back, begins, arms, takes_key, granted, refused}
+use Rattle.ha_loop.specs.Outputs.{listed}
+use Rattle.ha_loop.specs.Seen.{lease_asked, leader_seen_if, failsafe_listed, failsafe_entry_seen, failsafe_seen_if}
+use Rattle.ha_loop.specs.Snapshots.{known_with, informed, is_active, renewing, follows, creating, finds_free, leader_loses_key, stray_loses_key, read_noted, got}
+use Rattle.ha_loop.specs.Table.{step}
+use Rattle.ha_loop.specs.Wake.{reading, turn_noted, leader_out_of_reach, stray_out_of_reach, overdue, turned, woken}
+use Rattle.ha_loop.proofs.Granting.{Told}
+use Rattle.ha_loop.proofs.Living.{no-way}
+use Rattle.ha_loop.proofs.Rows.{if-cases, before-by, overdue-by, turn-by, wake-by, got-by, refused-by, follow-by, free-by, granted-by}
+
+-- who ends its server waits for nothing
+abbrev pub IsAlone : Outcome → Type 0
+IsAlone o = is_active o.role ≡ false → o.knows.waited ≡ None
+
+alone-as : (role : RoleFacts) (waited : Option Waited) → EndsAlone role waited → is_active role ≡ false → waited ≡ None
+alone-as (Ending held why) waited ends ending = ends
+alone-as Follower waited ends ending = absurd (no-way (sym ending))
+alone-as (Holder held) waited ends ending = absurd (no-way (sym ending))
+alone-as (Ready held) waited ends ending = absurd (no-way (sym ending))
+alone-as (Leader held) waited ends ending = absurd (no-way (sym ending))
+alone-as Stray waited ends ending = absurd (no-way (sym ending))
+
+ends-as : (role : RoleFacts) (waited : Option Waited) → (is_active role ≡ false → waited ≡ None) → EndsAlone role waited
+ends-as (Ending held why) waited alone = alone refl
+ends-as _ waited alone = tt
+
+-- the same by the role
+pub alone-of : (o : Outcome) → EndsAlone o.role o.knows.waited → IsAlone o
+alone-of o ends ending = alone-as o.role o.knows.waited ends ending
+
+pub ends-of : (o : Outcome) → IsAlone o → EndsAlone o.role o.knows.waited
+ends-of o alone = ends-as o.role o.knows.waited alone
+
+-- an agent goes on: what it knows after is of the same run, its questions are the same ones or new ones, and what it knows of keys it
+-- knew, or was told by this snapshot
+pub record Onward (told : Option SnapshotFacts) (o after : Outcome) : Type 0 where
+  pub who : after.knows.who ≡ o.knows.who
+  pub run : after.knows.run ≡ o.knows.run
+  pub last : o.knows.sequence ≤ after.knows.sequence
+  pub waits : (n : ℕ) → lease_asked after.knows.waited ≡ Some n → (lease_asked o.knows.waited ≡ Some n) ⊎ (o.knows.sequence < n)
+  pub known : (p : ℕ) → set_members o.knows.known p ≡ true → set_members after.knows.known p ≡ true
+  pub informed : after.knows.informed ≡ true → (o.knows.informed ≡ true) ⊎ ((key : FailsafeKey) × (failsafe_seen_if told ≡ Some key))
+  pub failsafe : (key : FailsafeKey) → failsafe_seen_if after.knows.seen ≡ Some key → (failsafe_seen_if o.knows.seen ≡ Some key) ⊎ (failsafe_seen_if told ≡ Some key)
+  pub leader : (seen : LeaderSeen) → leader_seen_if after.knows.seen ≡ Some seen → (leader_seen_if o.knows.seen ≡ Some seen) ⊎ (leader_seen_if told ≡ Some seen)
+  pub hold : after.machine.hold ≡ o.machine.hold
+  pub ends : IsAlone o → IsAlone after
+  pub counts : HasCounted o.knows → HasCounted after.knows
+
+at-most : {a b c : ℕ} → a ≤ b → b ≤ c → a ≤ c
+at-most first second = omega (arith, first, second)
+
+later : {a b c : ℕ} → a ≤ b → b < c → a < c
+later first second = omega (arith, first, second)
+
+pub onward-then : (told : Option SnapshotFacts) (a b c : Outcome) → Onward told a b → Onward told b c → Onward told a c
+onward-then told a b c first second = record {
+  who = second.who ∙ first.who;
+  run = second.run ∙ first.run;
+  last = omega (arith, first.last, second.last);
+  waits = λ n e. elim (second.waits n e) [ inl before-it ↦ first.waits n before-it | inr new ↦ inr (later first.last new) ];
+  known = λ p e. second.known p (first.known p e);
+  informed = λ e. elim (second.informed e) [ inl before-it ↦ first.informed before-it | inr new ↦ inr new ];
+  failsafe = λ key e. elim (second.failsafe key e) [ inl before-it ↦ first.failsafe key before-it | inr new ↦ inr new ];
+  leader = λ seen e. elim (second.leader seen e) [ inl before-it ↦ first.leader seen before-it | inr new ↦ inr new ];
+  hold = second.hold ∙ first.hold;
+  ends = λ alone. second.ends (first.ends alone);
+  counts = λ counted. second.counts (first.counts counted);
+}
+
+-- what it knows of keys stays
+abbrev Keeps : (told : Option SnapshotFacts) (o after : Outcome) → Type 0
+Keeps told o after = after.knows.who ≡ o.knows.who → after.knows.run ≡ o.knows.run → after.knows.seen ≡ o.knows.seen → after.knows.known ≡ o.knows.known → after.knows.informed ≡ o.knows.informed → o.knows.sequence ≤ after.knows.sequence
+    → ((n : ℕ) → lease_asked after.knows.waited ≡ Some n → (lease_asked o.knows.waited ≡ Some n) ⊎ (o.knows.sequence < n)) → after.machine.hold ≡ o.machine.hold → (IsAlone o → IsAlone after) → (HasCounted o.knows → HasCounted after.knows) → Onward told o after
+
+keeps : (told : Option SnapshotFacts) (o after : Outcome) → Keeps told o after
+keeps told o after who run seen known informed last waits hold ends counts = record {
+  who = who;
+  run = run;
+  last = last;
+  waits = waits;
+  known = λ p e. subst (λ (x : MemberSet). set_members x p ≡ true) (sym known) e;
+  informed = λ e. inl (sym informed ∙ e);
+  failsafe = λ key e. inl (subst (λ (x : Option SnapshotFacts). failsafe_seen_if x ≡ Some key) seen e);
+  leader = λ seen-now e. inl (subst (λ (x : Option SnapshotFacts). leader_seen_if x ≡ Some seen-now) seen e);
+  hold = hold;
+  ends = ends;
+  counts = counts;
+}
+
+-- nothing of its questions changes
+same : (told : Option SnapshotFacts) (o : Outcome) → Onward told o o
+same told o = keeps told o o refl refl refl refl refl (omega arith) (λ n e. inl e) refl (λ alone. alone) (λ counted. counted)
+
+-- a step of a row that neither asks nor waits on: nothing is waited for after it
+rests : (told : Option SnapshotFacts) (o after : Outcome) → after.knows.who ≡ o.knows.who → after.knows.run ≡ o.knows.run → after.knows.seen ≡ o.knows.seen → after.knows.known ≡ o.knows.known → after.knows.informed ≡ o.knows.informed
+    → o.knows.sequence ≤ after.knows.sequence → after.knows.waited ≡ None → after.machine.hold ≡ o.machine.hold → Onward told o after
+rests told o after who run seen known informed last waited hold =
+    keeps told o after who run seen known informed last (λ n e. absurd (none-some _ (sym (ap (λ (w : Option Waited). lease_asked w) waited) ∙ e))) hold (λ _ _. waited) (λ _ one is. absurd (none-some one (sym waited ∙ is)))
+
+-- a step that leaves alone what is waited for, in a role that doesn't end its server
+waits-on : (told : Option SnapshotFacts) (o after : Outcome) → after.knows.who ≡ o.knows.who → after.knows.run ≡ o.knows.run → after.knows.seen ≡ o.knows.seen → after.knows.known ≡ o.knows.known → after.knows.informed ≡ o.knows.informed
+    → o.knows.sequence ≤ after.knows.sequence → after.knows.waited ≡ o.knows.waited → after.machine.hold ≡ o.machine.hold → is_active after.role ≡ true → Onward told o after
+waits-on told o after who run seen known informed last waited hold active =
+    keeps told o after who run seen known informed last (λ n e. inl (subst (λ (w : Option Waited). lease_asked w ≡ Some n) waited e)) hold (λ _ ending. absurd (no-way (sym ending ∙ active))) (λ counted one is. at-most (counted one (sym waited ∙ is)) last)
+
+-- a bit is 0 or 1
+bit-small : (n i : ℕ) → bit_at n i ≤ 1
+bit-small n i = omega arith
+
+in-either : (a b p : ℕ) → bit_at a p ≡ 1 → bit_at (bit_or a b) p ≡ 1
+in-either a b p is = let e : bit_at (bit_or a b) p ≡ max (bit_at a p) (bit_at b p) = bit_at_or a b p in omega (arith, e, is, bit-small b p)
+
+in-right : (a b p : ℕ) → bit_at b p ≡ 1 → bit_at (bit_or a b) p ≡ 1
+in-right a b p is = let e : bit_at (bit_or a b) p ≡ max (bit_at a p) (bit_at b p) = bit_at_or a b p in omega (arith, e, is, bit-small a p)
+
+is-one : (n : ℕ) → n == 1 ≡ true → n ≡ 1
+is-one n e = grind (arith, nat_tests)
+
+-- known members aren't forgotten, and those that a failsafe key lists are known
+known-more : (known : MemberSet) (listed : Option MemberSet) (p : ℕ) → set_members known p ≡ true → set_members (known_with known listed) p ≡ true
+known-more known None p e = e
+known-more known (Some members) p e = rw (in-either known.bits members.bits p (is-one (bit_at known.bits p) e)) refl
+
+pub known-listed : (known members : MemberSet) (p : ℕ) → set_members members p ≡ true → set_members (known_with known (Some members)) p ≡ true
+known-listed known members p e = rw (in-right known.bits members.bits p (is-one (bit_at members.bits p) e)) refl
+
+-- who is told of a failsafe key was told before, or is by this one
+told-listed : (was : Bool) (revision : ℕ) (members : Option MemberSet) → was || is_some members ≡ true → (was ≡ true) ⊎ ((key : FailsafeKey) × (failsafe_listed revision members ≡ Some key))
+told-listed true revision members e = inl refl
+told-listed false revision (Some members) e = inr (record { revision = revision; members = set_members members }, refl)
+told-listed false revision None e = absurd (no-way e)
+
+told-held : (was : Bool) (held : Option KeyEntry) → was || is_some (failsafe_held held) ≡ true → (was ≡ true) ⊎ ((key : FailsafeKey) × (failsafe_entry_seen held ≡ Some key))
+told-held was (Some held) e = told-listed was held.revision (failsafe_by held.value) e
+told-held true None e = inl refl
+told-held false None e = absurd (no-way e)
+
+-- a snapshot is the newest
+pub tells : (snapshot : SnapshotFacts) (o : Outcome) → Onward (Some snapshot) o (record o { knows = informed snapshot o.knows })
+tells snapshot o = record {
+  who = refl;
+  run = refl;
+  last = omega arith;
+  waits = λ n e. absurd (none-some _ e);
+  known = λ p e. known-more o.knows.known (failsafe_in snapshot) p e;
+  informed = λ e. told-held o.knows.informed (held_in keys.Failsafe snapshot) e;
+  failsafe = λ key e. inr e;
+  leader = λ seen e. inr e;
+  hold = refl;
+  ends = λ _ _. refl;
+  counts = λ _ one is. absurd (none-some one is);
+}
+
+-- a question that is waited for has a new number
+asked-new : (was n : ℕ) → ◌≡◌ {A = Option ℕ} (Some (was + 1)) (Some n) → was < n
+asked-new was n e = let is : was + 1 ≡ n = cc in omega (arith, is)
+
+counts-asked : (asked one : Waited) (sequence : ℕ) → asked ≡ one → asked.sequence ≡ sequence → one.sequence ≤ sequence
+counts-asked asked one sequence same number = let e : asked.sequence ≡ one.sequence = ap (λ (w : Waited). w.sequence) same in omega (arith, e, number)
+
+-- a step that asks for a lease, or reads
+pub asks-on : (told : Option SnapshotFacts) (o after : Outcome) → after.knows.who ≡ o.knows.who → after.knows.run ≡ o.knows.run → after.knows.seen ≡ o.knows.seen → after.knows.known ≡ o.knows.known → after.knows.informed ≡ o.knows.informed
+    → o.knows.sequence ≤ after.knows.sequence → ((n : ℕ) → lease_asked after.knows.waited ≡ Some n → o.knows.sequence < n) → after.machine.hold ≡ o.machine.hold → is_active after.role ≡ true → (asked : Waited) → after.knows.waited ≡ Some asked → asked.sequence ≡ after.knows.sequence → Onward told o after
+asks-on told o after who run seen known informed last new hold active asked is number =
+    keeps told o after who run seen known informed last (λ n e. inr (new n e)) hold (λ _ ending. absurd (no-way (sym ending ∙ active))) (λ _ one one-is. counts-asked asked one after.knows.sequence (some-is asked one (sym is ∙ one-is)) number)
+
+ended-onward : (told : Option SnapshotFacts) (why : Why) (held : ℕ) (o : Outcome) → Onward told o (has_ended why held o)
+ended-onward told HandOver held o = waits-on told o (has_ended HandOver held o) refl refl refl refl refl (omega arith) refl refl refl
+ended-onward told Lost held o = waits-on told o (has_ended Lost held o) refl refl refl refl refl (omega arith) refl refl refl
+
+pub before-onward : (told : Option SnapshotFacts) (now : Ticks) (o : Outcome) → Onward told o (before now o)
+before-onward told now o = before-by (Onward told o) now o (record {
+  kept = λ _. same told o;
+  leader = λ held _ _. waits-on told o (leader_finds_ended now held o) refl refl refl refl refl (omega arith) refl refl refl;
+  ending = λ held why _ _. ended-onward told why held o;
+  follower = λ _ _. waits-on told o (finds_live o) refl refl refl refl refl (omega arith) refl refl refl;
+  holder = λ held _ _. waits-on told o (finds_live o) refl refl refl refl refl (omega arith) refl refl refl;
+  ready = λ held _ _. waits-on told o (finds_live (disarming o)) refl refl refl refl refl (omega arith) refl refl refl;
+  stray = λ _ _. waits-on told o (stray_finds_ended o) refl refl refl refl refl (omega arith) refl refl refl;
+})
+
+pub overdue-onward : (told : Option SnapshotFacts) (now : Ticks) (o : Outcome) → Onward told o (overdue now o)
+overdue-onward told now o = overdue-by (Onward told o) now o (record {
+  kept = same told o;
+  quiet = rests told o (waiting_no_more o) refl refl refl refl refl (omega arith) refl refl;
+  leader = λ held _. rests told o (leader_out_of_reach now held (waiting_no_more o)) refl refl refl refl refl (omega arith) refl refl;
+  stray = λ _. rests told o (stray_out_of_reach now (waiting_no_more o)) refl refl refl refl refl (omega arith) refl refl;
+})
+
+pub turn-onward : (told : Option SnapshotFacts) (now : Ticks) (o : Outcome) → Onward told o (turned now o)
+turn-onward told now o = turn-by (Onward told o) now o (record {
+  kept = same told o;
+  quiet = keeps told o (record o { knows = turn_noted now o.knows }) refl refl refl refl refl (omega arith) (λ n e. inl e) refl (λ alone. alone) (λ counted. counted);
+  reads = λ active. asks-on told o (reading now (record o { knows = turn_noted now o.knows })) refl refl refl refl refl (omega arith) (λ n e. absurd (none-some _ e)) refl active _ refl refl;
+})
+
+pub wake-onward : (told : Option SnapshotFacts) (now : Ticks) (o : Outcome) → Onward told o (woken now o)
+wake-onward told now o = wake-by (Onward told o) now o (before-onward told now o)
+    (onward-then told o (overdue now (before now o)) (turned now (overdue now (before now o)))
+    (onward-then told o (before now o) (overdue now (before now o)) (before-onward told now o) (overdue-onward told now (before now o)))
+    (turn-onward told now (overdue now (before now o))))
+
+-- a row behind a snapshot that is the newest, which waits for nothing after it
+quiet-told : (snapshot : SnapshotFacts) (o after : Outcome) → after.knows.who ≡ o.knows.who → after.knows.run ≡ o.knows.run → after.knows.seen ≡ Some snapshot → after.knows.known ≡ (Told snapshot o).knows.known → after.knows.informed ≡ (Told snapshot o).knows.informed
+    → o.knows.sequence ≤ after.knows.sequence → after.knows.waited ≡ None → after.machine.hold ≡ o.machine.hold → Onward (Some snapshot) o after
+quiet-told snapshot o after who run seen known inform last waited hold =
+    onward-then (Some snapshot) o (Told snapshot o) after (tells snapshot o) (rests (Some snapshot) (Told snapshot o) after who run seen known inform last waited hold)
+
+-- a row behind it that asks for a lease
+asks-told : (snapshot : SnapshotFacts) (o after : Outcome) → after.knows.who ≡ o.knows.who → after.knows.run ≡ o.knows.run → after.knows.seen ≡ Some snapshot → after.knows.known ≡ (Told snapshot o).knows.known → after.knows.informed ≡ (Told snapshot o).knows.informed
+    → o.knows.sequence ≤ after.knows.sequence → lease_asked after.knows.waited ≡ Some (o.knows.sequence + 1) → after.machine.hold ≡ o.machine.hold → is_active after.role ≡ true → (asked : Waited) → after.knows.waited ≡ Some asked → asked.sequence ≡ after.knows.sequence → Onward (Some snapshot) o after
+asks-told snapshot o after who run seen known inform last waited hold active asked is number =
+    onward-then (Some snapshot) o (Told snapshot o) after (tells snapshot o) (asks-on (Some snapshot) (Told snapshot o) after who run seen known inform last (λ n e. asked-new o.knows.sequence n (sym waited ∙ e)) hold active asked is number)
+
+follow-onward : (now : Ticks) (snapshot : SnapshotFacts) (leader : MemberId) (o : Outcome) → Onward (Some snapshot) o (follows now leader (record o { knows = read_noted now snapshot o.knows }))
+follow-onward now snapshot leader o = let x : Outcome = record o { role = Follower; knows = read_noted now snapshot o.knows } in
+    follow-by (λ (y : Outcome). Onward (Some snapshot) o (touching y)) now leader o.machine.server.state x
+    (quiet-told snapshot o (touching x) refl refl refl refl refl (omega arith) refl refl)
+    (quiet-told snapshot o (touching (starting_replica now (Some leader) x)) refl refl refl refl refl (omega arith) refl refl)
+    (quiet-told snapshot o (touching (following_server leader x)) refl refl refl refl refl (omega arith) refl refl)
+
+free-onward : (now : Ticks) (snapshot : SnapshotFacts) (o : Outcome) → Onward (Some snapshot) o (finds_free now (record o { knows = read_noted now snapshot o.knows }))
+free-onward now snapshot o = let x : Outcome = record o { role = Follower; knows = read_noted now snapshot o.knows } in
+    free-by (Onward (Some snapshot) o) now o.machine.server.state x
+    (quiet-told snapshot o (touching x) refl refl refl refl refl (omega arith) refl refl)
+    (quiet-told snapshot o (touching (starting_replica now None x)) refl refl refl refl refl (omega arith) refl refl)
+    (asks-told snapshot o (creating now x) refl refl refl refl refl (omega arith) refl refl refl _ refl refl)
+
+pub got-onward : (now : Ticks) (points : List HistoryPoint) (sequence : ℕ) (snapshot : SnapshotFacts) (o : Outcome) → Onward (Some snapshot) o (got now points sequence snapshot o)
+got-onward now points sequence snapshot o = let read : Outcome = record o { knows = read_noted now snapshot o.knows } in
+    got-by (Onward (Some snapshot) o) now points sequence snapshot o (record {
+      kept = same (Some snapshot) o;
+      quiet = rests (Some snapshot) o (waiting_no_more o) refl refl refl refl refl (omega arith) refl refl;
+      other = quiet-told snapshot o read refl refl refl refl refl (omega arith) refl refl;
+      leader = λ held _. quiet-told snapshot o (leader_loses_key now held read) refl refl refl refl refl (omega arith) refl refl;
+      stray = λ _. quiet-told snapshot o (stray_loses_key now read) refl refl refl refl refl (omega arith) refl refl;
+      renews = λ active leader _ _. asks-told snapshot o (renewing now points leader.revision read) refl refl refl refl refl (omega arith) refl refl active _ refl refl;
+      touches = quiet-told snapshot o (touching read) refl refl refl refl refl (omega arith) refl refl;
+      follows = λ leader _ _. follow-onward now snapshot leader.holder o;
+      free = λ _ _. free-onward now snapshot o;
+    })
+
+pub refused-onward : (told : Option SnapshotFacts) (now : Ticks) (sequence : ℕ) (o : Outcome) → Onward told o (refused now sequence o)
+refused-onward told now sequence o = refused-by (Onward told o) now sequence o (record {
+  kept = same told o;
+  quiet = rests told o (waiting_no_more o) refl refl refl refl refl (omega arith) refl refl;
+  leader = λ held _. rests told o (leader_loses_key now held (waiting_no_more o)) refl refl refl refl refl (omega arith) refl refl;
+  stray = λ _. rests told o (stray_loses_key now (waiting_no_more o)) refl refl refl refl refl (omega arith) refl refl;
+  follower = λ held _. rests told o (record (waiting_no_more o) { role = Follower }) refl refl refl refl refl (omega arith) refl refl;
+})
+
+renewed-onward : (now ttl : Ticks) (revision : ℕ) (snapshot : SnapshotFacts) (o : Outcome) → Onward (Some snapshot) o (leader_renewed now ttl revision (Told snapshot o))
+renewed-onward now ttl revision snapshot o = let fed : Outcome = record (feeding now ttl (Told snapshot o)) { role = Leader revision } in
+    let ended : Outcome = record (ending_server now StartTooLong fed) { role = Ending revision HandOver } in
+    if-cases (Onward (Some snapshot) o) (is_start_too_long now fed.knows fed.machine.server.state) ended fed
+    (λ _. quiet-told snapshot o ended refl refl refl refl refl (omega arith) refl refl) (λ _. quiet-told snapshot o fed refl refl refl refl refl (omega arith) refl refl)
+
+stray-onward : (now ttl : Ticks) (revision : ℕ) (snapshot : SnapshotFacts) (o : Outcome) → Onward (Some snapshot) o (stray_renewed now ttl revision (Told snapshot o))
+stray-onward now ttl revision snapshot o = let over : Outcome = takes_over now revision (arming now ttl (Told snapshot o)) in let ended : Outcome = ending_server now WatchdogNotArmed (Told snapshot o) in
+    if-cases (Onward (Some snapshot) o) (is_refusing o.machine.watchdog.mode o.machine.watchdog.works) ended over
+    (λ _. quiet-told snapshot o ended refl refl refl refl refl (omega arith) refl refl) (λ _. quiet-told snapshot o over refl refl refl refl refl (omega arith) refl refl)
+
+arms-onward : (now ttl : Ticks) (revision : ℕ) (snapshot : SnapshotFacts) (o : Outcome) → Onward (Some snapshot) o (arms now ttl revision (Told snapshot o))
+arms-onward now ttl revision snapshot o = let back : Outcome = gives_back revision (record (Told snapshot o) { outputs = listed outputs.CannotArm o.outputs }) in let begun : Outcome = begins now revision (arming now ttl (Told snapshot o)) in
+    if-cases (Onward (Some snapshot) o) (is_refusing o.machine.watchdog.mode o.machine.watchdog.works) back begun
+    (λ _. quiet-told snapshot o back refl refl refl refl refl (omega arith) refl refl) (λ _. quiet-told snapshot o begun refl refl refl refl refl (omega arith) refl refl)
+
+takes-onward : (now ttl : Ticks) (revision : ℕ) (snapshot : SnapshotFacts) (o : Outcome) → Onward (Some snapshot) o (takes_key now ttl revision (Told snapshot o))
+takes-onward now ttl revision snapshot o = let back : Outcome = gives_back revision (Told snapshot o) in
+    if-cases (Onward (Some snapshot) o) (may_take now o.machine) (arms now ttl revision (Told snapshot o)) back
+    (λ _. arms-onward now ttl revision snapshot o) (λ _. quiet-told snapshot o back refl refl refl refl refl (omega arith) refl refl)
+
+pub granted-onward : (now : Ticks) (sequence : ℕ) (grant : Granted) (snapshot : SnapshotFacts) (o : Outcome) → Onward (Some snapshot) o (granted now sequence grant snapshot o)
+granted-onward now sequence grant snapshot o = granted-by (Onward (Some snapshot) o) now sequence grant snapshot o
+    (same (Some snapshot) o)
+    (rests (Some snapshot) o (waiting_no_more o) refl refl refl refl refl (omega arith) refl refl)
+    (λ waited _ _. record {
+      other = tells snapshot o;
+      leader = λ held _. renewed-onward now waited.ttl grant.revision snapshot o;
+      stray = λ _. stray-onward now waited.ttl grant.revision snapshot o;
+      takes = λ _. takes-onward now waited.ttl grant.revision snapshot o;
+    })
+
+-- the snapshot that comes with what is heard
+abbrev pub told_by : Heard → Option SnapshotFacts
+told_by Wake = None
+told_by (Got sequence snapshot) = Some snapshot
+told_by (HeardGranted sequence grant snapshot) = Some snapshot
+told_by (Mismatch sequence key found) = None
+
+pub step-onward : (now : Ticks) (points : List HistoryPoint) (heard : Heard) (o : Outcome) → Onward (told_by heard) o (step now points heard o)
+step-onward now points Wake o = wake-onward None now o
+step-onward now points (Got sequence snapshot) o = onward-then (Some snapshot) o (before now o) (got now points sequence snapshot (before now o)) (before-onward (Some snapshot) now o) (got-onward now points sequence snapshot (before now o))
+step-onward now points (HeardGranted sequence grant snapshot) o = onward-then (Some snapshot) o (before now o) (granted now sequence grant snapshot (before now o)) (before-onward (Some snapshot) now o) (granted-onward now sequence grant snapshot (before now o))
+step-onward now points (Mismatch sequence key found) o = onward-then None o (before now o) (refused now sequence (before now o)) (before-onward None now o) (refused-onward None now sequence (before now o))

@@ -1,0 +1,264 @@
+-- Each input of the table is lawful, by what is heard.
+use Rattle.std.proofs.Common.{◌≡◌, ◌⊎◌, ℕ, ◌≤◌, true, false, List, [], Option, Some, None, All, refl, sym, subst, ap, ◌∙◌, inl, inr}
+use Rattle.std.proofs.lemmas.List.Elements.{All-nil}
+use Rattle.std.specs.Option.{ForSome}
+use Rattle.pat_base.specs.declared.member_set.MemberSet.{MemberSet}
+use Rattle.pat_base.specs.declared.ticks.Ticks.{Ticks}
+use Rattle.pat_base.specs.ServerState.{live}
+use Rattle.lease_store.specs.declared.granted.Granted.{Granted}
+use Rattle.lease_store.specs.declared.key.Key.TheVariants as keys
+use Rattle.wal_model.specs.declared.entry.HistoryPoint.{HistoryPoint}
+use Rattle.cluster_config.specs.Snapshots.{SnapshotFacts, held_in}
+use Rattle.leader_key.specs.Watchdog.{IsLeaseSpan}
+use Rattle.lease_law.specs.Leases.{LeaderSeen, FailsafeKey}
+use Rattle.lease_law.specs.States.{Machine as MachineSeen, State, Acts as LawActs}
+use Rattle.lease_law.specs.Inputs.{AgentInput, HeardLeader, HeardFailsafe, FedKnown, WatchdogMay, SetByGrant, Owns}
+use Rattle.lease_law.specs.Past.{set_members}
+use Rattle.lease_law.proofs.Tools.{some-is, none-some}
+use Rattle.ha_loop.specs.declared.heard.Heard.{Heard}
+use Rattle.ha_loop.specs.declared.heard.Heard.TheVariants.{Wake, Got, Granted as HeardGranted, Mismatch}
+use Rattle.ha_loop.specs.declared.knowledge.Knowledge.{Knowledge}
+use Rattle.ha_loop.specs.declared.knowledge.Waited.{Waited}
+use Rattle.ha_loop.specs.declared.machine.Machine.{Machine}
+use Rattle.ha_loop.specs.declared.output.Output.{Output}
+use Rattle.ha_loop.specs.declared.role.Why.{Why}
+use Rattle.ha_loop.specs.declared.role.Why.TheVariants.{HandOver, Lost}
+use Rattle.ha_loop.specs.declared.who.Who.{Who}
+use Rattle.ha_loop.specs.Agents.{RoleFacts, EndsAlone, HasCounted, IsSoundAgent, Outcome, made}
+use Rattle.ha_loop.specs.Before.{has_ended, before}
+use Rattle.ha_loop.specs.Decisions.{is_lease_of, granted, refused}
+use Rattle.ha_loop.specs.Lawful.{StandsIn, HearsAnswer, TellsLease, HearsGrant, IsInputOf, MayPromote, IsLawfulAnd, IsLawfulFrom}
+use Rattle.ha_loop.specs.Powers.{BringsNothing, LeavesMachine, IsAwaitedLease, GrantMay, is_ready, leads, lease_of}
+use Rattle.ha_loop.specs.Powers.GrantMay.{Nothing, Leads}
+use Rattle.ha_loop.specs.Seen.{leader_seen_if, failsafe_seen_if}
+use Rattle.ha_loop.specs.Snapshots.{got}
+use Rattle.ha_loop.specs.Table.{step, act}
+use Rattle.ha_loop.specs.Wake.{overdue, turned, woken}
+use Rattle.ha_loop.proofs.Bringing.{brings-then, before-brings, overdue-brings, turn-brings, wake-brings, got-brings, refused-brings, read-brings, refusal-brings}
+use Rattle.ha_loop.proofs.Fitting.{before-fits}
+use Rattle.ha_loop.proofs.Granting.{awaited-lease, granted-may as grant-may}
+use Rattle.ha_loop.proofs.Knowing.{IsAlone, alone-of, ends-of, Onward, before-onward, wake-onward, got-onward, refused-onward, granted-onward, onward-then, step-onward}
+use Rattle.ha_loop.proofs.Lawful.{was_of, acts-seen, seen-acts, watchdog-leaves, parted-by, lawful-of}
+use Rattle.ha_loop.proofs.LawfulGrants.{heard-leader, heard-failsafe, hears-grant, fed-of, held-known, armable-before, new-deadline, free-of}
+use Rattle.ha_loop.proofs.Leaving.{behind, before-leaves, wake-leaves, read-leaves, refusal-leaves}
+use Rattle.ha_loop.proofs.Living.{no-way}
+use Rattle.ha_loop.proofs.Rows.{before-by, wake-by}
+use Rattle.ha_loop.proofs.Sending.{IsSilent, AllMay, Decides, BeginsOn, before-may, wake-may, got-may, refused-may, granted-may as granted-sends, nobody-begins, grant-begins, begins-weaker}
+
+-- no revision is granted
+abbrev Nobody : ℕ → Type 0
+Nobody revision = ⊥
+
+-- an input that hears no grant is lawful
+without-grant : (s : State) (m runs : ℕ) (input : AgentInput) (now : Ticks) (told : Option SnapshotFacts) (o after : Outcome) → StandsIn s m runs now o → IsInputOf s m runs o after input → Onward told o after → LeavesMachine o after → BringsNothing o after
+    → (is_ready after.role ≡ true → live after.machine.server.state ≡ false) → AllMay Nobody o after → ((key : FailsafeKey) → failsafe_seen_if told ≡ Some key → HeardFailsafe s input.heard key) → ((seen : LeaderSeen) → leader_seen_if told ≡ Some seen → HeardLeader s input.heard seen)
+    → IsLawfulAnd s m after input
+without-grant s m runs input now told o after stands is onward leaves brings parted sends failsafe leader = record {
+  lawful = lawful-of s m runs input now told Nobody o after stands is (record {
+    onward = onward;
+    watchdog = watchdog-leaves s m runs input now o after stands is leaves brings;
+    parted = parted;
+    sends = sends;
+    owns = λ revision e. absurd e;
+    leads_by = λ e. inl (brings.leads e);
+    lease = λ revision e. inl (brings.lease revision e);
+    failsafe = failsafe;
+    leader = leader;
+  });
+  begins = nobody-begins (MayPromote s m input) o after sends;
+}
+
+wake-parted : (now : Ticks) (o : Outcome) → is_ready (woken now o).role ≡ true → live (woken now o).machine.server.state ≡ false
+wake-parted now o = wake-by (λ (x : Outcome). is_ready x.role ≡ true → live x.machine.server.state ≡ false) now o
+    (parted-by (before now o) (before now o) (before-fits now o) (record { live = λ e. e; leads = λ e. e; ready = λ e. e; lease = λ revision e. e }))
+    (parted-by (before now o) (turned now (overdue now (before now o))) (before-fits now o)
+    (brings-then (before now o) (overdue now (before now o)) (turned now (overdue now (before now o))) (overdue-brings now (before now o)) (turn-brings now (overdue now (before now o)))))
+
+-- what comes before an input leaves what is waited for
+ended-waits : (why : Why) (held : ℕ) (o : Outcome) → (has_ended why held o).knows.waited ≡ o.knows.waited
+ended-waits HandOver held o = refl
+ended-waits Lost held o = refl
+
+pub before-waits : (now : Ticks) (o : Outcome) → (before now o).knows.waited ≡ o.knows.waited
+before-waits now o = before-by (λ (x : Outcome). x.knows.waited ≡ o.knows.waited) now o (record {
+  kept = λ _. refl;
+  leader = λ _ _ _. refl;
+  ending = λ held why _ _. ended-waits why held o;
+  follower = λ _ _. refl;
+  holder = λ _ _ _. refl;
+  ready = λ _ _ _. refl;
+  stray = λ _ _. refl;
+})
+
+-- what is waited for behind it was waited for before it
+abbrev awaited-before : (sequence : ℕ) (grant : Granted) (o b : Outcome) → b.knows.waited ≡ o.knows.waited → b.knows.who ≡ o.knows.who → IsAwaitedLease sequence grant b.knows → IsAwaitedLease sequence grant o.knows
+awaited-before sequence grant o b waits who awaited = record {
+  waited = awaited.waited;
+  is = sym waits ∙ awaited.is;
+  decision = awaited.decision;
+  mine = subst (λ (w : Who). is_lease_of w.me grant ≡ true) who awaited.mine;
+}
+
+-- what an agent waits for asks for the span of a lease
+abbrev pub AsksLeases : Knowledge → Type 0
+AsksLeases knows = ForSome knows.waited (λ waited. IsLeaseSpan waited.ttl.0)
+
+span-of : (knows : Knowledge) (waited : Waited) → AsksLeases knows → knows.waited ≡ Some waited → IsLeaseSpan waited.ttl.0
+span-of knows waited asks is = asks waited is
+
+-- a revision that the grant gives which is waited for
+abbrev Gives : ℕ → Granted → Outcome → ℕ → Type 0
+Gives sequence grant b revision = Decides sequence grant b × (grant.revision ≡ revision)
+
+awaited-by : (sequence : ℕ) (grant : Granted) (now : Ticks) (o : Outcome) → Decides sequence grant (before now o) → IsAwaitedLease sequence grant o.knows
+awaited-by sequence grant now o decides =
+    awaited-before sequence grant o (before now o) (before-waits now o) (before-onward None now o).who (awaited-lease sequence grant (before now o) decides.0 decides.1 decides.2)
+
+gives-owns : (s : State) (m runs sequence : ℕ) (input : AgentInput) (now : Ticks) (grant : Granted) (snapshot : SnapshotFacts) (o : Outcome) → StandsIn s m runs now o → HearsGrant s m input.heard now sequence grant snapshot o
+    → IsAwaitedLease sequence grant o.knows → (revision : ℕ) → grant.revision ≡ revision → Owns s m input.heard (was_of o) revision
+gives-owns s m runs sequence input now grant snapshot o stands hears awaited revision is =
+    inr ((hears.lease awaited).told, hears-grant s m runs sequence input.heard now grant snapshot o stands hears awaited, (hears.lease awaited).revision ∙ is)
+
+-- what an input that hears a grant brings of the leader key
+record Brought (s : State) (m : ℕ) (input : AgentInput) (o after : Outcome) : Type 0 where
+  watchdog : WatchdogMay s m input (was_of o) (was_of after)
+  parted : is_ready after.role ≡ true → live after.machine.server.state ≡ false
+  leads_by : leads after.role ≡ true → (leads o.role ≡ true) ⊎ FedKnown s m input (was_of after)
+  lease : (revision : ℕ) → lease_of after.role ≡ Some revision → Owns s m input.heard (was_of o) revision
+
+-- whoever comes to act on it heard it while no hold is active
+acts-free : (s : State) (m runs : ℕ) (input : AgentInput) (now : Ticks) (o after : Outcome) → StandsIn s m runs now o → IsInputOf s m runs o after input → is_ready after.role ≡ false
+    → (live after.machine.server.state ≡ true → (live o.machine.server.state ≡ true) ⊎ ((s.members m).hold ≤ s.clock)) → LawActs input.machine → LawActs (s.members m) ⊎ ((s.members m).hold ≤ s.clock)
+acts-free s m runs input now o after stands is unready free acts = elim (acts-seen input.machine runs after is.machine acts) [
+  | inl lives ↦ elim (free lives) [ inl was ↦ inl (seen-acts (s.members m) runs o stands.member (inl was)) | inr over ↦ inr over ]
+  | inr ready ↦ absurd (no-way (sym unready ∙ ready))
+]
+
+leads-brought : (s : State) (m runs sequence : ℕ) (input : AgentInput) (now : Ticks) (grant : Granted) (snapshot : SnapshotFacts) (o after : Outcome) → AsksLeases o.knows → StandsIn s m runs now o → HearsGrant s m input.heard now sequence grant snapshot o → IsInputOf s m runs o after input
+    → GrantMay now sequence grant snapshot (before now o) after → after.machine.hold ≡ (before now o).machine.hold → Brought s m input o after
+leads-brought s m runs sequence input now grant snapshot o after sound stands hears is (Nothing brings same) hold =
+    let all : BringsNothing o after = brings-then o (before now o) after (before-brings now o) brings in record {
+      watchdog = watchdog-leaves s m runs input now o after stands is (behind o (before now o) after (before-leaves now o) (record { watchdog = same; hold = hold }) brings) all;
+      parted = parted-by (before now o) after (before-fits now o) brings;
+      leads_by = λ e. inl (all.leads e);
+      lease = λ revision e. inl (all.lease revision e);
+    }
+leads-brought s m runs sequence input now grant snapshot o after sound stands hears is (Leads later fed lease unready known told free armed) hold =
+    let b : Outcome = before now o in
+    let awaited : IsAwaitedLease sequence grant o.knows = awaited-before sequence grant o b (before-waits now o) (before-onward None now o).who later in
+    let tells : TellsLease now grant snapshot o.machine awaited.waited hears.answer.answer = hears.lease awaited in
+    let knows-it : FedKnown s m input (was_of after) = record {
+      fed = fed-of s m runs sequence input.heard now grant snapshot o stands hears awaited (span-of o.knows awaited.waited sound awaited.is);
+      feeds = is.feeds ∙ told (armable-before o b (before-leaves now o) tells.armable);
+      by_grant = ap (λ (x : MachineSeen). x.by_failsafe) is.machine;
+      known = λ key e p listed. ap (λ (set : MemberSet). set_members set p) known ∙ held-known b.knows.known (held_in keys.Failsafe snapshot) key (sym tells.failsafe ∙ e) p listed;
+    } in record {
+      watchdog = SetByGrant knows-it (ap (λ (x : MachineSeen). x.deadline) is.machine ∙ new-deadline now awaited.waited.ttl.0 o b after (before-leaves now o) tells.armable fed) refl
+          (acts-free s m runs input now o after stands is unready (λ lives. elim (free lives) [ inl was ↦ inl ((before-brings now o).live was) | inr over ↦ inr (free-of s m runs now o b stands (before-leaves now o) over) ]));
+      parted = λ ready. absurd (no-way (sym unready ∙ ready));
+      leads_by = λ e. inr knows-it;
+      lease = λ revision e. gives-owns s m runs sequence input now grant snapshot o stands hears awaited revision (some-is grant.revision revision (sym lease ∙ e));
+    }
+
+wake-lawful : (s : State) (m runs : ℕ) (input : AgentInput) (now : Ticks) (o : Outcome) → IsAlone o → All IsSilent o.outputs → StandsIn s m runs now o → IsInputOf s m runs o (woken now o) input → IsLawfulAnd s m (woken now o) input
+wake-lawful s m runs input now o alone silent stands is = without-grant s m runs input now None o (woken now o) stands is (wake-onward None now o) (wake-leaves now o) (wake-brings now o) (wake-parted now o)
+    (wake-may Nobody now o alone (before-onward None now o).last silent) (λ key e. absurd (none-some _ e)) (λ seen e. absurd (none-some _ e))
+
+act-lawful : (s : State) (m runs : ℕ) (input : AgentInput) (now : Ticks) (o : Outcome) → IsAlone o → All IsSilent o.outputs → StandsIn s m runs now o → IsInputOf s m runs o (act now o) input → IsLawfulAnd s m (act now o) input
+act-lawful s m runs input now o alone silent stands is = without-grant s m runs input now None o (before now o) stands is (before-onward None now o) (before-leaves now o) (before-brings now o)
+    (parted-by (before now o) (before now o) (before-fits now o) (record { live = λ e. e; leads = λ e. e; ready = λ e. e; lease = λ revision e. e }))
+    (before-may Nobody now o alone silent) (λ key e. absurd (none-some _ e)) (λ seen e. absurd (none-some _ e))
+
+got-lawful : (s : State) (m runs : ℕ) (input : AgentInput) (now : Ticks) (points : List HistoryPoint) (sequence : ℕ) (snapshot : SnapshotFacts) (o : Outcome) → IsAlone o → All IsSilent o.outputs → StandsIn s m runs now o
+    → HearsAnswer s m input.heard sequence snapshot o.knows → IsInputOf s m runs o (got now points sequence snapshot (before now o)) input → IsLawfulAnd s m (got now points sequence snapshot (before now o)) input
+got-lawful s m runs input now points sequence snapshot o alone silent stands hears is = let b : Outcome = before now o in
+    without-grant s m runs input now (Some snapshot) o (got now points sequence snapshot b) stands is (onward-then (Some snapshot) o b (got now points sequence snapshot b) (before-onward (Some snapshot) now o) (got-onward now points sequence snapshot b))
+    (read-leaves now points sequence snapshot o) (read-brings now points sequence snapshot o) (parted-by b (got now points sequence snapshot b) (before-fits now o) (got-brings now points sequence snapshot b))
+    (got-may Nobody now points sequence snapshot o alone (before-onward None now o).last silent)
+    (heard-failsafe s m sequence input.heard snapshot o.knows hears) (heard-leader s m sequence input.heard snapshot o.knows hears)
+
+refused-lawful : (s : State) (m runs : ℕ) (input : AgentInput) (now : Ticks) (sequence : ℕ) (o : Outcome) → IsAlone o → All IsSilent o.outputs → StandsIn s m runs now o
+    → IsInputOf s m runs o (refused now sequence (before now o)) input → IsLawfulAnd s m (refused now sequence (before now o)) input
+refused-lawful s m runs input now sequence o alone silent stands is = let b : Outcome = before now o in
+    without-grant s m runs input now None o (refused now sequence b) stands is (onward-then None o b (refused now sequence b) (before-onward None now o) (refused-onward None now sequence b))
+    (refusal-leaves now sequence o) (refusal-brings now sequence o) (parted-by b (refused now sequence b) (before-fits now o) (refused-brings now sequence b))
+    (refused-may Nobody now sequence o alone silent) (λ key e. absurd (none-some _ e)) (λ seen e. absurd (none-some _ e))
+
+may-promote : (s : State) (m runs sequence : ℕ) (input : AgentInput) (now : Ticks) (grant : Granted) (snapshot : SnapshotFacts) (o : Outcome) → AsksLeases o.knows → StandsIn s m runs now o → HearsGrant s m input.heard now sequence grant snapshot o
+    → (outs : List Output) → BeginsOn now sequence grant (before now o) outs → MayPromote s m input outs
+may-promote s m runs sequence input now grant snapshot o sound stands hears outs begin = let awaited : IsAwaitedLease sequence grant o.knows = awaited-by sequence grant now o begin.decides in record {
+  fed = fed-of s m runs sequence input.heard now grant snapshot o stands hears awaited (span-of o.knows awaited.waited sound awaited.is);
+  free = free-of s m runs now o (before now o) stands (before-leaves now o) begin.free;
+  armed = begin.armed_is;
+}
+
+grant-lawful : (s : State) (m runs : ℕ) (input : AgentInput) (now : Ticks) (sequence : ℕ) (grant : Granted) (snapshot : SnapshotFacts) (o : Outcome) → AsksLeases o.knows → IsAlone o → All IsSilent o.outputs → StandsIn s m runs now o
+    → HearsGrant s m input.heard now sequence grant snapshot o → IsInputOf s m runs o (granted now sequence grant snapshot (before now o)) input → IsLawfulAnd s m (granted now sequence grant snapshot (before now o)) input
+grant-lawful s m runs input now sequence grant snapshot o sound alone silent stands hears is =
+    let b : Outcome = before now o in
+    let after : Outcome = granted now sequence grant snapshot b in
+    let gives : (revision : ℕ) → Gives sequence grant b revision → Owns s m input.heard (was_of o) revision = λ revision e. gives-owns s m runs sequence input now grant snapshot o stands hears (awaited-by sequence grant now o e.0) revision e.1 in
+    let onward : Onward (Some snapshot) b after = granted-onward now sequence grant snapshot b in
+    let brought : Brought s m input o after = leads-brought s m runs sequence input now grant snapshot o after sound stands hears is (grant-may now sequence grant snapshot b) onward.hold in
+    record {
+      lawful = lawful-of s m runs input now (Some snapshot) (Gives sequence grant b) o after stands is (record {
+        onward = onward-then (Some snapshot) o b after (before-onward (Some snapshot) now o) onward;
+        watchdog = brought.watchdog;
+        parted = brought.parted;
+        sends = granted-sends (Gives sequence grant b) now sequence grant snapshot o alone (before-onward None now o).last (before-fits now o) (λ decides. (decides, refl)) silent;
+        owns = gives;
+        leads_by = brought.leads_by;
+        lease = brought.lease;
+        failsafe = heard-failsafe s m sequence input.heard snapshot o.knows hears.answer;
+        leader = heard-leader s m sequence input.heard snapshot o.knows hears.answer;
+      });
+      begins = begins-weaker (BeginsOn now sequence grant b) (MayPromote s m input) (may-promote s m runs sequence input now grant snapshot o sound stands hears) [] after.outputs
+          (grant-begins now sequence grant snapshot o alone (λ decides. armable-before o b (before-leaves now o) (hears.lease (awaited-by sequence grant now o decides)).armable) silent);
+    }
+
+step-lawful : (now : Ticks) (points : List HistoryPoint) (heard : Heard) (o : Outcome) → AsksLeases o.knows → IsAlone o → All IsSilent o.outputs → IsLawfulFrom now heard o (step now points heard o)
+step-lawful now points Wake o sound alone silent s m runs input stands hears is = wake-lawful s m runs input now o alone silent stands is
+step-lawful now points (Got sequence snapshot) o sound alone silent s m runs input stands hears is = got-lawful s m runs input now points sequence snapshot o alone silent stands hears is
+step-lawful now points (HeardGranted sequence grant snapshot) o sound alone silent s m runs input stands hears is = grant-lawful s m runs input now sequence grant snapshot o sound alone silent stands hears is
+step-lawful now points (Mismatch sequence key found) o sound alone silent s m runs input stands hears is = refused-lawful s m runs input now sequence o alone silent stands is
+
+-- each input of the table is lawful, whenever the agent's turns began
+pub input-lawful-from : (now : Ticks) (points : List HistoryPoint) (heard : Heard) (role : RoleFacts) (knows : Knowledge) (machine : Machine) → AsksLeases knows → EndsAlone role knows.waited
+    → IsLawfulFrom now heard (made role knows machine []) (step now points heard (made role knows machine []))
+input-lawful-from now points heard role knows machine asks ends = let o : Outcome = made role knows machine [] in step-lawful now points heard o asks (alone-of o ends) (All-nil IsSilent)
+
+-- so is that of a sound agent
+pub input-lawful : (now : Ticks) (points : List HistoryPoint) (heard : Heard) (role : RoleFacts) (knows : Knowledge) (machine : Machine) → IsSoundAgent role knows → IsLawfulFrom now heard (made role knows machine []) (step now points heard (made role knows machine []))
+input-lawful now points heard role knows machine sound = input-lawful-from now points heard role knows machine sound.sound.span sound.ends
+
+-- so is a request of an operator, which hears no answer
+pub action-lawful : (now : Ticks) (role : RoleFacts) (knows : Knowledge) (machine : Machine) → IsSoundAgent role knows → IsLawfulFrom now Wake (made role knows machine []) (act now (made role knows machine []))
+action-lawful now role knows machine sound s m runs input stands hears is = let o : Outcome = made role knows machine [] in act-lawful s m runs input now o (alone-of o sound.ends) (All-nil IsSilent) stands is
+
+-- what is waited for goes on to be counted
+pub input-counts : (now : Ticks) (points : List HistoryPoint) (heard : Heard) (o after : Outcome) → after ≡ step now points heard o → HasCounted o.knows → HasCounted after.knows
+input-counts now points heard o after is counted = subst (λ (x : Outcome). HasCounted x.knows) (sym is) ((step-onward now points heard o).counts counted)
+
+pub action-counts : (now : Ticks) (o after : Outcome) → after ≡ act now o → HasCounted o.knows → HasCounted after.knows
+action-counts now o after is counted = subst (λ (x : Outcome). HasCounted x.knows) (sym is) ((before-onward None now o).counts counted)
+
+-- who ends its server goes on waiting for no answer
+pub input-ends : (now : Ticks) (points : List HistoryPoint) (heard : Heard) (o : Outcome) → EndsAlone o.role o.knows.waited → EndsAlone (step now points heard o).role (step now points heard o).knows.waited
+input-ends now points heard o ends = ends-of (step now points heard o) ((step-onward now points heard o).ends (alone-of o ends))
+
+pub action-ends-as : (now : Ticks) (o after : Outcome) → after ≡ act now o → EndsAlone o.role o.knows.waited → EndsAlone after.role after.knows.waited
+action-ends-as now o after is ends = subst (λ (x : Outcome). EndsAlone x.role x.knows.waited) (sym is) (ends-of (act now o) ((before-onward None now o).ends (alone-of o ends)))
+
+-- the same of what is made of an input, where no output stood before
+pub input-lawful-as : (now : Ticks) (points : List HistoryPoint) (heard : Heard) (role : RoleFacts) (knows : Knowledge) (machine : Machine) (outs : List Output) (after : Outcome) → after ≡ step now points heard (made role knows machine outs) → IsSoundAgent role knows
+    → outs ≡ [] → IsLawfulFrom now heard (made role knows machine []) after
+input-lawful-as now points heard role knows machine outs after is sound none = let same : after ≡ step now points heard (made role knows machine []) = is ∙ ap (λ (l : List Output). step now points heard (made role knows machine l)) none in
+    subst (λ (x : Outcome). IsLawfulFrom now heard (made role knows machine []) x) (sym same) (input-lawful now points heard role knows machine sound)
+
+pub action-lawful-as : (now : Ticks) (role : RoleFacts) (knows : Knowledge) (machine : Machine) (outs : List Output) (after : Outcome) → after ≡ act now (made role knows machine outs) → IsSoundAgent role knows
+    → outs ≡ [] → IsLawfulFrom now Wake (made role knows machine []) after
+action-lawful-as now role knows machine outs after is sound none = let same : after ≡ act now (made role knows machine []) = is ∙ ap (λ (l : List Output). act now (made role knows machine l)) none in
+    subst (λ (x : Outcome). IsLawfulFrom now Wake (made role knows machine []) x) (sym same) (action-lawful now role knows machine sound)
+
+pub input-ends-as : (now : Ticks) (points : List HistoryPoint) (heard : Heard) (o after : Outcome) → after ≡ step now points heard o → EndsAlone o.role o.knows.waited → EndsAlone after.role after.knows.waited
+input-ends-as now points heard o after is ends = subst (λ (x : Outcome). EndsAlone x.role x.knows.waited) (sym is) (input-ends now points heard o ends)

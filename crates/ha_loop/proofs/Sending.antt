@@ -1,0 +1,447 @@
+-- What an input sends, and by which outputs its server comes to accept writes.
+use Rattle.std.proofs.Common.{◌≡◌, ◌⊎◌, ℕ, ◌+◌, ◌≤◌, ◌<◌, ◌++◌, ◌==◌, ◌&&◌, Bool, true, false, if◌then◌else◌, List, [], ◌∷◌, Option, Some, None, All, refl, sym, subst, ap, ◌∙◌, arith, inl, inr, append_assoc}
+use Rattle.std.proofs.lemmas.List.{append-nil}
+use Rattle.std.proofs.lemmas.List.Elements.{All-push, All-weaker, All-head, All-tail}
+use Rattle.std.proofs.lemmas.Bool.Decides.{nat_tests}
+use Rattle.pat_base.specs.declared.member_id.MemberId.{MemberId}
+use Rattle.pat_base.specs.declared.server_state.Required.TheVariants.{Nobody}
+use Rattle.pat_base.specs.declared.ticks.Ticks.{Ticks}
+use Rattle.pat_base.specs.ServerState.{live}
+use Rattle.lease_store.specs.declared.granted.Granted.{Granted}
+use Rattle.lease_store.specs.declared.txn.Txn.{Txn}
+use Rattle.lease_store.specs.declared.txn.Txn.TheVariants as txns
+use Rattle.pg_model.specs.Facts.{is_replica}
+use Rattle.wal_model.specs.declared.entry.HistoryPoint.{HistoryPoint}
+use Rattle.cluster_config.specs.declared.snapshot.LeaderEntry.{LeaderEntry}
+use Rattle.cluster_config.specs.Snapshots.{SnapshotFacts, leader_in}
+use Rattle.event_book.specs.declared.message.Body.{Body}
+use Rattle.event_book.specs.declared.message.Body.TheVariants as bodies
+use Rattle.event_book.specs.declared.reason.Reason.TheVariants.{StoreOutOfReach, LeaderKeyLost, StartTooLong, WatchdogNotArmed}
+use Rattle.leader_key.specs.Watchdog.{is_armable}
+use Rattle.lease_law.specs.Leases.{LeaderSeen}
+use Rattle.ha_loop.specs.declared.knowledge.Waited.{Waited}
+use Rattle.ha_loop.specs.declared.output.Output.{Output}
+use Rattle.ha_loop.specs.declared.output.Output.TheVariants as outputs
+use Rattle.ha_loop.specs.declared.output.Target.TheVariants as targets
+use Rattle.ha_loop.specs.declared.role.Why.{Why}
+use Rattle.ha_loop.specs.declared.role.Why.TheVariants.{HandOver, Lost}
+use Rattle.ha_loop.specs.Acting.{armed, fed_until, disarmed, deadline_after, arming, feeding, ending_server, touching, starting_replica, following_server, is_held, is_refusing, waiting_no_more}
+use Rattle.ha_loop.specs.Agents.{RoleFacts, Follower, Holder, Ready, Leader, Ending, Stray, Outcome}
+use Rattle.ha_loop.specs.Before.{has_ended, before}
+use Rattle.ha_loop.specs.Decisions.{is_decision, is_lease_of, may_create, is_start_too_long, leader_renewed, takes_over, stray_renewed, may_take, gives_back, begins, arms, takes_key, granted, refused}
+use Rattle.ha_loop.specs.Fits.{Fits}
+use Rattle.ha_loop.specs.Outputs.{listed, is_arming, has_one, BeginsOnly, OutputsBeginBehind}
+use Rattle.ha_loop.specs.Powers.{Acts, lease_of}
+use Rattle.ha_loop.specs.Seen.{lease_asked, leader_entry_seen, leader_seen_if}
+use Rattle.ha_loop.specs.Snapshots.{renewing, follows, creating, finds_free, leader_loses_key, stray_loses_key, read_noted, got}
+use Rattle.ha_loop.specs.Wake.{reading, turn_noted, overdue, turned, woken}
+use Rattle.ha_loop.proofs.Granting.{take-free, Told, one-last, one-before}
+use Rattle.ha_loop.proofs.Knowing.{IsAlone}
+use Rattle.ha_loop.proofs.Leaving.{rests-by}
+use Rattle.ha_loop.proofs.Living.{no-way}
+use Rattle.ha_loop.proofs.Rows.{if-cases, before-by, overdue-by, turn-by, wake-by, got-by, refused-by, follow-by, free-by, granted-by}
+
+-- an output that sends nothing, takes no hold, and by which no server comes to accept writes
+abbrev pub IsSilent : Output → Type 0
+IsSilent (outputs.Send to sequence body) = ⊥
+IsSilent outputs.Promote = ⊥
+IsSilent (outputs.HoldTaken until from sequence) = ⊥
+IsSilent _ = Unit {0}
+
+-- a request that an input may send under this number, where G holds of the revisions that it is granted
+abbrev pub MayTransact : (ℕ → Type 0) → Outcome → Outcome → ℕ → Txn → Type 0
+MayTransact G o after sequence (txns.Create info ttl failsafe sync) = failsafe ≡ None
+MayTransact G o after sequence (txns.Renew revision info ttl status row failsafe) = (leader_seen_if after.knows.seen ≡ Some (record { holder = after.knows.who.me.number; revision = revision })) × (lease_asked after.knows.waited ≡ Some sequence) × (failsafe ≡ None)
+MayTransact G o after sequence (txns.Release revision) = (Acts after → ⊥) × ((lease_of o.role ≡ Some revision) ⊎ G revision)
+MayTransact G o after sequence _ = Unit {0}
+
+-- a question that it may send under this number
+abbrev pub MayAskStore : (ℕ → Type 0) → Outcome → Outcome → ℕ → Body → Type 0
+MayAskStore G o after sequence bodies.Read = Unit {0}
+MayAskStore G o after sequence (bodies.Request txn) = MayTransact G o after sequence txn
+MayAskStore G o after sequence _ = ⊥
+
+-- it sends it under a new number
+pub record SendsNew (G : ℕ → Type 0) (o after : Outcome) (sequence : ℕ) (body : Body) : Type 0 where
+  pub later : o.knows.sequence < sequence
+  pub counted : sequence ≤ after.knows.sequence
+  pub asks : MayAskStore G o after sequence body
+
+-- an output of an input
+abbrev pub MayPut : (ℕ → Type 0) → Outcome → Outcome → Output → Type 0
+MayPut G o after (outputs.Send targets.Store sequence body) = SendsNew G o after sequence body
+MayPut G o after (outputs.Send (targets.Member member) sequence body) = ⊥
+MayPut G o after outputs.Promote = (revision : ℕ) × G revision
+MayPut G o after (outputs.HoldTaken until from sequence) = ⊥
+MayPut G o after _ = Unit {0}
+
+abbrev pub AllMay : (ℕ → Type 0) → Outcome → Outcome → Type 0
+AllMay G o after = All (MayPut G o after) after.outputs
+
+silent-may : (G : ℕ → Type 0) (o after : Outcome) (output : Output) → IsSilent output → MayPut G o after output
+silent-may G o after (outputs.Send to sequence body) e = absurd e
+silent-may G o after outputs.Promote e = absurd e
+silent-may G o after (outputs.HoldTaken until from sequence) e = e
+silent-may G o after _ e = tt
+
+-- outputs before that were silent
+front : (G : ℕ → Type 0) (o after : Outcome) (outs : List Output) → All IsSilent outs → All (MayPut G o after) outs
+front G o after outs silent = All-weaker IsSilent (MayPut G o after) (silent-may G o after) outs silent
+
+push : (G : ℕ → Type 0) (o after : Outcome) (outs : List Output) (output : Output) → All (MayPut G o after) outs → MayPut G o after output → All (MayPut G o after) (listed output outs)
+push G o after outs output all may = All-push (MayPut G o after) outs output all may
+
+silently : (outs : List Output) (output : Output) → All IsSilent outs → IsSilent output → All IsSilent (listed output outs)
+silently outs output all silent = All-push IsSilent outs output all silent
+
+silent-disarmed : (deadline : Option Ticks) (outs : List Output) → All IsSilent outs → All IsSilent (disarmed deadline outs)
+silent-disarmed None outs all = all
+silent-disarmed (Some deadline) outs all = silently outs outputs.Disarmed all tt
+
+silent-armed : (deadline : Option Ticks) (outs : List Output) → All IsSilent outs → All IsSilent (armed deadline outs)
+silent-armed None outs all = all
+silent-armed (Some deadline) outs all = silently outs (outputs.Armed deadline) all tt
+
+silent-fed : (deadline : Option Ticks) (outs : List Output) → All IsSilent outs → All IsSilent (fed_until deadline outs)
+silent-fed None outs all = all
+silent-fed (Some deadline) outs all = silently outs (outputs.Fed deadline) all tt
+
+-- the release of this revision under this number, or a silent output
+abbrev pub IsReleaseOr : ℕ → ℕ → Output → Type 0
+IsReleaseOr sequence revision output = IsSilent output ⊎ (output ≡ outputs.Send targets.Store sequence (bodies.Request (txns.Release revision)))
+
+-- what comes before an input sends nothing; or the lease is released of an agent whose server has ended, and that waits for nothing
+pub data Fronts (o after : Outcome) : Type 0 where
+  Silent : (all : All IsSilent after.outputs) → Fronts o after
+  Released : (revision : ℕ) → (held : lease_of o.role ≡ Some revision) → (alone : after.knows.waited ≡ None) → (role : after.role ≡ Follower) → (ended : live after.machine.server.state ≡ false)
+      → (counted : o.knows.sequence + 1 ≤ after.knows.sequence) → (all : All (IsReleaseOr (o.knows.sequence + 1) revision) after.outputs) → Fronts o after
+
+ended-fronts : (why : Why) (held : ℕ) (o : Outcome) → o.role ≡ Ending held why → live o.machine.server.state ≡ false → IsAlone o → All IsSilent o.outputs → Fronts o (has_ended why held o)
+ended-fronts HandOver held o is ended alone silent = Released held (rw is refl) (alone (rw is refl)) refl ended (omega arith)
+    (All-push (IsReleaseOr (o.knows.sequence + 1) held) (disarmed o.machine.watchdog.deadline o.outputs) (outputs.Send targets.Store (o.knows.sequence + 1) (bodies.Request (txns.Release held)))
+    (All-weaker IsSilent (IsReleaseOr (o.knows.sequence + 1) held) (λ output e. inl e) (disarmed o.machine.watchdog.deadline o.outputs) (silent-disarmed o.machine.watchdog.deadline o.outputs silent)) (inr refl))
+ended-fronts Lost held o is ended alone silent = Silent (silent-disarmed o.machine.watchdog.deadline o.outputs silent)
+
+pub before-fronts : (now : Ticks) (o : Outcome) → IsAlone o → All IsSilent o.outputs → Fronts o (before now o)
+before-fronts now o alone silent = let rest : All IsSilent (disarmed o.machine.watchdog.deadline o.outputs) = silent-disarmed o.machine.watchdog.deadline o.outputs silent in
+    before-by (Fronts o) now o (record {
+      kept = λ _. Silent silent;
+      leader = λ held _ _. Silent rest;
+      ending = λ held why is ended. ended-fronts why held o is ended alone silent;
+      follower = λ _ _. Silent silent;
+      holder = λ held _ _. Silent silent;
+      ready = λ held _ _. Silent rest;
+      stray = λ _ _. Silent rest;
+    })
+
+release-may : (G : ℕ → Type 0) (o after : Outcome) (revision : ℕ) → lease_of o.role ≡ Some revision → after.role ≡ Follower → live after.machine.server.state ≡ false → o.knows.sequence + 1 ≤ after.knows.sequence
+    → (output : Output) → IsReleaseOr (o.knows.sequence + 1) revision output → MayPut G o after output
+release-may G o after revision held role ended counted output (inl silent) = silent-may G o after output silent
+release-may G o after revision held role ended counted output (inr is) =
+    subst (λ (y : Output). MayPut G o after y) (sym is) (record { later = omega arith; counted = counted; asks = (rests-by after ended (rw role refl), inl held) })
+
+released : (G : ℕ → Type 0) (o after : Outcome) (revision : ℕ) (outs : List Output) → lease_of o.role ≡ Some revision → after.role ≡ Follower → live after.machine.server.state ≡ false → o.knows.sequence + 1 ≤ after.knows.sequence
+    → All (IsReleaseOr (o.knows.sequence + 1) revision) outs → All (MayPut G o after) outs
+released G o after revision outs held role ended counted all = All-weaker (IsReleaseOr (o.knows.sequence + 1) revision) (MayPut G o after) (release-may G o after revision held role ended counted) outs all
+
+fronts-may : (G : ℕ → Type 0) (o after : Outcome) → Fronts o after → AllMay G o after
+fronts-may G o after (Silent all) = front G o after after.outputs all
+fronts-may G o after (Released revision held alone role ended counted all) = released G o after revision after.outputs held role ended counted all
+
+pub before-may : (G : ℕ → Type 0) (now : Ticks) (o : Outcome) → IsAlone o → All IsSilent o.outputs → AllMay G o (before now o)
+before-may G now o alone silent = fronts-may G o (before now o) (before-fronts now o alone silent)
+
+overdue-silent : (now : Ticks) (o : Outcome) → All IsSilent o.outputs → All IsSilent (overdue now o).outputs
+overdue-silent now o silent = overdue-by (λ (x : Outcome). All IsSilent x.outputs) now o (record {
+  kept = silent;
+  quiet = silent;
+  leader = λ held _. silently o.outputs (outputs.Stop StoreOutOfReach) silent tt;
+  stray = λ _. silently o.outputs (outputs.Stop StoreOutOfReach) silent tt;
+})
+
+-- a read is sent under the next number
+reads-new : (G : ℕ → Type 0) (now : Ticks) (o b : Outcome) → o.knows.sequence ≤ b.knows.sequence → SendsNew G o (reading now (record b { knows = turn_noted now b.knows })) (b.knows.sequence + 1) bodies.Read
+reads-new G now o b later = record { later = omega (arith, later); counted = omega arith; asks = tt }
+
+turn-silent : (G : ℕ → Type 0) (now : Ticks) (o b : Outcome) → o.knows.sequence ≤ b.knows.sequence → All IsSilent b.outputs → AllMay G o (turned now b)
+turn-silent G now o b later silent = let noted : Outcome = record b { knows = turn_noted now b.knows } in
+    turn-by (AllMay G o) now b (record {
+      kept = front G o b b.outputs silent;
+      quiet = front G o noted b.outputs silent;
+      reads = λ _. push G o (reading now noted) b.outputs (outputs.Send targets.Store (b.knows.sequence + 1) bodies.Read) (front G o (reading now noted) b.outputs silent) (reads-new G now o b later);
+    })
+
+turn-released : (G : ℕ → Type 0) (now : Ticks) (o b : Outcome) (revision : ℕ) → lease_of o.role ≡ Some revision → b.role ≡ Follower → live b.machine.server.state ≡ false → o.knows.sequence + 1 ≤ b.knows.sequence
+    → All (IsReleaseOr (o.knows.sequence + 1) revision) b.outputs → AllMay G o (turned now b)
+turn-released G now o b revision held role ended counted all = let noted : Outcome = record b { knows = turn_noted now b.knows } in
+    turn-by (AllMay G o) now b (record {
+      kept = released G o b revision b.outputs held role ended counted all;
+      quiet = released G o noted revision b.outputs held role ended counted all;
+      reads = λ _. push G o (reading now noted) b.outputs (outputs.Send targets.Store (b.knows.sequence + 1) bodies.Read)
+          (released G o (reading now noted) revision b.outputs held role ended (omega (arith, counted)) all) (reads-new G now o b (omega (arith, counted)));
+    })
+
+overdue-none : (now : Ticks) (o : Outcome) → o.knows.waited ≡ None → overdue now o ≡ o
+overdue-none now o is = rw is refl
+
+overdue-sequence : (now : Ticks) (o : Outcome) → (overdue now o).knows.sequence ≡ o.knows.sequence
+overdue-sequence now o = overdue-by (λ (x : Outcome). x.knows.sequence ≡ o.knows.sequence) now o (record { kept = refl; quiet = refl; leader = λ _ _. refl; stray = λ _. refl })
+
+at-least : (a b c : ℕ) → a ≤ b → c ≡ b → a ≤ c
+at-least a b c first is = omega (arith, first, is)
+
+turn-fronts : (G : ℕ → Type 0) (now : Ticks) (o b : Outcome) → o.knows.sequence ≤ b.knows.sequence → Fronts o b → AllMay G o (turned now (overdue now b))
+turn-fronts G now o b later (Silent all) = turn-silent G now o (overdue now b) (at-least o.knows.sequence b.knows.sequence (overdue now b).knows.sequence later (overdue-sequence now b)) (overdue-silent now b all)
+turn-fronts G now o b later (Released revision held alone role ended counted all) =
+    subst (λ (z : Outcome). AllMay G o (turned now z)) (sym (overdue-none now b alone)) (turn-released G now o b revision held role ended counted all)
+
+pub wake-may : (G : ℕ → Type 0) (now : Ticks) (o : Outcome) → IsAlone o → o.knows.sequence ≤ (before now o).knows.sequence → All IsSilent o.outputs → AllMay G o (woken now o)
+wake-may G now o alone later silent = let fronts : Fronts o (before now o) = before-fronts now o alone silent in
+    wake-by (AllMay G o) now o (fronts-may G o (before now o) fronts) (turn-fronts G now o (before now o) later fronts)
+
+-- a question is sent under the next number
+sends : (G : ℕ → Type 0) (o after : Outcome) (b : ℕ) (body : Body) → o.knows.sequence ≤ b → after.knows.sequence ≡ b + 1 → MayAskStore G o after (b + 1) body → SendsNew G o after (b + 1) body
+sends G o after b body later counted asks = record { later = omega (arith, later); counted = omega (arith, counted); asks = asks }
+
+seen_at : ℕ → ℕ → Option LeaderSeen
+seen_at revision holder = Some (record { holder = holder; revision = revision })
+
+leader-shown : (entry : Option LeaderEntry) (leader : LeaderEntry) (me : ℕ) → entry ≡ Some leader → leader.holder.number == me ≡ true → leader_entry_seen entry ≡ Some (record { holder = me; revision = leader.revision })
+unfolding seen_at
+leader-shown entry leader me some mine = let is : leader.holder.number ≡ me = grind (arith, nat_tests) in
+    ap (λ (e : Option LeaderEntry). leader_entry_seen e) some ∙ ap (λ (h : ℕ). seen_at leader.revision h) is
+
+-- the agent tells of itself
+touches : (G : ℕ → Type 0) (o x : Outcome) (outs : List Output) → o.knows.sequence ≤ x.knows.sequence → All IsSilent x.outputs → AllMay G o (touching x)
+touches G o x outs later silent = push G o (touching x) x.outputs _ (front G o (touching x) x.outputs silent) (sends G o (touching x) x.knows.sequence _ later refl tt)
+
+follow-may : (G : ℕ → Type 0) (now : Ticks) (leader : MemberId) (o b : Outcome) → o.knows.sequence ≤ b.knows.sequence → All IsSilent b.outputs → AllMay G o (follows now leader b)
+follow-may G now leader o b later silent = let x : Outcome = record b { role = Follower } in
+    follow-by (λ (y : Outcome). AllMay G o (touching y)) now leader b.machine.server.state x
+    (touches G o x x.outputs later silent)
+    (touches G o (starting_replica now (Some leader) x) x.outputs later (silently b.outputs (outputs.StartReplica (Some leader)) silent tt))
+    (touches G o (following_server leader x) x.outputs later (silently b.outputs (outputs.Follow leader) silent tt))
+
+free-may : (G : ℕ → Type 0) (now : Ticks) (o b : Outcome) → o.knows.sequence ≤ b.knows.sequence → All IsSilent b.outputs → AllMay G o (finds_free now b)
+free-may G now o b later silent = let x : Outcome = record b { role = Follower } in
+    free-by (AllMay G o) now b.machine.server.state x
+    (touches G o x x.outputs later silent)
+    (touches G o (starting_replica now None x) x.outputs later (silently b.outputs (outputs.StartReplica None) silent tt))
+    (push G o (creating now x) b.outputs _ (front G o (creating now x) b.outputs silent) (sends G o (creating now x) b.knows.sequence _ later refl refl))
+
+got-silent : (G : ℕ → Type 0) (now : Ticks) (points : List HistoryPoint) (sequence : ℕ) (snapshot : SnapshotFacts) (o b : Outcome) → o.knows.sequence ≤ b.knows.sequence → All IsSilent b.outputs → AllMay G o (got now points sequence snapshot b)
+got-silent G now points sequence snapshot o b later silent = let read : Outcome = record b { knows = read_noted now snapshot b.knows } in
+    got-by (AllMay G o) now points sequence snapshot b (record {
+      kept = front G o b b.outputs silent;
+      quiet = front G o (waiting_no_more b) b.outputs silent;
+      other = front G o read b.outputs silent;
+      leader = λ held _. let lost : Outcome = leader_loses_key now held read in push G o lost b.outputs (outputs.Stop LeaderKeyLost) (front G o lost b.outputs silent) tt;
+      stray = λ _. let lost : Outcome = stray_loses_key now read in push G o lost b.outputs (outputs.Stop LeaderKeyLost) (front G o lost b.outputs silent) tt;
+      renews = λ _ leader some mine. let renews : Outcome = renewing now points leader.revision read in
+          push G o renews b.outputs _ (front G o renews b.outputs silent) (sends G o renews b.knows.sequence _ later refl (leader-shown (leader_in snapshot) leader b.knows.who.me.number some mine, refl, refl));
+      touches = touches G o read read.outputs later silent;
+      follows = λ leader _ _. follow-may G now leader.holder o read later silent;
+      free = λ _ _. free-may G now o read later silent;
+    })
+
+pub got-none : (now : Ticks) (points : List HistoryPoint) (sequence : ℕ) (snapshot : SnapshotFacts) (o : Outcome) → o.knows.waited ≡ None → got now points sequence snapshot o ≡ o
+got-none now points sequence snapshot o is = rw is refl
+
+got-fronts : (G : ℕ → Type 0) (now : Ticks) (points : List HistoryPoint) (sequence : ℕ) (snapshot : SnapshotFacts) (o b : Outcome) → o.knows.sequence ≤ b.knows.sequence → Fronts o b → AllMay G o (got now points sequence snapshot b)
+got-fronts G now points sequence snapshot o b later (Silent all) = got-silent G now points sequence snapshot o b later all
+got-fronts G now points sequence snapshot o b later (Released revision held alone role ended counted all) =
+    subst (λ (z : Outcome). AllMay G o z) (sym (got-none now points sequence snapshot b alone)) (released G o b revision b.outputs held role ended counted all)
+
+pub got-may : (G : ℕ → Type 0) (now : Ticks) (points : List HistoryPoint) (sequence : ℕ) (snapshot : SnapshotFacts) (o : Outcome) → IsAlone o → o.knows.sequence ≤ (before now o).knows.sequence → All IsSilent o.outputs → AllMay G o (got now points sequence snapshot (before now o))
+got-may G now points sequence snapshot o alone later silent = got-fronts G now points sequence snapshot o (before now o) later (before-fronts now o alone silent)
+
+refused-silent : (now : Ticks) (sequence : ℕ) (o : Outcome) → All IsSilent o.outputs → All IsSilent (refused now sequence o).outputs
+refused-silent now sequence o silent = refused-by (λ (x : Outcome). All IsSilent x.outputs) now sequence o (record {
+  kept = silent;
+  quiet = silent;
+  leader = λ held _. silently o.outputs (outputs.Stop LeaderKeyLost) silent tt;
+  stray = λ _. silently o.outputs (outputs.Stop LeaderKeyLost) silent tt;
+  follower = λ held _. silent;
+})
+
+refused-none : (now : Ticks) (sequence : ℕ) (o : Outcome) → o.knows.waited ≡ None → refused now sequence o ≡ o
+refused-none now sequence o is = rw is refl
+
+refused-fronts : (G : ℕ → Type 0) (now : Ticks) (sequence : ℕ) (o b : Outcome) → Fronts o b → AllMay G o (refused now sequence b)
+refused-fronts G now sequence o b (Silent all) = front G o (refused now sequence b) (refused now sequence b).outputs (refused-silent now sequence b all)
+refused-fronts G now sequence o b (Released revision held alone role ended counted all) =
+    subst (λ (z : Outcome). AllMay G o z) (sym (refused-none now sequence b alone)) (released G o b revision b.outputs held role ended counted all)
+
+pub refused-may : (G : ℕ → Type 0) (now : Ticks) (sequence : ℕ) (o : Outcome) → IsAlone o → All IsSilent o.outputs → AllMay G o (refused now sequence (before now o))
+refused-may G now sequence o alone silent = refused-fronts G now sequence o (before now o) (before-fronts now o alone silent)
+
+renewed-may : (G : ℕ → Type 0) (now ttl : Ticks) (revision : ℕ) (o b : Outcome) → All IsSilent b.outputs → AllMay G o (leader_renewed now ttl revision b)
+renewed-may G now ttl revision o b silent = let fed : Outcome = record (feeding now ttl b) { role = Leader revision } in
+    let ended : Outcome = record (ending_server now StartTooLong fed) { role = Ending revision HandOver } in
+    let rest : All IsSilent fed.outputs = silent-fed (deadline_after now ttl b.machine.watchdog) b.outputs silent in
+    if-cases (AllMay G o) (is_start_too_long now fed.knows fed.machine.server.state) ended fed
+    (λ _. front G o ended ended.outputs (silently fed.outputs (outputs.Stop StartTooLong) rest tt)) (λ _. front G o fed fed.outputs rest)
+
+stray-may : (G : ℕ → Type 0) (now ttl : Ticks) (revision : ℕ) (o b : Outcome) → All IsSilent b.outputs → AllMay G o (stray_renewed now ttl revision b)
+stray-may G now ttl revision o b silent = let over : Outcome = takes_over now revision (arming now ttl b) in let ended : Outcome = ending_server now WatchdogNotArmed b in
+    if-cases (AllMay G o) (is_refusing b.machine.watchdog.mode b.machine.watchdog.works) ended over
+    (λ _. front G o ended ended.outputs (silently b.outputs (outputs.Stop WatchdogNotArmed) silent tt)) (λ _. front G o over over.outputs (silent-armed (deadline_after now ttl b.machine.watchdog) b.outputs silent))
+
+-- the lease that a grant gives is given back by who doesn't act
+gives-back-may : (G : ℕ → Type 0) (revision : ℕ) (o b : Outcome) → o.knows.sequence ≤ b.knows.sequence → live b.machine.server.state ≡ false → G revision → All IsSilent b.outputs → AllMay G o (gives_back revision b)
+gives-back-may G revision o b later ended given silent = let back : Outcome = gives_back revision b in
+    push G o back b.outputs _ (front G o back b.outputs silent) (sends G o back b.knows.sequence _ later refl (rests-by back ended refl, inr given))
+
+begins-may : (G : ℕ → Type 0) (now : Ticks) (revision : ℕ) (o b : Outcome) → G revision → All IsSilent b.outputs → AllMay G o (begins now revision b)
+begins-may G now revision o b given silent = let begun : Outcome = begins now revision b in
+    push G o begun (listed (outputs.Require Nobody) b.outputs) outputs.Promote (front G o begun (listed (outputs.Require Nobody) b.outputs) (silently b.outputs (outputs.Require Nobody) silent tt)) (revision, given)
+
+arms-may : (G : ℕ → Type 0) (now ttl : Ticks) (revision : ℕ) (o b : Outcome) → o.knows.sequence ≤ b.knows.sequence → live b.machine.server.state ≡ false → G revision → All IsSilent b.outputs → AllMay G o (arms now ttl revision b)
+arms-may G now ttl revision o b later ended given silent = let cannot : Outcome = record b { outputs = listed outputs.CannotArm b.outputs } in let arm : Outcome = arming now ttl b in
+    if-cases (AllMay G o) (is_refusing b.machine.watchdog.mode b.machine.watchdog.works) (gives_back revision cannot) (begins now revision arm)
+    (λ _. gives-back-may G revision o cannot later ended given (silently b.outputs outputs.CannotArm silent tt))
+    (λ _. begins-may G now revision o arm given (silent-armed (deadline_after now ttl b.machine.watchdog) b.outputs silent))
+
+takes-may : (G : ℕ → Type 0) (now ttl : Ticks) (revision : ℕ) (o b : Outcome) → o.knows.sequence ≤ b.knows.sequence → live b.machine.server.state ≡ false → G revision → All IsSilent b.outputs → AllMay G o (takes_key now ttl revision b)
+takes-may G now ttl revision o b later ended given silent =
+    if-cases (AllMay G o) (may_take now b.machine) (arms now ttl revision b) (gives_back revision b)
+    (λ _. arms-may G now ttl revision o b later ended given silent) (λ _. gives-back-may G revision o b later ended given silent)
+
+-- who may have asked for the leader key while it was absent has no live server
+ended-for : (role : RoleFacts) (lives : Bool) → may_create role ≡ true → Fits role lives → lives ≡ false
+ended-for Follower lives may fits = fits
+ended-for (Holder held) lives may fits = fits
+ended-for (Ready held) lives may fits = fits
+ended-for (Leader held) lives may fits = absurd (no-way may)
+ended-for (Ending held why) lives may fits = absurd (no-way may)
+ended-for Stray lives may fits = absurd (no-way may)
+
+-- the decision is waited for, and grants this member the leader key
+abbrev pub Decides : ℕ → Granted → Outcome → Type 0
+Decides sequence grant o = (waited : Waited) × (o.knows.waited ≡ Some waited) × (is_decision waited sequence && is_lease_of o.knows.who.me grant ≡ true)
+
+granted-silent : (G : ℕ → Type 0) (now : Ticks) (sequence : ℕ) (grant : Granted) (snapshot : SnapshotFacts) (o b : Outcome) → o.knows.sequence ≤ b.knows.sequence → Fits b.role (live b.machine.server.state)
+    → (Decides sequence grant b → G grant.revision) → All IsSilent b.outputs → AllMay G o (granted now sequence grant snapshot b)
+granted-silent G now sequence grant snapshot o b later fits gives silent =
+    granted-by (AllMay G o) now sequence grant snapshot b (front G o b b.outputs silent) (front G o (waiting_no_more b) b.outputs silent)
+    (λ waited is decision. record {
+      other = front G o (Told snapshot b) b.outputs silent;
+      leader = λ held _. renewed-may G now waited.ttl grant.revision o (Told snapshot b) silent;
+      stray = λ _. stray-may G now waited.ttl grant.revision o (Told snapshot b) silent;
+      takes = λ may. takes-may G now waited.ttl grant.revision o (Told snapshot b) later (ended-for b.role (live b.machine.server.state) may fits) (gives (waited, is, decision)) silent;
+    })
+
+granted-none : (now : Ticks) (sequence : ℕ) (grant : Granted) (snapshot : SnapshotFacts) (o : Outcome) → o.knows.waited ≡ None → granted now sequence grant snapshot o ≡ o
+granted-none now sequence grant snapshot o is = rw is refl
+
+granted-fronts : (G : ℕ → Type 0) (now : Ticks) (sequence : ℕ) (grant : Granted) (snapshot : SnapshotFacts) (o b : Outcome) → o.knows.sequence ≤ b.knows.sequence → Fits b.role (live b.machine.server.state)
+    → (Decides sequence grant b → G grant.revision) → Fronts o b → AllMay G o (granted now sequence grant snapshot b)
+granted-fronts G now sequence grant snapshot o b later fits gives (Silent all) = granted-silent G now sequence grant snapshot o b later fits gives all
+granted-fronts G now sequence grant snapshot o b later fits gives (Released revision held alone role ended counted all) =
+    subst (λ (z : Outcome). AllMay G o z) (sym (granted-none now sequence grant snapshot b alone)) (released G o b revision b.outputs held role ended counted all)
+
+pub granted-may : (G : ℕ → Type 0) (now : Ticks) (sequence : ℕ) (grant : Granted) (snapshot : SnapshotFacts) (o : Outcome) → IsAlone o → o.knows.sequence ≤ (before now o).knows.sequence → Fits (before now o).role (live (before now o).machine.server.state)
+    → (Decides sequence grant (before now o) → G grant.revision) → All IsSilent o.outputs → AllMay G o (granted now sequence grant snapshot (before now o))
+granted-may G now sequence grant snapshot o alone later fits gives silent = granted-fronts G now sequence grant snapshot o (before now o) later fits gives (before-fronts now o alone silent)
+
+-- where nothing is granted no server comes to accept writes
+unbegun : (o after : Outcome) (output : Output) → MayPut (λ r. ⊥) o after output → BeginsOnly ⊥ output
+unbegun o after outputs.Promote may = may.1
+unbegun o after _ may = tt
+
+never-one : (P : Type 0) (output : Output) → BeginsOnly ⊥ output → BeginsOnly P output
+never-one P outputs.Promote e = absurd e
+never-one P _ e = tt
+
+never : (P : List Output → Type 0) (before-it outs : List Output) → All (BeginsOnly ⊥) outs → OutputsBeginBehind P before-it outs
+never P before-it [] all = tt
+never P before-it (output ∷ outs) all =
+    (never-one (P before-it) output (All-head (BeginsOnly ⊥) output outs all), never P (listed output before-it) outs (All-tail (BeginsOnly ⊥) output outs all))
+
+pub nobody-begins : (P : List Output → Type 0) (o after : Outcome) → AllMay (λ r. ⊥) o after → OutputsBeginBehind P [] after.outputs
+nobody-begins P o after all = never P [] after.outputs (All-weaker (MayPut (λ r. ⊥) o after) (BeginsOnly ⊥) (unbegun o after) after.outputs all)
+
+-- one more output, behind which P holds if a server comes to accept writes by it
+behind-push : (P : List Output → Type 0) (before-it outs : List Output) (output : Output) → OutputsBeginBehind P before-it outs → ((all : List Output) → all ≡ before-it ++ outs → BeginsOnly (P all) output) → OutputsBeginBehind P before-it (listed output outs)
+behind-push P before-it [] output begin last = (last before-it (sym (append-nil before-it)), tt)
+behind-push P before-it (one ∷ outs) output begin last =
+    (begin.0, behind-push P (listed one before-it) outs output begin.1 (λ all is. last all (is ∙ append_assoc before-it (one ∷ []) outs)))
+
+-- who may begin by this grant, behind these outputs: no hold is active, and the watchdog was armed
+pub record BeginsOn (now : Ticks) (sequence : ℕ) (grant : Granted) (o : Outcome) (before-it : List Output) : Type 0 where
+  pub decides : Decides sequence grant o
+  pub free : is_held now o.machine.hold ≡ false
+  pub armed_is : has_one is_arming before-it ≡ true
+
+armed-first : (outs : List Output) (until : Ticks) (armable : Bool) → armable ≡ true → has_one is_arming (armed (if armable then Some until else None) outs) ≡ true
+armed-first outs until true is = one-last is_arming outs (outputs.Armed until) refl
+armed-first outs until false is = absurd (no-way is)
+
+silent-never : (output : Output) → IsSilent output → BeginsOnly ⊥ output
+silent-never outputs.Promote silent = silent
+silent-never _ silent = tt
+
+silent-begins : (P : List Output → Type 0) (outs : List Output) → All IsSilent outs → OutputsBeginBehind P [] outs
+silent-begins P outs silent = never P [] outs (All-weaker IsSilent (BeginsOnly ⊥) silent-never outs silent)
+
+gives-back-begins : (P : List Output → Type 0) (revision : ℕ) (b : Outcome) → All IsSilent b.outputs → OutputsBeginBehind P [] (gives_back revision b).outputs
+gives-back-begins P revision b silent = behind-push P [] b.outputs (outputs.Send targets.Store (b.knows.sequence + 1) (bodies.Request (txns.Release revision))) (silent-begins P b.outputs silent) (λ all is. tt)
+
+arms-begins : (now ttl : Ticks) (sequence : ℕ) (grant : Granted) (revision : ℕ) (o b : Outcome) → Decides sequence grant o → is_held now o.machine.hold ≡ false → is_armable b.machine.watchdog.mode b.machine.watchdog.works ≡ true → All IsSilent b.outputs
+    → OutputsBeginBehind (BeginsOn now sequence grant o) [] (arms now ttl revision b).outputs
+arms-begins now ttl sequence grant revision o b decides free armable silent =
+    let cannot : Outcome = record b { outputs = listed outputs.CannotArm b.outputs } in
+    let arm : Outcome = arming now ttl b in
+    let told : has_one is_arming arm.outputs ≡ true = armed-first b.outputs _ (is_armable b.machine.watchdog.mode b.machine.watchdog.works) armable in
+    if-cases (λ (x : Outcome). OutputsBeginBehind (BeginsOn now sequence grant o) [] x.outputs) (is_refusing b.machine.watchdog.mode b.machine.watchdog.works) (gives_back revision cannot) (begins now revision arm)
+    (λ _. gives-back-begins (BeginsOn now sequence grant o) revision cannot (silently b.outputs outputs.CannotArm silent tt))
+    (λ _. behind-push (BeginsOn now sequence grant o) [] (listed (outputs.Require Nobody) arm.outputs) outputs.Promote
+    (silent-begins (BeginsOn now sequence grant o) (listed (outputs.Require Nobody) arm.outputs) (silently arm.outputs (outputs.Require Nobody) (silent-armed (deadline_after now ttl b.machine.watchdog) b.outputs silent) tt))
+    (λ all is. record { decides = decides; free = free; armed_is = subst (λ (l : List Output). has_one is_arming l ≡ true) (sym is) (one-before is_arming arm.outputs (outputs.Require Nobody) told) }))
+
+takes-begins : (now ttl : Ticks) (sequence : ℕ) (grant : Granted) (revision : ℕ) (o b : Outcome) → Decides sequence grant o → b.machine.hold ≡ o.machine.hold → is_armable b.machine.watchdog.mode b.machine.watchdog.works ≡ true → All IsSilent b.outputs
+    → OutputsBeginBehind (BeginsOn now sequence grant o) [] (takes_key now ttl revision b).outputs
+takes-begins now ttl sequence grant revision o b decides hold armable silent =
+    if-cases (λ (x : Outcome). OutputsBeginBehind (BeginsOn now sequence grant o) [] x.outputs) (may_take now b.machine) (arms now ttl revision b) (gives_back revision b)
+    (λ may. arms-begins now ttl sequence grant revision o b decides (subst (λ (h : Option Ticks). is_held now h ≡ false) hold (take-free (is_held now b.machine.hold) (is_replica b.machine.server.state) may)) armable silent)
+    (λ _. gives-back-begins (BeginsOn now sequence grant o) revision b silent)
+
+granted-begins : (now : Ticks) (sequence : ℕ) (grant : Granted) (snapshot : SnapshotFacts) (b : Outcome) → (Decides sequence grant b → is_armable b.machine.watchdog.mode b.machine.watchdog.works ≡ true) → All IsSilent b.outputs
+    → OutputsBeginBehind (BeginsOn now sequence grant b) [] (granted now sequence grant snapshot b).outputs
+granted-begins now sequence grant snapshot b armable silent =
+    let told : Outcome = Told snapshot b in
+    granted-by (λ (x : Outcome). OutputsBeginBehind (BeginsOn now sequence grant b) [] x.outputs) now sequence grant snapshot b
+    (silent-begins (BeginsOn now sequence grant b) b.outputs silent) (silent-begins (BeginsOn now sequence grant b) b.outputs silent)
+    (λ waited is decision. let fed : Outcome = record (feeding now waited.ttl told) { role = Leader grant.revision } in let over : Outcome = takes_over now grant.revision (arming now waited.ttl told) in
+    let rest : All IsSilent fed.outputs = silent-fed (deadline_after now waited.ttl b.machine.watchdog) b.outputs silent in record {
+      other = silent-begins (BeginsOn now sequence grant b) b.outputs silent;
+      leader = λ held _. if-cases (λ (x : Outcome). OutputsBeginBehind (BeginsOn now sequence grant b) [] x.outputs) (is_start_too_long now fed.knows fed.machine.server.state) (record (ending_server now StartTooLong fed) { role = Ending grant.revision HandOver }) fed
+          (λ _. silent-begins (BeginsOn now sequence grant b) (listed (outputs.Stop StartTooLong) fed.outputs) (silently fed.outputs (outputs.Stop StartTooLong) rest tt)) (λ _. silent-begins (BeginsOn now sequence grant b) fed.outputs rest);
+      stray = λ _. if-cases (λ (x : Outcome). OutputsBeginBehind (BeginsOn now sequence grant b) [] x.outputs) (is_refusing b.machine.watchdog.mode b.machine.watchdog.works) (ending_server now WatchdogNotArmed told) over
+          (λ _. silent-begins (BeginsOn now sequence grant b) (listed (outputs.Stop WatchdogNotArmed) b.outputs) (silently b.outputs (outputs.Stop WatchdogNotArmed) silent tt))
+          (λ _. silent-begins (BeginsOn now sequence grant b) over.outputs (silent-armed (deadline_after now waited.ttl b.machine.watchdog) b.outputs silent));
+      takes = λ _. takes-begins now waited.ttl sequence grant grant.revision b told (waited, is, decision) refl (armable (waited, is, decision)) silent;
+    })
+
+release-never : (sequence revision : ℕ) (output : Output) → IsReleaseOr sequence revision output → BeginsOnly ⊥ output
+release-never sequence revision output (inl silent) = silent-never output silent
+release-never sequence revision output (inr is) = subst (λ (y : Output). BeginsOnly ⊥ y) (sym is) tt
+
+begins-fronts : (now : Ticks) (sequence : ℕ) (grant : Granted) (snapshot : SnapshotFacts) (o b : Outcome) → (Decides sequence grant b → is_armable b.machine.watchdog.mode b.machine.watchdog.works ≡ true) → Fronts o b
+    → OutputsBeginBehind (BeginsOn now sequence grant b) [] (granted now sequence grant snapshot b).outputs
+begins-fronts now sequence grant snapshot o b armable (Silent all) = granted-begins now sequence grant snapshot b armable all
+begins-fronts now sequence grant snapshot o b armable (Released revision held alone role ended counted all) =
+    subst (λ (z : Outcome). OutputsBeginBehind (BeginsOn now sequence grant b) [] z.outputs) (sym (granted-none now sequence grant snapshot b alone))
+    (never (BeginsOn now sequence grant b) [] b.outputs (All-weaker (IsReleaseOr (o.knows.sequence + 1) revision) (BeginsOnly ⊥) (release-never (o.knows.sequence + 1) revision) b.outputs all))
+
+pub grant-begins : (now : Ticks) (sequence : ℕ) (grant : Granted) (snapshot : SnapshotFacts) (o : Outcome) → IsAlone o → (Decides sequence grant (before now o) → is_armable (before now o).machine.watchdog.mode (before now o).machine.watchdog.works ≡ true) → All IsSilent o.outputs
+    → OutputsBeginBehind (BeginsOn now sequence grant (before now o)) [] (granted now sequence grant snapshot (before now o)).outputs
+grant-begins now sequence grant snapshot o alone armable silent = begins-fronts now sequence grant snapshot o (before now o) armable (before-fronts now o alone silent)
+
+begins-one : (P Q : Type 0) → (P → Q) → (output : Output) → BeginsOnly P output → BeginsOnly Q output
+begins-one P Q more outputs.Promote e = more e
+begins-one P Q more _ e = tt
+
+pub begins-weaker : (P Q : List Output → Type 0) → ((outs : List Output) → P outs → Q outs) → (before-it outs : List Output) → OutputsBeginBehind P before-it outs → OutputsBeginBehind Q before-it outs
+begins-weaker P Q more before-it [] begin = tt
+begins-weaker P Q more before-it (output ∷ outs) begin = (begins-one (P before-it) (Q before-it) (more before-it) output begin.0, begins-weaker P Q more (listed output before-it) outs begin.1)

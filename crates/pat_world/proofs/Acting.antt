@@ -1,0 +1,210 @@
+-- What an input of an agent brings at most: messages of its run, and outputs.
+use Rattle.std.proofs.Common.{◌≡◌, ℕ, ◌+◌, ◌≤◌, ◌++◌, true, false, List, [], ◌∷◌, All, length, length-append, Option, Some, None, arith, refl}
+use Rattle.std.proofs.lemmas.List.Elements.{All-push}
+use Rattle.pat_base.specs.declared.member_id.MemberId.{MemberId}
+use Rattle.pat_base.specs.declared.ticks.Ticks.{Ticks}
+use Rattle.lease_store.specs.declared.granted.Granted.{Granted}
+use Rattle.wal_model.specs.declared.entry.HistoryPoint.{HistoryPoint}
+use Rattle.cluster_config.specs.Snapshots.{SnapshotFacts}
+use Rattle.ha_loop.specs.declared.heard.Heard.{Heard}
+use Rattle.ha_loop.specs.declared.heard.Heard.TheVariants as heards
+use Rattle.ha_loop.specs.declared.output.Output.{Output}
+use Rattle.ha_loop.specs.declared.output.Output.TheVariants as outputs
+use Rattle.ha_loop.specs.declared.role.Why.{Why}
+use Rattle.ha_loop.specs.declared.role.Why.TheVariants.{HandOver, Lost}
+use Rattle.ha_loop.specs.Acting.{arming, armed, deadline_after, disarmed, fed_until, feeding, is_refusing, touching}
+use Rattle.ha_loop.specs.Agents.{Leader, Follower, Outcome}
+use Rattle.ha_loop.specs.Before.{before, has_ended}
+use Rattle.ha_loop.specs.Decisions.{arms, begins, gives_back, granted, is_start_too_long, judges_start, leader_renewed, may_take, refused, stray_renewed, takes_key, takes_over}
+use Rattle.ha_loop.specs.Outputs.{listed, most_outputs}
+use Rattle.ha_loop.specs.Snapshots.{follows, finds_free, got, informed, read_noted}
+use Rattle.ha_loop.specs.Table.{step}
+use Rattle.ha_loop.specs.Wake.{overdue, turned, woken}
+use Rattle.ha_loop.proofs.Rows.{if-cases, before-by, overdue-by, turn-by, wake-by, got-by, refused-by, granted-by, follow-by, free-by, GrantRows}
+use Rattle.pat_world.specs.Short.{AsksShortly}
+
+-- from this number of messages and these outputs on there are so many more at most, and each asks shortly if each did before
+record Grows (most sequence later : ℕ) (before after : List Output) : Type 0 where
+  numbers : later ≤ sequence + most
+  few : length after ≤ length before + most
+  short : All AsksShortly before → All AsksShortly after
+
+kept : {sequence : ℕ} {outputs : List Output} → Grows 9 sequence sequence outputs outputs
+kept = record { numbers = omega arith; few = omega arith; short = λ all. all }
+
+-- one output more, and at most one message
+one : (sequence later : ℕ) (before : List Output) (output : Output) → later ≤ sequence + 1 → AsksShortly output → Grows 1 sequence later before (listed output before)
+one sequence later before output h asks = record { numbers = h; few = omega (arith, length-append before (output ∷ [])); short = λ all. All-push AsksShortly before output all asks }
+
+none : (sequence : ℕ) (outputs : List Output) → Grows 1 sequence sequence outputs outputs
+none sequence outputs = record { numbers = omega arith; few = omega arith; short = λ all. all }
+
+grows-then : (a b c first second third : ℕ) (x y z : List Output) → a + b ≤ c → Grows a first second x y → Grows b second third y z → Grows c first third x z
+grows-then a b c first second third x y z h one two = record { numbers = omega (arith, h, one.numbers, two.numbers); few = omega (arith, h, one.few, two.few); short = λ all. two.short (one.short all) }
+
+weaker : (a b first second : ℕ) (x y : List Output) → a ≤ b → Grows a first second x y → Grows b first second x y
+weaker a b first second x y h one = record { numbers = omega (arith, h, one.numbers); few = omega (arith, h, one.few); short = one.short }
+
+-- what an outcome brings after another one
+abbrev Brings : ℕ → Outcome → Outcome → Type 0
+Brings most o after = Grows most o.knows.sequence after.knows.sequence o.outputs after.outputs
+
+-- a row of the table brings so much at most
+abbrev Row : Outcome → Outcome → Type 0
+Row o after = Brings 9 o after
+
+said : (sequence later : ℕ) (before : List Output) (output : Output) → later ≤ sequence + 1 → AsksShortly output → Grows 9 sequence later before (listed output before)
+said sequence later before output h asks = weaker 1 9 sequence later before (listed output before) (omega arith) (one sequence later before output h asks)
+
+-- one thing, and then a message
+said-both : (sequence : ℕ) (before : List Output) (first second : Output) → AsksShortly first → AsksShortly second → Grows 9 sequence (sequence + 1) before (listed second (listed first before))
+said-both sequence before first second asks also =
+    grows-then 1 1 9 sequence sequence (sequence + 1) before (listed first before) (listed second (listed first before)) (omega arith)
+    (one sequence sequence before first (omega arith) asks) (one sequence (sequence + 1) (listed first before) second (omega arith) also)
+
+disarmed-one : (sequence : ℕ) (deadline : Option Ticks) (before : List Output) → Grows 1 sequence sequence before (disarmed deadline before)
+disarmed-one sequence None before = none sequence before
+disarmed-one sequence (Some deadline) before = one sequence sequence before outputs.Disarmed (omega arith) tt
+
+disarmed-row : (sequence : ℕ) (deadline : Option Ticks) (before : List Output) → Grows 9 sequence sequence before (disarmed deadline before)
+disarmed-row sequence deadline before = weaker 1 9 sequence sequence before (disarmed deadline before) (omega arith) (disarmed-one sequence deadline before)
+
+armed-one : (sequence : ℕ) (deadline : Option Ticks) (before : List Output) → Grows 1 sequence sequence before (armed deadline before)
+armed-one sequence None before = none sequence before
+armed-one sequence (Some deadline) before = one sequence sequence before (outputs.Armed deadline) (omega arith) tt
+
+fed-one : (sequence : ℕ) (deadline : Option Ticks) (before : List Output) → Grows 1 sequence sequence before (fed_until deadline before)
+fed-one sequence None before = none sequence before
+fed-one sequence (Some deadline) before = one sequence sequence before (outputs.Fed deadline) (omega arith) tt
+
+ended-row : (why : Why) (held : ℕ) (o : Outcome) → Row o (has_ended why held o)
+ended-row Lost held o = disarmed-row o.knows.sequence o.machine.watchdog.deadline o.outputs
+ended-row HandOver held o =
+    grows-then 1 1 9 o.knows.sequence o.knows.sequence (o.knows.sequence + 1) o.outputs (disarmed o.machine.watchdog.deadline o.outputs) _ (omega arith)
+    (disarmed-one o.knows.sequence o.machine.watchdog.deadline o.outputs)
+    (one o.knows.sequence (o.knows.sequence + 1) (disarmed o.machine.watchdog.deadline o.outputs) _ (omega arith) (omega arith))
+
+before-row : (now : Ticks) (o : Outcome) → Row o (before now o)
+before-row now o = before-by (Row o) now o (record {
+  kept = λ _. kept;
+  leader = λ held _ _. disarmed-row o.knows.sequence o.machine.watchdog.deadline o.outputs;
+  ending = λ held why _ _. ended-row why held o;
+  follower = λ _ _. kept;
+  holder = λ held _ _. kept;
+  ready = λ held _ _. disarmed-row o.knows.sequence o.machine.watchdog.deadline o.outputs;
+  stray = λ _ _. disarmed-row o.knows.sequence o.machine.watchdog.deadline o.outputs;
+})
+
+overdue-row : (now : Ticks) (o : Outcome) → Row o (overdue now o)
+overdue-row now o = overdue-by (Row o) now o (record {
+  kept = kept;
+  quiet = kept;
+  leader = λ held _. said o.knows.sequence o.knows.sequence o.outputs _ (omega arith) tt;
+  stray = λ _. said o.knows.sequence o.knows.sequence o.outputs _ (omega arith) tt;
+})
+
+turn-row : (now : Ticks) (o : Outcome) → Row o (turned now o)
+turn-row now o = turn-by (Row o) now o (record { kept = kept; quiet = kept; reads = said o.knows.sequence (o.knows.sequence + 1) o.outputs _ (omega arith) tt })
+
+follow-row : (now : Ticks) (leader : MemberId) (o : Outcome) → Row o (follows now leader o)
+follow-row now leader o = follow-by (λ (x : Outcome). Row o (touching x)) now leader o.machine.server.state (record o { role = Follower })
+    (said o.knows.sequence (o.knows.sequence + 1) o.outputs _ (omega arith) (omega (arith, o.knows.settings.ttl_range)))
+    (said-both o.knows.sequence o.outputs _ _ tt (omega (arith, o.knows.settings.ttl_range)))
+    (said-both o.knows.sequence o.outputs _ _ tt (omega (arith, o.knows.settings.ttl_range)))
+
+free-row : (now : Ticks) (o : Outcome) → Row o (finds_free now o)
+free-row now o = free-by (Row o) now o.machine.server.state (record o { role = Follower })
+    (said o.knows.sequence (o.knows.sequence + 1) o.outputs _ (omega arith) (omega (arith, o.knows.settings.ttl_range)))
+    (said-both o.knows.sequence o.outputs _ _ tt (omega (arith, o.knows.settings.ttl_range)))
+    (said o.knows.sequence (o.knows.sequence + 1) o.outputs _ (omega arith) (omega (arith, o.knows.settings.ttl_range)))
+
+got-row : (now : Ticks) (points : List HistoryPoint) (sequence : ℕ) (snapshot : SnapshotFacts) (o : Outcome) → Row o (got now points sequence snapshot o)
+got-row now points sequence snapshot o =
+    let read : Outcome = record o { knows = read_noted now snapshot o.knows } in
+    got-by (Row o) now points sequence snapshot o (record {
+      kept = kept;
+      quiet = kept;
+      other = kept;
+      leader = λ held _. said o.knows.sequence o.knows.sequence o.outputs _ (omega arith) tt;
+      stray = λ _. said o.knows.sequence o.knows.sequence o.outputs _ (omega arith) tt;
+      renews = λ leader _ _. said o.knows.sequence (o.knows.sequence + 1) o.outputs _ (omega arith) (omega (arith, read.knows.settings.ttl_range));
+      touches = said o.knows.sequence (o.knows.sequence + 1) o.outputs _ (omega arith) (omega (arith, read.knows.settings.ttl_range));
+      follows = λ leader _ _. follow-row now leader.holder read;
+      free = λ _ _. free-row now read;
+    })
+
+refused-row : (now : Ticks) (sequence : ℕ) (o : Outcome) → Row o (refused now sequence o)
+refused-row now sequence o = refused-by (Row o) now sequence o (record {
+  kept = kept;
+  quiet = kept;
+  leader = λ held _. said o.knows.sequence o.knows.sequence o.outputs _ (omega arith) tt;
+  stray = λ _. said o.knows.sequence o.knows.sequence o.outputs _ (omega arith) tt;
+  follower = λ held _. kept;
+})
+
+back-row : (held : ℕ) (o : Outcome) → Brings 1 o (gives_back held o)
+back-row held o = one o.knows.sequence (o.knows.sequence + 1) o.outputs _ (omega arith) (omega arith)
+
+begins-row : (now : Ticks) (held : ℕ) (o : Outcome) → Brings 2 o (begins now held o)
+begins-row now held o =
+    grows-then 1 1 2 o.knows.sequence o.knows.sequence o.knows.sequence o.outputs _ _ (omega arith)
+    (one o.knows.sequence o.knows.sequence o.outputs _ (omega arith) tt) (one o.knows.sequence o.knows.sequence _ outputs.Promote (omega arith) tt)
+
+arms-row : (now ttl : Ticks) (held : ℕ) (o : Outcome) → Row o (arms now ttl held o)
+arms-row now ttl held o = if-cases (Row o) (is_refusing o.machine.watchdog.mode o.machine.watchdog.works) (gives_back held (record o { outputs = listed outputs.CannotArm o.outputs })) (begins now held (arming now ttl o))
+    (λ _. grows-then 1 1 9 o.knows.sequence o.knows.sequence (o.knows.sequence + 1) o.outputs (listed outputs.CannotArm o.outputs) _ (omega arith)
+    (one o.knows.sequence o.knows.sequence o.outputs outputs.CannotArm (omega arith) tt) (back-row held (record o { outputs = listed outputs.CannotArm o.outputs })))
+    (λ _. grows-then 1 2 9 o.knows.sequence o.knows.sequence o.knows.sequence o.outputs (armed (deadline_after now ttl o.machine.watchdog) o.outputs) _ (omega arith)
+    (armed-one o.knows.sequence (deadline_after now ttl o.machine.watchdog) o.outputs) (begins-row now held (arming now ttl o)))
+
+takes-row : (now ttl : Ticks) (held : ℕ) (o : Outcome) → Row o (takes_key now ttl held o)
+takes-row now ttl held o = if-cases (Row o) (may_take now o.machine) (arms now ttl held o) (gives_back held o) (λ _. arms-row now ttl held o)
+    (λ _. weaker 1 9 o.knows.sequence (o.knows.sequence + 1) o.outputs _ (omega arith) (back-row held o))
+
+renewed-row : (now ttl : Ticks) (held : ℕ) (o : Outcome) → Row o (leader_renewed now ttl held o)
+renewed-row now ttl held o =
+    let led : Outcome = record (feeding now ttl o) { role = Leader held } in
+    if-cases (Row o) (is_start_too_long now led.knows led.machine.server.state) _ led
+    (λ _. grows-then 1 1 9 o.knows.sequence o.knows.sequence o.knows.sequence o.outputs led.outputs _ (omega arith) (fed-one o.knows.sequence (deadline_after now ttl o.machine.watchdog) o.outputs)
+    (one o.knows.sequence o.knows.sequence led.outputs _ (omega arith) tt))
+    (λ _. weaker 1 9 o.knows.sequence o.knows.sequence o.outputs led.outputs (omega arith) (fed-one o.knows.sequence (deadline_after now ttl o.machine.watchdog) o.outputs))
+
+stray-row : (now ttl : Ticks) (held : ℕ) (o : Outcome) → Row o (stray_renewed now ttl held o)
+stray-row now ttl held o = if-cases (Row o) (is_refusing o.machine.watchdog.mode o.machine.watchdog.works) _ (takes_over now held (arming now ttl o))
+    (λ _. said o.knows.sequence o.knows.sequence o.outputs _ (omega arith) tt)
+    (λ _. weaker 1 9 o.knows.sequence o.knows.sequence o.outputs _ (omega arith) (armed-one o.knows.sequence (deadline_after now ttl o.machine.watchdog) o.outputs))
+
+granted-row : (now : Ticks) (sequence : ℕ) (grant : Granted) (snapshot : SnapshotFacts) (o : Outcome) → Row o (granted now sequence grant snapshot o)
+granted-row now sequence grant snapshot o =
+    let told : Outcome = record o { knows = informed snapshot o.knows } in
+    granted-by (Row o) now sequence grant snapshot o kept kept (λ asked _. record {
+      other = kept;
+      leader = λ held _. renewed-row now asked.ttl grant.revision told;
+      stray = λ _. stray-row now asked.ttl grant.revision told;
+      takes = λ _. takes-row now asked.ttl grant.revision told;
+    })
+
+-- an input brings at most so many messages and so many outputs, and asks shortly
+pub record IsSmall (o after : Outcome) : Type 0 where
+  pub sequence : after.knows.sequence ≤ o.knows.sequence + most_outputs
+  pub few : length after.outputs ≤ length o.outputs + most_outputs
+  pub short : All AsksShortly o.outputs → All AsksShortly after.outputs
+
+small : (o mid after : Outcome) → Row o mid → Brings 18 mid after → IsSmall o after
+small o mid after one two = record { sequence = omega (arith, one.numbers, two.numbers); few = omega (arith, one.few, two.few); short = λ all. two.short (one.short all) }
+
+woken-small : (now : Ticks) (o : Outcome) → IsSmall o (woken now o)
+woken-small now o = wake-by (IsSmall o) now o
+    (small o (before now o) (before now o) (before-row now o) (weaker 9 18 _ _ _ _ (omega arith) kept))
+    (small o (before now o) _ (before-row now o)
+    (grows-then 9 9 18 _ _ _ _ _ _ (omega arith) (overdue-row now (before now o)) (turn-row now (overdue now (before now o)))))
+
+one-more : (o mid after : Outcome) → Row o mid → Row mid after → IsSmall o after
+one-more o mid after one two = small o mid after one (weaker 9 18 _ _ _ _ (omega arith) two)
+
+-- so it is with each input
+pub step-small : (now : Ticks) (points : List HistoryPoint) (heard : Heard) (o : Outcome) → IsSmall o (step now points heard o)
+step-small now points heards.Wake o = woken-small now o
+step-small now points (heards.Got sequence snapshot) o = one-more o (before now o) _ (before-row now o) (got-row now points sequence snapshot (before now o))
+step-small now points (heards.Granted sequence grant snapshot) o = one-more o (before now o) _ (before-row now o) (granted-row now sequence grant snapshot (before now o))
+step-small now points (heards.Mismatch sequence key found) o = one-more o (before now o) _ (before-row now o) (refused-row now sequence (before now o))

@@ -1,0 +1,71 @@
+-- What an agent did is carried out, one after another.
+use Rattle.std.proofs.Common.{◌≡◌, ℕ, ◌+◌, ◌*◌, ◌≤◌, List, [], ◌∷◌, ◌++◌, All, length, Option, Some, None, arith, refl, ◌∙◌, ap, sym, subst, append_assoc, append-nil}
+use Rattle.std.specs.Prelude.{option_to_list}
+use Rattle.std.proofs.lemmas.List.Elements.{All-head, All-tail}
+use Rattle.event_book.specs.declared.event.Event.{Event}
+use Rattle.event_book.specs.declared.event.EventKind.{EventKind}
+use Rattle.event_book.specs.declared.member.Member.{Member}
+use Rattle.ha_loop.specs.declared.output.Output.{Output}
+use Rattle.ha_loop.specs.Outputs.{most_outputs}
+use Rattle.cluster_model.specs.declared.heard_message.HeardMessage.{HeardMessage}
+use Rattle.cluster_model.specs.Commands.{kinds_of}
+use Rattle.cluster_model.specs.Messages.{output_events}
+use Rattle.cluster_model.specs.Orders.{order_kind}
+use Rattle.cluster_model.specs.Parts.{each, events_of}
+use Rattle.cluster_model.specs.State.{Cluster}
+use Rattle.pat_world.specs.Emits.{Emits}
+use Rattle.pat_world.specs.Room.{HasRoom, output_cost, outputs_cost}
+use Rattle.pat_world.specs.Short.{AsksShortly}
+use Rattle.pat_world.proofs.Rest.{Left, Left-end, Left-more, Left-room}
+use Rattle.pat_world.proofs.Rooms.{HasRoom-fewer}
+use Rattle.pat_world.proofs.Taking.{Emits-weaker}
+
+-- these outputs are left of those that there were
+pub record IsCarrying (member : Member) (heard : HeardMessage) (start cluster : Cluster) (had has : List Event) (whole rest : List Output) : Type 0 where
+  pub left : Left start cluster had has (each (output_events member heard) start whole) (each (output_events member heard) cluster rest) outputs_cost (output_cost * length rest)
+  pub short : All AsksShortly rest
+
+pub carrying-start : (member : Member) (heard : HeardMessage) (start : Cluster) (had : List Event) (whole : List Output) → length whole ≤ most_outputs → All AsksShortly whole → IsCarrying member heard start start had had whole whole
+carrying-start member heard start had whole few short = record {
+  left = record { state = refl; event = refl; room = λ more room. HasRoom-fewer start (outputs_cost + more) (output_cost * length whole + more) (omega (arith, few)) room };
+  short = short;
+}
+
+taken-is : (before after : List Output) (taken : Option Output) (output : Output) → before ≡ option_to_list taken ++ after → taken ≡ Some output → before ≡ output ∷ after
+taken-is before after taken output is some = is ∙ ap (λ (o : Option Output). option_to_list o ++ after) some
+
+-- the next one asks shortly, and there is room for it
+pub carrying-short : (member : Member) (heard : HeardMessage) (start cluster : Cluster) (had has : List Event) (whole rest after : List Output) (taken : Option Output) (output : Output)
+    → IsCarrying member heard start cluster had has whole rest → rest ≡ option_to_list taken ++ after → taken ≡ Some output → AsksShortly output
+carrying-short member heard start cluster had has whole rest after taken output c is some =
+    All-head AsksShortly output after (subst (λ (os : List Output). All AsksShortly os) (taken-is rest after taken output is some) c.short)
+
+pub carrying-room : (member : Member) (heard : HeardMessage) (start cluster : Cluster) (had has : List Event) (whole rest after : List Output) (taken : Option Output) (output : Output)
+    → IsCarrying member heard start cluster had has whole rest → rest ≡ option_to_list taken ++ after → taken ≡ Some output → HasRoom start outputs_cost → HasRoom cluster output_cost
+carrying-room member heard start cluster had has whole rest after taken output c is some room =
+    Left-room start cluster had has _ _ outputs_cost (output_cost * length rest) output_cost c.left room (omega (arith, ap length (taken-is rest after taken output is some)))
+
+-- it is carried out
+pub carrying-more : (member : Member) (heard : HeardMessage) (start cluster next : Cluster) (had has longer : List Event) (whole rest after : List Output) (taken : Option Output) (output : Output)
+    → IsCarrying member heard start cluster had has whole rest → rest ≡ option_to_list taken ++ after → taken ≡ Some output → Emits cluster next has longer (output_events member heard cluster output) output_cost
+    → IsCarrying member heard start next had longer whole after
+carrying-more member heard start cluster next had has longer whole rest after taken output c is some took =
+    let here = taken-is rest after taken output is some in record {
+      left = Left-more start cluster next had has longer (each (output_events member heard) start whole) (output_events member heard cluster output) (λ later. each (output_events member heard) later after)
+          (each (output_events member heard) cluster rest) outputs_cost (output_cost * length rest) output_cost (output_cost * length after) c.left (ap (each (output_events member heard) cluster) here) took (omega (arith, ap length here));
+      short = All-tail AsksShortly output after (subst (λ (os : List Output). All AsksShortly os) here c.short);
+    }
+
+-- none is left
+pub carrying-end : (member : Member) (heard : HeardMessage) (start cluster : Cluster) (had has : List Event) (whole rest : List Output)
+    → IsCarrying member heard start cluster had has whole rest → rest ≡ [] → Emits start cluster had has (each (output_events member heard) start whole) outputs_cost
+carrying-end member heard start cluster had has whole rest c nothing =
+    Left-end start cluster had has (each (output_events member heard) start whole) _ outputs_cost (output_cost * length rest) c.left (ap (each (output_events member heard) cluster) nothing)
+
+-- what an order comes to that brings one event at most
+pub order-took : (cluster after : Cluster) (had has : List Event) (member : Member) (heard : HeardMessage) (output : Output) (found : Option EventKind)
+    → output_events member heard cluster output ≡ events_of cluster (kinds_of (order_kind cluster member heard output)) → found ≡ order_kind cluster member heard output
+    → Emits cluster after had has (events_of cluster (kinds_of found)) 1 → Emits cluster after had has (output_events member heard cluster output) output_cost
+order-took cluster after had has member heard output found is kind took =
+    subst (λ (es : List Event). Emits cluster after had has es output_cost) (sym is)
+    (subst (λ (o : Option EventKind). Emits cluster after had has (events_of cluster (kinds_of o)) output_cost) kind (Emits-weaker cluster after had has (events_of cluster (kinds_of found)) 1 output_cost took (omega arith)))

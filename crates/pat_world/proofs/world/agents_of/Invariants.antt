@@ -1,6 +1,0 @@
-use Rattle.std.proofs.Common.{◌≡◌, ◌-◌, ◌++◌}
-use Rattle.event_book.specs.Agents.{first_agents}
-use Rattle.pat_world.proofs.world.agents_of.Given as goal
-
-abbrev pub invariant-loop-made : goal.invariant-loop-made
-invariant-loop-made l = l.agents.items ++ first_agents (l.count - l.made) ≡ first_agents l.count

@@ -1,0 +1,87 @@
+//! The machines of members, as their agents find them.
+ghost use Rattle.std.specs.Prelude.{◌≡◌, ◌≤◌, ◌<◌, ◌^◌, IfSome, option_map, option_copied, length, slice_get};
+ghost use Rattle.pg_model.specs.Servers.{without_spare};
+ghost use Rattle.ha_loop.specs.Agents.{IsWithin};
+ghost use Rattle.cluster_model.specs.Limits.{most_members};
+ghost use Rattle.cluster_model.specs.Machines.{watchdog_of, machine_from, who_of};
+ghost use Rattle.cluster_model.specs.Tags.{no_tags};
+
+use cluster_script::MemberOptions;
+use event_book::Member;
+use ha_loop::{Machine, Who};
+use leader_key::Watchdog;
+use pat_base::{Host, Name, Tags, Ticks};
+use pg_model::{Server, ServerStatus};
+
+/// Ticks of 100 ms in a second.
+const TICKS_OF_SECOND: u64 = 10;
+
+/// A machine of these parts. `None` exactly where one of them is absent.
+pub fn machine_from(
+    receives: bool,
+    options: Option<MemberOptions>,
+    deadline: Option<Option<Ticks>>,
+    hold: Option<Option<Ticks>>,
+    server: Option<&Server>,
+) -> Option<Machine>
+    ensures machine { result ≡ machine_from receives options deadline hold (option_map without_spare (option_copied server.entry)) }
+    ensures within { IfSome (option_copied server.entry) (λ s. s.timeline < 2 ^ 60) → IfSome result (λ machine. IsWithin machine.server) }
+{
+    let options = options?;
+    let deadline = deadline?;
+    let hold = hold?;
+    let status = server?.status();
+    Some(Machine {
+        server: ServerStatus { receives, ..status },
+        watchdog: watchdog_of(options, deadline),
+        hold,
+    })
+}
+
+/// The watchdog of a member with these options and this deadline.
+fn watchdog_of(options: MemberOptions, deadline: Option<Ticks>) -> Watchdog
+    ensures { result ≡ watchdog_of options deadline }
+{
+    let margin = Ticks(TICKS_OF_SECOND * options.margin.seconds);
+    Watchdog::with_deadline(
+        options.watchdog,
+        options.device_works,
+        Some(margin),
+        deadline,
+    )
+}
+
+/// Whose agent that of this member is, in a cluster of this name with these members.
+pub fn who_of(scope: Name, members: &[Member], member: Member) -> Who
+    requires { length members.now ≤ most_members }
+    ensures { result ≡ who_of scope members.now member }
+{
+    Who {
+        me: member.id,
+        members: members.len() as u8,
+        scope,
+        name: member.name,
+        host: Host::local(),
+        tags: no_tags(),
+    }
+}
+
+/// The tags of a member that declares none.
+fn no_tags() -> Tags
+    ensures { result ≡ no_tags }
+{
+    Tags {
+        nofailover: false,
+        nosync: false,
+        noloadbalance: false,
+        failover_priority: 1,
+    }
+}
+
+/// What is at a place. `None` exactly past the last one.
+pub fn item_at<T: Copy>(items: &[T], place: usize) -> Option<T>
+    ensures { result ≡ slice_get items.now place }
+{
+    let item = items.get(place)?;
+    Some(*item)
+}

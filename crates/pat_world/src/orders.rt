@@ -1,0 +1,204 @@
+//! What orders of agents come to.
+ghost use Rattle.std.specs.Prelude.{ℕ, ◌≡◌, ◌<◌, ◌+◌, ◌^◌, IfSome, IfOk, Some, None, option_and_then, option_map, slice_get};
+ghost use Rattle.event_book.specs.Members.{server_of};
+ghost use Rattle.cluster_model.specs.Messages.{receiver_of};
+ghost use Rattle.cluster_model.specs.Orders.{told_of, declared_member, following_of, hold_taken, is_same_required, promotion_of, require_of, required_names, stop_kind, stop_of, upstream_of};
+ghost use Rattle.cluster_model.specs.State.{Cluster};
+ghost use Rattle.pat_world.specs.Comes.{MayCome};
+
+use cluster_model::HeardMessage;
+use event_book::{
+    Basis, EventKind, LinkEnd, Member, Names, Note, ReplicationEvent, ServerEvent, ServerOf,
+    WatchdogEvent,
+};
+use ha_loop::{Output, Target};
+use pat_base::{MemberId, Required, State, Ticks};
+use pg_model::Servers;
+use std::alloc::{AllocError, Global};
+
+/// The declared member of this number, if there is a number.
+pub fn declared_member(members: &[Member], id: Option<MemberId>) -> Option<Member>
+    ensures { result ≡ declared_member members.now id }
+{
+    member_at(members, id?)
+}
+
+/// Whom an agent writes to, if that is declared.
+pub fn receiver_of(members: &[Member], target: Target) -> Option<LinkEnd>
+    ensures { result ≡ receiver_of members.now target }
+{
+    match target {
+        Target::Store => Some(LinkEnd::Store),
+        Target::Member(id) => Some(LinkEnd::Member(member_at(members, id)?)),
+    }
+}
+
+/// The declared member of this number.
+pub fn member_at(members: &[Member], id: MemberId) -> Option<Member>
+    ensures { result ≡ slice_get members.now id.number }
+{
+    let member = members.get(id.number as usize)?;
+    Some(*member)
+}
+
+/// A promotion by the agent: what happens where the server is a replica.
+pub fn promotion_of(servers: &Servers, member: Member) -> Option<EventKind>
+    requires { IfSome (slice_get servers.now member.id.number) (λ s. s.timeline < 2 ^ 60) }
+    ensures kind { result ≡ option_and_then (promotion_of member) (slice_get servers.now member.id.number) }
+    ensures comes { (cluster : Cluster) → cluster.book.servers ≡ servers.now → IfSome result (MayCome cluster) }
+{
+    let server = servers.get(member.id.number as usize)?;
+    match server.state() {
+        State::Replica => Some(EventKind::Server(ServerEvent::Began {
+            server: ServerOf::of(member),
+            timeline: server.timeline() + 1,
+        })),
+        _ => None,
+    }
+}
+
+/// A server follows this leader's: what happens where there is such a member.
+pub fn following_of(member: Member, leader: Option<Member>) -> Option<EventKind>
+    ensures kind { result ≡ following_of member leader }
+    ensures comes { (cluster : Cluster) → IfSome result (MayCome cluster) }
+{
+    let leader = leader?;
+    Some(EventKind::Server(ServerEvent::Follows {
+        server: ServerOf::of(member),
+        upstream: ServerOf::of(leader),
+    }))
+}
+
+/// The same, where the server is a replica.
+pub fn upstream_of(servers: &Servers, member: Member, leader: Option<Member>) -> Option<EventKind>
+    ensures kind { result ≡ option_and_then (upstream_of member leader) (slice_get servers.now member.id.number) }
+    ensures comes { (cluster : Cluster) → IfSome result (MayCome cluster) }
+{
+    let server = servers.get(member.id.number as usize)?;
+    match server.state() {
+        State::Replica => following_of(member, leader),
+        _ => None,
+    }
+}
+
+/// A shutdown by the agent: what happens where the server runs or starts.
+pub fn stop_of(servers: &Servers, member: Member) -> Option<EventKind>
+    ensures kind { result ≡ option_and_then (stop_of member) (slice_get servers.now member.id.number) }
+    ensures comes { (cluster : Cluster) → cluster.book.servers ≡ servers.now → IfSome result (MayCome cluster) }
+{
+    let server = servers.get(member.id.number as usize)?;
+    match server.state() {
+        State::Starting { .. } | State::Replica | State::Primary => Some(stop_kind(
+            member,
+            server.state(),
+            server.stop_delay(),
+        )),
+        _ => None,
+    }
+}
+
+fn stop_kind(member: Member, state: State, delay: Ticks) -> EventKind
+    ensures { result ≡ stop_kind member state delay }
+{
+    let server = ServerOf::of(member);
+    match state {
+        State::Primary if delay.0 == 0 => EventKind::Server(ServerEvent::Ended { server }),
+        _ => EventKind::Server(ServerEvent::Stops { server }),
+    }
+}
+
+/// A change of those whom commits wait for: what happens where that is one. It fails only for want of memory.
+pub fn require_of(
+    alloc: Global,
+    members: &[Member],
+    servers: &Servers,
+    member: Member,
+    required: Required,
+) -> Result<Option<EventKind>, AllocError>
+    ensures kind { IfOk result (λ kind. kind ≡ option_and_then (require_of members.now member required) (slice_get servers.now member.id.number)) }
+    ensures comes { IfOk result (λ kind. (cluster : Cluster) → IfSome kind (MayCome cluster)) }
+{
+    let Some(server) = servers.get(member.id.number as usize) else {
+        return Ok(None);
+    };
+    if is_same_required(server.required(), required) {
+        return Ok(None);
+    }
+    Ok(Some(EventKind::Replication(ReplicationEvent::RequiredSet {
+        server: ServerOf::of(member),
+        required,
+        names: required_names(alloc, members, required)?,
+    })))
+}
+
+/// The names of those that commits wait for. It fails only for want of memory.
+fn required_names(
+    alloc: Global,
+    members: &[Member],
+    required: Required,
+) -> Result<Names, AllocError>
+    ensures { IfOk result (λ names. names ≡ required_names members.now required) }
+{
+    match required {
+        Required::All(set) => Names::of(alloc, set, members),
+        _ => Ok(Names::none(alloc)),
+    }
+}
+
+/// Whether commits wait for the same members.
+fn is_same_required(first: Required, second: Required) -> bool
+    ensures { result ≡ is_same_required first second }
+{
+    match (first, second) {
+        (Required::Nobody, Required::Nobody) => true,
+        (Required::AnyOne, Required::AnyOne) => true,
+        (Required::All(first), Required::All(second)) => first.bits == second.bits,
+        _ => false,
+    }
+}
+
+/// A promise not to take the leader key before a moment, on the failsafe request of another member: what happens where there
+/// is that one.
+pub fn hold_of_request(
+    member: Member,
+    until: Ticks,
+    run: u64,
+    sequence: u64,
+    from: Option<Member>,
+) -> Option<EventKind>
+    ensures kind { result ≡ option_map (hold_taken member until run sequence) from }
+    ensures comes { (cluster : Cluster) → IfSome result (MayCome cluster) }
+{
+    let from = from?;
+    Some(EventKind::Watchdog(WatchdogEvent::HoldTaken {
+        member,
+        until,
+        from,
+        run,
+        sequence,
+    }))
+}
+
+/// What an agent tells of its watchdog, on the message that it heard.
+pub fn told_of(member: Member, heard: HeardMessage, output: &Output) -> Option<EventKind>
+    ensures kind { result ≡ told_of member heard output.now }
+    ensures comes { (cluster : Cluster) → IfSome result (MayCome cluster) }
+{
+    match output {
+        Output::Armed { until } => Some(EventKind::Watchdog(WatchdogEvent::Armed {
+            member,
+            until: *until,
+            answer: heard.number,
+        })),
+        Output::Fed { until } => Some(EventKind::Watchdog(WatchdogEvent::Fed {
+            member,
+            until: *until,
+            basis: Basis::Grant {
+                answer: heard.number,
+            },
+        })),
+        Output::Disarmed => Some(EventKind::Watchdog(WatchdogEvent::Disarmed { member })),
+        Output::CannotArm => Some(EventKind::Note(Note::CannotArm { member })),
+        _ => None,
+    }
+}

@@ -1,0 +1,182 @@
+//! Runs over objects in memory, and what they are checked against.
+use pat_base::{MemberId, MemorySink, MemorySource, State};
+use patroni_top::{Ended, run};
+use std::alloc::{AllocError, Global};
+use std::process::Abort;
+use std::test::Fail;
+
+/// Which calls are to fail, counted from 1; 0 fails none.
+#[derive(Clone, Copy)]
+pub struct Faults {
+    pub input: u64,
+    pub out: u64,
+    pub err: u64,
+}
+
+pub const NO_FAULTS: Faults = Faults {
+    input: 0,
+    out: 0,
+    err: 0,
+};
+
+/// What the program told.
+#[derive(Drop)]
+pub struct Outcome {
+    pub status: u8,
+    pub out: String,
+    pub err: String,
+}
+
+/// The seven lines that close a run, by what they say of it. No cluster here is synchronous. `end` is a moment in ticks.
+#[derive(Clone, Copy)]
+pub struct Closing {
+    pub end: u64,
+    pub premises: &'static str,
+    pub two_writers: &'static str,
+    pub writers: &'static str,
+    pub acknowledged: u64,
+    pub lost: &'static str,
+}
+
+/// Nothing went wrong, and nobody accepts writes at the end.
+pub const QUIET: Closing = Closing {
+    end: 0,
+    premises: "met",
+    two_writers: "never",
+    writers: "none",
+    acknowledged: 0,
+    lost: "never",
+};
+
+/// A run: the body of its script, the lines that it prints, and the summary behind them.
+pub type Run = (&'static str, &'static str, Closing);
+
+/// How runs of a table begin: the head of their scripts with the first lines of a body, and what these print.
+#[derive(Clone, Copy)]
+pub struct Opening {
+    pub script: &'static str,
+    pub lines: &'static str,
+}
+
+/// The members are the runs' own.
+pub const OWN_MEMBERS: Opening = Opening {
+    script: "cluster demo\n",
+    lines: "",
+};
+
+pub const ONE_MEMBER: Opening = Opening {
+    script: "cluster demo\nmember a\n",
+    lines: "",
+};
+
+pub const TWO_MEMBERS: Opening = Opening {
+    script: "cluster demo\nmember a\nmember b\n",
+    lines: "",
+};
+
+pub const FOLLOWED_LINES: &str = "1 a takes the leader key\n\
+    1 a arms its watchdog until 251\n\
+    1 a accepts writes on timeline 2\n\
+    2 b follows a\n";
+
+/// At tick 2, a leads and b follows. Messages 1 to 4 are those of a, and 5 to 8 those of b. The key store stands at revision
+/// 3, and b hasn't received anything yet.
+pub const FOLLOWED: Opening = Opening {
+    script: "cluster demo\nmember a\nmember b\nrun 2\n",
+    lines: FOLLOWED_LINES,
+};
+
+/// The program over a script, with ample room.
+fn ran(
+    alloc: Global,
+    word: &str,
+    script: &str,
+    faults: Faults,
+    out: &mut MemorySink,
+    err: &mut MemorySink,
+) -> Result<Ended, AllocError> {
+    let words = vec![in alloc; String::from_str(alloc, word)?]?;
+    let mut input = MemorySource::new(
+        script.as_bytes().to_vec(alloc)?,
+        vec![in alloc; faults.input]?,
+    );
+    Ok(run(alloc, &words, &mut input, out, err))
+}
+
+/// What the program tells of a script.
+pub fn run_in_memory(
+    alloc: Global,
+    word: &str,
+    script: &str,
+    faults: Faults,
+) -> Result<Outcome, AllocError> {
+    let mut out = MemorySink::new(alloc, 65536, vec![in alloc; faults.out]?)?;
+    let mut err = MemorySink::new(alloc, 4096, vec![in alloc; faults.err]?)?;
+    let Ended { status, world } = ran(alloc, word, script, faults, &mut out, &mut err)?;
+    if let Some(world) = world {
+        world.close();
+    }
+    Ok(Outcome {
+        status: status.code(),
+        out: String::from_utf8_lossy(alloc, out.bytes())?,
+        err: String::from_utf8_lossy(alloc, err.bytes())?,
+    })
+}
+
+/// The state and the timeline of a member's server, as its agent shows them at the end of a run; nothing where no agent runs.
+pub fn shown(
+    alloc: Global,
+    script: &str,
+    member: MemberId,
+) -> Result<Option<(State, u64)>, AllocError> {
+    let mut out = MemorySink::new(alloc, 65536, Vec::new(alloc))?;
+    let mut err = MemorySink::new(alloc, 4096, Vec::new(alloc))?;
+    let Ended { world, status: _ } = ran(alloc, "run", script, NO_FAULTS, &mut out, &mut err)?;
+    match world {
+        None => Ok(None),
+        Some(world) => {
+            let seen = world.view(member).map(|view| (view.state, view.timeline));
+            world.close();
+            Ok(seen)
+        }
+    }
+}
+
+/// A text with another so many times behind it.
+pub fn repeated(alloc: Global, head: &str, piece: &str, count: u64) -> Result<String, AllocError> {
+    let mut text = String::from_str(alloc, head)?;
+    for _ in 0..count {
+        text.push_str(piece)?;
+    }
+    Ok(text)
+}
+
+/// Lines with a summary behind them.
+pub fn closed(alloc: Global, lines: &str, closing: Closing) -> Result<String, AllocError> {
+    let Closing {
+        end,
+        premises,
+        two_writers,
+        writers,
+        acknowledged,
+        lost,
+    } = closing;
+    format!(in alloc;
+        "{lines}end at {end}\npremises {premises}\nsynchronous off\ntwo writers {two_writers}\n\
+         writers {writers}\nacknowledged {acknowledged}\nlost {lost}\n"
+    )
+}
+
+/// Checks that these runs, which begin so, are printed so.
+pub fn prints(rt: &impl Abort, alloc: Global, opening: &Opening, runs: &[Run]) -> Result<(), Fail> {
+    for (body, lines, closing) in runs {
+        let script = repeated(alloc, opening.script, body, 1)?;
+        let lines = repeated(alloc, opening.lines, lines, 1)?;
+        let printed = closed(alloc, lines.as_str(), *closing)?;
+        let ended = run_in_memory(alloc, "run", script.as_str(), NO_FAULTS)?;
+        assert_eq!(rt; ended.err.as_str(), "", "{body}");
+        assert_eq!(rt; ended.status, 0, "{body}");
+        assert_eq!(rt; ended.out.as_str(), printed.as_str(), "{body}");
+    }
+    Ok(())
+}

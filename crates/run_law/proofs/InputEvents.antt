@@ -1,0 +1,129 @@
+-- What an input of an agent brings, event by event.
+use Rattle.std.proofs.Common.{◌≡◌, ◌+◌, ◌++◌, ◌==◌, ◌&&◌, nat_le, ℕ, Bool, true, false, if◌then◌else◌, List, [], ◌∷◌, Option, Some, None, length, slice_get, option_and_then, refl, ap}
+use Rattle.pg_model.specs.Facts.{ServerFacts, entries_of, is_down, is_replica, is_up}
+use Rattle.pg_model.specs.Running.{is_primary}
+use Rattle.event_book.specs.declared.agent_process.AgentProcess.{AgentProcess}
+use Rattle.event_book.specs.declared.event.Event.{Event}
+use Rattle.event_book.specs.declared.event.EventKind.{EventKind}
+use Rattle.event_book.specs.declared.event.EventKind.TheVariants as kinds
+use Rattle.event_book.specs.declared.event.MessageEvent.TheVariants.{Sent}
+use Rattle.event_book.specs.declared.event.ReplicationEvent.TheVariants as replications
+use Rattle.event_book.specs.declared.event.ServerEvent.TheVariants as servers
+use Rattle.event_book.specs.declared.link.LinkEnd.TheVariants as ends
+use Rattle.event_book.specs.declared.member.Member.{Member}
+use Rattle.event_book.specs.declared.message.Body.{Body}
+use Rattle.event_book.specs.declared.reason.Basis.TheVariants as bases
+use Rattle.event_book.specs.declared.reason.Reason.{Reason}
+use Rattle.event_book.specs.Members.{server_of}
+use Rattle.ha_loop.specs.declared.output.Output.{Output}
+use Rattle.ha_loop.specs.declared.output.Output.TheVariants as outputs
+use Rattle.ha_loop.specs.declared.output.Target.TheVariants as targets
+use Rattle.ha_loop.specs.Orders.{IsOfTable}
+use Rattle.cluster_model.specs.declared.heard_message.HeardMessage.{HeardMessage}
+use Rattle.cluster_model.specs.Cluster.{cluster_after}
+use Rattle.cluster_model.specs.Commands.{kinds_of}
+use Rattle.cluster_model.specs.Limits.{most_in_flight}
+use Rattle.summary.specs.Lacking.{lacks_in}
+use Rattle.cluster_model.specs.Losing.{beginning_kinds, loss_if}
+use Rattle.cluster_model.specs.Messages.{agent_message, lost_at_once, sending_events, output_events}
+use Rattle.cluster_model.specs.Orders.{declared_member, following_of, is_same_required, order_kind, promotion_kinds, arming, feeding, feed_kinds, replica_start_kinds, require_of, required_names, server_at, stop_kind, stop_kinds, stop_of, upstream_of}
+use Rattle.cluster_model.specs.Parts.{events_of, for_some}
+use Rattle.cluster_model.specs.State.{Cluster}
+use Rattle.lease_law.specs.Premises.{AllAre}
+use Rattle.run_law.proofs.Lists.{AllKinds, HoldsIf, all-kinds, one-kind}
+use Rattle.run_law.specs.InputEvents.{IsOfInput}
+
+holds-then : {X : Type 0} (P : EventKind → Type 0) (f : X → Option EventKind) (found : Option X) → ((x : X) → HoldsIf P (f x)) → HoldsIf P (option_and_then f found)
+holds-then P f None all = tt
+holds-then P f (Some x) all = all x
+
+holds-if : (P : EventKind → Type 0) (test : Bool) (kind : EventKind) → P kind → HoldsIf P (if test then Some kind else None)
+holds-if P true kind is = is
+holds-if P false kind is = tt
+
+-- ---- the events of one output
+module _ (member : Member) (run heard : ℕ) (Q : Output → Type 0) where
+  abbrev Mine : EventKind → Type 0
+  Mine kind = IsOfInput member run heard Q kind
+
+  loss-mine : (test : Bool) → AllKinds Mine (kinds_of (loss_if member test))
+  loss-mine true = (refl, tt)
+  loss-mine false = tt
+
+  promote-mine : (s : ServerFacts) (acknowledged : List ℕ) (test : Bool) → Q outputs.Promote → AllKinds Mine (if test then beginning_kinds member (s.timeline + 1) acknowledged s.log else [])
+  promote-mine s acknowledged true is = ((refl, is), loss-mine (lacks_in (entries_of s.log) acknowledged))
+  promote-mine s acknowledged false is = tt
+
+  promotes-mine : (cluster : Cluster) (found : Option ServerFacts) → Q outputs.Promote → AllAre Mine (for_some found (λ s. events_of cluster (promotion_kinds member cluster.book.acknowledged s)))
+  promotes-mine cluster None is = tt
+  promotes-mine cluster (Some s) is = all-kinds Mine cluster (promotion_kinds member cluster.book.acknowledged s) (promote-mine s cluster.book.acknowledged (is_replica s.state) is)
+
+  follow-mine : (leader : Option Member) → HoldsIf Mine (following_of member leader)
+  follow-mine None = tt
+  follow-mine (Some leader) = refl
+
+  upstream-mine : (leader : Option Member) (test : Bool) → HoldsIf Mine (if test then following_of member leader else None)
+  upstream-mine leader true = follow-mine leader
+  upstream-mine leader false = tt
+
+  stop-mine : (test : Bool) → Mine (if test then kinds.Server (servers.Ended (server_of member)) else kinds.Server (servers.Stops (server_of member)))
+  stop-mine true = refl
+  stop-mine false = refl
+
+  started-mine : (leader : Option Member) (test : Bool) → AllKinds Mine (if test then kinds.Server (servers.StartsAsReplica (server_of member)) ∷ kinds_of (following_of member leader) else [])
+  started-mine leader true = (refl, one-kind Mine (following_of member leader) (follow-mine leader))
+  started-mine leader false = tt
+
+  require-mine : (kind : EventKind) (test : Bool) → Mine kind → HoldsIf Mine (if test then None else Some kind)
+  require-mine kind true is = tt
+  require-mine kind false is = is
+
+  starts-mine : (cluster : Cluster) (leader : Option Member) (found : Option ServerFacts) → AllAre Mine (for_some found (λ s. events_of cluster (replica_start_kinds member leader s)))
+  starts-mine cluster leader None = tt
+  starts-mine cluster leader (Some s) = all-kinds Mine cluster (replica_start_kinds member leader s) (started-mine leader (is_down s.state))
+
+  stops-mine : (cluster : Cluster) (reason : Reason) (found : Option ServerFacts) → AllAre Mine (for_some found (λ s. events_of cluster (stop_kinds member reason s)))
+  stops-mine cluster reason None = tt
+  stops-mine cluster reason (Some s) =
+      all-kinds Mine cluster (stop_kinds member reason s) (tt, one-kind Mine (stop_of member s) (holds-if Mine (is_up s.state) (stop_kind member s.state s.stop_delay) (stop-mine (is_primary s.state && s.stop_delay.0 == 0))))
+
+  lost-mine : (test : Bool) (number : ℕ) → AllKinds Mine (lost_at_once test number)
+  lost-mine true number = (tt, tt)
+  lost-mine false number = tt
+
+  sends-mine : (cluster : Cluster) (sequence : ℕ) (body : Body) (found : Option AgentProcess) → ((process : AgentProcess) → found ≡ Some process → process.run ≡ run) → Q (outputs.Send targets.Store sequence body)
+      → AllAre Mine (sending_events cluster member found (Some ends.Store) sequence body)
+  sends-mine cluster sequence body None runs is = tt
+  sends-mine cluster sequence body (Some process) runs is =
+      all-kinds Mine cluster (kinds.Message (Sent (cluster.book.sent + 1) (agent_message member ends.Store process.run sequence body)) ∷ lost_at_once (nat_le most_in_flight (length cluster.book.flight)) (cluster.book.sent + 1))
+      (record { sequence = sequence; body = body; is = ap (λ (r : ℕ). agent_message member ends.Store r sequence body) (runs process refl); from = is }, lost-mine (nat_le most_in_flight (length cluster.book.flight)) (cluster.book.sent + 1))
+
+  order-mine : (cluster : Cluster) (message : HeardMessage) → message.number ≡ heard → (output : Output) → IsOfTable output → Q output → HoldsIf Mine (order_kind cluster member message output)
+  order-mine cluster message at (outputs.Send to sequence body) table is = tt
+  order-mine cluster message at outputs.Promote table is = tt
+  order-mine cluster message at (outputs.StartReplica leader) table is = tt
+  order-mine cluster message at (outputs.Stop reason) table is = tt
+  order-mine cluster message at (outputs.Follow leader) table is = holds-then Mine (upstream_of member (slice_get cluster.book.members leader.number)) (server_at cluster member) (λ s. upstream-mine (slice_get cluster.book.members leader.number) (is_replica s.state))
+  order-mine cluster message at (outputs.Require required) table is =
+      holds-then Mine (require_of cluster.book.members member required) (server_at cluster member)
+      (λ s. require-mine (kinds.Replication (replications.RequiredSet (server_of member) required (required_names cluster.book.members required))) (is_same_required s.required required) refl)
+  order-mine cluster message at (outputs.Armed until) table is = tt
+  order-mine cluster message at (outputs.Fed until) table is = tt
+  order-mine cluster message at outputs.Disarmed table is = refl
+  order-mine cluster message at outputs.CannotArm table is = tt
+  order-mine cluster message at (outputs.HoldTaken until from sequence) table is = absurd table
+
+  ordered-mine : (cluster : Cluster) (message : HeardMessage) → message.number ≡ heard → (output : Output) → IsOfTable output → Q output → AllAre Mine (events_of cluster (kinds_of (order_kind cluster member message output)))
+  ordered-mine cluster message at output table is =
+      all-kinds Mine cluster (kinds_of (order_kind cluster member message output)) (one-kind Mine (order_kind cluster member message output) (order-mine cluster message at output table is))
+
+  pub output-mine : (cluster : Cluster) (message : HeardMessage) → message.number ≡ heard → ((process : AgentProcess) → slice_get cluster.book.agents member.id.number ≡ Some process → process.run ≡ run)
+      → (output : Output) → IsOfTable output → Q output → AllAre Mine (output_events member message cluster output)
+  output-mine cluster message at runs (outputs.Send targets.Store sequence body) table is = sends-mine cluster sequence body (slice_get cluster.book.agents member.id.number) runs is
+  output-mine cluster message at runs (outputs.Send (targets.Member id) sequence body) table is = absurd table
+  output-mine cluster message at runs outputs.Promote table is = promotes-mine cluster (server_at cluster member) is
+  output-mine cluster message at runs (outputs.Armed until) table is = all-kinds Mine cluster (feed_kinds member message (arming member until message)) (refl, ((refl, at, is), tt))
+  output-mine cluster message at runs (outputs.Fed until) table is = all-kinds Mine cluster (feed_kinds member message (feeding member until message)) (refl, ((refl, ap (λ (n : ℕ). bases.Grant n) at, is), tt))
+  output-mine cluster message at runs (outputs.StartReplica leader) table is = starts-mine cluster (declared_member cluster.book.members leader) (server_at cluster member)
+  output-mine cluster message at runs (outputs.Stop reason) table is = stops-mine cluster reason (server_at cluster member)
+  output-mine cluster message at runs output table is = ordered-mine cluster message at output table is

@@ -1,0 +1,403 @@
+-- An input of an agent keeps the law of one writer.
+use Rattle.std.proofs.Common.{◌≡◌, ◌≢◌, ◌⊎◌, ◌++◌, ◌≤◌, ◌<◌, ℕ, Bool, true, false, List, [], ◌∷◌, Option, Some, None, All, Contains, length, slice_get, refl, sym, subst, ap, ◌∙◌, inl, inr}
+use Rattle.std.proofs.lemmas.List.Elements.{All-contains_itself}
+use Rattle.std.proofs.Math.Path.{fun_ext}
+use Rattle.pat_base.specs.Changes.{changed_by}
+use Rattle.pat_base.specs.declared.ticks.Ticks.{Ticks}
+use Rattle.pg_model.specs.Facts.{ServerFacts}
+use Rattle.event_book.specs.declared.agent_process.AgentProcess.{AgentProcess}
+use Rattle.event_book.specs.declared.event.AgentEvent.TheVariants as agents
+use Rattle.event_book.specs.declared.event.Event.{Event}
+use Rattle.event_book.specs.declared.event.EventKind.{EventKind}
+use Rattle.event_book.specs.declared.event.EventKind.TheVariants as kinds
+use Rattle.event_book.specs.declared.event.MessageEvent.TheVariants.{Sent, Delivered, Lost}
+use Rattle.event_book.specs.declared.member.Member.{Member}
+use Rattle.event_book.specs.declared.message.Body.{Body}
+use Rattle.event_book.specs.declared.message.Message.{Message}
+use Rattle.event_book.specs.Functions.{put_at}
+use Rattle.cluster_script.specs.Script.{HeadText}
+use Rattle.ha_loop.specs.declared.heard.Heard.{Heard}
+use Rattle.ha_loop.specs.declared.machine.Machine.{Machine}
+use Rattle.ha_loop.specs.declared.output.Output.{Output}
+use Rattle.ha_loop.specs.declared.output.Output.TheVariants as outputs
+use Rattle.ha_loop.specs.declared.output.Target.TheVariants as targets
+use Rattle.ha_loop.specs.Agents.{AgentFacts, Outcome, made}
+use Rattle.ha_loop.specs.Lawful.{StandsIn, Hears, IsSentBy, IsInputOf, MayPromote, IsLawfulAnd}
+use Rattle.ha_loop.specs.Orders.{IsOfTable}
+use Rattle.ha_loop.specs.Outputs.{is_arming, is_feeding, has_one}
+use Rattle.ha_loop.specs.Seen.{machine_seen}
+use Rattle.ha_loop.specs.Table.{step}
+use Rattle.ha_loop.proofs.LawfulSteps.{input-lawful-from, input-ends}
+use Rattle.ha_loop.proofs.Orders.{step-carried-out}
+use Rattle.cluster_model.specs.declared.heard_message.HeardMessage.{HeardMessage}
+use Rattle.cluster_model.specs.Cluster.{agent_after, agent_facts_after, cluster_after, cluster_over}
+use Rattle.cluster_model.specs.Inputs.{moment_of}
+use Rattle.cluster_model.specs.Machines.{points_of}
+use Rattle.cluster_model.specs.Messages.{output_events}
+use Rattle.cluster_model.specs.Parts.{each}
+use Rattle.cluster_model.specs.State.{Cluster}
+use Rattle.lease_law.specs.Leases.{Flying, Query, Requested, Taking}
+use Rattle.lease_law.specs.Actions.{Input}
+use Rattle.lease_law.specs.Books.{IsShown}
+use Rattle.lease_law.specs.Claims.{BeginsBehind, MayBeginBehind, ShowsIt}
+use Rattle.lease_law.specs.Inputs.{AgentInput}
+use Rattle.lease_law.specs.Past.{Past, VolatileState, first_past, past_after, past_of, past_over, state_of, machine_of as machine_told, taken_after}
+use Rattle.lease_law.specs.Premises.{AllAre, KeepsMomentOf}
+use Rattle.lease_law.specs.Showing.{IsOwn, input_of}
+use Rattle.lease_law.specs.States.{Machine as MachineSeen, State}
+use Rattle.lease_law.proofs.Showing.{input-shown-of, past-append}
+use Rattle.lease_law.proofs.Tools.{none-some, some-is, put-here}
+use Rattle.bridge_law.specs.Groups.{IsOfMembers as IsFromMembers, AreNumberedAbove}
+use Rattle.bridge_law.specs.Sending.{SendsOnly}
+use Rattle.bridge_law.proofs.Groups.{own-causal}
+use Rattle.bridge_law.proofs.Sends.{old-or-sent, heard-gone}
+use Rattle.run_law.proofs.Lists.{all-more}
+use Rattle.run_law.specs.Bridged.{Bridged, IsMatched}
+use Rattle.run_law.specs.Declaring.{declared_of, member_count, works_of}
+use Rattle.run_law.specs.InputEvents.{IsOfInput}
+use Rattle.run_law.specs.Kept.{IsKept}
+use Rattle.run_law.specs.Machines.{live_now, run_in}
+use Rattle.run_law.specs.Questions.{IsQuestion, SendsBetween, AsksAnew}
+use Rattle.run_law.specs.Volatile.{agent_now, volatile_of}
+use Rattle.run_law.specs.Waiting.{IsAddressed}
+use Rattle.run_law.proofs.Actions.{action-kept, machine-is}
+use Rattle.run_law.proofs.Fitting.{Fits, IsFitting, SendsAddressed, fits-of, fits-over, matched-from}
+use Rattle.run_law.proofs.InputKinds.{IsOpening, opening-own, opening-taken, opening-sends, opening-from, opening-above, opening-members, opening-hands_off, opening-moments, mine-own, mine-taken, mine-from, mine-hands_off, mine-members, mine-sends, asked-over}
+use Rattle.run_law.proofs.InputMachines.{Mirrors}
+use Rattle.run_law.proofs.InputOutputs.{each-begins, each-fed, each-mirrors, each-numbered, armed-more, moments-all}
+use Rattle.run_law.proofs.InputSeen.{IsFound, margin-of, seen-of}
+use Rattle.run_law.proofs.InputStays.{Stays, each-mine, item-here, stays-over}
+use Rattle.run_law.proofs.InputWaiting.{agents-after, knows-after, runs-after}
+use Rattle.run_law.proofs.Places.{get-elsewhere, length-changed}
+use Rattle.run_law.proofs.Questions.{step-asks-anew}
+
+-- ---- the event with which it begins
+pub record IsBegun (m : ℕ) (cluster later : Cluster) : Type 0 where
+  pub processes : later.book.agents ≡ cluster.book.agents
+  pub clock : later.book.clock ≡ cluster.book.clock
+  pub servers : later.book.servers ≡ cluster.book.servers
+  pub deadlines : later.book.deadlines ≡ cluster.book.deadlines
+  pub holds : later.book.holds ≡ cluster.book.holds
+  pub sent : later.book.sent ≡ cluster.book.sent
+
+begun-by : (m : ℕ) (cluster : Cluster) (heard : Option ℕ) (kind : EventKind) → IsOpening heard kind → IsBegun m cluster (cluster_after cluster kind)
+begun-by m cluster heard (kinds.Agent (agents.Woken by)) is = record { processes = refl; clock = refl; servers = refl; deadlines = refl; holds = refl; sent = refl }
+begun-by m cluster heard (kinds.Message (Delivered number)) is = record { processes = refl; clock = refl; servers = refl; deadlines = refl; holds = refl; sent = refl }
+begun-by m cluster heard _ is = absurd is
+
+opening-addressed : (heard : Option ℕ) (kind : EventKind) → IsOpening heard kind → SendsAddressed kind
+opening-addressed heard (kinds.Agent (agents.Woken by)) is = tt
+opening-addressed heard (kinds.Message (Delivered number)) is = tt
+opening-addressed heard _ is = absurd is
+
+opening-sent : (heard : Option ℕ) (kind : EventKind) (last : ℕ) → IsOpening heard kind → Rattle.event_book.specs.Flight.sent_after last kind ≡ last
+opening-sent heard (kinds.Agent (agents.Woken by)) last is = refl
+opening-sent heard (kinds.Message (Delivered number)) last is = refl
+opening-sent heard _ last is = absurd is
+
+mine-addressed : (member : Member) (run heard : ℕ) (Q : Output → Type 0) → ((sequence : ℕ) (body : Body) → Q (outputs.Send targets.Store sequence body) → IsQuestion body) → (kind : EventKind) → IsOfInput member run heard Q kind → SendsAddressed kind
+mine-addressed member run heard Q asks (kinds.Message (Sent number message)) is = subst (λ (x : Message). IsAddressed x.from x.to x.body) (sym is.is) (asks is.sequence is.body is.from)
+mine-addressed member run heard Q asks (kinds.Message (Delivered number)) is = absurd is
+mine-addressed member run heard Q asks (kinds.Message (Lost number)) is = tt
+mine-addressed member run heard Q asks _ is = tt
+
+taken-over : (past : Past) (events : List Event) → AllAre (λ kind. (clock : ℕ) (taken : List Taking) → taken_after clock taken kind ≡ taken) events → (past_over past events).taken ≡ past.taken
+taken-over past [] all = refl
+taken-over past (event ∷ events) all = taken-over (past_after past event.kind) events all.1 ∙ all.0 past.clock past.taken
+
+-- the premises say that watchdogs work
+pub kept-if-works : (head : HeadText) (book : List Event) (cluster : Cluster) (events : List Event) → (((m : ℕ) → works_of head m ≡ true) → IsKept head book cluster events) → IsKept head book cluster events
+kept-if-works head book cluster events kept = record {
+  sole = λ front rest e meets. (kept meets.hands_off.watched).sole front rest e meets;
+  bridged = λ meets. (kept meets.hands_off.watched).bridged meets;
+}
+
+volatile-same : (a b : Bool) (x y : Option _) → a ≡ b → x ≡ y → ◌≡◌ {A = VolatileState} (record { live = a; agent = x }) (record { live = b; agent = y })
+volatile-same a b x y p q = cc
+
+-- what is in an input's outputs
+both-all : (P Q : Output → Type 0) (outs : List Output) → All P outs → All Q outs → All (λ out. P out × Q out) outs
+both-all P Q outs p q = λ k d h. (p k d h, q k d h)
+
+-- ---- the input
+module _ (head : HeadText) (book : List Event) (cluster : Cluster) (good : Bridged head book cluster) (member : Member) (agent : AgentFacts) (machine : Machine) (found : IsFound cluster member machine)
+    (here : slice_get cluster.agents member.id.number ≡ Some (Some agent)) (heard : Heard) (hn : Option ℕ) (message : HeardMessage) (opening : EventKind) (opens : IsOpening hn opening)
+    (numbered : (n : ℕ) → hn ≡ Some n → (message.number ≡ n) × (n ≤ cluster.book.sent)) (low : message.number ≤ cluster.book.sent) where
+  abbrev M : ℕ
+  M = member.id.number
+
+  abbrev Before : Outcome
+  Before = made agent.role agent.knows machine []
+
+  abbrev Now : Ticks
+  Now = moment_of cluster
+
+  abbrev After : Outcome
+  After = step Now (points_of cluster member) heard Before
+
+  abbrev First : Cluster
+  First = cluster_after cluster opening
+
+  abbrev Rest : List Event
+  Rest = each (output_events member message) First After.outputs
+
+  abbrev Events : List Event
+  Events = record { tick = record { 0 = First.book.clock }; kind = opening } ∷ Rest
+
+  abbrev Later : Cluster
+  Later = cluster_over First Rest
+
+  abbrev Told : Past
+  Told = past_of book
+
+  abbrev S : State
+  S = state_of (declared_of head) Told (volatile_of cluster)
+
+  abbrev Theirs : AgentInput
+  Theirs = input_of Told M (volatile_of Later M) hn (has_one is_feeding After.outputs) None Events
+
+  anew : AsksAnew Now agent.knows After.knows After.outputs
+  anew = step-asks-anew Now (points_of cluster member) heard agent.role agent.knows machine
+
+  abbrev Q : Output → Type 0
+  Q out = Contains After.outputs out × SendsBetween agent.knows.sequence After.knows.sequence out
+
+  table : All IsOfTable After.outputs
+  table = (step-carried-out Now (points_of cluster member) heard agent.role agent.knows machine).kinds
+
+  begun : IsBegun M cluster First
+  begun = begun-by M cluster hn opening opens
+
+  knows-it : Rattle.run_law.specs.Bridged.KnowsItself M (slice_get cluster.book.agents M) agent
+  knows-it = good.matched.agents M agent here
+
+  same-process : (a b process : AgentProcess) (o : Option AgentProcess) → o ≡ Some a → o ≡ Some process → a ≡ process
+  same-process a b process o e f = some-is a process (sym e ∙ f)
+
+  runs : (process : AgentProcess) → slice_get First.book.agents M ≡ Some process → process.run ≡ agent.knows.run
+  runs process e = ap (λ (p : AgentProcess). p.run) (some-is process knows-it.found (sym e ∙ ap (λ (l : List AgentProcess). slice_get l M) begun.processes ∙ knows-it.is)) ∙ sym knows-it.run
+
+  mine : AllAre (IsOfInput member agent.knows.run message.number Q) Rest
+  mine = each-mine member agent.knows.run message.number Q First message refl runs After.outputs table
+      (both-all (Contains After.outputs) (SendsBetween agent.knows.sequence After.knows.sequence) After.outputs (All-contains_itself After.outputs) anew.sends)
+
+  stays : Stays M First Later
+  stays = stays-over member agent.knows.run message.number Q First Rest mine
+
+  -- ---- all its events
+  all-events : (P : EventKind → Type 0) → P opening → ((kind : EventKind) → IsOfInput member agent.knows.run message.number Q kind → P kind) → AllAre P Events
+  all-events P first rest = (first, all-more (IsOfInput member agent.knows.run message.number Q) P Rest rest mine)
+
+  numbers : AreNumberedAbove cluster.book.sent Events
+  numbers = (
+    opening-above cluster.book.sent hn opening opens,
+    subst (λ (n : ℕ). AreNumberedAbove n Rest) (begun.sent ∙ sym (opening-sent hn opening cluster.book.sent opens)) (each-numbered member agent.knows.run message First After.outputs runs table),
+  )
+
+  sends : AllAre (SendsOnly (IsSentBy M agent.knows.run Told.clock After.outputs) Told.clock) Events
+  sends = all-events (SendsOnly (IsSentBy M agent.knows.run Told.clock After.outputs) Told.clock) (opening-sends (IsSentBy M agent.knows.run Told.clock After.outputs) Told.clock hn opening opens)
+      (mine-sends member agent.knows.run message.number Q (IsSentBy M agent.knows.run Told.clock After.outputs) Told.clock
+      (λ sequence body query is query-is. record { sequence = sequence; body = body; query = query; among = is.0; query_is = query-is; is = refl }))
+
+  asks : (sequence : ℕ) (body : Body) → Q (outputs.Send targets.Store sequence body) → IsQuestion body
+  asks sequence body is = is.1.2
+
+  small : M < member_count head
+  small = subst (λ (n : ℕ). M < n) good.matched.agents_sized (Rattle.std.proofs.lemmas.Option.slice_get_within cluster.agents M (Some agent) here)
+
+  fitting : AllAre (IsFitting (member_count head)) Events
+  fitting = all-events (IsFitting (member_count head)) (opening-hands_off hn opening opens, opening-members (member_count head) hn opening opens, opening-addressed hn opening opens)
+      (λ kind is. (mine-hands_off member agent.knows.run message.number Q kind is, mine-members member agent.knows.run message.number Q (member_count head) small kind is, mine-addressed member agent.knows.run message.number Q asks kind is))
+
+  fits : Fits head (past_over Told Events) Later
+  fits = fits-over head Told cluster Events
+      (own-causal Told cluster.book Events (all-events IsFromMembers (opening-from hn opening opens) (mine-from member agent.knows.run message.number Q)) numbers)
+      fitting (fits-of head Told cluster good.matched)
+
+  -- ---- agents
+  clock-is : Now.0 ≡ Told.clock
+  clock-is = sym good.matched.store.clock
+
+  questions : (i : ℕ) (q : Rattle.lease_law.specs.Leases.Question) → (past_over Told Events).asked i ≡ Some q → (Told.asked i ≡ Some q) ⊎ IsSentBy M agent.knows.run Told.clock After.outputs (Requested q)
+  questions = asked-over (IsSentBy M agent.knows.run Told.clock After.outputs) Told.clock Told Events refl sends
+
+  run-is : agent.knows.run ≡ run_in cluster.book.agents M
+  run-is = knows-it.run ∙ sym (ap Rattle.run_law.specs.Machines.run_now knows-it.is)
+
+  module _ (acts : agent_facts_after cluster opening ≡ changed_by cluster.agents M (agent_after (Some After))) where
+    agents-are : Later.agents ≡ changed_by cluster.agents M (agent_after (Some After))
+    agents-are = stays.agents ∙ acts
+
+    processes-are : Later.book.agents ≡ cluster.book.agents
+    processes-are = stays.processes ∙ begun.processes
+
+    ends-alone : Rattle.ha_loop.specs.Agents.EndsAlone After.role After.knows.waited
+    ends-alone = input-ends Now (points_of cluster member) heard Before (good.matched.waiting.agents M agent here).ends
+
+    after-here : slice_get Later.agents M ≡ Some (Some (record { role = After.role; knows = After.knows }))
+    after-here = ap (λ (l : List (Option AgentFacts)). slice_get l M) agents-are ∙ item-here cluster.agents M (agent_after (Some After)) (Some agent) here
+
+    matched-over : IsMatched head (past_over Told Events) Later
+    matched-over = matched-from head (past_over Told Events) Later fits
+        (ap (λ (l : List (Option AgentFacts)). length l) agents-are ∙ length-changed cluster.agents M (agent_after (Some After)) ∙ good.matched.agents_sized)
+        (subst (λ (p : List AgentProcess). Rattle.run_law.specs.Bridged.KnowThemselves p Later.agents) (sym processes-are)
+        (subst (Rattle.run_law.specs.Bridged.KnowThemselves cluster.book.agents) (sym agents-are)
+        (knows-after M agent After cluster.book.agents cluster.agents here anew.who anew.run good.matched.agents)))
+        (λ n. subst (λ (p : List AgentProcess). Rattle.bridge_law.specs.Waiting.IsLastRun (past_over Told Events).asked n (run_in p n)) (sym processes-are)
+        (runs-after M Told.clock agent.knows.run After.outputs Told.asked (past_over Told Events).asked cluster.book.agents run-is questions good.matched.waiting.runs n))
+        (subst (Rattle.run_law.specs.Waiting.AreAgentsSound (past_over Told Events).asked) (sym agents-are)
+        (agents-after M Told.clock Now agent After Told.asked (past_over Told Events).asked cluster.agents here questions anew clock-is ends-alone good.matched.waiting.agents))
+
+    behind : past_of (book ++ Events) ≡ past_over Told Events
+    behind = past-append first_past book Events
+
+    matched : IsMatched head (past_of (book ++ Events)) Later
+    matched = subst (λ (p : Past). IsMatched head p Later) (sym behind) matched-over
+
+    -- ---- the machine
+    mirrors-first : Mirrors First M machine
+    mirrors-first = record {
+      server = record {
+        server = found.mirrors.server.server;
+        is = ap (λ (l : List ServerFacts). slice_get l M) begun.servers ∙ found.mirrors.server.is;
+        state_is = found.mirrors.server.state_is;
+        stop_is = found.mirrors.server.stop_is;
+        start_is = found.mirrors.server.start_is;
+      };
+      deadline = ap (λ (l : List (Option Ticks)). slice_get l M) begun.deadlines ∙ found.mirrors.deadline;
+      hold = ap (λ (l : List (Option Ticks)). slice_get l M) begun.holds ∙ found.mirrors.hold;
+    }
+
+    mirrors-later : Mirrors Later M After.machine
+    mirrors-later = subst (λ (x : Machine). Mirrors Later M x) (sym (step-carried-out Now (points_of cluster member) heard agent.role agent.knows machine).machine_is)
+        (each-mirrors member agent.knows.run message Now First machine After.outputs runs table begun.clock mirrors-first)
+
+    machine-later : machine_told (past_over Told Events) (volatile_of Later M) M ≡ machine_seen After.role After.knows After.machine false (run_in cluster.book.agents M)
+    machine-later =
+        machine-is head (past_over Told Events) Later matched-over M
+        ∙ seen-of Later M (record { role = After.role; knows = After.knows }) After.machine mirrors-later after-here
+        ∙ ap (λ (p : List AgentProcess). machine_seen After.role After.knows After.machine false (run_in p M)) processes-are
+
+    stands : StandsIn S M (run_in cluster.book.agents M) Now Before
+    stands = record {
+      member = machine-is head Told cluster good.matched M ∙ seen-of cluster M agent machine found.mirrors here;
+      me = knows-it.me;
+      clock = good.matched.store.clock;
+      margin = margin-of head Told cluster member machine good.matched found;
+      failsafe = refl;
+    }
+
+    gone-if : (o : Option ℕ) (kind : EventKind) → IsOpening o kind → (number : ℕ) → o ≡ Some number → kind ≡ kinds.Message (Delivered number)
+    gone-if o (kinds.Agent (agents.Woken by)) is number e = absurd (none-some number (sym is ∙ e))
+    gone-if o (kinds.Message (Delivered n)) is number e = ap (λ (k : ℕ). kinds.Message (Delivered k)) (some-is n number (sym is ∙ e))
+    gone-if o _ is number e = absurd is
+
+    is-input : IsInputOf S M (run_in cluster.book.agents M) Before After Theirs
+    is-input = record {
+      feeds = refl;
+      takes = refl;
+      machine = machine-later;
+      gone = λ number e. heard-gone Told (record { tick = record { 0 = First.book.clock }; kind = opening }) Rest cluster.book.sent number (gone-if hn opening opens number e) (numbered number e).1
+          (subst (λ (n : ℕ). AreNumberedAbove n Rest) (opening-sent hn opening cluster.book.sent opens) numbers.1);
+      flight = λ i flying e. old-or-sent (IsSentBy M agent.knows.run Told.clock After.outputs) Told.clock Told Events refl sends i flying e;
+    }
+
+    -- ---- who begins, and what is fed
+    kept : AllAre (KeepsMomentOf message.number) Rest
+    kept = moments-all member agent.knows.run message.number cluster.book.sent message.number Q Rest low
+        (subst (λ (n : ℕ). AreNumberedAbove n Rest) (opening-sent hn opening cluster.book.sent opens) numbers.1) mine
+
+    abbrev May : List Event → ℕ → Type 0
+    May before n = MayBeginBehind S (Input M Theirs) before n
+
+    grow : (before more : List Event) → May before M → May (before ++ more) M
+    grow before more may = (
+      may.0,
+      elim may.1 [
+        | inl acts ↦ inl acts
+        | inr armed ↦ inr (record { fed = armed.fed; free = armed.free; armed = armed-more member agent.knows.run message M armed.fed.hears.number before more armed.armed })
+      ],
+    )
+
+    makes : (outs : List Output) (before : List Event) → MayPromote S M Theirs outs → (has_one is_arming outs ≡ true → Rattle.lease_law.specs.Claims.IsArmedIn M message.number before) → May before M
+    makes outs before may armed = (
+      refl,
+      inr (record {
+        fed = may.fed;
+        free = may.free;
+        armed = subst (λ (n : ℕ). Rattle.lease_law.specs.Claims.IsArmedIn M n before) (numbered may.fed.hears.number may.fed.hears.heard_is).0 (armed may.armed);
+      }),
+    )
+
+    no-one : (e : has_one is_arming [] ≡ true) → ⊥
+    no-one e = cc
+
+    opening-begins : (R : ℕ → Type 0) (o : Option ℕ) (kind : EventKind) → IsOpening o kind → Rattle.event_book.specs.Writers.BeginsKind R kind
+    opening-begins R o (kinds.Agent (agents.Woken by)) is = tt
+    opening-begins R o (kinds.Message (Delivered n)) is = tt
+    opening-begins R o _ is = absurd is
+
+    begins-all : IsLawfulAnd S M After Theirs → BeginsBehind (MayBeginBehind S (Input M Theirs)) [] Events
+    begins-all lawful = (
+      opening-begins (May []) hn opening opens,
+      each-begins member agent.knows.run message (MayPromote S M Theirs) May grow makes First [] (record { tick = record { 0 = First.book.clock }; kind = opening } ∷ []) After.outputs runs table
+          (opening-moments message.number hn opening opens, tt) kept (λ e. absurd (no-one e)) lawful.begins,
+    )
+
+    all-front : (xs ys : List Event) → AllAre (KeepsMomentOf message.number) (xs ++ ys) → AllAre (KeepsMomentOf message.number) xs
+    all-front [] ys all = tt
+    all-front (x ∷ xs) ys all = (all.0, all-front xs ys all.1)
+
+    shows-if : (fed : Bool) → has_one is_feeding After.outputs ≡ fed → ShowsIt S (Input M Theirs) Events
+    shows-if false is = inl is
+    shows-if true is =
+        let fed = each-fed member agent.knows.run message First After.outputs is in
+        let first : Event = record { tick = record { 0 = First.book.clock }; kind = opening } in
+        inr (
+          first ∷ fed.front,
+          fed.event,
+          fed.rest,
+          ap (λ (l : List Event). first ∷ l) fed.is,
+          record {
+            by_grant = λ _ _ number e.
+                let same = (numbered number e).0 in (
+                  subst (λ (n : ℕ). AllAre (KeepsMomentOf n) (first ∷ fed.front)) same
+                      (opening-moments message.number hn opening opens, all-front fed.front (fed.event ∷ fed.rest) (subst (AllAre (KeepsMomentOf message.number)) (sym fed.is) kept)),
+                  subst (λ (n : ℕ). Rattle.lease_law.specs.Premises.IsFedBy M n fed.event.kind) same fed.fed,
+                );
+            by_failsafe = λ _ failsafe _ _ _ _. absurd (Rattle.lease_law.proofs.Tools.not-false _ (ap (λ (x : MachineSeen). x.by_failsafe) machine-later) failsafe);
+          },
+        )
+
+    -- ---- the action
+    volatile-put : (n : ℕ) → volatile_of Later n ≡ put_at (volatile_of cluster) M (volatile_of Later M) n
+    volatile-put = by
+      where
+        other-way : (n : ℕ) → n ≢ M → volatile_of Later n ≡ volatile_of cluster n
+        other-way n other = volatile-same _ _ _ _
+            (ap live_now (stays.servers n other ∙ ap (λ (l : List ServerFacts). slice_get l n) begun.servers))
+            (ap agent_now (ap (λ (l : List (Option AgentFacts)). slice_get l n) agents-are ∙ get-elsewhere cluster.agents M n (agent_after (Some After)) other))
+
+        by : (n : ℕ) → volatile_of Later n ≡ put_at (volatile_of cluster) M (volatile_of Later M) n
+        by n = elim (Rattle.lease_law.proofs.Tools.decide-eq n M) [
+          | inl same ↦ ap (volatile_of Later) same ∙ sym (put-here (volatile_of cluster) M (volatile_of Later M)) ∙ ap (put_at (volatile_of cluster) M (volatile_of Later M)) (sym same)
+          | inr other ↦ other-way n other ∙ sym (Rattle.lease_law.proofs.Tools.put-there (volatile_of cluster) M (volatile_of Later M) n other)
+        ]
+
+    shown : IsShown (declared_of head) book (volatile_of cluster) (record { action = Input M Theirs; events = Events; volatile_states = volatile_of Later })
+    shown = subst (λ (v : ℕ → VolatileState). IsShown (declared_of head) book (volatile_of cluster) (record { action = Input M Theirs; events = Events; volatile_states = v })) (sym (fun_ext volatile-put))
+        (input-shown-of (declared_of head) book (volatile_of cluster) M (volatile_of Later M) hn (has_one is_feeding After.outputs) None Events
+        (all-events (IsOwn M) (opening-own M hn opening opens) (mine-own member agent.knows.run message.number Q))
+        (taken-over Told Events (all-events (λ kind. (clock : ℕ) (taken : List Taking) → taken_after clock taken kind ≡ taken) (λ clock taken. opening-taken clock taken hn opening opens) (λ kind is clock taken. mine-taken member agent.knows.run message.number Q clock taken kind is))))
+
+    pub input-kept : (((m : ℕ) → works_of head m ≡ true) → Hears S M hn Now heard Before) → IsKept head book cluster Events
+    input-kept hears = kept-if-works head book cluster Events (λ works.
+        let sound = good.matched.waiting.agents M agent here in
+        let lawful = input-lawful-from Now (points_of cluster member) heard agent.role agent.knows machine (λ waited is. (sound.waits waited is).span) sound.ends
+        S M (run_in cluster.book.agents M) Theirs stands (hears works) is-input in
+        action-kept head book cluster Events (Input M Theirs) good (begins-all lawful) (λ meets. record {
+          lawful = lawful.lawful;
+          shows = shows-if (has_one is_feeding After.outputs) refl;
+          shown = shown;
+          matched = matched;
+        }))

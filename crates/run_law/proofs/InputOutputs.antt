@@ -1,0 +1,317 @@
+-- All outputs of an input, one after another: the numbers of its messages, the machine that they leave, who begins in them, and what they
+-- feed.
+use Rattle.std.proofs.Common.{◌≡◌, ◌⊎◌, ◌+◌, ◌++◌, ◌||◌, ◌≤◌, ◌<◌, nat_le, ℕ, Bool, true, false, List, [], ◌∷◌, Option, Some, None, All, length, slice_get, refl, sym, subst, ap, ◌∙◌, arith, inl, inr}
+use Rattle.std.proofs.lemmas.List.Elements.{All-head, All-tail}
+use Rattle.pat_base.specs.declared.ticks.Ticks.{Ticks}
+use Rattle.event_book.specs.declared.agent_process.AgentProcess.{AgentProcess}
+use Rattle.event_book.specs.declared.event.Event.{Event}
+use Rattle.event_book.specs.declared.event.EventKind.{EventKind}
+use Rattle.event_book.specs.declared.event.EventKind.TheVariants as kinds
+use Rattle.event_book.specs.declared.event.MessageEvent.TheVariants.{Sent, Delivered, Lost}
+use Rattle.event_book.specs.declared.event.ServerEvent.TheVariants as servers
+use Rattle.event_book.specs.declared.event.WatchdogEvent.TheVariants as watchdogs
+use Rattle.event_book.specs.declared.link.LinkEnd.TheVariants as ends
+use Rattle.event_book.specs.declared.member.Member.{Member}
+use Rattle.event_book.specs.declared.member.ServerOf.{ServerOf}
+use Rattle.event_book.specs.declared.message.Body.{Body}
+use Rattle.event_book.specs.declared.reason.Basis.TheVariants as bases
+use Rattle.event_book.specs.Flight.{sent_after}
+use Rattle.event_book.specs.Writers.{BeginsKind}
+use Rattle.ha_loop.specs.declared.machine.Machine.{Machine}
+use Rattle.ha_loop.specs.declared.output.Output.{Output}
+use Rattle.ha_loop.specs.declared.output.Output.TheVariants as outputs
+use Rattle.ha_loop.specs.declared.output.Target.TheVariants as targets
+use Rattle.ha_loop.specs.Orders.{IsOfTable, machine_after_output, machine_after_outputs}
+use Rattle.ha_loop.specs.Outputs.{is_arming, is_feeding, has_one, listed, BeginsOnly, OutputsBeginBehind}
+use Rattle.cluster_model.specs.declared.heard_message.HeardMessage.{HeardMessage}
+use Rattle.cluster_model.specs.Cluster.{cluster_after, cluster_over}
+use Rattle.cluster_model.specs.Limits.{most_in_flight}
+use Rattle.cluster_model.specs.Messages.{agent_message, lost_at_once, sending_events, output_events}
+use Rattle.cluster_model.specs.Parts.{each, events_of}
+use Rattle.cluster_model.specs.State.{Cluster}
+use Rattle.lease_law.specs.Claims.{BeginsBehind, IsArmedIn}
+use Rattle.lease_law.specs.Premises.{AllAre, KeepsMomentOf, IsFedBy}
+use Rattle.lease_law.proofs.Runs.{assoc}
+use Rattle.bridge_law.specs.Groups.{IsNumberedAbove, AreNumberedAbove}
+use Rattle.run_law.proofs.Lists.{all-both, all-front, all-back}
+use Rattle.run_law.specs.InputEvents.{IsOfInput}
+use Rattle.run_law.proofs.InputEvents.{output-mine}
+use Rattle.run_law.proofs.InputMachines.{Mirrors, output-here}
+use Rattle.run_law.proofs.InputStays.{Stays, stays-over}
+
+-- the number of the message that was sent last, behind these events
+abbrev pub sent_over : ℕ → List Event → ℕ
+sent_over last [] = last
+sent_over last (event ∷ events) = sent_over (sent_after last event.kind) events
+
+pub sent-is : (cluster : Cluster) (events : List Event) → (cluster_over cluster events).book.sent ≡ sent_over cluster.book.sent events
+sent-is cluster [] = refl
+sent-is cluster (event ∷ events) = sent-is (cluster_after cluster event.kind) events
+
+numbered-both : (last : ℕ) (xs ys : List Event) → AreNumberedAbove last xs → AreNumberedAbove (sent_over last xs) ys → AreNumberedAbove last (xs ++ ys)
+numbered-both last [] ys first second = second
+numbered-both last (x ∷ xs) ys first second = (first.0, numbered-both (sent_after last x.kind) xs ys first.1 second)
+
+-- ---- one event that sends nothing, or feeds nothing
+abbrev no_message : Output → Type 0
+no_message (outputs.Send to sequence body) = ⊥
+no_message _ = Unit {0}
+
+unnumbered : (member : Member) (run heard last : ℕ) (kind : EventKind) → IsOfInput member run heard no_message kind → IsNumberedAbove last kind × (sent_after last kind ≡ last)
+unnumbered member run heard last (kinds.Message (Sent number message)) is = absurd is.from
+unnumbered member run heard last (kinds.Message (Delivered number)) is = absurd is
+unnumbered member run heard last (kinds.Message (Lost number)) is = (tt, refl)
+unnumbered member run heard last _ is = (tt, refl)
+
+unnumbered-all : (member : Member) (run heard last : ℕ) (events : List Event) → AllAre (IsOfInput member run heard no_message) events → AreNumberedAbove last events
+unnumbered-all member run heard last [] all = tt
+unnumbered-all member run heard last (event ∷ events) all =
+    let one = unnumbered member run heard last event.kind all.0 in
+    (one.0, subst (λ (n : ℕ). AreNumberedAbove n events) (sym one.1) (unnumbered-all member run heard last events all.1))
+
+-- an event at which the clock stands, no agent starts, and the message of this number isn't sent
+moments-kept : (member : Member) (run heard n : ℕ) (kind : EventKind) → (n < 0 → ⊥) → IsOfInput member run heard no_message kind → KeepsMomentOf n kind
+moments-kept member run heard n kinds.Tick low is = absurd is
+moments-kept member run heard n (kinds.Agent happening) low is = absurd is
+moments-kept member run heard n (kinds.Message (Sent number message)) low is = absurd is.from
+moments-kept member run heard n _ low is = tt
+
+above-kept : (member : Member) (run heard last n : ℕ) (Q : Output → Type 0) (kind : EventKind) → n ≤ last → IsNumberedAbove last kind → IsOfInput member run heard Q kind → KeepsMomentOf n kind
+above-kept member run heard last n Q kinds.Tick low above is = absurd is
+above-kept member run heard last n Q (kinds.Agent happening) low above is = absurd is
+above-kept member run heard last n Q (kinds.Message (Sent number message)) low above is = λ e. omega (arith, e, low, above)
+above-kept member run heard last n Q _ low above is = tt
+
+last-rises : (kind : EventKind) (last n : ℕ) → n ≤ last → IsNumberedAbove last kind → n ≤ sent_after last kind
+last-rises (kinds.Message (Sent number message)) last n small above = omega (arith, small, above)
+last-rises (kinds.Message (Delivered number)) last n small above = small
+last-rises (kinds.Message (Lost number)) last n small above = small
+last-rises _ last n small above = small
+
+pub moments-all : (member : Member) (run heard last n : ℕ) (Q : Output → Type 0) (events : List Event) → n ≤ last → AreNumberedAbove last events → AllAre (IsOfInput member run heard Q) events → AllAre (KeepsMomentOf n) events
+moments-all member run heard last n Q [] low numbered all = tt
+moments-all member run heard last n Q (event ∷ events) low numbered all =
+    (above-kept member run heard last n Q event.kind low numbered.0 all.0, moments-all member run heard (sent_after last event.kind) n Q events (last-rises event.kind last n low numbered.0) numbered.1 all.1)
+
+-- ---- the outputs
+module _ (member : Member) (run : ℕ) (message : HeardMessage) where
+  abbrev Runs : List AgentProcess → Type 0
+  Runs processes = (process : AgentProcess) → slice_get processes member.id.number ≡ Some process → process.run ≡ run
+
+  abbrev Brings : Cluster → Output → List Event
+  Brings cluster output = output_events member message cluster output
+
+  abbrev Later : Cluster → Output → Cluster
+  Later cluster output = cluster_over cluster (Brings cluster output)
+
+  abbrev Any : Output → Type 0
+  Any output = Unit {0}
+
+  any-all : (outs : List Output) → All Any outs
+  any-all outs = λ k d h. tt
+
+  pub stays-output : (cluster : Cluster) (output : Output) → Runs cluster.book.agents → IsOfTable output → Stays member.id.number cluster (Later cluster output)
+  stays-output cluster output runs table = stays-over member run message.number Any cluster (Brings cluster output) (output-mine member run message.number Any cluster message refl runs output table tt)
+
+  runs-later : (cluster : Cluster) (output : Output) → Runs cluster.book.agents → IsOfTable output → Runs (Later cluster output).book.agents
+  runs-later cluster output runs table = subst Runs (sym (stays-output cluster output runs table).processes) runs
+
+  -- ---- numbers
+  lost-numbered : (cluster : Cluster) (test : Bool) (number last : ℕ) → AreNumberedAbove last (events_of cluster (lost_at_once test number))
+  lost-numbered cluster true number last = (tt, tt)
+  lost-numbered cluster false number last = tt
+
+  send-numbered : (cluster : Cluster) (sequence : ℕ) (body : Body) (found : Option AgentProcess) → AreNumberedAbove cluster.book.sent (sending_events cluster member found (Some ends.Store) sequence body)
+  send-numbered cluster sequence body None = tt
+  send-numbered cluster sequence body (Some process) =
+      let sent : EventKind = kinds.Message (Sent (cluster.book.sent + 1) (agent_message member ends.Store process.run sequence body)) in
+      (omega arith, lost-numbered (cluster_after cluster sent) (nat_le most_in_flight (length cluster.book.flight)) (cluster.book.sent + 1) (cluster.book.sent + 1))
+
+  other-numbered : (cluster : Cluster) (output : Output) → Runs cluster.book.agents → IsOfTable output → no_message output → AreNumberedAbove cluster.book.sent (Brings cluster output)
+  other-numbered cluster output runs table silent =
+      unnumbered-all member run message.number cluster.book.sent (Brings cluster output) (output-mine member run message.number no_message cluster message refl runs output table silent)
+
+  output-numbered : (cluster : Cluster) (output : Output) → Runs cluster.book.agents → IsOfTable output → AreNumberedAbove cluster.book.sent (Brings cluster output)
+  output-numbered cluster (outputs.Send targets.Store sequence body) runs table = send-numbered cluster sequence body (slice_get cluster.book.agents member.id.number)
+  output-numbered cluster (outputs.Send (targets.Member id) sequence body) runs table = absurd table
+  output-numbered cluster outputs.Promote runs table = other-numbered cluster outputs.Promote runs table tt
+  output-numbered cluster (outputs.StartReplica leader) runs table = other-numbered cluster (outputs.StartReplica leader) runs table tt
+  output-numbered cluster (outputs.Stop reason) runs table = other-numbered cluster (outputs.Stop reason) runs table tt
+  output-numbered cluster (outputs.Follow leader) runs table = other-numbered cluster (outputs.Follow leader) runs table tt
+  output-numbered cluster (outputs.Require required) runs table = other-numbered cluster (outputs.Require required) runs table tt
+  output-numbered cluster (outputs.Armed until) runs table = other-numbered cluster (outputs.Armed until) runs table tt
+  output-numbered cluster (outputs.Fed until) runs table = other-numbered cluster (outputs.Fed until) runs table tt
+  output-numbered cluster outputs.Disarmed runs table = other-numbered cluster outputs.Disarmed runs table tt
+  output-numbered cluster outputs.CannotArm runs table = other-numbered cluster outputs.CannotArm runs table tt
+  output-numbered cluster (outputs.HoldTaken until from sequence) runs table = absurd table
+
+  pub each-numbered : (cluster : Cluster) (outs : List Output) → Runs cluster.book.agents → All IsOfTable outs → AreNumberedAbove cluster.book.sent (each (output_events member message) cluster outs)
+  each-numbered cluster [] runs table = tt
+  each-numbered cluster (output ∷ more) runs table =
+      let one = All-head IsOfTable output more table in
+      numbered-both cluster.book.sent (Brings cluster output) (each (output_events member message) (Later cluster output) more) (output-numbered cluster output runs one)
+      (subst (λ (n : ℕ). AreNumberedAbove n (each (output_events member message) (Later cluster output) more)) (sent-is cluster (Brings cluster output))
+      (each-numbered (Later cluster output) more (runs-later cluster output runs one) (All-tail IsOfTable output more table)))
+
+  -- ---- the machine
+  pub each-mirrors : (now : Ticks) (cluster : Cluster) (machine : Machine) (outs : List Output) → Runs cluster.book.agents → All IsOfTable outs → cluster.book.clock ≡ now.0 → Mirrors cluster member.id.number machine
+      → Mirrors (cluster_over cluster (each (output_events member message) cluster outs)) member.id.number (machine_after_outputs now machine outs)
+  each-mirrors now cluster machine [] runs table clock old = old
+  each-mirrors now cluster machine (output ∷ more) runs table clock old =
+      let one = All-head IsOfTable output more table in
+      let next = Later cluster output in
+      let made = output-here member cluster message machine output one old in
+      subst (λ (c : Cluster). Mirrors c member.id.number (machine_after_outputs now (machine_after_output now machine output) more)) (sym (Rattle.run_law.proofs.Composing.over-append cluster (Brings cluster output) (each (output_events member message) next more)))
+      (each-mirrors now next (machine_after_output now machine output) more (runs-later cluster output runs one) (All-tail IsOfTable output more table)
+      ((stays-output cluster output runs one).clock ∙ clock)
+      (subst (λ (n : ℕ). let t : Ticks = record { 0 = n } in Mirrors next member.id.number (machine_after_output t machine output)) clock made))
+
+  -- ---- who begins
+  abbrev Keeps : List Event → Type 0
+  Keeps events = AllAre (KeepsMomentOf message.number) events
+
+  abbrev ArmedIn : List Event → Type 0
+  ArmedIn events = IsArmedIn member.id.number message.number events
+
+  pub armed-more : (m number : ℕ) (events more : List Event) → IsArmedIn m number events → IsArmedIn m number (events ++ more)
+  armed-more m number events more old = record {
+    front = old.front;
+    event = old.event;
+    rest = old.rest ++ more;
+    is = sym (assoc old.front (old.event ∷ old.rest) more) ∙ ap (λ (l : List Event). l ++ more) old.is;
+    aside = old.aside;
+    fed = old.fed;
+  }
+
+  begins-both : (R : List Event → ℕ → Type 0) (before xs ys : List Event) → BeginsBehind R before xs → BeginsBehind R (before ++ xs) ys → BeginsBehind R before (xs ++ ys)
+  begins-both R before [] ys first second = subst (λ (l : List Event). BeginsBehind R l ys) (Rattle.lease_law.proofs.Runs.none-more before) second
+  begins-both R before (x ∷ xs) ys first second =
+      (first.0, begins-both R (before ++ x ∷ []) xs ys first.1 (subst (λ (l : List Event). BeginsBehind R l ys) (sym (assoc before (x ∷ []) xs)) second))
+
+  -- in the events of one output
+  one-begins : (X : Type 0) (P : ℕ → Type 0) (kind : EventKind) → (X → P member.id.number) → IsOfInput member run message.number (BeginsOnly X) kind → BeginsKind P kind
+  one-begins X P (kinds.Server (servers.Began server timeline)) may is = subst (λ (s : ServerOf). P s.id.number) (sym is.0) (may is.1)
+  one-begins X P _ may is = tt
+
+  output-begins : (X : Type 0) (R : List Event → ℕ → Type 0) → ((before more : List Event) → R before member.id.number → R (before ++ more) member.id.number) → (before events : List Event) → (X → R before member.id.number)
+      → AllAre (IsOfInput member run message.number (BeginsOnly X)) events → BeginsBehind R before events
+  output-begins X R grow before [] may all = tt
+  output-begins X R grow before (event ∷ events) may all =
+      (one-begins X (R before) event.kind may all.0, output-begins X R grow (before ++ event ∷ []) events (λ x. grow before (event ∷ []) (may x)) all.1)
+
+  or-none : (b : Bool) → (b || false) ≡ true → b ≡ true
+  or-none true e = refl
+  or-none false e = e
+
+  or-else : {X Y : Type 0} (b c : Bool) → (b ≡ true → X) → (c ≡ true → Y) → (b || c) ≡ true → X ⊎ Y
+  or-else true c first second e = inl (first refl)
+  or-else false c first second e = inr (second e)
+
+  or-left : (b c : Bool) → b ≡ true → (b || c) ≡ true
+  or-left true c e = refl
+  or-left false c e = absurd (no-way e)
+    where
+      no-way : false ≡ true → ⊥
+      no-way e = cc
+
+  or-right : (b c : Bool) → c ≡ true → (b || c) ≡ true
+  or-right true c e = refl
+  or-right false c e = e
+
+  arms-or : (outs : List Output) (output : Output) → has_one is_arming (outs ++ output ∷ []) ≡ true → (has_one is_arming outs ≡ true) ⊎ (is_arming output ≡ true)
+  arms-or [] output e = inr (or-none (is_arming output) e)
+  arms-or (one ∷ outs) output e = elim (or-else (is_arming one) (has_one is_arming (outs ++ output ∷ [])) (λ a. a) (λ b. b) e) [
+    | inl here ↦ inl (or-left (is_arming one) (has_one is_arming outs) here)
+    | inr later ↦ elim (arms-or outs output later) [ inl was ↦ inl (or-right (is_arming one) (has_one is_arming outs) was) | inr now ↦ inr now ]
+  ]
+
+  -- from when a feed is measured
+  abbrev measured : Cluster → Event
+  measured cluster = record { tick = record { 0 = cluster.book.clock }; kind = kinds.Watchdog (watchdogs.Measured member message.sent) }
+
+  -- an arming is told
+  arming-told : (cluster : Cluster) (output : Output) (before : List Event) → Keeps before → is_arming output ≡ true → ArmedIn (before ++ Brings cluster output)
+  arming-told cluster (outputs.Armed until) before kept e = record {
+    front = before ++ measured cluster ∷ [];
+    event = record { tick = record { 0 = cluster.book.clock }; kind = kinds.Watchdog (watchdogs.Armed member until message.number) };
+    rest = [];
+    is = assoc before (measured cluster ∷ []) _;
+    aside = all-both (KeepsMomentOf message.number) before (measured cluster ∷ []) kept (tt, tt);
+    fed = (refl, refl);
+  }
+  arming-told cluster outputs.Promote before kept e = absurd (no-way e)
+    where
+      no-way : false ≡ true → ⊥
+      no-way e = cc
+  arming-told cluster (outputs.Send to sequence body) before kept e = absurd (no-way e)
+    where
+      no-way : false ≡ true → ⊥
+      no-way e = cc
+  arming-told cluster (outputs.StartReplica leader) before kept e = absurd (no-way e)
+    where
+      no-way : false ≡ true → ⊥
+      no-way e = cc
+  arming-told cluster _ before kept e = absurd (no-way e)
+    where
+      no-way : false ≡ true → ⊥
+      no-way e = cc
+
+  pub each-begins : (P : List Output → Type 0) (R : List Event → ℕ → Type 0) → ((before more : List Event) → R before member.id.number → R (before ++ more) member.id.number)
+      → ((outs : List Output) (before : List Event) → P outs → (has_one is_arming outs ≡ true → ArmedIn before) → R before member.id.number)
+      → (cluster : Cluster) (done : List Output) (before : List Event) (outs : List Output) → Runs cluster.book.agents → All IsOfTable outs → Keeps before → Keeps (each (output_events member message) cluster outs)
+      → (has_one is_arming done ≡ true → ArmedIn before) → OutputsBeginBehind P done outs → BeginsBehind R before (each (output_events member message) cluster outs)
+  each-begins P R grow makes cluster done before [] runs table kept all armed begin = tt
+  each-begins P R grow makes cluster done before (output ∷ more) runs table kept all armed begin =
+      let one = All-head IsOfTable output more table in
+      let next = Later cluster output in
+      let events = Brings cluster output in
+      let rest = each (output_events member message) next more in
+      let mine = output-mine member run message.number (BeginsOnly (P done)) cluster message refl runs output one begin.0 in
+      begins-both R before events rest
+      (output-begins (P done) R grow before events (λ p. makes done before p armed) mine)
+      (each-begins P R grow makes next (listed output done) (before ++ events) more (runs-later cluster output runs one) (All-tail IsOfTable output more table)
+      (all-both (KeepsMomentOf message.number) before events kept (all-front (KeepsMomentOf message.number) events rest all))
+      (all-back (KeepsMomentOf message.number) events rest all)
+      (λ e. elim (arms-or done output e) [ inl was ↦ armed-more member.id.number message.number before events (armed was) | inr now ↦ arming-told cluster output before kept now ])
+      begin.1)
+
+  -- ---- what is fed
+  pub record FedIn (events : List Event) : Type 0 where
+    pub front : List Event
+    pub event : Event
+    pub rest : List Event
+    pub is : front ++ event ∷ rest ≡ events
+    pub fed : IsFedBy member.id.number message.number event.kind
+
+  fed-later : (events rest : List Event) → FedIn rest → FedIn (events ++ rest)
+  fed-later events rest old = record { front = events ++ old.front; event = old.event; rest = old.rest; is = assoc events old.front (old.event ∷ old.rest) ∙ ap (λ (l : List Event). events ++ l) old.is; fed = old.fed }
+
+  fed-now : (cluster : Cluster) (output : Output) (rest : List Event) → is_feeding output ≡ true → FedIn (Brings cluster output ++ rest)
+  fed-now cluster (outputs.Armed until) rest e = record {
+    front = measured cluster ∷ [];
+    event = record { tick = record { 0 = cluster.book.clock }; kind = kinds.Watchdog (watchdogs.Armed member until message.number) };
+    rest = rest;
+    is = refl;
+    fed = (refl, refl);
+  }
+  fed-now cluster (outputs.Fed until) rest e = record {
+    front = measured cluster ∷ [];
+    event = record { tick = record { 0 = cluster.book.clock }; kind = kinds.Watchdog (watchdogs.Fed member until (bases.Grant message.number)) };
+    rest = rest;
+    is = refl;
+    fed = (refl, refl);
+  }
+  fed-now cluster _ rest e = absurd (no-way e)
+    where
+      no-way : false ≡ true → ⊥
+      no-way e = cc
+
+  pub each-fed : (cluster : Cluster) (outs : List Output) → has_one is_feeding outs ≡ true → FedIn (each (output_events member message) cluster outs)
+  each-fed cluster [] e = absurd (no-way e)
+    where
+      no-way : false ≡ true → ⊥
+      no-way e = cc
+  each-fed cluster (output ∷ more) e = elim (or-else (is_feeding output) (has_one is_feeding more) (λ a. a) (λ b. b) e) [
+    | inl here ↦ fed-now cluster output (each (output_events member message) (Later cluster output) more) here
+    | inr later ↦ fed-later (Brings cluster output) (each (output_events member message) (Later cluster output) more) (each-fed (Later cluster output) more later)
+  ]

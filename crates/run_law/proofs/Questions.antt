@@ -1,0 +1,298 @@
+-- Each input of the decision table asks under new numbers, and waits on as it should.
+use Rattle.std.proofs.Common.{◌≡◌, ◌+◌, ◌++◌, ◌≤◌, ◌<◌, ℕ, true, List, [], ◌∷◌, Option, Some, None, All, refl, ◌∙◌, arith}
+use Rattle.std.proofs.lemmas.List.Elements.{All-push, All-nil}
+use Rattle.pat_base.specs.declared.member_id.MemberId.{MemberId}
+use Rattle.pat_base.specs.declared.ticks.Ticks.{Ticks}
+use Rattle.lease_store.specs.declared.config.Config.{Config}
+use Rattle.lease_store.specs.declared.granted.Granted.{Granted}
+use Rattle.lease_store.specs.declared.txn.Txn.TheVariants as txns
+use Rattle.wal_model.specs.declared.entry.HistoryPoint.{HistoryPoint}
+use Rattle.cluster_config.specs.Snapshots.{SnapshotFacts}
+use Rattle.event_book.specs.declared.message.Body.{Body}
+use Rattle.event_book.specs.declared.message.Body.TheVariants as bodies
+use Rattle.leader_key.specs.Watchdog.{IsLeaseSpan}
+use Rattle.ha_loop.specs.declared.heard.Heard.{Heard}
+use Rattle.ha_loop.specs.declared.heard.Heard.TheVariants.{Wake, Got, Granted as HeardGranted, Mismatch}
+use Rattle.ha_loop.specs.declared.knowledge.Knowledge.{Knowledge}
+use Rattle.ha_loop.specs.declared.knowledge.Question.{Question}
+use Rattle.ha_loop.specs.declared.knowledge.Question.TheVariants.{Reading, Creating, Renewing}
+use Rattle.ha_loop.specs.declared.knowledge.Waited.{Waited}
+use Rattle.ha_loop.specs.declared.machine.Machine.{Machine}
+use Rattle.ha_loop.specs.declared.output.Output.{Output}
+use Rattle.ha_loop.specs.declared.output.Output.TheVariants as outputs
+use Rattle.ha_loop.specs.declared.output.Target.TheVariants as targets
+use Rattle.ha_loop.specs.declared.role.Why.{Why}
+use Rattle.ha_loop.specs.declared.role.Why.TheVariants.{HandOver, Lost}
+use Rattle.ha_loop.specs.Acting.{seconds_after, lease_span, counted, arming, feeding, armed, fed_until, disarmed, disarming, sending, asking, touching, starting_replica, following_server, is_refusing, deadline_after}
+use Rattle.ha_loop.specs.Agents.{RoleFacts, Follower, Leader, Outcome, made}
+use Rattle.ha_loop.specs.Before.{has_ended, before}
+use Rattle.ha_loop.specs.Decisions.{asks_lease, is_start_too_long, leader_renewed, takes_over, stray_renewed, may_take, gives_back, begins, arms, takes_key, granted, refused}
+use Rattle.ha_loop.specs.Outputs.{listed}
+use Rattle.ha_loop.specs.Snapshots.{informed, follows, finds_free, read_noted, got}
+use Rattle.ha_loop.specs.Table.{step}
+use Rattle.ha_loop.specs.Wake.{turn_noted, overdue, turned, woken}
+use Rattle.ha_loop.proofs.Rows.{if-cases, before-by, overdue-by, turn-by, wake-by, got-by, refused-by, follow-by, free-by, granted-by}
+use Rattle.run_law.specs.Questions.{IsQuestion, span_asked, SendsBetween, AsksFor, WaitsOn, Same, Nothing, New, AsksAnew}
+
+all-of : {X : Type 0} (P Q : X → Type 0) (xs : List X) → ((x : X) → P x → Q x) → All P xs → All Q xs
+all-of P Q xs more all = λ k d h. more _ (all k d h)
+
+abbrev no-message : Output → Type 0
+no-message (outputs.Send to sequence body) = ⊥
+no-message _ = Unit {0}
+
+between-other : (low high : ℕ) (output : Output) → no-message output → SendsBetween low high output
+between-other low high (outputs.Send to sequence body) is = absurd is
+between-other low high _ is = tt
+
+asks-other : (waited : Waited) (output : Output) → no-message output → AsksFor waited output
+asks-other waited (outputs.Send to sequence body) is = absurd is
+asks-other waited _ is = tt
+
+between-later : (low high more : ℕ) → high ≤ more → (output : Output) → SendsBetween low high output → SendsBetween low more output
+between-later low high more h (outputs.Send to sequence body) is = (is.0, omega (arith, is.1, h), is.2)
+between-later low high more h _ is = tt
+
+-- a number above all that were sent is none of theirs
+above-all : (low high : ℕ) (waited : Waited) → high < waited.sequence → (output : Output) → SendsBetween low high output → AsksFor waited output
+above-all low high waited h (outputs.Send to sequence body) is = λ e _. absurd (omega (arith, e, h, is.1))
+above-all low high waited h _ is = tt
+
+-- ---- what holds of an outcome so far, from what the agent knew at first
+abbrev Reaches : Ticks → Knowledge → Outcome → Type 0
+Reaches now known o = AsksAnew now known o.knows o.outputs
+
+one-waits : (now : Ticks) (known knows : Knowledge) (outs : List Output) (output : Output) → no-message output → WaitsOn now known knows outs → WaitsOn now known knows (outs ++ output ∷ [])
+one-waits now known knows outs output other (Same is) = Same is
+one-waits now known knows outs output other (Nothing is) = Nothing is
+one-waits now known knows outs output other (New waited is later counts sent span asks) = New waited is later counts sent span (All-push (AsksFor waited) outs output asks (asks-other waited output other))
+
+one-more : (now : Ticks) (known knows : Knowledge) (outs : List Output) (output : Output) → no-message output → AsksAnew now known knows outs → AsksAnew now known knows (outs ++ output ∷ [])
+one-more now known knows outs output other r = record {
+  who = r.who;
+  run = r.run;
+  last = r.last;
+  sends = All-push (SendsBetween known.sequence knows.sequence) outs output r.sends (between-other known.sequence knows.sequence output other);
+  waits = one-waits now known knows outs output other r.waits;
+}
+
+-- what it knows beside its questions doesn't count
+same-waits : (now : Ticks) (known knows after : Knowledge) (outs : List Output) → after.sequence ≡ knows.sequence → after.waited ≡ knows.waited → WaitsOn now known knows outs → WaitsOn now known after outs
+same-waits now known knows after outs last waited (Same is) = Same (waited ∙ is)
+same-waits now known knows after outs last waited (Nothing is) = Nothing (waited ∙ is)
+same-waits now known knows after outs last waited (New w is later counts sent span asks) = New w (waited ∙ is) later (omega (arith, counts, last)) sent span asks
+
+goes-on : (now : Ticks) (known knows after : Knowledge) (outs : List Output) → after.who ≡ knows.who → after.run ≡ knows.run → after.sequence ≡ knows.sequence → after.waited ≡ knows.waited → AsksAnew now known knows outs → AsksAnew now known after outs
+goes-on now known knows after outs who run last waited r = record {
+  who = who ∙ r.who;
+  run = run ∙ r.run;
+  last = omega (arith, r.last, last);
+  sends = all-of (SendsBetween known.sequence knows.sequence) (SendsBetween known.sequence after.sequence) outs (between-later known.sequence knows.sequence after.sequence (omega (arith, last))) r.sends;
+  waits = same-waits now known knows after outs last waited r.waits;
+}
+
+-- it waits for nothing any more
+rests : (now : Ticks) (known knows after : Knowledge) (outs : List Output) → after.who ≡ knows.who → after.run ≡ knows.run → after.sequence ≡ knows.sequence → after.waited ≡ None → AsksAnew now known knows outs → AsksAnew now known after outs
+rests now known knows after outs who run last waited r = record {
+  who = who ∙ r.who;
+  run = run ∙ r.run;
+  last = omega (arith, r.last, last);
+  sends = all-of (SendsBetween known.sequence knows.sequence) (SendsBetween known.sequence after.sequence) outs (between-later known.sequence knows.sequence after.sequence (omega (arith, last))) r.sends;
+  waits = Nothing waited;
+}
+
+-- a message under the next number
+next-sends : (known knows : Knowledge) (outs : List Output) (body : Body) → known.sequence ≤ knows.sequence → IsQuestion body → All (SendsBetween known.sequence knows.sequence) outs
+    → All (SendsBetween known.sequence (knows.sequence + 1)) (outs ++ outputs.Send targets.Store (knows.sequence + 1) body ∷ [])
+next-sends known knows outs body last span all =
+    All-push (SendsBetween known.sequence (knows.sequence + 1)) outs (outputs.Send targets.Store (knows.sequence + 1) body)
+    (all-of (SendsBetween known.sequence knows.sequence) (SendsBetween known.sequence (knows.sequence + 1)) outs (between-later known.sequence knows.sequence (knows.sequence + 1) (omega arith)) all)
+    (omega (arith, last), omega arith, span)
+
+next-waits : (now : Ticks) (known knows : Knowledge) (outs : List Output) (body : Body) → WaitsOn now known knows outs
+    → WaitsOn now known (counted knows) (outs ++ outputs.Send targets.Store (knows.sequence + 1) body ∷ [])
+next-waits now known knows outs body (Same is) = Same is
+next-waits now known knows outs body (Nothing is) = Nothing is
+next-waits now known knows outs body (New waited is later counts sent span asks) =
+    New waited is later (omega (arith, counts)) sent span (All-push (AsksFor waited) outs (outputs.Send targets.Store (knows.sequence + 1) body) asks (λ e _. absurd (omega (arith, e, counts))))
+
+send-reaches : (now : Ticks) (known : Knowledge) (body : Body) (o : Outcome) → IsQuestion body → Reaches now known o → Reaches now known (sending body o)
+send-reaches now known body o span r = record {
+  who = r.who;
+  run = r.run;
+  last = omega (arith, r.last);
+  sends = next-sends known o.knows o.outputs body r.last span r.sends;
+  waits = next-waits now known o.knows o.outputs body r.waits;
+}
+
+is-lease : (settings : Config) → IsLeaseSpan (lease_span settings).0
+is-lease settings = record { least = omega (arith, settings.ttl_range.0); greatest = omega (arith, settings.ttl_range.1) }
+
+-- a question whose answer is waited for
+ask-reaches : (now : Ticks) (known : Knowledge) (question : Question) (until : Ticks) (body : Body) (o : Outcome) → IsQuestion body → (asks_lease question ≡ true → span_asked body ≡ (lease_span o.knows.settings).0)
+    → Reaches now known o → Reaches now known (asking now question until body o)
+ask-reaches now known question until body o span asks r =
+    let waited : Waited = record { question = question; sequence = o.knows.sequence + 1; until = until; ttl = lease_span o.knows.settings; sent = now } in
+    record {
+      who = r.who;
+      run = r.run;
+      last = omega (arith, r.last);
+      sends = next-sends known o.knows o.outputs body r.last span r.sends;
+      waits = New waited refl (omega (arith, r.last)) (omega arith) refl (is-lease o.knows.settings)
+          (All-push (AsksFor waited) o.outputs (outputs.Send targets.Store (o.knows.sequence + 1) body)
+          (all-of (SendsBetween known.sequence o.knows.sequence) (AsksFor waited) o.outputs (above-all known.sequence o.knows.sequence waited (omega arith)) r.sends)
+          (λ _ leasing. asks leasing));
+    }
+
+disarms : (now : Ticks) (known knows : Knowledge) (outs : List Output) (deadline : Option Ticks) → AsksAnew now known knows outs → AsksAnew now known knows (disarmed deadline outs)
+disarms now known knows outs (Some deadline) r = one-more now known knows outs outputs.Disarmed tt r
+disarms now known knows outs None r = r
+
+feeds : (now : Ticks) (known knows : Knowledge) (outs : List Output) (until : Option Ticks) → AsksAnew now known knows outs → AsksAnew now known knows (fed_until until outs)
+feeds now known knows outs (Some until) r = one-more now known knows outs (outputs.Fed until) tt r
+feeds now known knows outs None r = r
+
+arms-it : (now : Ticks) (known knows : Knowledge) (outs : List Output) (until : Option Ticks) → AsksAnew now known knows outs → AsksAnew now known knows (armed until outs)
+arms-it now known knows outs (Some until) r = one-more now known knows outs (outputs.Armed until) tt r
+arms-it now known knows outs None r = r
+
+disarm-reaches : (now : Ticks) (known : Knowledge) (o : Outcome) → Reaches now known o → Reaches now known (disarming o)
+disarm-reaches now known o r = disarms now known o.knows o.outputs o.machine.watchdog.deadline r
+
+ended-reaches : (now : Ticks) (known : Knowledge) (why : Why) (held : ℕ) (o : Outcome) → Reaches now known o → Reaches now known (has_ended why held o)
+ended-reaches now known HandOver held o r = send-reaches now known (bodies.Request (txns.Release held)) (disarming o) tt (disarm-reaches now known o r)
+ended-reaches now known Lost held o r = disarm-reaches now known o r
+
+before-reaches : (now : Ticks) (known : Knowledge) (o : Outcome) → Reaches now known o → Reaches now known (before now o)
+before-reaches now known o r = before-by (Reaches now known) now o (record {
+  kept = λ _. r;
+  leader = λ held _ _. goes-on now known o.knows _ _ refl refl refl refl (disarm-reaches now known o r);
+  ending = λ held why _ _. ended-reaches now known why held o r;
+  follower = λ _ _. r;
+  holder = λ held _ _. r;
+  ready = λ held _ _. disarm-reaches now known o r;
+  stray = λ _ _. disarm-reaches now known o r;
+})
+
+overdue-reaches : (now : Ticks) (known : Knowledge) (o : Outcome) → Reaches now known o → Reaches now known (overdue now o)
+overdue-reaches now known o r =
+    let quiet : AsksAnew now known (let none : Knowledge = record o.knows { waited = None } in none) o.outputs = rests now known o.knows _ o.outputs refl refl refl refl r in
+    overdue-by (Reaches now known) now o (record {
+      kept = r;
+      quiet = quiet;
+      leader = λ held _. one-more now known _ o.outputs _ tt quiet;
+      stray = λ _. one-more now known _ o.outputs _ tt quiet;
+    })
+
+turn-reaches : (now : Ticks) (known : Knowledge) (o : Outcome) → Reaches now known o → Reaches now known (turned now o)
+turn-reaches now known o r =
+    let noted : Outcome = record o { knows = turn_noted now o.knows } in
+    let begun : Reaches now known noted = goes-on now known o.knows noted.knows o.outputs refl refl refl refl r in
+    turn-by (Reaches now known) now o (record { kept = r; quiet = begun; reads = λ _. ask-reaches now known Reading (seconds_after now noted.knows.settings.retry_timeout) bodies.Read noted tt (λ e. absurd (no-lease e)) begun })
+  where
+    no-lease : asks_lease Reading ≡ true → ⊥
+    no-lease e = cc
+
+wake-reaches : (now : Ticks) (known : Knowledge) (o : Outcome) → Reaches now known o → Reaches now known (woken now o)
+wake-reaches now known o r = let first = before-reaches now known o r in
+    wake-by (Reaches now known) now o first (turn-reaches now known (overdue now (before now o)) (overdue-reaches now known (before now o) first))
+
+touch-reaches : (now : Ticks) (known : Knowledge) (o : Outcome) → Reaches now known o → Reaches now known (touching o)
+touch-reaches now known o r = send-reaches now known _ o tt r
+
+follow-reaches : (now : Ticks) (known : Knowledge) (leader : MemberId) (o : Outcome) → Reaches now known o → Reaches now known (follows now leader o)
+follow-reaches now known leader o r = let x : Outcome = record o { role = Follower } in
+    follow-by (λ (y : Outcome). Reaches now known (touching y)) now leader o.machine.server.state x
+    (touch-reaches now known x r)
+    (touch-reaches now known (starting_replica now (Some leader) x) (one-more now known o.knows o.outputs (outputs.StartReplica (Some leader)) tt r))
+    (touch-reaches now known (following_server leader x) (one-more now known o.knows o.outputs (outputs.Follow leader) tt r))
+
+free-reaches : (now : Ticks) (known : Knowledge) (o : Outcome) → Reaches now known o → Reaches now known (finds_free now o)
+free-reaches now known o r = let x : Outcome = record o { role = Follower } in
+    free-by (Reaches now known) now o.machine.server.state x
+    (touch-reaches now known x r)
+    (touch-reaches now known (starting_replica now None x) (one-more now known o.knows o.outputs (outputs.StartReplica None) tt r))
+    (ask-reaches now known Creating (seconds_after now o.knows.settings.retry_timeout) _ x (is-spanned o.knows.settings) (λ _. refl) r)
+  where
+    is-spanned : (settings : Config) → 0 < (lease_span settings).0
+    is-spanned settings = omega (arith, settings.ttl_range.0)
+
+got-reaches : (now : Ticks) (points : List HistoryPoint) (known : Knowledge) (sequence : ℕ) (snapshot : SnapshotFacts) (o : Outcome) → Reaches now known o → Reaches now known (got now points sequence snapshot o)
+got-reaches now points known sequence snapshot o r =
+    let read : Outcome = record o { knows = read_noted now snapshot o.knows } in
+    let told : Reaches now known read = rests now known o.knows read.knows o.outputs refl refl refl refl r in
+    got-by (Reaches now known) now points sequence snapshot o (record {
+      kept = r;
+      quiet = rests now known o.knows _ o.outputs refl refl refl refl r;
+      other = told;
+      leader = λ held _. one-more now known read.knows o.outputs _ tt told;
+      stray = λ _. one-more now known read.knows o.outputs _ tt told;
+      renews = λ _ leader _ _. ask-reaches now known Renewing _ _ read tt (λ _. refl) told;
+      touches = touch-reaches now known read told;
+      follows = λ leader _ _. follow-reaches now known leader.holder read told;
+      free = λ _ _. free-reaches now known read told;
+    })
+
+refused-reaches : (now : Ticks) (known : Knowledge) (sequence : ℕ) (o : Outcome) → Reaches now known o → Reaches now known (refused now sequence o)
+refused-reaches now known sequence o r =
+    let quiet : AsksAnew now known (let none : Knowledge = record o.knows { waited = None } in none) o.outputs = rests now known o.knows _ o.outputs refl refl refl refl r in
+    refused-by (Reaches now known) now sequence o (record {
+      kept = r;
+      quiet = quiet;
+      leader = λ held _. one-more now known _ o.outputs _ tt quiet;
+      stray = λ _. one-more now known _ o.outputs _ tt quiet;
+      follower = λ held _. quiet;
+    })
+
+feed-reaches : (now ttl : Ticks) (known : Knowledge) (o : Outcome) → Reaches now known o → Reaches now known (feeding now ttl o)
+feed-reaches now ttl known o r = feeds now known o.knows o.outputs (deadline_after now ttl o.machine.watchdog) r
+
+arm-reaches : (now ttl : Ticks) (known : Knowledge) (o : Outcome) → Reaches now known o → Reaches now known (arming now ttl o)
+arm-reaches now ttl known o r = arms-it now known o.knows o.outputs (deadline_after now ttl o.machine.watchdog) r
+
+renewed-reaches : (now ttl : Ticks) (known : Knowledge) (revision : ℕ) (o : Outcome) → Reaches now known o → Reaches now known (leader_renewed now ttl revision o)
+renewed-reaches now ttl known revision o r = let fed : Outcome = record (feeding now ttl o) { role = Leader revision } in
+    if-cases (Reaches now known) (is_start_too_long now fed.knows fed.machine.server.state) _ fed
+    (λ _. one-more now known fed.knows fed.outputs _ tt (feed-reaches now ttl known o r)) (λ _. feed-reaches now ttl known o r)
+
+stray-reaches : (now ttl : Ticks) (known : Knowledge) (revision : ℕ) (o : Outcome) → Reaches now known o → Reaches now known (stray_renewed now ttl revision o)
+stray-reaches now ttl known revision o r = let armed-now : Outcome = arming now ttl o in
+    if-cases (Reaches now known) (is_refusing o.machine.watchdog.mode o.machine.watchdog.works) _ (takes_over now revision armed-now)
+    (λ _. one-more now known o.knows o.outputs _ tt r) (λ _. goes-on now known armed-now.knows _ armed-now.outputs refl refl refl refl (arm-reaches now ttl known o r))
+
+begin-reaches : (now : Ticks) (known : Knowledge) (revision : ℕ) (o : Outcome) → Reaches now known o → Reaches now known (begins now revision o)
+begin-reaches now known revision o r = goes-on now known o.knows _ _ refl refl refl refl (one-more now known o.knows _ outputs.Promote tt (one-more now known o.knows o.outputs _ tt r))
+
+arms-reaches : (now ttl : Ticks) (known : Knowledge) (revision : ℕ) (o : Outcome) → Reaches now known o → Reaches now known (arms now ttl revision o)
+arms-reaches now ttl known revision o r =
+    if-cases (Reaches now known) (is_refusing o.machine.watchdog.mode o.machine.watchdog.works) _ (begins now revision (arming now ttl o))
+    (λ _. send-reaches now known (bodies.Request (txns.Release revision)) (record o { outputs = listed outputs.CannotArm o.outputs }) tt (one-more now known o.knows o.outputs outputs.CannotArm tt r))
+    (λ _. begin-reaches now known revision (arming now ttl o) (arm-reaches now ttl known o r))
+
+takes-reaches : (now ttl : Ticks) (known : Knowledge) (revision : ℕ) (o : Outcome) → Reaches now known o → Reaches now known (takes_key now ttl revision o)
+takes-reaches now ttl known revision o r =
+    if-cases (Reaches now known) (may_take now o.machine) (arms now ttl revision o) (gives_back revision o)
+    (λ _. arms-reaches now ttl known revision o r) (λ _. send-reaches now known (bodies.Request (txns.Release revision)) o tt r)
+
+granted-reaches : (now : Ticks) (known : Knowledge) (sequence : ℕ) (grant : Granted) (snapshot : SnapshotFacts) (o : Outcome) → Reaches now known o → Reaches now known (granted now sequence grant snapshot o)
+granted-reaches now known sequence grant snapshot o r =
+    let told : Outcome = record o { knows = informed snapshot o.knows } in
+    let next : Reaches now known told = rests now known o.knows told.knows o.outputs refl refl refl refl r in
+    granted-by (Reaches now known) now sequence grant snapshot o r (rests now known o.knows _ o.outputs refl refl refl refl r)
+    (λ waited _ _. record {
+      other = next;
+      leader = λ held _. renewed-reaches now waited.ttl known grant.revision told next;
+      stray = λ _. stray-reaches now waited.ttl known grant.revision told next;
+      takes = λ _. takes-reaches now waited.ttl known grant.revision told next;
+    })
+
+step-reaches : (now : Ticks) (points : List HistoryPoint) (heard : Heard) (known : Knowledge) (o : Outcome) → Reaches now known o → Reaches now known (step now points heard o)
+step-reaches now points Wake known o r = wake-reaches now known o r
+step-reaches now points (Got sequence snapshot) known o r = got-reaches now points known sequence snapshot (before now o) (before-reaches now known o r)
+step-reaches now points (HeardGranted sequence grant snapshot) known o r = granted-reaches now known sequence grant snapshot (before now o) (before-reaches now known o r)
+step-reaches now points (Mismatch sequence key found) known o r = refused-reaches now known sequence (before now o) (before-reaches now known o r)
+
+pub step-asks-anew : (now : Ticks) (points : List HistoryPoint) (heard : Heard) (role : RoleFacts) (knows : Knowledge) (machine : Machine)
+    → let after = step now points heard (made role knows machine []) in AsksAnew now knows after.knows after.outputs
+step-asks-anew now points heard role knows machine =
+    step-reaches now points heard knows (made role knows machine []) (record { who = refl; run = refl; last = omega arith; sends = All-nil (SendsBetween knows.sequence knows.sequence); waits = Same refl })

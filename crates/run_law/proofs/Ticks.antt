@@ -1,0 +1,194 @@
+-- A tick keeps the law: it is one action, with its resets, its expiries and the servers that end in it.
+use Rattle.std.proofs.Common.{ℕ, ◌≡◌, ◌<◌, ◌≤◌, ◌+◌, ◌&&◌, ◌++◌, Bool, true, false, cond, List, [], ◌∷◌, length, slice_get, Option, Some, None, option_and_then, refl, ◌∙◌, ap, sym, subst, inl, inr}
+use Rattle.std.proofs.lemmas.Option.{slice_get_cases}
+use Rattle.pat_base.specs.declared.ticks.Ticks.{Ticks}
+use Rattle.lease_store.specs.declared.key.Key.{Key}
+use Rattle.lease_store.specs.declared.key.Key.TheVariants as keys
+use Rattle.lease_store.specs.Answers.{expired_holder, expired_keys}
+use Rattle.event_book.specs.declared.event.Event.{Event}
+use Rattle.event_book.specs.declared.event.EventKind.{EventKind}
+use Rattle.event_book.specs.declared.event.EventKind.TheVariants as kinds
+use Rattle.event_book.specs.declared.event.ServerEvent.TheVariants as servers
+use Rattle.event_book.specs.declared.event.WatchdogEvent.TheVariants as watchdogs
+use Rattle.event_book.specs.declared.member.Member.{Member}
+use Rattle.event_book.specs.Members.{server_of}
+use Rattle.pg_model.specs.Facts.{ServerFacts}
+use Rattle.cluster_model.specs.Cluster.{cluster_after, cluster_over}
+use Rattle.cluster_model.specs.Commands.{kinds_of}
+use Rattle.cluster_script.specs.Script.{HeadText, names_of}
+use Rattle.cluster_model.specs.Orders.{declared_member}
+use Rattle.cluster_model.specs.Parts.{each, events_of}
+use Rattle.cluster_model.specs.State.{Cluster}
+use Rattle.cluster_model.specs.Ticking.{completion_by, completion_events, completion_of, expiries_of, expiry_of, leader_expiry, next_expiries, reset_events, reset_of, tick_events}
+use Rattle.leader_key.specs.Watchdog.{is_due_at}
+use Rattle.pat_base.specs.declared.server_state.State.{State}
+use Rattle.pat_base.specs.declared.server_state.State.TheVariants as states
+use Rattle.std.specs.Prelude.{nat_le}
+use Rattle.lease_law.specs.Actions.{Tick}
+use Rattle.lease_law.specs.Claims.{MayBeginBehind}
+use Rattle.lease_law.specs.Past.{past_of, state_of}
+use Rattle.lease_law.specs.Premises.{AllAre}
+use Rattle.lease_law.specs.Showing.{IsLocal}
+use Rattle.lease_law.specs.States.{Machine, is_due, tick_machine}
+use Rattle.lease_law.proofs.LocalActions.{tick-shown}
+use Rattle.run_law.proofs.Lists.{AllKinds, all-both, kinds-both}
+use Rattle.run_law.specs.Asides.{IsAside, IsQuiet}
+use Rattle.run_law.specs.Declaring.{declared_members, declared_of, member_count}
+use Rattle.run_law.specs.Kept.{Keeps}
+use Rattle.run_law.specs.Machines.{deadline_in, deadline_now}
+use Rattle.run_law.specs.Members.{is_listed}
+use Rattle.run_law.specs.Volatile.{machine_in, volatile_of}
+use Rattle.run_law.proofs.Actions.{action-kept, machine-is}
+use Rattle.run_law.proofs.Asides.{asides-begin, matched-behind}
+use Rattle.run_law.proofs.Composing.{Each, over-append}
+use Rattle.run_law.proofs.Members.{declared-within, each-declared, listed}
+use Rattle.run_law.proofs.Quiet.{quiet-aside, quiet-local}
+use Rattle.run_law.proofs.TickMachines.{ends, quiet-machines, resets, stops_seen, ticked-machine}
+
+-- events of a tick beside the clock's
+abbrev IsBeside : EventKind → Type 0
+IsBeside kind = IsAside kind × IsLocal kind
+
+all-each : {X : Type 0} (P : EventKind → Type 0) (part : Cluster → X → List Event) → ((cluster : Cluster) (x : X) → AllAre P (part cluster x)) → (cluster : Cluster) (xs : List X) → AllAre P (each part cluster xs)
+all-each P part all cluster [] = tt
+all-each P part all cluster (x ∷ xs) = all-both P (part cluster x) (each part (cluster_over cluster (part cluster x)) xs) (all cluster x) (all-each P part all (cluster_over cluster (part cluster x)) xs)
+
+reset-beside : (cluster : Cluster) (now : ℕ) (x : Member) (found : Option (Option Ticks)) → AllAre IsBeside (events_of cluster (kinds_of (option_and_then (reset_of now x) found)))
+reset-beside cluster now x None = tt
+reset-beside cluster now x (Some deadline) = reset-if (is_due_at now deadline)
+  where
+    reset-if : (due : Bool) → AllAre IsBeside (events_of cluster (kinds_of (cond due (Some (kinds.Watchdog (watchdogs.Reset x))) None)))
+    reset-if true = ((tt, tt), tt)
+    reset-if false = tt
+
+ended-if : (cluster : Cluster) (x : Member) (test : Bool) → AllAre IsBeside (events_of cluster (kinds_of (cond test (Some (kinds.Server (servers.Ended (server_of x)))) None)))
+ended-if cluster x true = ((tt, tt), tt)
+ended-if cluster x false = tt
+
+completed-beside : (cluster : Cluster) (now : ℕ) (x : Member) (state : State) → AllAre IsBeside (events_of cluster (kinds_of (completion_by now x state)))
+completed-beside cluster now x (states.Stopping true at) = ended-if cluster x (nat_le at.0 now)
+completed-beside cluster now x (states.Stopping false at) = tt
+completed-beside cluster now x _ = tt
+
+ends-beside : (cluster : Cluster) (now : ℕ) (x : Member) (found : Option ServerFacts) → AllAre IsBeside (events_of cluster (kinds_of (option_and_then (completion_of now x) found)))
+ends-beside cluster now x None = tt
+ends-beside cluster now x (Some s) = completed-beside cluster now x s.state
+
+leader-quiet : (holder : Option Member) → AllKinds IsQuiet (leader_expiry holder)
+leader-quiet None = tt
+leader-quiet (Some holder) = (tt, tt)
+
+expiry-quiet : (holder : Option Member) (key : Key) → AllKinds IsQuiet (expiry_of holder key)
+expiry-quiet holder keys.Leader = leader-quiet holder
+expiry-quiet holder _ = (tt, tt)
+
+expiries-quiet : (holder : Option Member) (keys : List Key) → AllKinds IsQuiet (expiries_of holder keys)
+expiries-quiet holder [] = tt
+expiries-quiet holder (key ∷ more) = kinds-both IsQuiet (expiry_of holder key) (expiries_of holder more) (expiry-quiet holder key) (expiries-quiet holder more)
+
+next-quiet : (cluster : Cluster) → AllKinds IsQuiet (next_expiries cluster)
+next-quiet cluster = expiries-quiet (declared_member cluster.book.members (expired_holder cluster.book.keys (cluster.book.clock + 1))) (expired_keys cluster.book.keys (cluster.book.clock + 1))
+
+quiet-beside : (cluster : Cluster) (kinds : List EventKind) → AllKinds IsQuiet kinds → AllAre IsBeside (events_of cluster kinds)
+quiet-beside cluster [] all = tt
+quiet-beside cluster (kind ∷ more) all = ((quiet-aside kind all.0, quiet-local kind all.0), quiet-beside (cluster_after cluster kind) more all.1)
+
+-- ---- the parts of a tick
+abbrev Ticked : Cluster → Cluster
+Ticked cluster = cluster_after cluster kinds.Tick
+
+abbrev Resets : Cluster → List Event
+Resets cluster = each reset_events (Ticked cluster) (Ticked cluster).book.members
+
+abbrev Reset : Cluster → Cluster
+Reset cluster = cluster_over (Ticked cluster) (Resets cluster)
+
+abbrev Expiries : Cluster → List Event
+Expiries cluster = events_of (Reset cluster) (next_expiries cluster)
+
+abbrev Expired : Cluster → Cluster
+Expired cluster = cluster_over (Reset cluster) (Expiries cluster)
+
+abbrev Ends : Cluster → List Event
+Ends cluster = each completion_events (Expired cluster) (Expired cluster).book.members
+
+-- all but the clock's event
+abbrev Rest : Cluster → List Event
+Rest cluster = Resets cluster ++ (Expiries cluster ++ Ends cluster)
+
+rest-beside : (cluster : Cluster) → AllAre IsBeside (Rest cluster)
+rest-beside cluster =
+    all-both IsBeside (Resets cluster) (Expiries cluster ++ Ends cluster)
+    (all-each IsBeside reset_events (λ c x. reset-beside c c.book.clock x (slice_get c.book.deadlines x.id.number)) (Ticked cluster) (Ticked cluster).book.members)
+    (all-both IsBeside (Expiries cluster) (Ends cluster) (quiet-beside (Reset cluster) (next_expiries cluster) (next-quiet cluster))
+    (all-each IsBeside completion_events (λ c x. ends-beside c c.book.clock x (slice_get c.book.servers x.id.number)) (Expired cluster) (Expired cluster).book.members))
+
+beside-aside : (events : List Event) → AllAre IsBeside events → AllAre IsAside events
+beside-aside [] all = tt
+beside-aside (event ∷ events) all = (all.0.0, beside-aside events all.1)
+
+beside-local : (events : List Event) → AllAre IsBeside events → AllAre IsLocal events
+beside-local [] all = tt
+beside-local (event ∷ events) all = (all.0.1, beside-local events all.1)
+
+-- ---- the machines behind a tick
+-- which stops are complete
+abbrev Stops : Cluster → ℕ → Bool
+Stops cluster m = is_listed m (Expired cluster).book.members && stops_seen (Expired cluster) m
+
+ended-machine : (due ends : Bool) (machine : Machine) → tick_machine false ends (tick_machine due false machine) ≡ tick_machine due ends machine
+ended-machine true true machine = refl
+ended-machine true false machine = refl
+ended-machine false ends machine = refl
+
+tick-machines : (cluster : Cluster) (m : ℕ) → Each (λ (x : Member). x.id.number < length cluster.agents) cluster.book.members
+    → machine_in (cluster_over (Ticked cluster) (Rest cluster)) m
+    ≡ tick_machine (is_listed m cluster.book.members && is_due (cluster.book.clock + 1) (deadline_in cluster.book.deadlines m)) (Stops cluster m) (machine_in cluster m)
+tick-machines cluster m small =
+    let due : Bool = is_listed m cluster.book.members && is_due (cluster.book.clock + 1) (deadline_in cluster.book.deadlines m) in
+    ap (λ (c : Cluster). machine_in c m)
+    (over-append (Ticked cluster) (Resets cluster) (Expiries cluster ++ Ends cluster) ∙ over-append (Reset cluster) (Expiries cluster) (Ends cluster))
+    ∙ ends (Expired cluster).book.members (Expired cluster) m
+    ∙ ap (λ (machine : Machine). tick_machine false (Stops cluster m) machine)
+    (quiet-machines (next_expiries cluster) (next-quiet cluster) (Reset cluster) m
+    ∙ resets (Ticked cluster).book.members (Ticked cluster) small m
+    ∙ ap (λ (machine : Machine). tick_machine due false machine) (ticked-machine cluster m))
+    ∙ ended-machine due (Stops cluster m) (machine_in cluster m)
+
+-- past the members nothing is due
+listed-due : (count m now : ℕ) (deadlines : List (Option Ticks)) (is : Bool) → length deadlines ≡ count → (m < count → is ≡ true)
+    → (is && is_due now (deadline_in deadlines m)) ≡ is_due now (deadline_in deadlines m)
+listed-due count m now deadlines is sized listed = elim (slice_get_cases deadlines m).1 [
+  | inl found ↦ ap (λ b. b && is_due now (deadline_in deadlines m)) (listed (subst (λ (n : ℕ). m < n) sized found.1))
+  | inr past ↦
+      let none : is_due now (deadline_in deadlines m) ≡ false = ap (λ (o : Option (Option Ticks)). is_due now (deadline_now o)) past.1 in
+      ap (λ b. is && b) none ∙ and-none is ∙ sym none
+]
+  where
+    and-none : (b : Bool) → (b && false) ≡ false
+    and-none true = refl
+    and-none false = refl
+
+pub keeps-tick : (head : HeadText) → length (names_of head) ≤ 16 → Keeps head tick_events
+keeps-tick head few book cluster good =
+    let tick : Ticks = record { 0 = cluster.book.clock + 1 } in
+    let events : List Event = record { tick = tick; kind = kinds.Tick } ∷ Rest cluster in
+    let later : Cluster = cluster_over cluster events in
+    let asides : AllAre IsAside events = (tt, beside-aside (Rest cluster) (rest-beside cluster)) in
+    let matched = matched-behind head book cluster events asides good.matched in
+    let within = each-declared head few (λ (x : Member). x.id.number < length cluster.agents) (λ x is. subst (λ (n : ℕ). x.id.number < n) (sym good.matched.agents_sized) (declared-within head few x is)) in
+    let members : cluster.book.members ≡ declared_members head = good.matched.members in
+    action-kept head book cluster events (Tick (Stops cluster)) good (asides-begin (MayBeginBehind (state_of (declared_of head) (past_of book) (volatile_of cluster)) (Tick (Stops cluster))) [] events asides) (λ meets. record {
+      lawful = tt;
+      shows = tt;
+      shown = tick-shown (declared_of head) book (volatile_of cluster) (volatile_of later) tick (Rest cluster) (Stops cluster) (beside-local (Rest cluster) (rest-beside cluster))
+          (λ m.
+          machine-is head (past_of (book ++ events)) later matched m
+          ∙ tick-machines cluster m (subst (λ (xs : List Member). Each (λ (x : Member). x.id.number < length cluster.agents) xs) (sym members) within)
+          ∙ ap (λ b. tick_machine b (Stops cluster m) (machine_in cluster m))
+          (listed-due (member_count head) m (cluster.book.clock + 1) cluster.book.deadlines (is_listed m cluster.book.members) good.matched.sized.deadlines (λ small. ap (λ xs. is_listed m xs) members ∙ listed head few m small))
+          ∙ ap (λ (now : ℕ). tick_machine (is_due (now + 1) (deadline_in cluster.book.deadlines m)) (Stops cluster m) (machine_in cluster m)) (sym good.matched.store.clock)
+          ∙ ap (λ (o : Option ℕ). tick_machine (is_due ((past_of book).clock + 1) o) (Stops cluster m) (machine_in cluster m)) (sym (good.matched.machines.deadline m))
+          ∙ ap (λ (machine : Machine). tick_machine (is_due ((past_of book).clock + 1) ((past_of book).deadline m)) (Stops cluster m) machine) (sym (machine-is head (past_of book) cluster good.matched m)));
+      matched = matched;
+    })

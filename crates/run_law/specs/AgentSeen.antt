@@ -1,0 +1,8 @@
+-- What the law of one writer sees of an agent.
+use Rattle.ha_loop.specs.Agents.{AgentFacts}
+use Rattle.ha_loop.specs.Seen.{agent_seen as role_seen}
+use Rattle.lease_law.specs.States.{Agent}
+
+-- what the law of one writer sees of where an agent stands
+abbrev pub agent_seen : AgentFacts → Agent
+agent_seen agent = role_seen agent.role agent.knows

@@ -1,0 +1,34 @@
+-- What a head declares, as the law of one writer reads it.
+use Rattle.std.specs.Prelude.{ℕ, ◌*◌, Bool, true, false, List, Option, Some, None, length, slice_get}
+use Rattle.cluster_script.specs.Script.{HeadText, MemberText, names_of}
+use Rattle.event_book.specs.declared.member.Member.{Member}
+use Rattle.event_book.specs.Members.{members_from}
+use Rattle.leader_key.specs.Watchdog.{is_armable}
+use Rattle.lease_law.specs.States.{Declared}
+use Rattle.cluster_model.specs.Machines.{ticks_of_second}
+
+-- the margin that a member declares, in ticks; none past the members
+abbrev pub margin_said : Option MemberText → Option ℕ
+margin_said None = None
+margin_said (Some member) = Some (ticks_of_second * member.options.margin.seconds)
+
+-- the member's watchdog is on and its device works; so it counts past the members
+abbrev pub works_said : Option MemberText → Bool
+works_said None = true
+works_said (Some member) = is_armable member.options.watchdog member.options.device_works
+
+-- what a head declares for the law: the margins of its members; no failsafe mode yet
+abbrev pub declared_of : HeadText → Declared
+declared_of head = record { margin = λ m. margin_said (slice_get head.members m); failsafe = false }
+
+-- whose watchdog is on and works
+abbrev pub works_of : HeadText → ℕ → Bool
+works_of head m = works_said (slice_get head.members m)
+
+-- how many members a head declares
+abbrev pub member_count : HeadText → ℕ
+member_count head = length (names_of head)
+
+-- the members that a head declares, with their numbers
+abbrev pub declared_members : HeadText → List Member
+declared_members head = members_from 0 (names_of head)

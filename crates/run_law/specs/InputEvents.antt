@@ -1,0 +1,43 @@
+-- What an input of an agent brings, event by event.
+use Rattle.std.specs.Prelude.{ℕ, ◌≡◌}
+use Rattle.event_book.specs.declared.event.EventKind.{EventKind}
+use Rattle.event_book.specs.declared.event.EventKind.TheVariants as kinds
+use Rattle.event_book.specs.declared.event.MessageEvent.TheVariants as messages
+use Rattle.event_book.specs.declared.event.ReplicationEvent.TheVariants as replications
+use Rattle.event_book.specs.declared.event.ServerEvent.TheVariants as servers
+use Rattle.event_book.specs.declared.event.WatchdogEvent.TheVariants as watchdogs
+use Rattle.event_book.specs.declared.link.LinkEnd.TheVariants as ends
+use Rattle.event_book.specs.declared.member.Member.{Member}
+use Rattle.event_book.specs.declared.message.Body.{Body}
+use Rattle.event_book.specs.declared.message.Message.{Message}
+use Rattle.event_book.specs.declared.reason.Basis.TheVariants as bases
+use Rattle.event_book.specs.Members.{server_of}
+use Rattle.ha_loop.specs.declared.output.Output.{Output}
+use Rattle.ha_loop.specs.declared.output.Output.TheVariants as outputs
+use Rattle.ha_loop.specs.declared.output.Target.TheVariants as targets
+use Rattle.cluster_model.specs.Messages.{agent_message}
+
+-- a question of this member in its run, which an output with this property sends
+pub record IsQuestionOf (member : Member) (run : ℕ) (Q : Output → Type 0) (message : Message) : Type 0 where
+  pub sequence : ℕ
+  pub body : Body
+  pub is : message ≡ agent_message member ends.Store run sequence body
+  pub from : Q (outputs.Send targets.Store sequence body)
+
+-- what an output with this property brings, of an agent of this member in its run that heard the message of this number
+abbrev pub IsOfInput : Member → ℕ → ℕ → (Output → Type 0) → EventKind → Type 0
+IsOfInput member run heard Q (kinds.Message (messages.Sent number message)) = IsQuestionOf member run Q message
+IsOfInput member run heard Q (kinds.Message (messages.Lost number)) = Unit {0}
+IsOfInput member run heard Q (kinds.Server (servers.Began server timeline)) = (server ≡ server_of member) × Q outputs.Promote
+IsOfInput member run heard Q (kinds.Server (servers.StartsAsReplica server)) = server ≡ server_of member
+IsOfInput member run heard Q (kinds.Server (servers.Follows server upstream)) = server ≡ server_of member
+IsOfInput member run heard Q (kinds.Server (servers.Ended server)) = server ≡ server_of member
+IsOfInput member run heard Q (kinds.Server (servers.Stops server)) = server ≡ server_of member
+IsOfInput member run heard Q (kinds.Watchdog (watchdogs.Armed by until answer)) = (by ≡ member) × (answer ≡ heard) × Q (outputs.Armed until)
+IsOfInput member run heard Q (kinds.Watchdog (watchdogs.Fed by until basis)) = (by ≡ member) × (basis ≡ bases.Grant heard) × Q (outputs.Fed until)
+IsOfInput member run heard Q (kinds.Watchdog (watchdogs.Disarmed by)) = by ≡ member
+IsOfInput member run heard Q (kinds.Watchdog (watchdogs.Measured by from)) = by ≡ member
+IsOfInput member run heard Q (kinds.Replication (replications.RequiredSet server required names)) = server ≡ server_of member
+IsOfInput member run heard Q (kinds.Replication (replications.Lacks server)) = server ≡ server_of member
+IsOfInput member run heard Q (kinds.Note note) = Unit {0}
+IsOfInput member run heard Q _ = ⊥

@@ -1,0 +1,13 @@
+pub mod AgentSeen
+pub mod Declaring
+pub mod Members
+pub mod Machines
+pub mod Volatile
+pub mod Questions
+pub mod Waiting
+pub mod InputEvents
+pub mod Bridged
+pub mod Kept
+pub mod Asides
+pub mod LocalActions
+pub mod Inputs

@@ -1,0 +1,50 @@
+-- What an input of an agent asks, and what the agent waits for after it.
+use Rattle.std.specs.Prelude.{ℕ, ◌≡◌, ◌≤◌, ◌<◌, true, List, Some, None, All}
+use Rattle.pat_base.specs.declared.ticks.Ticks.{Ticks}
+use Rattle.leader_key.specs.Watchdog.{IsLeaseSpan}
+use Rattle.event_book.specs.declared.message.Body.{Body}
+use Rattle.event_book.specs.declared.message.Body.TheVariants as bodies
+use Rattle.ha_loop.specs.declared.knowledge.Knowledge.{Knowledge}
+use Rattle.ha_loop.specs.declared.knowledge.Waited.{Waited}
+use Rattle.ha_loop.specs.declared.output.Output.{Output}
+use Rattle.ha_loop.specs.declared.output.Output.TheVariants as outputs
+use Rattle.ha_loop.specs.Decisions.{asks_lease}
+use Rattle.lease_law.specs.Past.{lease_span, query_of}
+use Rattle.lease_law.specs.Stores.{IsSpannedTxn}
+
+-- a question to the key store: a read, or a request, of which a create asks for a lease of at least one tick
+abbrev pub IsQuestion : Body → Type 0
+IsQuestion bodies.Read = Unit {0}
+IsQuestion (bodies.Request txn) = IsSpannedTxn txn
+IsQuestion _ = ⊥
+
+-- the span of the lease that a message asks for, in ticks; 0 where it asks for none
+abbrev pub span_asked : Body → ℕ
+span_asked (bodies.Request txn) = lease_span (query_of txn)
+span_asked _ = 0
+
+-- a message that is sent is a question under a number above the first of these and at most the second
+abbrev pub SendsBetween : ℕ → ℕ → Output → Type 0
+SendsBetween low high (outputs.Send to sequence body) = (low < sequence) × (sequence ≤ high) × IsQuestion body
+SendsBetween low high _ = Unit {0}
+
+-- a message with the number of what is waited for asks for a lease of the span that is waited for, if one is
+abbrev pub AsksFor : Waited → Output → Type 0
+AsksFor waited (outputs.Send to sequence body) = sequence ≡ waited.sequence → asks_lease waited.question ≡ true → span_asked body ≡ waited.ttl.0
+AsksFor waited _ = Unit {0}
+
+-- what an agent that knew the first waits for when it knows the second, behind these outputs of this moment: what it waited for, nothing,
+-- or what one of the outputs asks
+pub data WaitsOn (now : Ticks) (known knows : Knowledge) (outs : List Output) : Type 0 where
+  Same : (is : knows.waited ≡ known.waited) → WaitsOn now known knows outs
+  Nothing : (is : knows.waited ≡ None) → WaitsOn now known knows outs
+  New : (waited : Waited) → (is : knows.waited ≡ Some waited) → (later : known.sequence < waited.sequence) → (counted : waited.sequence ≤ knows.sequence) → (sent : waited.sent ≡ now) → (span : IsLeaseSpan waited.ttl.0)
+      → (asks : All (AsksFor waited) outs) → WaitsOn now known knows outs
+
+-- an input asks under new numbers: the agent goes on in its run, and waits for the same, for nothing, or for what it asks now
+pub record AsksAnew (now : Ticks) (known knows : Knowledge) (outs : List Output) : Type 0 where
+  pub who : knows.who ≡ known.who
+  pub run : knows.run ≡ known.run
+  pub last : known.sequence ≤ knows.sequence
+  pub sends : All (SendsBetween known.sequence knows.sequence) outs
+  pub waits : WaitsOn now known knows outs

@@ -1,0 +1,6 @@
+//! The law of one writer of every run: what happens in a cluster, by definition, meets the law of the timed lease.
+#![tactic(auto)]
+
+mod laws;
+
+pub use laws::runs_have_one_writer;
