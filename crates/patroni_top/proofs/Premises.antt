@@ -1,5 +1,5 @@
 -- The premises that the closing summary tells of are those of the law of one writer.
-use Rattle.std.proofs.Common.{◌≡◌, ℕ, ◌++◌, Option, Bool, true, false, List, [], ◌∷◌, Ok, map, zero, suc, refl, subst, sym, ◌∙◌}
+use Rattle.std.proofs.Common.{◌≡◌, ℕ, Option, Bool, List, [], ◌∷◌, Ok, map, zero, suc, refl, subst, sym, ◌∙◌}
 use Rattle.std.specs.Prelude.{not, ◌&&◌, slice_get}
 use mathlib.Core.Path.{fun_ext}
 use Rattle.lease_store.specs.Settings.{Settings}
@@ -12,9 +12,8 @@ use Rattle.cluster_script.specs.Script.{HeadText, MemberText, ScriptText}
 use Rattle.cluster_script.specs.Steps.{steps_of}
 use Rattle.cluster_script.proofs.ReadLaws.{read-is-spelled}
 use Rattle.event_book.specs.declared.event.Event.{Event}
-use Rattle.event_book.specs.Writers.{HasOneWriter}
 use Rattle.lease_law.specs.Premises.{IsHandsOff, IsTimely}
-use Rattle.summary.specs.Claims.{ArePremisesMet, margin_of, works_of as is_watched}
+use Rattle.summary.specs.Claims.{margin_of, works_of as is_watched}
 use Rattle.run_law.specs.Declaring.{declared_of, margin_said, works_of, works_said}
 use Rattle.run_law.proofs.EveryRun.{runs-one}
 use Rattle.patroni_top.specs.Claims.{KeepsOneWriter}
