@@ -64,7 +64,3 @@ bytes_or_none (Some line) = line
 abbrev pub lines_of : Bool → List Event → List ℕ
 lines_of trace [] = []
 lines_of trace (event ∷ events) = bytes_or_none (line_of trace event) ++ lines_of trace events
-
--- the closing summary of a run that ended at this moment
-abbrev pub summary_at : ℕ → List ℕ
-summary_at moment = codes "end at " ++ (decimal moment ++ codes "\n")

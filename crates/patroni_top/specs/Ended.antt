@@ -22,11 +22,11 @@ ending_in (Err ending) = ending
 abbrev pub IsLeftBy : ScriptText → Cluster → Type 0
 IsLeftBy script world = StandsFor (cluster_of script.head) (run_of script) world
 
--- the world took all steps of the script that these bytes are
-abbrev pub IsLeftByBytes : Cluster → List ℕ → Type 0
-IsLeftByBytes world bytes = (script : ScriptText) → script_of bytes ≡ Ok script → IsLeftBy script world
+-- this holds of the script that these bytes are, if they are one
+abbrev pub IfScript : (ScriptText → Type 0) → List ℕ → Type 0
+IfScript P bytes = (script : ScriptText) → script_of bytes ≡ Ok script → P script
 
 -- a world is there exactly where all is done, and where the source tells its bytes, it took all steps of the script that they are
 pub record LeavesWorld {S : Type 0} (source : Ghosts S) (input : S) (ended : Ended) : Type 0 where
   pub done : IsSome ended.world ↔ (ended.status ≡ statuses.Done)
-  pub stands : IfSome ended.world (λ world. Known (source.rest input) (IsLeftByBytes world))
+  pub stands : IfSome ended.world (λ world. Known (source.rest input) (IfScript (λ script. IsLeftBy script world)))

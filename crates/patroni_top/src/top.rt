@@ -1,7 +1,8 @@
 //! The top call.
 ghost use Rattle.std.specs.Prelude.{◌≡◌, ◌≢◌, ◌↔◌, [], ◌∷◌, map, codes, string_bytes, IfErr, IfOk, IsTrue};
 ghost use Rattle.pat_base.specs.Outside.{Known};
-ghost use Rattle.patroni_top.specs.Ended.{IsLeftByBytes, LeavesWorld, ending_in};
+ghost use Rattle.patroni_top.specs.Claims.{KeepsOneWriter};
+ghost use Rattle.patroni_top.specs.Ended.{IfScript, IsLeftBy, LeavesWorld, ending_in};
 ghost use Rattle.patroni_top.specs.Ends.{Ends};
 ghost use Rattle.patroni_top.specs.Run.{output_in};
 ghost use Rattle.patroni_top.specs.Status.{status_of, message_of, Says, IsReported};
@@ -33,6 +34,9 @@ pub fn run<S: Source, K: Sink, E: Sink>(
     ensures usage { (result.status ≡ Status.Usage) ↔ (map string_bytes words.now ≢ codes "run" ∷ []) }
     ensures ends { Ends S.Source K.Sink input.old input.new out.old out.new output_in result.status }
     ensures world { LeavesWorld S.Source input.old result }
+
+    // At most one server accepts writes at each moment of the run up to which the premises are met.
+    ensures one_writer { Known (S.rest input.old) (IfScript KeepsOneWriter) }
 
     // The line told is that of the status; the fault with its line, or the limit, that it names is the input's.
     ensures reported { (ending : Ending) × (status_of ending ≡ result.status) × Known (S.rest input.old) (λ bytes. Says ending bytes)
@@ -73,7 +77,7 @@ fn run_script<S: Source, K: Sink>(
     ensures unfinished { IfErr result (λ ending. status_of ending ≢ Status.Done) }
     ensures ends { Ends S.Source K.Sink input.old input.new out.old out.new output_in (status_of (ending_in result)) }
     ensures says { Known (S.rest input.old) (Says (ending_in result)) }
-    ensures world { IfOk result (λ world. Known (S.rest input.old) (IsLeftByBytes world)) }
+    ensures world { IfOk result (λ world. Known (S.rest input.old) (IfScript (λ script. IsLeftBy script world))) }
 {
     match script_from(alloc, input) {
         Ok(script) => match play(alloc, &script, out) {

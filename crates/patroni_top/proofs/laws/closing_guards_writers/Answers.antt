@@ -1,4 +1,4 @@
-use Rattle.std.proofs.Common.{◌∙◌, List, ap, sym, subst}
+use Rattle.std.proofs.Common.{◌∙◌, List, sym, subst}
 use Rattle.std.proofs.lemmas.List.{length-map}
 use Rattle.lease_store.specs.Defaults.{default_settings}
 use Rattle.cluster_script.specs.Steps.{steps_of}
@@ -17,6 +17,6 @@ returns c = λ script few measured one.
     let start = cluster_of script.head in
     let steps = steps_of script.body in
     let is = book-by-step start steps in
-    c.measured_sights_guard_writers.ensures.guard (watches_of script.head) default_settings (events_by_step start steps) (rw length-map few)
+    c.measured_sights_suffice.ensures.guard (watches_of script.head) default_settings (events_by_step start steps) (rw length-map few)
     (subst (λ (book : List Event). AreMeasured first_moments first_since book) (sym is) measured)
     (λ front rest parts met. one front rest (parts ∙ is) met)

@@ -1,0 +1,11 @@
+use Rattle.patroni_top.proofs.Premises.{one-writer}
+use Rattle.patroni_top.proofs.top.run.Goals as goal
+
+pub returns-then-not-is_run-clause-one_writer : goal.returns-then-not-is_run-clause-one_writer
+returns-then-not-is_run-clause-one_writer g c = λ bytes told script is. one-writer bytes script is
+
+pub returns-in-Ok-clause-one_writer : goal.returns-in-Ok-clause-one_writer
+returns-in-Ok-clause-one_writer g c = λ bytes told script is. one-writer bytes script is
+
+pub returns-in-Err-clause-one_writer : goal.returns-in-Err-clause-one_writer
+returns-in-Err-clause-one_writer g c = λ bytes told script is. one-writer bytes script is
