@@ -5,7 +5,7 @@ use Rattle.pat_base.specs.declared.name.Name.{Name}
 use Rattle.std.specs.Prelude.{slice_get}
 use Rattle.pat_base.specs.declared.outside.Sink.{Ghosts}
 use Rattle.pat_base.specs.Prints.{Prints}
-use Rattle.pat_base.proofs.Printing.{Prints-ok, IsPrinting, IsPrinting-start, IsPrinting-more, IsPrinting-end, IsPrinting-stop}
+use Rattle.pat_base.proofs.Printing.{Prints-none, Prints-ok, IsPrinting, IsPrinting-start, IsPrinting-more, IsPrinting-end, IsPrinting-stop}
 use Rattle.event_book.specs.declared.event.Event.{Event}
 use Rattle.event_book.specs.Text.{lines_of}
 use Rattle.cluster_script.specs.declared.line.Line.{Line}
@@ -22,7 +22,7 @@ use Rattle.pat_world.proofs.Starting.{drop-get}
 use Rattle.pat_world.proofs.Taking.{members-stay, cluster_over-append}
 use Rattle.patroni_top.specs.declared.playing.Player.{Player}
 use Rattle.patroni_top.specs.declared.print_error.PrintError.{PrintError}
-use Rattle.patroni_top.specs.declared.print_error.PrintError.TheVariants.{Write}
+use Rattle.patroni_top.specs.declared.print_error.PrintError.TheVariants.{Memory, Write}
 use Rattle.patroni_top.specs.Playing.{Plays}
 use Rattle.patroni_top.specs.Run.{printed_from, traced_after, traced_over}
 
@@ -60,6 +60,21 @@ Plays-step-stop {Y = Y} {sink = sink} {before = before} {after = after} {out = o
   printed = subst (λ (t : List ℕ). Prints {X = Y} sink out then Write (Err error) t) (ap (lines_of before.trace) same ∙ step-text before after.world step had has took empty)
       (record { ok = tt; part = printed.part; write = λ e. printed.write (ap Err cc); grows = printed.grows; room = printed.room });
 })
+
+-- want of memory before anything is printed
+memory-write : Memory ≡ Write → ⊥
+memory-write e = cc
+
+pub Plays-none : {K X : Type 0} {sink : Ghosts K} {before after : Player} {out : K} (final : Result X PrintError) (steps : List Step) → final ≡ Err Memory → Plays sink before after out out final steps
+Plays-none {X = X} {sink = sink} {before = before} {after = after} {out = out} final steps stops = rw stops (record {
+  world = tt;
+  trace = tt;
+  room = tt;
+  printed = Prints-none {X = X} sink out Write Memory (Err Memory) (printed_from before.world before.trace steps) refl memory-write;
+})
+
+pub Prints-memory : {K X : Type 0} {sink : Ghosts K} {out : K} (final : Result X PrintError) (bytes : List ℕ) → final ≡ Err Memory → Prints sink out out Write final bytes
+Prints-memory {sink = sink} {out = out} final bytes stops = Prints-none sink out Write Memory final bytes stops memory-write
 
 -- some steps, and then others: what they leave, and what they print
 run_events-append : (world : Cluster) (steps rest : List Step) → cluster_over (cluster_over world (run_events world steps)) (run_events (cluster_over world (run_events world steps)) rest) ≡ cluster_over world (run_events world (steps ++ rest))

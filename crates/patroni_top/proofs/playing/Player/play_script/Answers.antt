@@ -18,8 +18,8 @@ returns-in_err-play_body g c =
     let script = c.args.script.now in
     let player = c.args.self.now in
     let end = (cluster_over player.world (run_events player.world (steps_of script.body))).book.clock in
-    let final = c.from_residual-in_err-play_body.result in
-    let p = err_from_is_err_and final c.from_residual-in_err-play_body.ensures.1 in
+    let final = c.from_residual.result in
+    let p = err_from_is_err_and final c.from_residual.ensures.1 in
     subst (λ (t : List ℕ). Prints g.K.Sink c.args.out.now c.play_body.new.out Write final t)
     (text-is script player.world player.trace end c.requires.world c.requires.untraced refl)
     (Prints-stop Write _ final (summary_at end) c.in_err-play_body.ensures.printed (p.1 ∙ ap Err p.2) (λ e. e))

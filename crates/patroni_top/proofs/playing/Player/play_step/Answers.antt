@@ -1,7 +1,13 @@
-use Rattle.std.proofs.Common.{ap, ◌∙◌, Err}
+use Rattle.std.proofs.Common.{ap, ◌∙◌, Err, [], ◌∷◌}
 use Rattle.std.proofs.lemmas.Result.{err_from_is_err_and}
-use Rattle.patroni_top.proofs.Played.{Plays-step, Plays-step-stop}
+use Rattle.patroni_top.proofs.Played.{Plays-none, Plays-step, Plays-step-stop}
 use Rattle.patroni_top.proofs.playing.Player.play_step.Goals as goal
+
+pub returns-in_err-step : goal.returns-in_err-step
+returns-in_err-step g c =
+    let final = c.from_residual.result in
+    let p = err_from_is_err_and final c.from_residual.ensures.1 in
+    Plays-none final (c.args.step.now ∷ []) (p.1 ∙ ap Err p.2)
 
 pub returns-in_err-print_events : goal.returns-in_err-print_events
 returns-in_err-print_events g c =
