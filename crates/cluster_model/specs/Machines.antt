@@ -34,7 +34,7 @@ machine_from receives _ _ _ _ = None
 abbrev pub machine_of : Cluster → Member → Option Machine
 machine_of cluster member =
     machine_from (is_some (source_of cluster.book.members cluster.book.servers cluster.book.cuts member))
-        (slice_get cluster.options member.id.number) (slice_get cluster.book.deadlines member.id.number) (slice_get cluster.book.holds member.id.number) (slice_get cluster.book.servers member.id.number)
+    (slice_get cluster.options member.id.number) (slice_get cluster.book.deadlines member.id.number) (slice_get cluster.book.holds member.id.number) (slice_get cluster.book.servers member.id.number)
 
 -- the history of a server, none where there is no server
 abbrev pub points_from : Option ServerFacts → List HistoryPoint

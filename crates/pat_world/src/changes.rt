@@ -12,7 +12,6 @@ ghost use Rattle.event_book.specs.Watchdogs.{deadlines_after, holds_after};
 ghost use Rattle.ha_loop.specs.Agents.{latest};
 ghost use Rattle.cluster_model.specs.Limits.{most_members};
 ghost use Rattle.lease_store.specs.Keys.{Keys};
-
 ghost use Rattle.pat_world.specs.Apart.{agents_apart};
 ghost use Rattle.pat_world.specs.Comes.{IsBare};
 ghost use Rattle.pat_world.specs.Settled.{settled_by, settled_after};

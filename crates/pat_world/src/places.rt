@@ -28,11 +28,7 @@ pub fn first_agents(
     let mut agents = Vec::with_capacity(alloc, members.len())?;
     for member in members {
         let first = Ticks(member.id.number as u64);
-        agents.push_reserved(Some(Agent::begin(
-            who_of(scope, members, *member),
-            first,
-            1,
-        )));
+        agents.push_reserved(Some(Agent::begin(who_of(scope, members, *member), first, 1)));
     }
     Ok(agents)
 }

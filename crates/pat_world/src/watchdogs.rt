@@ -17,7 +17,11 @@ pub fn change_deadline(deadlines: &mut Vec<Option<Ticks>>, happening: &WatchdogE
     ensures { deadlines.new.items ≡ deadlines_by deadlines.old.items happening.now }
 {
     match happening {
-        WatchdogEvent::Armed { member, until, .. } => set_deadline(deadlines, *member, Some(*until)),
+        WatchdogEvent::Armed { member, until, .. } => set_deadline(
+            deadlines,
+            *member,
+            Some(*until),
+        ),
         WatchdogEvent::Fed { member, until, .. } => set_deadline(deadlines, *member, Some(*until)),
         WatchdogEvent::Disarmed { member } => set_deadline(deadlines, *member, None),
         WatchdogEvent::Reset { member } => set_deadline(deadlines, *member, None),

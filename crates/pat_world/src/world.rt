@@ -25,12 +25,12 @@ mod streaming;
 mod ticking;
 
 use crate::flight::Flight;
+use crate::from_head::{hosts_of, members_of, options_of, processes_of};
 use crate::links::{CutLinks, cut_of, join_of, link_of};
 use crate::members;
 use crate::places::{close_all, first_agents};
 use crate::processes::{hold_of, kill_of, resume_of};
 use crate::server_commands::{commit_of, crash_of, freezing_of, slow_of};
-use crate::from_head::{hosts_of, members_of, options_of, processes_of};
 use cluster_script::{Command, End, Head, MemberOptions, Step};
 use event_book::{AgentProcess, Event, EventKind, Link, Member};
 use ha_loop::{Agent, Outputs};

@@ -245,8 +245,7 @@ impl World {
     }
 
     /// What the agent of a member shows of itself and of its server. `None` exactly where none runs.
-    pub fn view(&self, id: MemberId) -> Option<AgentView<'_>>
-    {
+    pub fn view(&self, id: MemberId) -> Option<AgentView<'_>> {
         let member = *self.members.get(id.number as usize)?;
         let machine = self.machine(member)?;
         let agent = places::agent_at(&self.agents, member.id.number as usize)?;

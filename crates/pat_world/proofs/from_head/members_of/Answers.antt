@@ -12,5 +12,12 @@ pub returns-clause-few : goal.returns-clause-few
 returns-clause-few c =
     let names = names_of c.args.head.now in
     let place = c.loop-place.place in
-    omega (arith, ap length c.loop-place.invariant, length-append c.loop-place.members.items (members_from place (drop place names)), members-few 0 names, length-map c.args.head.now.members (λ (m : MemberText). m.name),
-    c.member_count-place-end.ensures.value, c.member_count-place-end.ensures.few)
+    omega (
+      arith,
+      ap length c.loop-place.invariant,
+      length-append c.loop-place.members.items (members_from place (drop place names)),
+      members-few 0 names,
+      length-map c.args.head.now.members (λ (m : MemberText). m.name),
+      c.member_count-place-end.ensures.value,
+      c.member_count-place-end.ensures.few,
+    )
