@@ -9,6 +9,7 @@ pub mod Expiring
 pub mod Flights
 pub mod Hearing
 pub mod Reaching
+pub mod Lacking
 pub mod Losses
 pub mod Promoting
 pub mod Rest

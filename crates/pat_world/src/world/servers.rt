@@ -21,9 +21,9 @@ impl World {
         requires { HasRoom self.old promotion_cost }
         ensures { OnOk result (Emits self.old self.new events.old.items events.new.items (promote_events self.old member) promotion_cost) }
     {
-        if promoted_timeline(&self.servers, member).is_none() {
+        let Some(_timeline) = promoted_timeline(&self.servers, member) else {
             return Ok(());
-        }
+        };
         let server = ServerOf::of(member);
         self.happen(EventKind::Server(ServerEvent::Promoted { server }), events)?;
         self.begin(member, events)

@@ -1,15 +1,11 @@
-use Rattle.std.proofs.Common.{rules, ◌≡◌, ◌≤◌, ◌+◌, ◌*◌, [], All, OnOk, IfOk, IfSome, length, slice_get, ℕ, ◌-◌, ◌<◌, ◌/◌, ◌%◌, Bool, true, false, nat_eq, nat_lt, List, ◌∷◌, ◌++◌, slice_index_or, slice_set, bit_and, bit_or, Fits, w8, w32, w64, Bor, MutBor}
-use Rattle.ha_loop.specs.Outputs.{most_outputs}
-use Rattle.cluster_model.specs.Messages.{output_events, sending_events}
-use Rattle.cluster_model.specs.Orders.{feed_kinds, order_kind}
-use Rattle.cluster_model.specs.Parts.{each, events_of}
-use Rattle.cluster_model.specs.State.{Cluster}
-use Rattle.pat_world.specs.Comes.{MayCome}
-use Rattle.pat_world.specs.Emits.{Emits}
-use Rattle.pat_world.specs.Room.{HasRoom, feeding_cost, output_cost, outputs_cost, sending_cost}
-use Rattle.pat_world.specs.Short.{AsksShortly, IsAsked}
+use Rattle.std.proofs.lemmas.Result.{on_ok_weaker}
+use Rattle.pat_world.proofs.Carrying.{order-same, order-took}
 use Rattle.pat_world.proofs.world.World.carry.Goals as goal
 
--- src/world/orders.rt:45:5
 pub returns-in_ok-kind-in_default : goal.returns-in_ok-kind-in_default
-returns-in_ok-kind-in_default c = ?
+returns-in_ok-kind-in_default c =
+    let none = c.in_default in
+    let same = order-same c.args.self.now c.args.member c.args.heard c.args.output none.not-Send none.not-Promote none.not-StartReplica none.not-Stop none.not-Armed none.not-Fed in
+    on_ok_weaker c.happen_if.result
+    (λ took. order-took c.args.self.now c.happen_if.new.self c.args.events.now.items c.happen_if.new.events.items c.args.member c.args.heard c.args.output c.in_ok-kind-in_default.kind same c.in_ok-kind-in_default.ensures.kind took)
+    c.happen_if.ensures

@@ -1,15 +1,28 @@
-use Rattle.std.proofs.Common.{rules, ◌≡◌, ◌+◌, OnOk, Some, option_map, ℕ, ◌-◌, ◌*◌, ◌<◌, ◌≤◌, length, ◌/◌, ◌%◌, Bool, true, false, nat_eq, nat_lt, List, [], ◌∷◌, ◌++◌, slice_index_or, slice_set, bit_and, bit_or, Fits, w8, w32, w64, Bor, MutBor}
-use Rattle.cluster_model.specs.Messages.{promotion_events, replica_start_events, stop_events}
-use Rattle.cluster_model.specs.Next.{promote_events}
-use Rattle.cluster_model.specs.Orders.{server_at}
-use Rattle.pat_world.specs.Emits.{Emits}
-use Rattle.pat_world.specs.Room.{HasRoom, beginning_cost, promotion_cost, replica_start_cost, stopping_cost}
+use Rattle.std.proofs.Common.{◌≡◌, ◌∙◌, arith, ap, sym, subst}
+use Rattle.std.specs.Prelude.{option_and_then, slice_get}
+use Rattle.std.proofs.lemmas.Result.{on_ok_weaker}
+use Rattle.cluster_model.specs.State.{Cluster}
+use Rattle.pat_world.specs.Room.{HasRoom, promotion_cost}
+use Rattle.pat_world.specs.Promoting.{promoted_timeline}
+use Rattle.pat_world.proofs.Promoting.{nothing-promoted, promoted-took}
+use Rattle.pat_world.proofs.Rooms.{HasRoom-fewer}
+use Rattle.pat_world.proofs.ServerCommanding.{timeline-below}
+use Rattle.pat_world.proofs.Worlds.{seen}
 use Rattle.pat_world.proofs.world.World.promote.Goals as goal
 
--- src/world/servers.rt:24:12
 pub promoted_timeline-requires : goal.promoted_timeline-requires
-promoted_timeline-requires c = ?
+promoted_timeline-requires c =
+    let room = subst (λ (b : Cluster). HasRoom b promotion_cost) (sym c.self.view_is) c.requires in
+    timeline-below (seen c.self.inside) c.args.member.id.number (HasRoom-fewer (seen c.self.inside) promotion_cost 2 (omega arith) room)
 
--- src/world/servers.rt:20:5
+pub returns-in_default : goal.returns-in_default
+returns-in_default c =
+    let none = ap (λ (b : Cluster). option_and_then promoted_timeline (slice_get b.book.servers c.args.member.id.number)) (sym c.self.view_is) ∙ sym c.promoted_timeline.ensures ∙ c.in_default.is in
+    nothing-promoted c.args.self.now c.args.member c.args.events.now.items none
+
 pub returns : goal.returns
-returns c = ?
+returns c =
+    let is = ap (λ (b : Cluster). option_and_then promoted_timeline (slice_get b.book.servers c.args.member.id.number)) (sym c.self.view_is) ∙ sym c.promoted_timeline.ensures ∙ c.in-Some.is in
+    on_ok_weaker c.begin.result
+    (λ took. promoted-took c.args.self.now c.happen.new.self c.begin.new.self c.args.member c.in-Some._timeline c.of-server.result c.args.events.now.items c.happen.new.events.items c.begin.new.events.items is c.of-server.ensures c.in_ok-happen.ensures took)
+    c.begin.ensures

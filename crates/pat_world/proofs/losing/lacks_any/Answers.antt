@@ -1,0 +1,7 @@
+use Rattle.std.proofs.Common.{◌∙◌, ap}
+use Rattle.pg_model.specs.Facts.{entries_of}
+use Rattle.pat_world.proofs.Lacking.{lacks-all}
+use Rattle.pat_world.proofs.losing.lacks_any.Goals as goal
+
+pub returns-in-None : goal.returns-in-None
+returns-in-None c = search (lacks-all, c.in-None.is, c.is_empty.ensures)
