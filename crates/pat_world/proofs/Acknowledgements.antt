@@ -207,8 +207,8 @@ acknowledged-rest cluster member commit s there next =
     let later : Cluster = cluster_after cluster (acknowledgement member commit) in
     let rest = acknowledgements known members member (ready_commits (one_told s)) in
     let same : acknowledge_events later member ≡ events_of later rest =
-        ap (λ (o : Option ServerFacts). events_of later (acknowledge_kinds later.book.servers members member o)) (got-with known place s one_told there)
-        ∙ ap (events_of later) (acknowledgements-same known place s members member (ready_commits (one_told s)) there) in
+    ap (λ (o : Option ServerFacts). events_of later (acknowledge_kinds later.book.servers members member o)) (got-with known place s one_told there)
+    ∙ ap (events_of later) (acknowledgements-same known place s members member (ready_commits (one_told s)) there) in
     ap (λ (o : Option ServerFacts). events_of cluster (acknowledge_kinds known members member o)) there
     ∙ ap (λ (commits : List ℕ). events_of cluster (acknowledgements known members member commits)) (ready-next s commit next).0
     ∙ told-first cluster member commit rest
@@ -227,7 +227,7 @@ acknowledge-more start cluster view member commit server known told tick had has
     let after = telling cluster known told in
     let losses = losses_of commit cluster.book.servers cluster.book.members in
     let servers : known ≡ changed_by cluster.book.servers place one_told = known_is ∙ ap (changed_at cluster.book.servers place acknowledged) found.1
-        ∙ ap (slice_set cluster.book.servers place) (ready-next found.0 commit found.2).1 ∙ sym (ap (changed_at cluster.book.servers place one_told) found.1) in
+    ∙ ap (slice_set cluster.book.servers place) (ready-next found.0 commit found.2).1 ∙ sym (ap (changed_at cluster.book.servers place one_told) found.1) in
     let lost : losses_of commit known cluster.book.members ≡ losses = ap (λ (xs : List ServerFacts). losses_of commit xs cluster.book.members) servers ∙ losses-same cluster.book.servers place found.0 commit cluster.book.members found.1 in
     let written : longest ≡ longer ++ at_once after losses = longest_is ∙ ap (λ (c : Cluster). longer ++ at_once c (losses_of commit c.book.servers c.book.members)) (sym view_is) ∙ ap (λ (ks : List EventKind). longer ++ at_once after ks) lost in
     let one = acknowledged-one cluster member commit found.0 server known told tick has longer found.1 found.2 known_is told_is server_is at longer_is in
@@ -321,9 +321,9 @@ done-there cluster member s (commit ∷ more) there ready =
     let rest = done-there later member (one_told s) more (got-with cluster.book.servers member.id.number s one_told there) next.1 in
     let others = acknowledgements cluster.book.servers cluster.book.members member more in
     let same : cluster_over cluster (events_of cluster (acknowledgement member commit ∷ (losses_of commit cluster.book.servers cluster.book.members ++ others))) ≡ cluster_over later (events_of later (acknowledgements later.book.servers later.book.members member more)) =
-        ap (cluster_over cluster) (told-first cluster member commit others) ∙ cluster_over-append cluster (told_events cluster member commit) (events_of later others)
-        ∙ ap (λ (c : Cluster). cluster_over c (events_of later others)) (told-over cluster member commit)
-        ∙ ap (λ (ks : List EventKind). cluster_over later (events_of later ks)) (sym (acknowledgements-same cluster.book.servers member.id.number s cluster.book.members member more there)) in
+    ap (cluster_over cluster) (told-first cluster member commit others) ∙ cluster_over-append cluster (told_events cluster member commit) (events_of later others)
+    ∙ ap (λ (c : Cluster). cluster_over c (events_of later others)) (told-over cluster member commit)
+    ∙ ap (λ (ks : List EventKind). cluster_over later (events_of later ks)) (sym (acknowledgements-same cluster.book.servers member.id.number s cluster.book.members member more there)) in
     let P : Cluster → Type 0 = λ after. Keeps cluster after × DoneAt after member.id.number in
     subst P (sym same) (Keeps-then cluster later _ (keeps-one cluster member commit s there next.0) rest.0, rest.1)
 

@@ -21,9 +21,7 @@ pub fn hold_of(member: Member, process: AgentProcess) -> Option<EventKind>
     ensures comes { (cluster : Cluster) → IfSome result (MayCome cluster) }
 {
     if may_act(process) {
-        Some(EventKind::Agent(AgentEvent::Suspended {
-            agent: member,
-        }))
+        Some(EventKind::Agent(AgentEvent::Suspended { agent: member }))
     } else {
         None
     }
@@ -35,9 +33,7 @@ pub fn resume_of(member: Member, process: AgentProcess) -> Option<EventKind>
     ensures comes { (cluster : Cluster) → IfSome result (MayCome cluster) }
 {
     if process.suspended {
-        Some(EventKind::Agent(AgentEvent::Resumed {
-            agent: member,
-        }))
+        Some(EventKind::Agent(AgentEvent::Resumed { agent: member }))
     } else {
         None
     }
@@ -49,9 +45,7 @@ pub fn kill_of(member: Member, process: AgentProcess) -> Option<EventKind>
     ensures comes { (cluster : Cluster) → IfSome result (MayCome cluster) }
 {
     if process.running {
-        Some(EventKind::Agent(AgentEvent::Killed {
-            agent: member,
-        }))
+        Some(EventKind::Agent(AgentEvent::Killed { agent: member }))
     } else {
         None
     }
