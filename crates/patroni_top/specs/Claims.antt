@@ -4,20 +4,13 @@ use Rattle.lease_store.specs.Defaults.{default_settings}
 use Rattle.cluster_script.specs.Script.{ScriptText}
 use Rattle.event_book.specs.declared.event.Event.{Event}
 use Rattle.event_book.specs.Writers.{HasOneWriter}
-use Rattle.lease_law.specs.Premises.{first_moments}
 use Rattle.summary.specs.Claims.{ArePremisesMet, IsGuarded}
-use Rattle.summary.specs.Sights.{first_since}
-use Rattle.summary.specs.Telling.{AreMeasured}
 use Rattle.patroni_top.specs.Run.{closing_of_run, run_of}
 use Rattle.patroni_top.specs.Watches.{watches_of}
 
 -- at most one server accepts writes at the end of each front of the script's book that meets the premises
 abbrev pub KeepsOneWriter : ScriptText → Type 0
 KeepsOneWriter script = (front rest : List Event) → front ++ rest ≡ run_of script → ArePremisesMet (watches_of script.head) default_settings front → HasOneWriter front
-
--- the script's book tells before each feed of a watchdog from when that is measured
-abbrev pub TellsMeasures : ScriptText → Type 0
-TellsMeasures script = AreMeasured first_moments first_since (run_of script)
 
 -- the closing summary of the script says that the premises are met only where it says that two servers never accepted writes; where
 -- it says when they were broken, two servers first did no earlier

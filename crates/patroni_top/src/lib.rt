@@ -5,7 +5,6 @@
 
 mod ended;
 mod ending;
-mod laws;
 mod playing;
 mod print_error;
 mod printing;
@@ -15,6 +14,5 @@ mod top;
 mod watches;
 
 pub use ended::Ended;
-pub use laws::closing_guards_writers;
 pub use status::Status;
 pub use top::run;

@@ -1,7 +1,7 @@
 //! The top call.
 ghost use Rattle.std.specs.Prelude.{◌≡◌, ◌≢◌, ◌↔◌, [], ◌∷◌, map, codes, string_bytes, IfErr, IfOk, IsTrue};
 ghost use Rattle.pat_base.specs.Outside.{Known};
-ghost use Rattle.patroni_top.specs.Claims.{KeepsOneWriter};
+ghost use Rattle.patroni_top.specs.Claims.{GuardsWriters, KeepsOneWriter};
 ghost use Rattle.patroni_top.specs.Ended.{IfScript, IsLeftBy, LeavesWorld, ending_in};
 ghost use Rattle.patroni_top.specs.Ends.{Ends};
 ghost use Rattle.patroni_top.specs.Run.{output_in};
@@ -37,6 +37,9 @@ pub fn run<S: Source, K: Sink, E: Sink>(
 
     // At most one server accepts writes at each moment of the run up to which the premises are met.
     ensures one_writer { Known (S.rest input.old) (IfScript KeepsOneWriter) }
+    // The closing summary says so: where it says that the premises are met it says that two servers never accepted writes, and where
+    // it says when they were broken, two servers first did no earlier.
+    ensures premises_guard { Known (S.rest input.old) (IfScript GuardsWriters) }
 
     // The line told is that of the status; the fault with its line, or the limit, that it names is the input's.
     ensures reported { (ending : Ending) × (status_of ending ≡ result.status) × Known (S.rest input.old) (λ bytes. Says ending bytes)
