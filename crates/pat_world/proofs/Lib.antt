@@ -11,6 +11,7 @@ pub mod Hearing
 pub mod Reaching
 pub mod Lacking
 pub mod Losses
+pub mod OneWriter
 pub mod Promoting
 pub mod Rest
 pub mod Rooms

@@ -3,6 +3,7 @@ pub mod Book
 pub mod Comes
 pub mod Emits
 pub mod Launches
+pub mod OneWriter
 pub mod Promoting
 pub mod Reached
 pub mod Room

@@ -11,6 +11,7 @@ ghost use Rattle.cluster_model.specs.Starting.{cluster_of};
 ghost use Rattle.cluster_model.specs.State.{Cluster};
 ghost use Rattle.cluster_model.specs.Steps.{IsStep, names_in};
 ghost use Rattle.pat_world.specs.Book.{StandsFor, next_of};
+ghost use Rattle.pat_world.specs.OneWriter.{KeepsOneWriter};
 ghost use Rattle.pat_world.specs.Comes.{MayCome};
 ghost use Rattle.pat_world.specs.Emits.{Emits};
 ghost use Rattle.pat_world.specs.Room.{HasRoom, HasRoomFor, command_cost, round_cost, rounds_cost, schedule_cost, step_cost};
@@ -208,6 +209,8 @@ impl World {
         ensures emits { OnOk result (Emits self.old self.new events.old.items events.new.items (next_events self.old step.now) step_cost) }
         ensures book { OnOk result ((start : Cluster) (book : List Event) → StandsFor start book self.old
             → (events.new.items ≡ events.old.items ++ next_of start book step.now) × StandsFor start (book ++ next_of start book step.now) self.new) }
+        // At most one server accepts writes at every moment of it, where a run brought this world and the premises are met.
+        ensures one_writer { OnOk result (KeepsOneWriter self.old events.new.items) }
         ensures acknowledged { OnOk result (AreAcknowledged self.new.book.members self.new.book.servers) }
         ensures refused { OnErr result (events.new.items ≡ events.old.items) }
     {

@@ -1,7 +1,14 @@
 use Rattle.std.proofs.lemmas.Result.{on_ok_weaker}
 use Rattle.pat_world.specs.Room.{step_cost}
+use Rattle.pat_world.proofs.OneWriter.{step-keeps}
 use Rattle.pat_world.proofs.Standing.{step-stands}
 use Rattle.pat_world.proofs.world.World.step.Goals as goal
 
 pub returns-else-is_err-clause-book : goal.returns-else-is_err-clause-book
 returns-else-is_err-clause-book c = on_ok_weaker c.play-taken.result (λ took start book stands. step-stands start book _ _ _ _ c.args.step.now step_cost stands took) c.play-taken.ensures.emits
+
+pub returns-else-is_err-clause-one_writer : goal.returns-else-is_err-clause-one_writer
+returns-else-is_err-clause-one_writer c =
+    on_ok_weaker c.play-taken.result
+    (λ took. step-keeps c.args.self.now c.play-taken.new.self c.args.events.now.items c.play-taken.new.events.items c.args.step.now step_cost c.requires.empty took)
+    c.play-taken.ensures.emits

@@ -1,0 +1,30 @@
+-- A step of a world that a run brought keeps one writer.
+use Rattle.std.proofs.Common.{◌≡◌, ℕ, List, [], ◌∷◌, ◌++◌, append-nil, append_assoc, ◌∙◌, ap, sym}
+use Rattle.cluster_script.specs.declared.line.Step.{Step}
+use Rattle.event_book.specs.declared.event.Event.{Event}
+use Rattle.cluster_model.specs.Cluster.{cluster_over}
+use Rattle.cluster_model.specs.Next.{next_events, run_events}
+use Rattle.cluster_model.specs.Starting.{cluster_of}
+use Rattle.cluster_model.specs.State.{Cluster}
+use Rattle.run_law.proofs.EveryRun.{runs-one}
+use Rattle.pat_world.specs.Emits.{Emits}
+use Rattle.pat_world.specs.OneWriter.{KeepsOneWriter}
+use Rattle.pat_world.proofs.Taking.{cluster_over-append}
+
+-- the events of steps and of one more
+run_events-last : (start : Cluster) (steps : List Step) (step : Step) → run_events start (steps ++ step ∷ []) ≡ run_events start steps ++ next_events (cluster_over start (run_events start steps)) step
+run_events-last start [] step = append-nil (next_events start step)
+run_events-last start (first ∷ steps) step =
+    let taken = next_events start first in
+    let later : Cluster = cluster_over start taken in
+    ap (λ es. taken ++ es) (run_events-last later steps step)
+    ∙ sym (append_assoc taken (run_events later steps) (next_events (cluster_over later (run_events later steps)) step))
+    ∙ ap (λ (c : Cluster). (taken ++ run_events later steps) ++ next_events c step) (sym (cluster_over-append start taken (run_events later steps)))
+
+pub step-keeps : (before after : Cluster) (had has : List Event) (step : Step) (cost : ℕ) → had ≡ [] → Emits before after had has (next_events before step) cost → KeepsOneWriter before has
+step-keeps before after had has step cost none took = record {
+  sole = λ head steps is stands front rest whole met.
+      let start = cluster_of head in
+      let next = took.event ∙ ap (λ es. es ++ next_events before step) none ∙ ap (λ (c : Cluster). next_events c step) stands.world_is in
+      runs-one head is (steps ++ step ∷ []) front rest (whole ∙ ap (λ es. run_events start steps ++ es) next ∙ sym (run_events-last start steps step)) met.timely met.hands_off;
+}
