@@ -125,6 +125,7 @@ pub fn run_in_memory(
 
 /// The state and the timeline of a member's server, as its agent shows them at the end of a run; nothing where no agent runs.
 pub fn shown(
+    rt: &impl Abort,
     alloc: Global,
     script: &str,
     member: MemberId,
@@ -132,14 +133,10 @@ pub fn shown(
     let mut out = MemorySink::new(alloc, 65536, Vec::new(alloc))?;
     let mut err = MemorySink::new(alloc, 4096, Vec::new(alloc))?;
     let Ended { world, status: _ } = ran(alloc, "run", script, NO_FAULTS, &mut out, &mut err)?;
-    match world {
-        None => Ok(None),
-        Some(world) => {
-            let seen = world.view(member).map(|view| (view.state, view.timeline));
-            world.close();
-            Ok(seen)
-        }
-    }
+    let world = world.expect(rt, "a world");
+    let seen = world.view(member).map(|view| (view.state, view.timeline));
+    world.close();
+    Ok(seen)
 }
 
 /// A text with another so many times behind it.

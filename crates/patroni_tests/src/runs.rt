@@ -718,7 +718,7 @@ fn one_member(rt: HostRuntime) -> Result<(), Fail> {
         first_lines(alloc, &ONE_MEMBER_PRINTED, 10)?.as_str()
     );
     assert_eq!(rt; ended.err.as_str(), "");
-    let shown = shown(alloc, ONE_MEMBER_RUNS, first_member(&rt))?;
+    let shown = shown(&rt, alloc, ONE_MEMBER_RUNS, first_member(&rt))?;
     assert!(rt; shown == Some((State::Primary, 2)));
     Ok(())
 }
@@ -747,7 +747,7 @@ fn held_from_the_start(rt: HostRuntime) -> Result<(), Fail> {
 #[test]
 fn a_view_of_a_killed_member(rt: HostRuntime) -> Result<(), Fail> {
     let script = "cluster demo\nmember a\nrun 5\nkill a\n";
-    let shown = shown(rt.alloc(), script, first_member(&rt))?;
+    let shown = shown(&rt, rt.alloc(), script, first_member(&rt))?;
     assert!(rt; shown.is_none());
     Ok(())
 }
