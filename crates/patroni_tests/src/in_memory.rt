@@ -170,10 +170,16 @@ pub fn prints(rt: &impl Abort, alloc: Global, opening: &Opening, runs: &[Run]) -
         let script = repeated(alloc, opening.script, body, 1)?;
         let lines = repeated(alloc, opening.lines, lines, 1)?;
         let printed = closed(alloc, lines.as_str(), *closing)?;
-        let ended = run_in_memory(alloc, "run", script.as_str(), NO_FAULTS)?;
-        assert_eq!(rt; ended.err.as_str(), "", "{body}");
-        assert_eq!(rt; ended.status, 0, "{body}");
-        assert_eq!(rt; ended.out.as_str(), printed.as_str(), "{body}");
+        is_printed(rt, alloc, script.as_str(), printed.as_str())?;
     }
+    Ok(())
+}
+
+/// Checks that this script is printed so.
+fn is_printed(rt: &impl Abort, alloc: Global, script: &str, printed: &str) -> Result<(), Fail> {
+    let ended = run_in_memory(alloc, "run", script, NO_FAULTS)?;
+    assert_eq!(rt; ended.err.as_str(), "", "{script}");
+    assert_eq!(rt; ended.status, 0, "{script}");
+    assert_eq!(rt; ended.out.as_str(), printed, "{script}");
     Ok(())
 }
