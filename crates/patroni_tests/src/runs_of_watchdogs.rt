@@ -557,7 +557,15 @@ fn late_grants(rt: HostRuntime) -> Result<(), Fail> {
 
 #[test]
 fn watchdogs(rt: HostRuntime) -> Result<(), Fail> {
-    prints(&rt, rt.alloc(), &OWN_MEMBERS, &OPTIONS)?;
-    prints(&rt, rt.alloc(), &FOLLOWED, &DELAYS)?;
+    prints(&rt, rt.alloc(), &OWN_MEMBERS, &OPTIONS)
+}
+
+#[test]
+fn slow_stops(rt: HostRuntime) -> Result<(), Fail> {
+    prints(&rt, rt.alloc(), &FOLLOWED, &DELAYS)
+}
+
+#[test]
+fn stalled_and_killed_agents(rt: HostRuntime) -> Result<(), Fail> {
     prints(&rt, rt.alloc(), &FOLLOWED, &AGENTS)
 }
