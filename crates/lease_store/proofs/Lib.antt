@@ -1,5 +1,6 @@
 pub mod Absent
 pub mod Answering
+pub mod Expiring
 pub mod Fences
 pub mod KeyLaws
 pub mod Keeping

@@ -26,7 +26,7 @@ present_pairs now pairs = filter (λ pair. is_present now pair.1.expiry) pairs
 abbrev pub absent_keys : ℕ → List (Key × KeyEntry) → List Key
 absent_keys now pairs = map (λ pair. pair.0) (filter (λ pair. not (is_present now pair.1.expiry)) pairs)
 
--- the keys that are held and absent, in order
+-- the keys that have an entry and are absent, in order
 abbrev pub expired_keys : Keys → ℕ → List Key
 expired_keys store now = absent_keys now store.pairs
 
@@ -39,11 +39,11 @@ abbrev pub holder_of : Value → Option MemberId
 holder_of (values.Leader member) = Some member
 holder_of _ = None
 
--- the holder, where what is held at the leader key is absent
+-- the holder, where this entry of the leader key has expired
 abbrev pub holder_lost : ℕ → Option KeyEntry → Option MemberId
 holder_lost now None = None
 holder_lost now (Some stored) = if is_present now stored.expiry then None else holder_of stored.value
 
--- the holder of the leader key, where that key is held and absent
+-- the holder of the leader key, where that key has an entry and is absent
 abbrev pub expired_holder : Keys → ℕ → Option MemberId
 expired_holder store now = holder_lost now (find key_cmp keys.Leader store.pairs)

@@ -12,7 +12,7 @@ abbrev pub AreOfKind : List (Key × KeyEntry) → Type 0
 AreOfKind [] = Unit {0}
 AreOfKind (pair ∷ pairs) = IsOfKind pair.0 pair.1.value × AreOfKind pairs
 
--- held, and for good
+-- it is there, and for good
 abbrev pub IsLasting : Option KeyEntry → Type 0
 IsLasting None = ⊥
 IsLasting (Some stored) = stored.expiry ≡ None

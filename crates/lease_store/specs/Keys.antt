@@ -9,7 +9,7 @@ use Rattle.lease_store.specs.declared.value.Value.TheVariants as values
 use Rattle.lease_store.specs.Settings.{Settings}
 use Rattle.lease_store.specs.KeyOrder.{key_cmp}
 
--- the last granted revision, and what is held at each key that was written and not deleted or dropped since: a map,
+-- the last granted revision, and the entry of each key that was written and not deleted or dropped since: a map,
 -- as the list of its pairs in the order of the keys
 pub record Keys : Type 0 where
   pub revision : ℕ
@@ -20,7 +20,7 @@ abbrev pub is_present : ℕ → Option Ticks → Bool
 is_present now None = true
 is_present now (Some expiry) = nat_lt now expiry.0
 
--- what is held, where it is present
+-- the entry, where it is present
 abbrev pub present : ℕ → Option KeyEntry → Option KeyEntry
 present now None = None
 present now (Some stored) = if is_present now stored.expiry then Some stored else None

@@ -79,7 +79,7 @@ abbrev pub extended_expiry : ℕ → Option Ticks → Option Ticks
 extended_expiry until None = None
 extended_expiry until (Some expiry) = Some (record { 0 = max expiry.0 until })
 
--- the pairs with the lease of a key extended until a moment, where the key is held
+-- the pairs with the lease of a key extended until a moment, where the key has an entry
 abbrev pub pairs_extended : ℕ → ℕ → List (Key × KeyEntry) → Key → Option KeyEntry → List (Key × KeyEntry)
 pairs_extended revision until pairs key None = pairs
 pairs_extended revision until pairs key (Some stored) = put key_cmp key (record stored { revision = revision; expiry = extended_expiry until stored.expiry }) pairs

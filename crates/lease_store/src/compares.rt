@@ -21,7 +21,7 @@ pub fn is_present(now: Ticks, expiry: Option<Ticks>) -> bool
     }
 }
 
-/// What is held at a key, present or not, among pairs in which each key stands once: those of the store, or of a snapshot
+/// The entry of a key, present or not, among pairs in which each key stands once: those of the store, or of a snapshot
 /// of it. `None` exactly where it isn't among them.
 pub fn key_entry_at(pairs: &[(Key, KeyEntry)], key: Key) -> Option<&KeyEntry>
     ensures { option_copied result ≡ find key_cmp key pairs.now }
@@ -34,7 +34,7 @@ pub fn key_entry_at(pairs: &[(Key, KeyEntry)], key: Key) -> Option<&KeyEntry>
     None
 }
 
-/// What is held at a key that is present.
+/// The entry of a key that is present.
 pub fn present_at(pairs: &[(Key, KeyEntry)], now: Ticks, key: Key) -> Option<&KeyEntry>
     ensures { option_copied result ≡ key_in pairs.now now.0 key }
 {

@@ -5,6 +5,7 @@ mod action;
 mod compares;
 mod config;
 mod config_value;
+mod expiries;
 mod granted;
 mod key;
 mod laws;

@@ -1,4 +1,4 @@
-//! Pairs of keys and what is held there, in the order of the keys.
+//! Pairs of keys and their entries, in the order of the keys.
 ghost use Rattle.std.specs.Prelude.{◌≡◌, ◌≤◌, ◌+◌, ◌++◌, IfOk, IfErr, IsTrue, vec_len, vec_capacity, not};
 ghost use Rattle.std.specs.List.{list_any};
 ghost use Rattle.std.specs.FinMap.{find, put, is_sorted};
@@ -86,7 +86,7 @@ pub fn drop_absent(pairs: &mut Vec<(Key, KeyEntry)>, now: Ticks)
     pairs.retain(|pair| is_present(now, pair.1.expiry));
 }
 
-/// Whether a key is held that is absent at this moment. In most ticks none is.
+/// Whether a key that has an entry is absent at this moment. In most ticks none is.
 fn has_absent(pairs: &[(Key, KeyEntry)], now: Ticks) -> bool
     ensures { result ≡ list_any (λ pair. not (is_present now.0 pair.1.expiry)) pairs.now }
 {

@@ -1,5 +1,5 @@
 //! The store.
-ghost use Rattle.std.specs.Prelude.{ℕ, ◌≡◌, ◌≤◌, ◌<◌, ◌+◌, ◌^◌, ◌↔◌, IsTrue, IsSome, IsNone, IfSome, Some, None, OnOk, OnErr, IfOk, option_copied, Err};
+ghost use Rattle.std.specs.Prelude.{ℕ, ◌≡◌, ◌≤◌, ◌<◌, ◌+◌, ◌^◌, ◌↔◌, ◌≢◌, [], IsTrue, IsSome, IsNone, IfSome, Some, None, OnOk, OnErr, IfOk, option_copied, Err};
 ghost use Rattle.std.specs.FinMap.{find, is_sorted};
 ghost use Rattle.lease_store.specs.Answers.{present_pairs, keys_kept, holder_lost, expired_holder, expired_keys};
 ghost use Rattle.lease_store.specs.declared.txn.Expected.{Expected};
@@ -11,6 +11,7 @@ ghost use Rattle.lease_store.specs.Kinds.{IsOfKind};
 ghost use Rattle.lease_store.specs.Writes.{keys_after_grant, is_lease, ttl_of};
 
 use crate::compares::{check, is_present, key_entry_at, present_at};
+use crate::expiries::first_expiry;
 use crate::pairs::{absent_keys, copies_of_present, drop_absent};
 use crate::writes::{MOST, Stamp, grant, is_lease};
 use crate::{ConfigValue, Granted, Key, KeyEntry, StoreRefusal, Txn, Value};
@@ -61,7 +62,7 @@ impl Store {
         self.revision
     }
 
-    /// What is held at a key that is present at this moment, a value of its kind. `None` exactly where the key is absent.
+    /// The entry of a key that is present at this moment, with a value of its kind. `None` exactly where the key is absent.
     pub fn get(&self, now: Ticks, key: Key) -> Option<&KeyEntry>
         ensures value { option_copied result ≡ key_at self.now now.0 key }
         ensures kind { IfSome result (λ stored. IsOfKind key stored.now.value) }
@@ -97,14 +98,24 @@ impl Store {
         Ok(Granted::of(self.revision, by, leased))
     }
 
-    /// The keys that are held and absent at this moment, in the order of `Key`. It fails only for want of memory.
+    /// The keys that have an entry and are absent at this moment, in the order of `Key`. It fails only for want of memory.
     pub fn expired(&self, now: Ticks) -> Result<Vec<Key>, AllocError>
         ensures { IfOk result (λ keys. keys.items ≡ expired_keys self.now now.0) }
     {
         absent_keys(*self.pairs.allocator(), &self.pairs, now)
     }
 
-    /// The holder of the leader key, where that key is held and absent at this moment.
+    /// When the next key expires, but at most a given moment: no key that has an entry is absent before it, and where it is less than the
+    /// most one is at it.
+    pub fn next_expiry(&self, most: Ticks) -> Ticks
+        ensures most { result.0 ≤ most.0 }
+        ensures before { (now : ℕ) → now < result.0 → expired_keys self.now now ≡ [] }
+        ensures least { result.0 < most.0 → expired_keys self.now result.0 ≢ [] }
+    {
+        first_expiry(&self.pairs, most)
+    }
+
+    /// The holder of the leader key, where that key has an entry and is absent at this moment.
     pub fn expired_holder(&self, now: Ticks) -> Option<MemberId>
         ensures { result ≡ expired_holder self.now now.0 }
     {
@@ -137,7 +148,7 @@ impl Store {
     }
 }
 
-/// The holder of the leader key, where that key is held and absent.
+/// The holder of the leader key, where that key has an entry and is absent.
 fn expired_holder(pairs: &[(Key, KeyEntry)], now: Ticks) -> Option<MemberId>
     ensures { result ≡ holder_lost now.0 (find key_cmp Key.Leader pairs.now) }
 {

@@ -9,7 +9,7 @@ use std::fmt;
 /// What a transaction expects at a key, or what was found there.
 #[derive(Clone, Copy, Debug, PartialEq, Eq)]
 pub enum Expected {
-    /// The key is absent: it isn't held, or its lease has ended.
+    /// The key is absent: it has no entry, or its lease has ended.
     Absent,
     /// The key is present, and was written last by the grant of this revision.
     Revision(u64),

@@ -7,5 +7,5 @@ changed_at items number change None = items
 changed_at items number change (Some item) = slice_set items number (change item)
 
 -- a list with the item of one number changed, if there is one
-abbrev pub changed_by : {A : Type 0} → List A → ℕ → (A → A) → List A
-changed_by items number change = changed_at items number change (slice_get items number)
+abbrev pub with_changed : {A : Type 0} → List A → ℕ → (A → A) → List A
+with_changed items number change = changed_at items number change (slice_get items number)

@@ -7,7 +7,7 @@ use Rattle.std.proofs.lemmas.Bool.{cases_eq, and_parts}
 use Rattle.std.proofs.lemmas.List.{map-set, length-map}
 use Rattle.std.proofs.lemmas.Option.{same_Some, slice_get-map, slice_get_within, slice_get_past, slice_get_read, get_or_from_slice_get}
 use Rattle.std.proofs.Math.Seq.{map-set_same}
-use Rattle.pat_base.specs.Changes.{changed_at, changed_by}
+use Rattle.pat_base.specs.Changes.{changed_at, with_changed}
 use Rattle.wal_model.specs.declared.entry.Entry.{Entry}
 use Rattle.wal_model.specs.Log.{IsPrefixOf}
 use Rattle.pg_model.specs.Facts.{ServerFacts}
@@ -39,7 +39,7 @@ pub required-at : (xs list : List ServerFacts) (place : ℕ) (x : ServerFacts) (
 required-at xs list place x P view found h = subst (λ (o : Option ServerFacts). IfSome o P) (without_spare-at xs list place x view found) h
 
 -- one of the servers changes, as others see it
-pub changed : (xs list : List ServerFacts) (place : ℕ) (x y : ServerFacts) (change : ServerFacts → ServerFacts) → map without_spare xs ≡ list → slice_get xs place ≡ Some x → without_spare y ≡ change (without_spare x) → map without_spare (slice_set xs place y) ≡ changed_by list place change
+pub changed : (xs list : List ServerFacts) (place : ℕ) (x y : ServerFacts) (change : ServerFacts → ServerFacts) → map without_spare xs ≡ list → slice_get xs place ≡ Some x → without_spare y ≡ change (without_spare x) → map without_spare (slice_set xs place y) ≡ with_changed list place change
 changed xs list place x y change view found e =
     map-set without_spare xs place y
     ∙ ap (λ (t : List ServerFacts). slice_set t place (without_spare y)) view
@@ -63,7 +63,7 @@ kept marks xs place x y hold found e =
     subst (MarksHold marks) (sym same) hold
 
 -- the same two, of a server that was read at a place where there is one
-pub changed-read : (xs list : List ServerFacts) (place count : ℕ) (x y : ServerFacts) (change : ServerFacts → ServerFacts) → map without_spare xs ≡ list → x ≡ get_or xs place x → count ≡ length xs → place < count → without_spare y ≡ change (without_spare x) → map without_spare (slice_set xs place y) ≡ changed_by list place change
+pub changed-read : (xs list : List ServerFacts) (place count : ℕ) (x y : ServerFacts) (change : ServerFacts → ServerFacts) → map without_spare xs ≡ list → x ≡ get_or xs place x → count ≡ length xs → place < count → without_spare y ≡ change (without_spare x) → map without_spare (slice_set xs place y) ≡ with_changed list place change
 changed-read xs list place count x y change view read long within e = changed xs list place x y change view (slice_get_read xs count place x long within read) e
 
 pub kept-read : (marks : List Bool) (xs : List ServerFacts) (place count : ℕ) (x y : ServerFacts) → MarksHold marks (map log_position_of xs) → x ≡ get_or xs place x → count ≡ length xs → place < count → log_position_of y ≡ log_position_of x → MarksHold marks (map log_position_of (slice_set xs place y))

@@ -1,7 +1,9 @@
 pub mod Acks
 pub mod Clusters
+pub mod Completions
 pub mod News
 pub mod Pairs
+pub mod Rewinds
 pub mod Rounds
 pub mod Sights
 pub mod Streams

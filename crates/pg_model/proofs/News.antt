@@ -10,7 +10,7 @@ use Rattle.pat_base.specs.ServerState.{writes}
 use Rattle.wal_model.specs.History.{same_points}
 use Rattle.wal_model.specs.Log.{IsPrefixOf, is_prefix, fork_of, received}
 use Rattle.pat_base.specs.declared.lsn.Lsn.{Lsn}
-use Rattle.pat_base.specs.Changes.{changed_by}
+use Rattle.pat_base.specs.Changes.{with_changed}
 use Rattle.pat_base.specs.Lsn.{lsn_at}
 use Rattle.pg_model.specs.declared.answers.Streamed.{Streamed}
 use Rattle.pg_model.specs.declared.answers.Streamed.TheVariants as streams
@@ -179,14 +179,14 @@ caught_up met s upstream after most news diverged current received there is chan
     }
 
 -- the servers after news of one at another
-pub streamed_at-after_streamed : (servers : List ServerFacts) (place from most : ℕ) (upstream : ServerFacts) (news : Streamed) → slice_get servers from ≡ Some upstream → news_at servers place from most ≡ Some news → streamed_at servers place from most ≡ changed_by servers place (λ s. after_streamed news s upstream)
+pub streamed_at-after_streamed : (servers : List ServerFacts) (place from most : ℕ) (upstream : ServerFacts) (news : Streamed) → slice_get servers from ≡ Some upstream → news_at servers place from most ≡ Some news → streamed_at servers place from most ≡ with_changed servers place (λ s. after_streamed news s upstream)
 streamed_at-after_streamed servers place from most upstream news found e =
     ap (after_news_at servers place from) e ∙ ap (after_streamed_from servers place news) found
 
-pub streamed_at-received : (servers : List ServerFacts) (place from most : ℕ) (upstream : ServerFacts) (count : ℕ) → slice_get servers from ≡ Some upstream → news_at servers place from most ≡ Some (streams.Received count) → streamed_at servers place from most ≡ changed_by servers place (λ s. received_from count s upstream)
+pub streamed_at-received : (servers : List ServerFacts) (place from most : ℕ) (upstream : ServerFacts) (count : ℕ) → slice_get servers from ≡ Some upstream → news_at servers place from most ≡ Some (streams.Received count) → streamed_at servers place from most ≡ with_changed servers place (λ s. received_from count s upstream)
 streamed_at-received servers place from most upstream count found e = streamed_at-after_streamed servers place from most upstream (streams.Received count) found e
 
-pub streamed_at-diverged : (servers : List ServerFacts) (place from most : ℕ) (upstream : ServerFacts) (at : Lsn) → slice_get servers from ≡ Some upstream → news_at servers place from most ≡ Some (streams.Diverged at) → streamed_at servers place from most ≡ changed_by servers place (λ s. record s { diverged = true })
+pub streamed_at-diverged : (servers : List ServerFacts) (place from most : ℕ) (upstream : ServerFacts) (at : Lsn) → slice_get servers from ≡ Some upstream → news_at servers place from most ≡ Some (streams.Diverged at) → streamed_at servers place from most ≡ with_changed servers place (λ s. record s { diverged = true })
 streamed_at-diverged servers place from most upstream at found e = streamed_at-after_streamed servers place from most upstream (streams.Diverged at) found e
 
 pub streamed_at-none : (servers : List ServerFacts) (place from most : ℕ) → news_at servers place from most ≡ None → streamed_at servers place from most ≡ servers
@@ -194,16 +194,16 @@ streamed_at-none servers place from most e = ap (after_news_at servers place fro
 
 -- the two servers of which there are news
 pub record Between (servers : List ServerFacts) (place from most : ℕ) (news : Streamed) : Type 0 where
-  pub standby : ServerFacts
+  pub replica : ServerFacts
   pub upstream : ServerFacts
-  pub standby_at : slice_get servers place ≡ Some standby
+  pub replica_at : slice_get servers place ≡ Some replica
   pub upstream_at : slice_get servers from ≡ Some upstream
-  pub news_are : news_of standby upstream most ≡ Some news
+  pub news_are : news_of replica upstream most ≡ Some news
 
 between : (most : ℕ) (news : Streamed) (s upstream : Option ServerFacts) (servers : List ServerFacts) (place from : ℕ) → slice_get servers place ≡ s → slice_get servers from ≡ upstream → news_between s upstream most ≡ Some news → Between servers place from most news
 between most news None upstream servers place from p q e = absurd (no-some news e)
 between most news (Some s) None servers place from p q e = absurd (no-some news e)
-between most news (Some s) (Some upstream) servers place from p q e = record { standby = s; upstream = upstream; standby_at = p; upstream_at = q; news_are = e }
+between most news (Some s) (Some upstream) servers place from p q e = record { replica = s; upstream = upstream; replica_at = p; upstream_at = q; news_are = e }
 
 -- news come of two servers that are there
 pub news_at-between : (servers : List ServerFacts) (place from most : ℕ) (news : Streamed) → news_at servers place from most ≡ Some news → Between servers place from most news

@@ -2,7 +2,7 @@
 use Rattle.std.specs.Prelude.{ℕ, ◌+◌, ◌^◌, ◌&&◌, nat_le, if◌then◌else◌, List, Option, Some, None, slice_get}
 use Rattle.pat_base.specs.declared.ticks.Ticks.{Ticks}
 use Rattle.pat_base.specs.declared.server_state.Required.{Required}
-use Rattle.pat_base.specs.Changes.{changed_by}
+use Rattle.pat_base.specs.Changes.{with_changed}
 use Rattle.pat_base.specs.ServerState.{writes, live}
 use Rattle.wal_model.specs.declared.entry.Entry.{Entry}
 use Rattle.wal_model.specs.Log.{end_of}
@@ -40,7 +40,7 @@ after_entry (Some entry) s = appended entry s
 -- the servers after that
 abbrev pub committed_at : List ServerFacts → ℕ → Option Entry → List ServerFacts
 committed_at servers place None = servers
-committed_at servers place (Some entry) = changed_by servers place (appended entry)
+committed_at servers place (Some entry) = with_changed servers place (appended entry)
 
 -- what the first of these servers gets from the second, if both are there
 abbrev pub news_between : Option ServerFacts → Option ServerFacts → ℕ → Option Streamed
@@ -55,7 +55,7 @@ news_at servers place from most = news_between (slice_get servers place) (slice_
 -- the servers after such news from an upstream, if it is there
 abbrev pub after_streamed_from : List ServerFacts → ℕ → Streamed → Option ServerFacts → List ServerFacts
 after_streamed_from servers place news None = servers
-after_streamed_from servers place news (Some upstream) = changed_by servers place (λ s. after_streamed news s upstream)
+after_streamed_from servers place news (Some upstream) = with_changed servers place (λ s. after_streamed news s upstream)
 
 -- the servers after such news, if there are any
 abbrev pub after_news_at : List ServerFacts → ℕ → ℕ → Option Streamed → List ServerFacts

@@ -2,6 +2,7 @@
 ghost use Rattle.std.specs.Prelude.{◌≡◌};
 ghost use Rattle.pg_model.specs.declared.answers.CommitFault.TheVariants as commit_faults;
 ghost use Rattle.pg_model.specs.declared.answers.StreamFault.TheVariants as stream_faults;
+ghost use Rattle.pg_model.specs.declared.answers.PgFault.TheVariants as pg_faults;
 
 use pat_base::{Lsn, State};
 use std::alloc::AllocError;
@@ -48,6 +49,27 @@ pub enum CommitFault {
     Memory,
 }
 
+/// What a rewound server kept of its log: so many entries, which end at this position.
+#[derive(Clone, Copy, Debug, PartialEq, Eq)]
+pub struct Rewound {
+    pub kept: u64,
+    pub at: Lsn,
+}
+
+/// Why a server wasn't rewound or cloned. It is as it was.
+#[derive(Clone, Copy, Debug, PartialEq, Eq, Error)]
+pub enum PgFault {
+    /// It is in this state, in which it can't be.
+    #[error("the server is in another state")]
+    InState(State),
+    /// The source doesn't accept writes.
+    #[error("the source is no primary")]
+    NotPrimary,
+    /// There was no memory for the log or the history.
+    #[error("out of memory")]
+    Memory,
+}
+
 impl From<AllocError> for StreamFault {
     ghost from_gives = { λ _ fault. fault ≡ stream_faults.Memory };
 
@@ -61,5 +83,13 @@ impl From<AllocError> for CommitFault {
 
     fn from(_: AllocError) -> CommitFault {
         CommitFault::Memory
+    }
+}
+
+impl From<AllocError> for PgFault {
+    ghost from_gives = { λ _ fault. fault ≡ pg_faults.Memory };
+
+    fn from(_: AllocError) -> PgFault {
+        PgFault::Memory
     }
 }

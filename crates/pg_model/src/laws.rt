@@ -1,11 +1,16 @@
 //! Laws of servers, for readers of their definitions. Each is a function without a body whose contract is what is proved.
-ghost use Rattle.std.specs.Prelude.{◌≡◌, ◌↔◌, ◌&&◌, ℕ, true, IsTrue, IsSome, List, Option, Some, None};
+ghost use Rattle.std.specs.Prelude.{◌≡◌, ◌↔◌, ◌&&◌, ◌-◌, ℕ, true, IsTrue, IsSome, List, Option, Some, None, length, min};
 ghost use Rattle.pat_base.specs.declared.lsn.Lsn.{Lsn};
 ghost use Rattle.pat_base.specs.declared.server_state.Required.{Required};
+ghost use Rattle.pat_base.specs.ServerState.{writes};
+ghost use Rattle.wal_model.specs.declared.entry.Entry.{Entry};
+ghost use Rattle.wal_model.specs.Log.{IsPrefixOf};
 ghost use Rattle.pg_model.specs.declared.answers.Streamed.{Streamed};
+ghost use Rattle.pg_model.specs.declared.answers.Streamed.TheVariants as streams;
 ghost use Rattle.pat_base.specs.declared.server_id.ServerId.{ServerId};
 ghost use Rattle.pat_base.specs.declared.ticks.Ticks.{Ticks};
-ghost use Rattle.pg_model.specs.Facts.{ServerFacts, is_replica, is_down, is_up};
+ghost use Rattle.pg_model.specs.Facts.{ServerFacts, entries_of, is_replica, is_down, is_up};
+ghost use Rattle.pg_model.specs.Rewinding.{common_log, rewound, cloned, rewound_to};
 ghost use Rattle.pg_model.specs.Running.{promoted, replica_started, primary_started, stopping};
 ghost use Rattle.pg_model.specs.Status.{status_of, status_promoted, status_replica_started, status_primary_started, status_stopping, status_following};
 ghost use Rattle.pg_model.specs.Replication.{following, is_met, MeetsRequired, stream_of, streamed, news_of, after_streamed};
@@ -30,4 +35,22 @@ pub fn status_after_orders()
     ensures start_primary { (now : Ticks) (s : ServerFacts) → is_down s.state && s.was_primary ≡ true → status_of (primary_started now s) ≡ status_primary_started now (status_of s) }
     ensures stop { (now : Ticks) (s : ServerFacts) → is_up s.state ≡ true → status_of (stopping now s) ≡ status_stopping now (status_of s) }
     ensures follow { (upstream : ServerId) (s : ServerFacts) → is_replica s.state ≡ true → status_of (following upstream s) ≡ status_following upstream (status_of s) }
+{}
+
+/// A rewound server keeps what its log and the source's have in common: its log is a prefix of both, and each log that is a
+/// prefix of both is one of it.
+pub fn a_rewind_keeps_the_common_log()
+    ensures own { (s source : ServerFacts) → IsPrefixOf (entries_of (rewound s source).log) (entries_of s.log) }
+    ensures theirs { (s source : ServerFacts) → IsPrefixOf (entries_of (rewound s source).log) (entries_of source.log) }
+    ensures longest { (s source : ServerFacts) (log : List Entry) → IsPrefixOf log (entries_of s.log) → IsPrefixOf log (entries_of source.log) → IsPrefixOf log (entries_of (rewound s source).log) }
+    // Told how many entries it keeps, one knows what it is.
+    ensures told { (s source : ServerFacts) → rewound_to (length (common_log s source)) s source ≡ rewound s source }
+    // It receives what is left of the source's log.
+    ensures streams { (s source : ServerFacts) (most : ℕ) → IsTrue (writes source.state) → stream_of (rewound s source) source most ≡ streams.Received (min most (length (entries_of source.log) - length (common_log s source))) }
+{}
+
+/// A cloned server has the source's log, and nothing of that is left to receive.
+pub fn a_clone_has_the_whole_log()
+    ensures log { (s source : ServerFacts) → (cloned s source).log ≡ source.log }
+    ensures streams { (s source : ServerFacts) (most : ℕ) → IsTrue (writes source.state) → stream_of (cloned s source) source most ≡ streams.Received 0 }
 {}

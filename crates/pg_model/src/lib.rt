@@ -2,14 +2,18 @@
 #![tactic(auto)]
 
 mod answers;
+mod completing;
 mod laws;
 mod server;
 mod servers;
 mod status;
 mod waiting;
 
-pub use answers::{CommitFault, InState, StreamFault, Streamed};
-pub use laws::{news_are_streamed, required_is_met, status_after_orders};
+pub use answers::{CommitFault, InState, PgFault, Rewound, StreamFault, Streamed};
+pub use laws::{
+    a_clone_has_the_whole_log, a_rewind_keeps_the_common_log, news_are_streamed, required_is_met,
+    status_after_orders,
+};
 pub use server::Server;
 pub use servers::Servers;
 pub use status::ServerStatus;

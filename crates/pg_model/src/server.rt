@@ -12,10 +12,12 @@ ghost use Rattle.pg_model.specs.declared.answers.CommitFault.TheVariants as comm
 ghost use Rattle.pg_model.specs.declared.answers.StreamFault.TheVariants as stream_faults;
 
 mod catching_up;
+mod rewinding;
 
 use crate::{CommitFault, InState, StreamFault, Streamed, Waiting};
 pub(crate) use catching_up::CaughtUp;
 use pat_base::{Lsn, MemberId, MemberSet, Required, ServerId, State, Ticks};
+pub(crate) use rewinding::is_rewindable;
 use std::alloc::{AllocError, Global};
 use std::collections::VecDeque;
 use std::marker::Model;

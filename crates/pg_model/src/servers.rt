@@ -1,13 +1,17 @@
 //! The servers of a cluster.
 ghost use Rattle.std.specs.Prelude.{ℕ, ◌≡◌, ◌≤◌, ◌<◌, ◌^◌, ◌==◌, ◌&&◌, ◌||◌, ◌↔◌, [], length, map, replicate, Option, Some, slice_get, ◌≢◌, false, IsTrue, IfSome, IfOk, OnOk, OnErr, option_map, option_copied, option_and_then};
 ghost use Rattle.std.specs.Option.{ForSome};
-ghost use Rattle.pat_base.specs.Changes.{changed_by};
+ghost use Rattle.pat_base.specs.Changes.{with_changed};
+ghost use Rattle.pg_model.specs.Completing.{NoneComplete};
 ghost use Rattle.pg_model.specs.Facts.{ServerFacts, fresh, is_replica, is_down, is_up};
 ghost use Rattle.pg_model.specs.Running.{promoted, replica_started, primary_started, stopping, crashed, ticked, delayed};
 ghost use Rattle.pg_model.specs.Replication.{following, confirming, next_acknowledged, acknowledged};
 ghost use Rattle.pg_model.specs.InStep.{Forgets, Renews, CatchesUpAt, AreInStep, log_position_of, upstream_number_of, is_place};
 ghost use Rattle.pg_model.specs.Servers.{without_spare, requiring, ticked_unless_live, entry_at, entry_for, after_entry, committed_at, news_at, streamed_at};
 
+mod rewinding;
+
+use crate::completing::first_completion;
 use crate::server::CaughtUp;
 use crate::{CommitFault, Server, Streamed};
 use pat_base::{Lsn, MemberId, Required, ServerId, Ticks};
@@ -78,7 +82,7 @@ impl Servers {
     /// of servers.
     pub fn promote(&mut self, place: usize, now: Ticks) -> Result<(), AllocError>
         requires { IfSome (slice_get self.old place) (λ s. IsTrue (is_replica s.state) × (s.timeline < 2 ^ 60)) }
-        ensures ok { OnOk result (self.new ≡ changed_by self.old place promoted) }
+        ensures ok { OnOk result (self.new ≡ with_changed self.old place promoted) }
         ensures err { OnErr result (self.new ≡ self.old) }
     {
         if place >= self.servers.len() {
@@ -94,7 +98,7 @@ impl Servers {
     /// Ends the server at a place, if there is one there, without a shutdown, as `Server::crash` does: also a stopped one is
     /// crashed then.
     pub fn crash(&mut self, place: usize)
-        ensures { self.new ≡ changed_by self.old place crashed }
+        ensures { self.new ≡ with_changed self.old place crashed }
     {
         if place < self.servers.len() {
             self.servers[place].crash();
@@ -104,7 +108,7 @@ impl Servers {
     /// Lets the server at a place, if there is one there, follow another server: a replica receives from that one from now
     /// on, and any other from when it runs as a replica. A divergence that was noted is forgotten.
     pub fn follow(&mut self, place: usize, upstream: ServerId)
-        ensures { self.new ≡ changed_by self.old place (following upstream) }
+        ensures { self.new ≡ with_changed self.old place (following upstream) }
     {
         if place >= self.servers.len() {
             return;
@@ -120,7 +124,7 @@ impl Servers {
     pub fn start_replica(&mut self, place: usize, now: Ticks, upstream: Option<ServerId>)
         requires moment { now.0 ≤ 2 ^ 62 }
         requires down { IfSome (slice_get self.old place) (λ s. IsTrue (is_down s.state)) }
-        ensures { self.new ≡ changed_by self.old place (replica_started now upstream) }
+        ensures { self.new ≡ with_changed self.old place (replica_started now upstream) }
     {
         if place >= self.servers.len() {
             return;
@@ -139,7 +143,7 @@ impl Servers {
     pub fn start_primary(&mut self, place: usize, now: Ticks)
         requires moment { now.0 ≤ 2 ^ 62 }
         requires down { IfSome (slice_get self.old place) (λ s. IsTrue (is_down s.state && s.was_primary)) }
-        ensures { self.new ≡ changed_by self.old place (primary_started now) }
+        ensures { self.new ≡ with_changed self.old place (primary_started now) }
     {
         if place >= self.servers.len() {
             return;
@@ -153,7 +157,7 @@ impl Servers {
     pub fn stop(&mut self, place: usize, now: Ticks)
         requires moment { now.0 ≤ 2 ^ 62 }
         requires up { IfSome (slice_get self.old place) (λ s. IsTrue (is_up s.state)) }
-        ensures { self.new ≡ changed_by self.old place (stopping now) }
+        ensures { self.new ≡ with_changed self.old place (stopping now) }
     {
         if place >= self.servers.len() {
             return;
@@ -164,7 +168,7 @@ impl Servers {
 
     /// Completes a start or a stop of the server at a place, if there is one there and its moment has come.
     pub fn complete(&mut self, place: usize, now: Ticks)
-        ensures { self.new ≡ changed_by self.old place (ticked now) }
+        ensures { self.new ≡ with_changed self.old place (ticked now) }
     {
         if place < self.servers.len() {
             self.servers[place].tick(now);
@@ -176,7 +180,7 @@ impl Servers {
     pub fn set_delays(&mut self, place: usize, stop: Option<Ticks>, start: Option<Ticks>)
         requires stop { ForSome stop (λ delay. delay.0 ≤ 2 ^ 40) }
         requires start { ForSome start (λ delay. delay.0 ≤ 2 ^ 40) }
-        ensures { self.new ≡ changed_by self.old place (delayed stop start) }
+        ensures { self.new ≡ with_changed self.old place (delayed stop start) }
     {
         if place < self.servers.len() {
             self.servers[place].set_delays(stop, start);
@@ -245,7 +249,7 @@ impl Servers {
 
     /// Records at the server at a place, if there is one there, up to where a member has flushed its log.
     pub fn confirm(&mut self, place: usize, by: MemberId, end: Lsn)
-        ensures { self.new ≡ changed_by self.old place (confirming by end) }
+        ensures { self.new ≡ with_changed self.old place (confirming by end) }
     {
         if place < self.servers.len() {
             self.servers[place].confirm(by, end);
@@ -256,7 +260,7 @@ impl Servers {
     /// `None` exactly otherwise, and then all stay as they were.
     pub fn next_acknowledged(&mut self, place: usize) -> Option<u64>
         ensures commit { result ≡ option_and_then next_acknowledged (slice_get self.old place) }
-        ensures after { self.new ≡ changed_by self.old place acknowledged }
+        ensures after { self.new ≡ with_changed self.old place acknowledged }
     {
         if place >= self.servers.len() {
             return None;
@@ -266,7 +270,7 @@ impl Servers {
 
     /// Sets whose confirmation the commits of the server at a place wait for, if there is one there.
     pub fn set_required(&mut self, place: usize, required: Required)
-        ensures { self.new ≡ changed_by self.old place (requiring required) }
+        ensures { self.new ≡ with_changed self.old place (requiring required) }
     {
         if place < self.servers.len() {
             self.servers[place].set_required(required);
@@ -279,6 +283,16 @@ impl Servers {
         ensures { self.new ≡ map (ticked_unless_live now) self.old }
     {
         tick_all(&mut self.servers, now);
+    }
+
+    /// When the next start or stop is complete, but at most a given moment: none is before it, and where it is less than the most
+    /// one is at it.
+    pub fn next_completion(&self, most: Ticks) -> Ticks
+        ensures most { result.0 ≤ most.0 }
+        ensures before { (now : ℕ) → now < result.0 → NoneComplete now self.now }
+        ensures least { result.0 < most.0 → ¬ (NoneComplete result.0 self.now) }
+    {
+        first_completion(&self.servers, most)
     }
 }
 
@@ -383,7 +397,7 @@ fn catch_up_between(
     in_step: bool,
 ) -> Result<CaughtUp, AllocError>
     requires apart { place ≢ from }
-    requires standby { place < length servers.old }
+    requires place { place < length servers.old }
     requires upstream { from < length servers.old }
     requires replica { (s : ServerFacts) → slice_get servers.old place ≡ Some s → IsTrue (is_replica s.state) }
     requires in_step { IsTrue in_step → AreInStep servers.old place from }

@@ -152,6 +152,15 @@ impl Wal {
         }
     }
 
+    /// With how many entries both logs begin. It walks over them.
+    pub fn common(&self, other: &Wal) -> usize
+        ensures count { result ≡ length (common_of self.now other.now) }
+        ensures front { take result self.now ≡ common_of self.now other.now }
+        ensures within { result ≤ length self.now }
+    {
+        common_len(&self.entries, &other.entries)
+    }
+
     /// Keeps the first entries, so many, of which there are at least so many, and drops the others.
     pub fn truncate(&mut self, entries: usize)
         requires { entries ≤ length self.old }
