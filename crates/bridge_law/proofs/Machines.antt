@@ -5,7 +5,7 @@ use Rattle.std.proofs.lemmas.Option.{slice_get-get_or, slice_get_within}
 use Rattle.std.proofs.Math.ListN.{length-set}
 use Rattle.pat_base.specs.declared.name.Name.{Name}
 use Rattle.pat_base.specs.declared.ticks.Ticks.{Ticks}
-use Rattle.pat_base.specs.Changes.{changed_at, changed_by}
+use Rattle.pat_base.specs.Changes.{changed_at, with_changed}
 use Rattle.pg_model.specs.Facts.{ServerFacts, fresh}
 use Rattle.pg_model.proofs.Clusters.{got-set_same, got-set_other}
 use Rattle.event_book.specs.declared.agent_process.AgentProcess.{AgentProcess}
@@ -35,21 +35,21 @@ length-found : {A : Type 0} (items : List A) (k : ℕ) (change : A → A) (found
 length-found items k change None = refl
 length-found items k change (Some item) = length-set items k (change item)
 
-length-changed : {A : Type 0} (items : List A) (k : ℕ) (change : A → A) → length (changed_by items k change) ≡ length items
+length-changed : {A : Type 0} (items : List A) (k : ℕ) (change : A → A) → length (with_changed items k change) ≡ length items
 length-changed items k change = length-found items k change (slice_get items k)
 
 there-is : {A : Type 0} (items : List A) (k : ℕ) → k < length items → (item : A) × (slice_get items k ≡ Some item)
 there-is [] k small = absurd (omega (arith, small))
 there-is (x ∷ items) k small = (get_or (x ∷ items) k x, slice_get-get_or (x ∷ items) k x small)
 
-changed-here : {A : Type 0} (items : List A) (k : ℕ) (change : A → A) (item : A) → slice_get items k ≡ Some item → slice_get (changed_by items k change) k ≡ Some (change item)
+changed-here : {A : Type 0} (items : List A) (k : ℕ) (change : A → A) (item : A) → slice_get items k ≡ Some item → slice_get (with_changed items k change) k ≡ Some (change item)
 changed-here items k change item is = ap (λ (o : Option _). slice_get (changed_at items k change o) k) is ∙ got-set_same items k (change item) (slice_get_within items k item is)
 
 changed-at-there : {A : Type 0} (items : List A) (k : ℕ) (change : A → A) (found : Option A) (m : ℕ) → (m ≡ k → ⊥) → slice_get (changed_at items k change found) m ≡ slice_get items m
 changed-at-there items k change None m other = refl
 changed-at-there items k change (Some item) m other = got-set_other items k m (change item) other
 
-changed-there : {A : Type 0} (items : List A) (k : ℕ) (change : A → A) (m : ℕ) → (m ≡ k → ⊥) → slice_get (changed_by items k change) m ≡ slice_get items m
+changed-there : {A : Type 0} (items : List A) (k : ℕ) (change : A → A) (m : ℕ) → (m ≡ k → ⊥) → slice_get (with_changed items k change) m ≡ slice_get items m
 changed-there items k change m other = changed-at-there items k change (slice_get items k) m other
 
 -- a function has of each item what is found of it in the list
@@ -58,32 +58,32 @@ Agrees found items f = (m : ℕ) → m < length items → f m ≡ found (slice_g
 
 module _ {A B : Type 0} (found : Option A → B) (items : List A) (f : ℕ → B) (k : ℕ) (change : A → A) where
   pub agrees-put : (x : B) → ((item : A) → slice_get items k ≡ Some item → x ≡ found (Some (change item)))
-      → Agrees found items f → Agrees found (changed_by items k change) (put_at f k x)
+      → Agrees found items f → Agrees found (with_changed items k change) (put_at f k x)
   agrees-put x here old m small = at-place (decide-eq m k)
     where
       few : m < length items
       few = omega (arith, small, length-changed items k change)
 
-      at-place : ((m ≡ k) ⊎ (m ≡ k → ⊥)) → put_at f k x m ≡ found (slice_get (changed_by items k change) m)
+      at-place : ((m ≡ k) ⊎ (m ≡ k → ⊥)) → put_at f k x m ≡ found (slice_get (with_changed items k change) m)
       at-place (inl e) =
           let there = there-is items m few in
           let is : slice_get items k ≡ Some there.0 = ap (λ (n : ℕ). slice_get items n) (sym e) ∙ there.1 in
           ap (λ (n : ℕ). put_at f k x n) e ∙ put-here f k x ∙ here there.0 is
-          ∙ ap found (sym (ap (λ (n : ℕ). slice_get (changed_by items k change) n) e ∙ changed-here items k change there.0 is))
+          ∙ ap found (sym (ap (λ (n : ℕ). slice_get (with_changed items k change) n) e ∙ changed-here items k change there.0 is))
       at-place (inr other) = put-there f k x m other ∙ old m few ∙ ap found (sym (changed-there items k change m other))
 
-  pub agrees-kept : ((item : A) → found (Some (change item)) ≡ found (Some item)) → Agrees found items f → Agrees found (changed_by items k change) f
+  pub agrees-kept : ((item : A) → found (Some (change item)) ≡ found (Some item)) → Agrees found items f → Agrees found (with_changed items k change) f
   agrees-kept same old m small = at-place (decide-eq m k)
     where
       few : m < length items
       few = omega (arith, small, length-changed items k change)
 
-      at-place : ((m ≡ k) ⊎ (m ≡ k → ⊥)) → f m ≡ found (slice_get (changed_by items k change) m)
+      at-place : ((m ≡ k) ⊎ (m ≡ k → ⊥)) → f m ≡ found (slice_get (with_changed items k change) m)
       at-place (inl e) =
           let there = there-is items m few in
           let is : slice_get items k ≡ Some there.0 = ap (λ (n : ℕ). slice_get items n) (sym e) ∙ there.1 in
           old m few ∙ ap found there.1 ∙ sym (same there.0)
-          ∙ ap found (sym (ap (λ (n : ℕ). slice_get (changed_by items k change) n) e ∙ changed-here items k change there.0 is))
+          ∙ ap found (sym (ap (λ (n : ℕ). slice_get (with_changed items k change) n) e ∙ changed-here items k change there.0 is))
       at-place (inr other) = old m few ∙ ap found (sym (changed-there items k change m other))
 
 -- ---- deadlines

@@ -28,10 +28,10 @@ use Rattle.event_book.specs.declared.event.StoreEvent.TheVariants as stores
 use Rattle.event_book.specs.declared.event.WatchdogEvent.TheVariants as watchdogs
 use Rattle.event_book.specs.declared.link.LinkEnd.TheVariants as ends
 use Rattle.event_book.specs.declared.message.Body.TheVariants as bodies
-use Rattle.event_book.specs.declared.peer_answer.PeerAnswer.{PeerAnswer}
+use Rattle.pat_base.specs.declared.peer_answer.PeerAnswer.{PeerAnswer}
 use Rattle.event_book.specs.declared.member.Member.{Member}
 use Rattle.event_book.specs.declared.member.ServerOf.{ServerOf}
-use Rattle.pat_base.specs.Changes.{changed_at, changed_by}
+use Rattle.pat_base.specs.Changes.{changed_at, with_changed}
 use Rattle.event_book.specs.Functions.{put_at}
 use Rattle.event_book.specs.Logs.{Logs, logs_by, log_received, log_copied}
 use Rattle.lease_law.specs.Leases.{LeaderKey}
@@ -52,7 +52,7 @@ use Rattle.commit_law.specs.ShownActions.{ActionsAreShown}
 use Rattle.lease_law.proofs.Tools.{none-some, put-all, put-here, put-there}
 
 -- one item of a list is changed
-changed-here : {A : Type 0} (items : List A) (k : ℕ) (f : A → A) (x : A) → slice_get items k ≡ Some x → slice_get (changed_by items k f) k ≡ Some (f x)
+changed-here : {A : Type 0} (items : List A) (k : ℕ) (f : A → A) (x : A) → slice_get items k ≡ Some x → slice_get (with_changed items k f) k ≡ Some (f x)
 changed-here items k f x e = ap (λ (o : Option _). slice_get (changed_at items k f o) k) e ∙ got-set_same items k (f x) (inside items k x e)
   where
     inside : {A : Type 0} (items : List A) (k : ℕ) (x : A) → slice_get items k ≡ Some x → k < length items
@@ -64,7 +64,7 @@ changed-at-there : {A : Type 0} (items : List A) (k : ℕ) (f : A → A) (o : Op
 changed-at-there items k f None n other = refl
 changed-at-there items k f (Some x) n other = got-set_other items k n (f x) other
 
-changed-there : {A : Type 0} (items : List A) (k : ℕ) (f : A → A) (n : ℕ) → (n ≡ k → ⊥) → slice_get (changed_by items k f) n ≡ slice_get items n
+changed-there : {A : Type 0} (items : List A) (k : ℕ) (f : A → A) (n : ℕ) → (n ≡ k → ⊥) → slice_get (with_changed items k f) n ≡ slice_get items n
 changed-there items k f n other = changed-at-there items k f (slice_get items k) n other
 
 -- the machines, where one changes
@@ -145,7 +145,7 @@ confirm-shown setup past volatile_states tick server by end positions is less at
     let f : List (Option Lsn) → List (Option Lsn) = λ before. slice_set before j (Some end) in
     let position : ℕ = end_of (entries_of (log_found (slice_get past.logs j))) in
     ap (λ (members : ℕ → Machine). record (state_of setup past volatile_states) { members = members })
-    (members-shown past (record past { confirmed = changed_by past.confirmed k f }) volatile_states volatile_states k (record (machine_of past (volatile_states k) k) { confirmed = put_at (position_of (slice_get past.confirmed k)) j (Some position) })
+    (members-shown past (record past { confirmed = with_changed past.confirmed k f }) volatile_states volatile_states k (record (machine_of past (volatile_states k) k) { confirmed = put_at (position_of (slice_get past.confirmed k)) j (Some position) })
     (ap (λ (c : ℕ → Option ℕ). record (machine_of past (volatile_states k) k) { confirmed = c })
     (ap position_of (changed-here past.confirmed k f positions is) ∙ positions-shown positions j end position less at_end ∙ ap (λ (o : Option (List (Option Lsn))). put_at (position_of o) j (Some position)) (sym is)))
     (λ n other. ap (λ (o : Option (List (Option Lsn))). record (machine_of past (volatile_states n) n) { confirmed = position_of o }) (changed-there past.confirmed k f n other)))
@@ -162,10 +162,10 @@ accept-shown setup past volatile_states tick server timeline positions is =
     let k = server.id.number in
     let f : List (Option Lsn) → List (Option Lsn) = λ before. none_confirmed in
     ap (λ (members : ℕ → Machine). record (state_of setup past volatile_states) { members = members })
-    (members-shown past (record past { writes = put_at past.writes k true; confirmed = changed_by past.confirmed k f }) volatile_states volatile_states k (record (machine_of past (volatile_states k) k) { writes = true; confirmed = λ n. None })
-    (ap (λ (w : Bool). record (machine_of past (volatile_states k) k) { writes = w; confirmed = position_of (slice_get (changed_by past.confirmed k f) k) }) (put-here past.writes k true)
+    (members-shown past (record past { writes = put_at past.writes k true; confirmed = with_changed past.confirmed k f }) volatile_states volatile_states k (record (machine_of past (volatile_states k) k) { writes = true; confirmed = λ n. None })
+    (ap (λ (w : Bool). record (machine_of past (volatile_states k) k) { writes = w; confirmed = position_of (slice_get (with_changed past.confirmed k f) k) }) (put-here past.writes k true)
     ∙ ap (λ (c : ℕ → Option ℕ). record (machine_of past (volatile_states k) k) { writes = true; confirmed = c }) (ap position_of (changed-here past.confirmed k f positions is) ∙ fun_ext (λ n. none-replicated 16 n)))
-    (λ n other. ap (λ (w : Bool). record (machine_of past (volatile_states n) n) { writes = w; confirmed = position_of (slice_get (changed_by past.confirmed k f) n) }) (put-there past.writes k true n other)
+    (λ n other. ap (λ (w : Bool). record (machine_of past (volatile_states n) n) { writes = w; confirmed = position_of (slice_get (with_changed past.confirmed k f) n) }) (put-there past.writes k true n other)
     ∙ ap (λ (o : Option (List (Option Lsn))). record (machine_of past (volatile_states n) n) { confirmed = position_of o }) (changed-there past.confirmed k f n other)))
 
 stopped : (setup : Setup) (past : Past) (volatile_states : ℕ → VolatileState) (k : ℕ) → state_of setup (record past { writes = put_at past.writes k false }) (with_server_down volatile_states k) ≡ with_machine (state_of setup past volatile_states) k (record (machine_of past (volatile_states k) k) { live = false; writes = false })

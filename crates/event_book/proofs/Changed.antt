@@ -4,7 +4,7 @@ use Rattle.std.proofs.lemmas.List.{map-set}
 use Rattle.std.proofs.lemmas.Option.{slice_get-map, get_or_from_slice_get}
 use Rattle.std.proofs.Math.ListN.{length-set}
 use Rattle.std.proofs.Math.Seq.{map-set_same}
-use Rattle.pat_base.specs.Changes.{changed_at, changed_by}
+use Rattle.pat_base.specs.Changes.{changed_at, with_changed}
 use Rattle.pg_model.specs.Facts.{ServerFacts}
 
 module _ {B : Type 0} (f : ServerFacts → B) where
@@ -17,7 +17,7 @@ module _ {B : Type 0} (f : ServerFacts → B) where
 
   pub changed-one : (servers : List ServerFacts) (n : ℕ) (change : ServerFacts → ServerFacts) (h : B → B)
       → ((s : ServerFacts) → f (change s) ≡ h (f s))
-      → map f (changed_by servers n change) ≡ changed_by (map f servers) n h
+      → map f (with_changed servers n change) ≡ with_changed (map f servers) n h
   changed-one servers n change h same =
       changed-found servers n change h (slice_get servers n) same ∙ ap (λ o. changed_at (map f servers) n h o) (sym (slice_get-map f servers n))
 
@@ -30,7 +30,7 @@ module _ {B : Type 0} (f : ServerFacts → B) where
 
   pub kept-one : (servers : List ServerFacts) (n : ℕ) (change : ServerFacts → ServerFacts)
       → ((s : ServerFacts) → f (change s) ≡ f s)
-      → map f (changed_by servers n change) ≡ map f servers
+      → map f (with_changed servers n change) ≡ map f servers
   kept-one servers n change same = kept-found servers n change (slice_get servers n) refl same
 
   -- and the change of each
@@ -47,5 +47,5 @@ length-found : (servers : List ServerFacts) (n : ℕ) (change : ServerFacts → 
 length-found servers n change None = refl
 length-found servers n change (Some s) = length-set servers n (change s)
 
-pub length-one : (servers : List ServerFacts) (n : ℕ) (change : ServerFacts → ServerFacts) → length (changed_by servers n change) ≡ length servers
+pub length-one : (servers : List ServerFacts) (n : ℕ) (change : ServerFacts → ServerFacts) → length (with_changed servers n change) ≡ length servers
 length-one servers n change = length-found servers n change (slice_get servers n)

@@ -1,10 +1,11 @@
 -- Parts of servers that events of some concerns leave as they were.
-use Rattle.std.proofs.Common.{ℕ, ◌≡◌, ◌==◌, ◌&&◌, not, nat_le, Bool, cond, true, false, List, map, slice_get, Option, Some, None, refl}
+use Rattle.std.proofs.Common.{ℕ, ◌≡◌, ◌==◌, ◌&&◌, not, nat_le, Bool, cond, true, false, List, map, slice_get, Option, Some, None, refl, ap, sym}
 use Rattle.pat_base.specs.declared.server_state.State.{State}
 use Rattle.pat_base.specs.declared.server_state.State.TheVariants as states
 use Rattle.pat_base.specs.declared.ticks.Ticks.{Ticks}
-use Rattle.pat_base.specs.ServerState.{live}
-use Rattle.pg_model.specs.Facts.{ServerFacts, is_down}
+use Rattle.pat_base.specs.ServerState.{writes, live}
+use Rattle.pg_model.specs.Facts.{ServerFacts, is_creating, is_down}
+use Rattle.pg_model.specs.Rewinding.{cloned, is_rewindable, rewound_to}
 use Rattle.pg_model.specs.Running.{completed, crashed, delayed, is_primary, moment_after, replica_started, started, stopped, stopping}
 use Rattle.pg_model.specs.Replication.{following}
 use Rattle.pg_model.specs.Servers.{ticked_unless_live}
@@ -16,7 +17,7 @@ use Rattle.event_book.specs.declared.event.ServerEvent.{ServerEvent}
 use Rattle.event_book.specs.declared.event.ServerEvent.TheVariants as servers
 use Rattle.event_book.specs.declared.event.WatchdogEvent.{WatchdogEvent}
 use Rattle.event_book.specs.declared.event.WatchdogEvent.TheVariants as watchdogs
-use Rattle.event_book.specs.Servers.{stops_quietly, stops, starts_as_replica, servers_by, received_by, copied_by, servers_by_log, servers_by_replication, servers_by_watchdog}
+use Rattle.event_book.specs.Servers.{stops_quietly, stops, starts_as_replica, servers_by, received_by, cut_to, goes_back, becomes_copy, copied_by, servers_by_log, servers_by_replication, servers_by_watchdog}
 use Rattle.event_book.specs.Writers.{BeginsServer}
 use Rattle.event_book.proofs.Changed.{kept-one, kept-each, same-if}
 
@@ -75,21 +76,39 @@ module _ {B : Type 0} (f : ServerFacts → B)
   watched-kept known (watchdogs.Reset member) = kept-one f known _ _ (λ s. reads (crashed s) s refl refl refl)
   watched-kept known _ = refl
 
--- what only the state, the required list and what was confirmed determine stays where a log changes
+-- what only the required list, what was confirmed, and whether a server accepts writes or is live determine stays where a log
+-- changes
 module _ {B : Type 0} (f : ServerFacts → B)
-    (reads : (s t : ServerFacts) → s.state ≡ t.state → s.required ≡ t.required → s.confirmed ≡ t.confirmed → f s ≡ f t) where
+    (reads : (s t : ServerFacts) → live s.state ≡ live t.state → writes s.state ≡ writes t.state → s.required ≡ t.required → s.confirmed ≡ t.confirmed → f s ≡ f t) where
   received-kept : (known : List ServerFacts) (number count : ℕ) (found : Option ServerFacts) → map f (received_by known number count found) ≡ map f known
   received-kept known number count None = refl
-  received-kept known number count (Some upstream) = kept-one f known _ _ (λ s. reads _ s refl refl refl)
+  received-kept known number count (Some upstream) = kept-one f known _ _ (λ s. reads _ s refl refl refl refl)
+
+  -- a server that is rewound or cloned accepts no writes, before or after
+  rewound-kept : (kept : ℕ) (source : ServerFacts) (state : State) (s : ServerFacts) → s.state ≡ state
+      → f (cond (is_rewindable state) (rewound_to kept s source) (cut_to kept s)) ≡ f s
+  rewound-kept kept source states.Replica s is = reads (rewound_to kept s source) s (sym (ap live is)) (sym (ap writes is)) refl refl
+  rewound-kept kept source states.Stopped s is = reads (rewound_to kept s source) s (sym (ap live is)) (sym (ap writes is)) refl refl
+  rewound-kept kept source _ s is = reads (cut_to kept s) s refl refl refl refl
+
+  back-kept : (kept : ℕ) (found : Option ServerFacts) (s : ServerFacts) → f (goes_back kept found s) ≡ f s
+  back-kept kept None s = reads (cut_to kept s) s refl refl refl refl
+  back-kept kept (Some source) s = rewound-kept kept source s.state s refl
+
+  cloned-kept : (source : ServerFacts) (state : State) (s : ServerFacts) → s.state ≡ state
+      → f (cond (is_creating state) (cloned s source) (record s { log = source.log })) ≡ f s
+  cloned-kept source states.Creating s is = reads (cloned s source) s (sym (ap live is)) (sym (ap writes is)) refl refl
+  cloned-kept source _ s is = reads (record s { log = source.log }) s refl refl refl refl
 
   copied-kept : (known : List ServerFacts) (number : ℕ) (found : Option ServerFacts) → map f (copied_by known number found) ≡ map f known
   copied-kept known number None = refl
-  copied-kept known number (Some source) = kept-one f known _ _ (λ s. reads _ s refl refl refl)
+  copied-kept known number (Some source) = kept-one f known _ _ (λ s. cloned-kept source s.state s refl)
 
   pub logged-kept : (known : List ServerFacts) (happening : LogEvent) → map f (servers_by_log known happening) ≡ map f known
   logged-kept known (logs.Received server from count) = received-kept known server.id.number count (slice_get known from.id.number)
+  logged-kept known (logs.Rewound server from kept at) = kept-one f known _ _ (back-kept kept (slice_get known from.id.number))
   logged-kept known (logs.Copied server from) = copied-kept known server.id.number (slice_get known from.id.number)
-  logged-kept known _ = kept-one f known _ _ (λ s. reads _ s refl refl refl)
+  logged-kept known _ = kept-one f known _ _ (λ s. reads _ s refl refl refl refl)
 
 -- what only the state and the log determine stays where a required list, what was confirmed, or what waits for acknowledgement changes
 module _ {B : Type 0} (f : ServerFacts → B) (reads : (s t : ServerFacts) → s.state ≡ t.state → s.log ≡ t.log → f s ≡ f t) where

@@ -1,5 +1,5 @@
 -- What a book leaves of the servers, by what the book alone says. Of each part, a lemma '-of' says it of one event, and '-told' of a book.
-use Rattle.std.proofs.Common.{ℕ, ◌≡◌, ◌≢◌, ◌<◌, ◌==◌, ◌&&◌, ◌||◌, not, ◌++◌, nat_le, Bool, true, false, cond, List, [], ◌∷◌, length, get_or, map, slice_get, Option, Some, None, option_map, refl, ◌∙◌, ap, sym, subst, append_assoc, append-nil, arith}
+use Rattle.std.proofs.Common.{ℕ, ◌≡◌, ◌≢◌, ◌<◌, ◌==◌, ◌&&◌, ◌||◌, not, ◌++◌, nat_le, Bool, true, false, cond, List, [], ◌∷◌, length, get_or, map, take, slice_get, Option, Some, None, option_map, refl, ◌∙◌, ap, sym, subst, append_assoc, append-nil, arith}
 use Rattle.std.proofs.lemmas.Option.{none-some, slice_get-get_or, slice_get-map, unwrap_or-slice_get}
 use Rattle.std.proofs.lemmas.Bool.Decides.{nat_tests}
 use Rattle.std.proofs.lemmas.Grind.{get_or-set_at}
@@ -9,9 +9,10 @@ use Rattle.std.proofs.Math.ListN.{length-map}
 use Rattle.pat_base.specs.declared.server_state.State.{State}
 use Rattle.pat_base.specs.declared.server_state.State.TheVariants as states
 use Rattle.pat_base.specs.declared.ticks.Ticks.{Ticks}
-use Rattle.pat_base.specs.Changes.{changed_at, changed_by}
+use Rattle.pat_base.specs.Changes.{changed_at, with_changed}
 use Rattle.pat_base.specs.ServerState.{writes, live}
-use Rattle.pg_model.specs.Facts.{ServerFacts, is_down, is_up, none_confirmed}
+use Rattle.pg_model.specs.Facts.{ServerFacts, entries_of, is_creating, is_down, is_up, none_confirmed}
+use Rattle.pg_model.specs.Rewinding.{cloned, is_rewindable, rewound_to}
 use Rattle.pg_model.specs.Running.{completed, crashed_state, is_primary, moment_after, replica_started, started, stopped}
 use Rattle.pg_model.specs.Servers.{ticked_unless_live}
 use Rattle.event_book.specs.declared.event.Event.{Event}
@@ -31,7 +32,7 @@ use Rattle.event_book.specs.Facts.{Facts, facts_after, facts_over}
 use Rattle.event_book.specs.Functions.{put_at}
 use Rattle.event_book.specs.Logs.{log_received, log_copied, logs_in, logs_by, logs_after, logs_over}
 use Rattle.event_book.specs.Required.{required_in, required_after, required_over, confirmed_in, confirmed_after, confirmed_over}
-use Rattle.event_book.specs.Servers.{begun_in, servers_by, received_by, copied_by, servers_by_log, servers_by_replication, servers_by_watchdog, servers_after}
+use Rattle.event_book.specs.Servers.{begun_in, servers_by, received_by, cut_to, goes_back, copied_by, servers_by_log, servers_by_replication, servers_by_watchdog, servers_after}
 use Rattle.event_book.specs.Writers.{writes_now, writes_in, writes_after, writes_by_server, writes_by_watchdog, writes_over}
 use Rattle.event_book.proofs.Parts.{ticked-kept, others-kept, watched-kept, logged-kept, replicated-kept}
 use Rattle.event_book.proofs.Changed.{changed-one, kept-one, kept-each, same-if, length-one}
@@ -65,14 +66,18 @@ logs-received known number count (Some upstream) = changed-one (λ s. s.log) kno
 logs-copied : (known : List ServerFacts) (number : ℕ) (found : Option ServerFacts)
     → logs_in (copied_by known number found) ≡ log_copied (logs_in known) number (option_map (λ s. s.log) found)
 logs-copied known number None = refl
-logs-copied known number (Some source) = changed-one (λ s. s.log) known number _ _ (λ s. refl)
+logs-copied known number (Some source) = changed-one (λ s. s.log) known number _ _ (λ s. same-if (λ s. s.log) (is_creating s.state) (cloned s source) (record s { log = source.log }) source.log refl refl)
+
+log-back : (kept : ℕ) (found : Option ServerFacts) (s : ServerFacts) → (goes_back kept found s).log ≡ Some (take kept (entries_of s.log))
+log-back kept None s = refl
+log-back kept (Some source) s = same-if (λ s. s.log) (is_rewindable s.state) (rewound_to kept s source) (cut_to kept s) (Some (take kept (entries_of s.log))) refl refl
 
 logs-logged : (known : List ServerFacts) (happening : LogEvent) → logs_in (servers_by_log known happening) ≡ logs_by (logs_in known) happening
 logs-logged known (logs.Appended server entry) = changed-one (λ s. s.log) known server.id.number _ _ (λ s. refl)
 logs-logged known (logs.Received server from count) =
     logs-received known server.id.number count (slice_get known from.id.number)
     ∙ ap (λ o. log_received (logs_in known) server.id.number count o) (sym (slice_get-map (λ s. s.log) known from.id.number))
-logs-logged known (logs.Rewound server from kept at) = changed-one (λ s. s.log) known server.id.number _ _ (λ s. refl)
+logs-logged known (logs.Rewound server from kept at) = changed-one (λ s. s.log) known server.id.number _ _ (log-back kept (slice_get known from.id.number))
 logs-logged known (logs.Copied server from) =
     logs-copied known server.id.number (slice_get known from.id.number)
     ∙ ap (λ o. log_copied (logs_in known) server.id.number o) (sym (slice_get-map (λ s. s.log) known from.id.number))
@@ -108,7 +113,7 @@ required-replicated known _ = kept-one (λ s. s.required) known _ _ (λ s. refl)
 pub required-of : (now : ℕ) (known : List ServerFacts) (kind : EventKind) → required_in (servers_after now known kind) ≡ required_after (required_in known) kind
 required-of now known kinds.Tick = ticked-kept (λ s. s.required) (λ s t log required confirmed. required) (record { 0 = now }) known
 required-of now known (kinds.Server happening) = required-by-server now known happening
-required-of now known (kinds.Log happening) = logged-kept (λ s. s.required) (λ s t state required confirmed. required) known happening
+required-of now known (kinds.Log happening) = logged-kept (λ s. s.required) (λ s t live writes required confirmed. required) known happening
 required-of now known (kinds.Replication happening) = required-replicated known happening
 required-of now known (kinds.Watchdog happening) = watched-kept (λ s. s.required) (λ s t log required confirmed. required) known happening
 required-of now known _ = refl
@@ -136,7 +141,7 @@ confirmed-replicated known _ = kept-one (λ s. s.confirmed) known _ _ (λ s. ref
 pub confirmed-of : (now : ℕ) (known : List ServerFacts) (kind : EventKind) → confirmed_in (servers_after now known kind) ≡ confirmed_after (confirmed_in known) kind
 confirmed-of now known kinds.Tick = ticked-kept (λ s. s.confirmed) (λ s t log required confirmed. confirmed) (record { 0 = now }) known
 confirmed-of now known (kinds.Server happening) = confirmed-by-server now known happening
-confirmed-of now known (kinds.Log happening) = logged-kept (λ s. s.confirmed) (λ s t state required confirmed. confirmed) known happening
+confirmed-of now known (kinds.Log happening) = logged-kept (λ s. s.confirmed) (λ s t live writes required confirmed. confirmed) known happening
 confirmed-of now known (kinds.Replication happening) = confirmed-replicated known happening
 confirmed-of now known (kinds.Watchdog happening) = watched-kept (λ s. s.confirmed) (λ s t log required confirmed. confirmed) known happening
 confirmed-of now known _ = refl
@@ -177,7 +182,7 @@ count-by now known happening = length-kept known (servers_by now known happening
 pub count-of : (now : ℕ) (known : List ServerFacts) (kind : EventKind) → length (servers_after now known kind) ≡ length known
 count-of now known kinds.Tick = length-map known _
 count-of now known (kinds.Server happening) = count-by now known happening
-count-of now known (kinds.Log happening) = length-kept known (servers_by_log known happening) (logged-kept seen-as-one (λ s t state required confirmed. refl) known happening)
+count-of now known (kinds.Log happening) = length-kept known (servers_by_log known happening) (logged-kept seen-as-one (λ s t live writes required confirmed. refl) known happening)
 count-of now known (kinds.Replication happening) = length-kept known (servers_by_replication known happening) (replicated-kept seen-as-one (λ s t state log. refl) known happening)
 count-of now known (kinds.Watchdog happening) = length-kept known (servers_by_watchdog known happening) (watched-kept seen-as-one (λ s t log required confirmed. refl) known happening)
 count-of now known _ = refl
@@ -218,18 +223,18 @@ put-found xs k n value (Some b) false is e small = get_or-set_other xs k n value
 -- one server changes so that it accepts writes, or doesn't
 writes-put : (known : List ServerFacts) (k n : ℕ) (change : ServerFacts → ServerFacts) (value : Bool)
     → n < length known → ((s : ServerFacts) → writes (change s).state ≡ value)
-    → writes_in (changed_by known k change) n ≡ put_at (writes_in known) k value n
+    → writes_in (with_changed known k change) n ≡ put_at (writes_in known) k value n
 writes-put known k n change value small same =
     let flags : List Bool = map (λ s. writes s.state) known in
     let few : n < length flags = rw (length-map known (λ s. writes s.state)) small in
-    writes-at (changed_by known k change) n
+    writes-at (with_changed known k change) n
     ∙ ap (λ xs. get_or xs n false) (changed-one (λ s. writes s.state) known k change (λ before. value) same)
     ∙ put-found flags k n value (slice_get flags k) (n == k) refl refl few
     ∙ ap (λ b. cond (n == k) value b) (sym (writes-at known n))
 
 writes-one : (known : List ServerFacts) (k n : ℕ) (change : ServerFacts → ServerFacts)
-    → ((s : ServerFacts) → writes (change s).state ≡ writes s.state) → writes_in (changed_by known k change) n ≡ writes_in known n
-writes-one known k n change same = writes-kept known (changed_by known k change) n (kept-one (λ s. writes s.state) known k change same)
+    → ((s : ServerFacts) → writes (change s).state ≡ writes s.state) → writes_in (with_changed known k change) n ≡ writes_in known n
+writes-one known k n change same = writes-kept known (with_changed known k change) n (kept-one (λ s. writes s.state) known k change same)
 
 writes-completed : (now : Ticks) (state : State) (s : ServerFacts) → s.state ≡ state → writes (cond (live state) s (completed now state s)).state ≡ writes s.state
 writes-completed now (states.Starting true at) s is = refl
@@ -301,7 +306,7 @@ writes-of now known kinds.Tick n small =
     writes-kept known _ n (kept-each (λ s. writes s.state) (ticked_unless_live at) (λ s. writes-completed at s.state s refl) known)
 writes-of now known (kinds.Server happening) n small = writes-by-server now known happening n small
 writes-of now known (kinds.Log happening) n small =
-    writes-kept known (servers_by_log known happening) n (logged-kept (λ s. writes s.state) (λ s t state required confirmed. ap writes state) known happening)
+    writes-kept known (servers_by_log known happening) n (logged-kept (λ s. writes s.state) (λ s t live writes required confirmed. writes) known happening)
 writes-of now known (kinds.Replication happening) n small =
     writes-kept known (servers_by_replication known happening) n (replicated-kept (λ s. writes s.state) (λ s t state log. ap writes state) known happening)
 writes-of now known (kinds.Watchdog happening) n small = writes-watched known happening n small

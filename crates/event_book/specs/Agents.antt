@@ -1,6 +1,6 @@
 -- Which agents run, and which are suspended.
 use Rattle.std.specs.Prelude.{ℕ, List, [], ◌∷◌, true, false, zero, suc}
-use Rattle.pat_base.specs.Changes.{changed_by}
+use Rattle.pat_base.specs.Changes.{with_changed}
 use Rattle.event_book.specs.declared.event.EventKind.{EventKind}
 use Rattle.event_book.specs.declared.event.EventKind.TheVariants as kinds
 use Rattle.event_book.specs.declared.event.AgentEvent.{AgentEvent}
@@ -21,7 +21,7 @@ first_agents (suc count) = running_in 1 ∷ first_agents count
 
 -- a list by members, with the item of one member changed
 abbrev pub with_member_changed : {A : Type 0} → List A → Member → (A → A) → List A
-with_member_changed items member change = changed_by items member.id.number change
+with_member_changed items member change = with_changed items member.id.number change
 
 -- an agent that has ended: it isn't suspended either
 abbrev pub ended_process : AgentProcess → AgentProcess

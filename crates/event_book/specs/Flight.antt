@@ -19,8 +19,8 @@ use Rattle.event_book.specs.declared.message.Body.{Body}
 use Rattle.event_book.specs.declared.message.Body.TheVariants as bodies
 use Rattle.event_book.specs.declared.message.Message.{Message}
 
--- a message on its way, with the moment of its sending, and with what an answer of the store carries beside its words: what the
--- store held, and the grant
+-- a message on its way, with the moment of its sending, and with what an answer of the store carries beside its words: the
+-- store's entries then, and the grant
 pub record InFlightFacts : Type 0 where
   pub message : Message
   pub sent : Ticks

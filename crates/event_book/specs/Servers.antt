@@ -2,9 +2,10 @@
 use Rattle.std.specs.Prelude.{ℕ, ◌==◌, ◌&&◌, ◌||◌, not, if◌then◌else◌, Bool, true, List, Option, Some, None, map, take, drop, slice_get}
 use Rattle.pat_base.specs.declared.server_state.State.{State}
 use Rattle.pat_base.specs.declared.server_state.State.TheVariants as states
-use Rattle.pat_base.specs.Changes.{changed_by}
-use Rattle.pg_model.specs.Facts.{ServerFacts, entries_of, is_down, is_up}
+use Rattle.pat_base.specs.Changes.{with_changed}
+use Rattle.pg_model.specs.Facts.{ServerFacts, entries_of, is_creating, is_down, is_up}
 use Rattle.pg_model.specs.Replication.{appended, confirming, following, received_from}
+use Rattle.pg_model.specs.Rewinding.{cloned, is_rewindable, rewound_to}
 use Rattle.pg_model.specs.Running.{crashed, delayed, is_primary, primary_started, promoted, replica_started, started, stopped, stopping}
 use Rattle.pg_model.specs.Servers.{ticked_unless_live, requiring}
 use Rattle.event_book.specs.declared.event.EventKind.{EventKind}
@@ -50,45 +51,59 @@ starts_as_primary now s = if is_down s.state && starts_slowly s then primary_sta
 
 -- the servers after what happens to one at this moment
 abbrev pub servers_by : ℕ → List ServerFacts → ServerEvent → List ServerFacts
-servers_by now known (servers.Began server timeline) = changed_by known server.id.number (λ s. begun_in s.state s)
-servers_by now known (servers.Ended server) = changed_by known server.id.number stopped
-servers_by now known (servers.Crashed server) = changed_by known server.id.number crashed
-servers_by now known (servers.Stops server) = changed_by known server.id.number (stops now)
-servers_by now known (servers.StartsAsPrimary server) = changed_by known server.id.number (starts_as_primary now)
-servers_by now known (servers.StartsAsReplica server) = changed_by known server.id.number (starts_as_replica now)
-servers_by now known (servers.Follows server upstream) = changed_by known server.id.number (following upstream.id)
-servers_by now known (servers.Diverged server upstream at) = changed_by known server.id.number (λ s. record s { diverged = true })
-servers_by now known (servers.Slowed server stop start) = changed_by known server.id.number (delayed stop start)
+servers_by now known (servers.Began server timeline) = with_changed known server.id.number (λ s. begun_in s.state s)
+servers_by now known (servers.Ended server) = with_changed known server.id.number stopped
+servers_by now known (servers.Crashed server) = with_changed known server.id.number crashed
+servers_by now known (servers.Stops server) = with_changed known server.id.number (stops now)
+servers_by now known (servers.StartsAsPrimary server) = with_changed known server.id.number (starts_as_primary now)
+servers_by now known (servers.StartsAsReplica server) = with_changed known server.id.number (starts_as_replica now)
+servers_by now known (servers.Follows server upstream) = with_changed known server.id.number (following upstream.id)
+servers_by now known (servers.Diverged server upstream at) = with_changed known server.id.number (λ s. record s { diverged = true })
+servers_by now known (servers.Slowed server stop start) = with_changed known server.id.number (delayed stop start)
 servers_by now known _ = known
 
 -- the servers after one received so many entries from another; without such another all are as before
 abbrev pub received_by : List ServerFacts → ℕ → ℕ → Option ServerFacts → List ServerFacts
 received_by known number count None = known
-received_by known number count (Some upstream) = changed_by known number (λ s. received_from count s upstream)
+received_by known number count (Some upstream) = with_changed known number (λ s. received_from count s upstream)
 
--- the servers after the log of one became a copy of another's; without such another all are as before
+-- its log keeps so many entries
+abbrev pub cut_to : ℕ → ServerFacts → ServerFacts
+cut_to kept s = record s { log = Some (take kept (entries_of s.log)) }
+
+-- it goes back to so many entries of its log: rewound to the source, where it may be; without a source, or in a state in
+-- which no server is rewound, only its log changes
+abbrev pub goes_back : ℕ → Option ServerFacts → ServerFacts → ServerFacts
+goes_back kept None s = cut_to kept s
+goes_back kept (Some source) s = if is_rewindable s.state then rewound_to kept s source else cut_to kept s
+
+-- it becomes a copy of the source: cloned from it, where it waits for a copy; in another state only its log changes
+abbrev pub becomes_copy : ServerFacts → ServerFacts → ServerFacts
+becomes_copy source s = if is_creating s.state then cloned s source else record s { log = source.log }
+
+-- the servers after one became a copy of another; without such another all are as before
 abbrev pub copied_by : List ServerFacts → ℕ → Option ServerFacts → List ServerFacts
 copied_by known number None = known
-copied_by known number (Some source) = changed_by known number (λ s. record s { log = source.log })
+copied_by known number (Some source) = with_changed known number (becomes_copy source)
 
--- the servers after what happens to a log. What a rewind, a copy and a wipe change beside it is to come with them
+-- the servers after what happens to a log. What a wipe changes beside it is to come with it
 abbrev pub servers_by_log : List ServerFacts → LogEvent → List ServerFacts
-servers_by_log known (logs.Appended server entry) = changed_by known server.id.number (appended entry)
+servers_by_log known (logs.Appended server entry) = with_changed known server.id.number (appended entry)
 servers_by_log known (logs.Received server from count) = received_by known server.id.number count (slice_get known from.id.number)
-servers_by_log known (logs.Rewound server from kept at) = changed_by known server.id.number (λ s. record s { log = Some (take kept (entries_of s.log)) })
+servers_by_log known (logs.Rewound server from kept at) = with_changed known server.id.number (goes_back kept (slice_get known from.id.number))
 servers_by_log known (logs.Copied server from) = copied_by known server.id.number (slice_get known from.id.number)
-servers_by_log known (logs.Wiped server) = changed_by known server.id.number (λ s. record s { log = None })
+servers_by_log known (logs.Wiped server) = with_changed known server.id.number (λ s. record s { log = None })
 
 -- the servers after what happens in synchronous replication
 abbrev pub servers_by_replication : List ServerFacts → ReplicationEvent → List ServerFacts
-servers_by_replication known (replications.RequiredSet server required names) = changed_by known server.id.number (requiring required)
-servers_by_replication known (replications.Confirmed server by end) = changed_by known server.id.number (confirming by.id end)
-servers_by_replication known (replications.Acknowledged server commit) = changed_by known server.id.number (λ s. record s { waiting = drop 1 s.waiting })
+servers_by_replication known (replications.RequiredSet server required names) = with_changed known server.id.number (requiring required)
+servers_by_replication known (replications.Confirmed server by end) = with_changed known server.id.number (confirming by.id end)
+servers_by_replication known (replications.Acknowledged server commit) = with_changed known server.id.number (λ s. record s { waiting = drop 1 s.waiting })
 servers_by_replication known (replications.Lacks server) = known
 
 -- a reset of its machine crashes a server
 abbrev pub servers_by_watchdog : List ServerFacts → WatchdogEvent → List ServerFacts
-servers_by_watchdog known (watchdogs.Reset member) = changed_by known member.id.number crashed
+servers_by_watchdog known (watchdogs.Reset member) = with_changed known member.id.number crashed
 servers_by_watchdog known _ = known
 
 -- the servers after an event of this moment: a tick completes the starts and stops that no event tells

@@ -1,7 +1,7 @@
 -- Watchdogs, and the holds that members take.
 use Rattle.std.specs.Prelude.{max, List, Option, Some, None}
 use Rattle.pat_base.specs.declared.ticks.Ticks.{Ticks}
-use Rattle.pat_base.specs.Changes.{changed_by}
+use Rattle.pat_base.specs.Changes.{with_changed}
 use Rattle.event_book.specs.declared.event.EventKind.{EventKind}
 use Rattle.event_book.specs.declared.event.EventKind.TheVariants as kinds
 use Rattle.event_book.specs.declared.event.WatchdogEvent.{WatchdogEvent}
@@ -9,10 +9,10 @@ use Rattle.event_book.specs.declared.event.WatchdogEvent.TheVariants as watchdog
 
 -- the deadlines after what happens to a watchdog: one that has reset its machine is no longer armed
 abbrev pub deadlines_by : List (Option Ticks) → WatchdogEvent → List (Option Ticks)
-deadlines_by deadlines (watchdogs.Armed member until answer) = changed_by deadlines member.id.number (λ before. Some until)
-deadlines_by deadlines (watchdogs.Fed member until basis) = changed_by deadlines member.id.number (λ before. Some until)
-deadlines_by deadlines (watchdogs.Disarmed member) = changed_by deadlines member.id.number (λ before. None)
-deadlines_by deadlines (watchdogs.Reset member) = changed_by deadlines member.id.number (λ before. None)
+deadlines_by deadlines (watchdogs.Armed member until answer) = with_changed deadlines member.id.number (λ before. Some until)
+deadlines_by deadlines (watchdogs.Fed member until basis) = with_changed deadlines member.id.number (λ before. Some until)
+deadlines_by deadlines (watchdogs.Disarmed member) = with_changed deadlines member.id.number (λ before. None)
+deadlines_by deadlines (watchdogs.Reset member) = with_changed deadlines member.id.number (λ before. None)
 deadlines_by deadlines _ = deadlines
 
 -- by member, the moment at which its watchdog resets its machine if it is armed, after an event
@@ -31,7 +31,7 @@ prolonged_to until (Some before) = Some (later_of before until)
 
 -- the holds after one was taken, if one was
 abbrev pub holds_by : List (Option Ticks) → WatchdogEvent → List (Option Ticks)
-holds_by holds (watchdogs.HoldTaken member until from run sequence) = changed_by holds member.id.number (prolonged_to until)
+holds_by holds (watchdogs.HoldTaken member until from run sequence) = with_changed holds member.id.number (prolonged_to until)
 holds_by holds _ = holds
 
 -- by member, the moment until which it promised not to take the leader key, if it ever did, after an event

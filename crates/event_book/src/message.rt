@@ -1,9 +1,9 @@
 //! Messages.
 ghost use Rattle.std.specs.Prelude.{◌≡◌, IfOk};
 
-use crate::{LinkEnd, PeerAnswer};
+use crate::LinkEnd;
 use lease_store::{Expected, Key, Txn};
-use pat_base::Ticks;
+use pat_base::{PeerAnswer, Ticks};
 use std::alloc::AllocError;
 use std::fmt;
 

@@ -122,7 +122,7 @@ pub data WatchdogMay (s : State) (m : ℕ) (input : AgentInput) (was agent : Age
   -- a deadline isn't removed from who acts: a server without one writes on while its lease ends and another begins
   Removed : (rests : Acts input.machine → ⊥) → WatchdogMay s m input was agent
   -- no acknowledgement is waited for after a grant: acknowledgements of members that an older failsafe key listed would set a deadline after
-  -- a newer key lists one that never held. And while its hold is active nobody comes to act: b acknowledges a, hears the grant of
+  -- a newer key lists one that never took a hold. And while its hold is active nobody comes to act: b acknowledges a, hears the grant of
   -- an older create, and begins while a writes by b's word
   SetByGrant : (fed : FedKnown s m input agent) → (is : input.machine.deadline ≡ Some fed.fed.deadline) → (none : agent.failsafe_check ≡ None)
       → (free : Acts input.machine → Acts (s.members m) ⊎ ((s.members m).hold ≤ s.clock)) → WatchdogMay s m input was agent

@@ -59,7 +59,7 @@ abbrev pub IsSpanned : EventKind → Type 0
 IsSpanned (kinds.Store (stores.Granted number by txn standbys)) = IsSpannedTxn txn
 IsSpanned _ = Unit {0}
 
--- the past has the keys of the lease as the key store holds them, and the leader key that is held is present
+-- the past has the keys of the lease as the key store holds them, and a leader key that has an entry is present
 pub record IsSameStore (past : Past) (facts : Facts) : Type 0 where
   pub clock : past.clock ≡ facts.clock
   pub revision : past.revision ≡ facts.keys.revision

@@ -12,3 +12,4 @@ pub mod Spans
 pub mod Measuring
 pub mod Steps
 pub mod Listing
+pub mod Ticks

@@ -10,3 +10,4 @@ pub mod Lateness
 pub mod Sights
 pub mod Telling
 pub mod Listed
+pub mod Passing

@@ -1,7 +1,9 @@
 //! The summary of a run, from its events alone.
-ghost use Rattle.std.specs.Prelude.{◌≡◌, ◌+◌, ◌^◌, ◌<◌, ◌≤◌, length};
+ghost use Rattle.std.specs.Prelude.{◌≡◌, ◌+◌, ◌^◌, ◌<◌, ◌≤◌, All, List, length};
 ghost use Rattle.summary.specs.declared.answers.TheConstants.{MEMBERS};
-ghost use Rattle.summary.specs.Sights.{summary_of, noted_before, noted_step};
+ghost use Rattle.event_book.specs.declared.event.Event.{Event};
+ghost use Rattle.summary.specs.Passing.{IsTickAlone, summary_later};
+ghost use Rattle.summary.specs.Sights.{summary_of, noted_before, noted_step, noted_steps};
 
 use crate::noting::ticks_after;
 use crate::sighting::{seen_beside, since_after};
@@ -56,6 +58,25 @@ impl Summary {
             self.note_before(event, behind);
             rest = behind;
         }
+    }
+
+    /// Notes so many ticks at once, each of which is all that its step brings. This takes no memory, and the same time however many
+    /// they are.
+    pub fn note_ticks(&mut self, ticks: u64)
+        requires { self.old.watch.closing.end.0 + ticks < 2 ^ 64 }
+        ensures noted { (steps : List (List Event)) → length steps ≡ ticks → All IsTickAlone steps → self.new ≡ noted_steps self.old steps }
+        ensures clock { self.new.watch.closing.end.0 ≡ self.old.watch.closing.end.0 + ticks }
+        ensures count { self.new.watch.closing.acknowledged ≡ self.old.watch.closing.acknowledged }
+    {
+        self.pass(ticks);
+    }
+
+    /// So many ticks pass that bring nothing else.
+    fn pass(&mut self, ticks: u64)
+        requires { self.old.watch.closing.end.0 + ticks < 2 ^ 64 }
+        ensures { self.new ≡ summary_later self.old ticks }
+    {
+        self.watch.pass(ticks);
     }
 
     /// Notes an event, behind which these stand in its step.

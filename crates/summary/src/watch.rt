@@ -2,6 +2,7 @@
 ghost use Rattle.std.specs.Prelude.{◌≡◌, ◌+◌, ◌^◌, ◌<◌, ◌≤◌, length};
 ghost use Rattle.summary.specs.Heads.{watch_of};
 ghost use Rattle.summary.specs.Noting.{noted};
+ghost use Rattle.summary.specs.Passing.{watch_later};
 
 use crate::head::{declared_mode, first_unwatched, head_breach, margins_of};
 use crate::noting::{
@@ -75,6 +76,14 @@ impl Watch {
         self.closing.two_writers = two_writers;
         self.closing.acknowledged = count_after(self.closing.acknowledged, kind);
         self.closing.lost = first_if(self.closing.lost, seen.lacking, now);
+    }
+
+    /// So many ticks pass that bring nothing else.
+    pub fn pass(&mut self, ticks: u64)
+        requires { self.old.closing.end.0 + ticks < 2 ^ 64 }
+        ensures { self.new ≡ watch_later self.old ticks }
+    {
+        self.closing.end = Ticks(self.closing.end.0 + ticks);
     }
 
     /// How the run closes if it ends here. This takes no memory.
