@@ -1,9 +1,7 @@
 -- What one read of the key store gives.
-use Rattle.std.specs.Prelude.{ℕ, Bool, true, false, is_some, List, Option, Some, None, IsTrue, IsSome}
+use Rattle.std.specs.Prelude.{ℕ, Bool, is_some, List, Option, Some, None, IsTrue, IsSome}
 use Rattle.std.specs.FinMap.{find, is_sorted}
-use Rattle.std.specs.Option.{option_map}
 use Rattle.pat_base.specs.declared.host.Host.{Host}
-use Rattle.pat_base.specs.declared.member_id.MemberId.{MemberId}
 use Rattle.pat_base.specs.declared.member_set.MemberSet.{MemberSet}
 use Rattle.pat_base.specs.declared.name.Name.{Name}
 use Rattle.lease_store.specs.declared.config.Config.{Config}
@@ -29,52 +27,52 @@ pub record IsRead (entries : List (Key × KeyEntry)) : Type 0 where
   pub kinds : AreOfKind entries
   pub config : IsSome (find key_cmp keys.Config entries)
 
--- what is held at a key, if it was present
-abbrev pub held_in : Key → SnapshotFacts → Option KeyEntry
-held_in key snapshot = find key_cmp key snapshot.entries
+-- the entry of a key, if it was present
+abbrev pub entry_in : Key → SnapshotFacts → Option KeyEntry
+entry_in key snapshot = find key_cmp key snapshot.entries
 
 -- who leads, by a value that was written to the leader key at this revision
 abbrev pub leader_by : ℕ → Value → Option LeaderEntry
 leader_by revision (values.Leader member) = Some (record { holder = member; revision = revision })
 leader_by revision _ = None
 
--- who leads, by what is held at the leader key
-abbrev pub leader_held : Option KeyEntry → Option LeaderEntry
-leader_held None = None
-leader_held (Some held) = leader_by held.revision held.value
+-- who leads, by the entry of the leader key
+abbrev pub leader_of_entry : Option KeyEntry → Option LeaderEntry
+leader_of_entry None = None
+leader_of_entry (Some found) = leader_by found.revision found.value
 
 -- who leads, by which revision of the leader key
 abbrev pub leader_in : SnapshotFacts → Option LeaderEntry
-leader_in snapshot = leader_held (held_in keys.Leader snapshot)
+leader_in snapshot = leader_of_entry (entry_in keys.Leader snapshot)
 
 -- what a value of the configuration sets, or these settings where it is none
 abbrev pub settings_by : Config → Value → Config
 settings_by settings (values.Config config) = config.config
 settings_by settings _ = settings
 
--- what is set by what is held at the configuration's key, or these settings where nothing is held
-abbrev pub settings_held : Config → Option KeyEntry → Config
-settings_held settings None = settings
-settings_held settings (Some held) = settings_by settings held.value
+-- what is set by the entry of the configuration's key, or these settings where there is none
+abbrev pub settings_of_entry : Config → Option KeyEntry → Config
+settings_of_entry settings None = settings
+settings_of_entry settings (Some found) = settings_by settings found.value
 
 -- what its configuration sets, or these settings where it has none
 abbrev pub settings_in : Config → SnapshotFacts → Config
-settings_in settings snapshot = settings_held settings (held_in keys.Config snapshot)
+settings_in settings snapshot = settings_of_entry settings (entry_in keys.Config snapshot)
 
 -- the members that a value of the failsafe key lists
 abbrev pub failsafe_by : Value → Option MemberSet
 failsafe_by (values.Failsafe members) = Some members
 failsafe_by _ = None
 
--- the members listed by what is held at the failsafe key
-abbrev pub failsafe_held : Option KeyEntry → Option MemberSet
-failsafe_held None = None
-failsafe_held (Some held) = failsafe_by held.value
+-- the members listed by the entry of the failsafe key
+abbrev pub failsafe_of_entry : Option KeyEntry → Option MemberSet
+failsafe_of_entry None = None
+failsafe_of_entry (Some found) = failsafe_by found.value
 
 -- the members that its failsafe key lists
 abbrev pub failsafe_in : SnapshotFacts → Option MemberSet
-failsafe_in snapshot = failsafe_held (held_in keys.Failsafe snapshot)
+failsafe_in snapshot = failsafe_of_entry (entry_in keys.Failsafe snapshot)
 
 -- whether it has the row of this timeline
 abbrev pub has_row : ℕ → SnapshotFacts → Bool
-has_row timeline snapshot = is_some (held_in (keys.History timeline) snapshot)
+has_row timeline snapshot = is_some (entry_in (keys.History timeline) snapshot)

@@ -1,8 +1,25 @@
-//! What the key store tells agents, and what agents show of themselves.
+//! What the key store tells agents, what agents show of themselves, and configurations as text.
 #![tactic(auto)]
 
+mod config_fault;
+mod config_text;
+mod floats;
+mod judging;
+mod key_values;
+mod laws;
+mod merging;
+mod naming;
+mod setting;
+mod setting_value;
 mod snapshot;
 mod view;
 
+pub use config_fault::ConfigFault;
+pub use config_text::ConfigText;
+pub use laws::{
+    configurations_keep_times, patches_change_what_they_name, settings_are_those_of_the_text,
+};
+pub use naming::{candidate_of, is_candidate, is_failover_to, is_named, is_standby};
+pub use setting::{Setting, SettingRange};
 pub use snapshot::{LeaderEntry, Snapshot};
-pub use view::{AgentView, RoleWord};
+pub use view::{AgentView, LeaderView, RoleWord};

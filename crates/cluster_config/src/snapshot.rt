@@ -3,7 +3,7 @@ ghost use Rattle.std.specs.Prelude.{◌≡◌, IsSome, IsTrue, IfOk, option_copi
 ghost use Rattle.std.specs.FinMap.{find, is_sorted};
 ghost use Rattle.lease_store.specs.Kept.{AreOfKind};
 ghost use Rattle.lease_store.specs.KeyOrder.{key_cmp};
-ghost use Rattle.cluster_config.specs.Snapshots.{IsRead, held_in, leader_by, leader_held, leader_in, settings_by, settings_held, settings_in, failsafe_by, failsafe_held, failsafe_in, has_row};
+ghost use Rattle.cluster_config.specs.Snapshots.{IsRead, entry_in, leader_by, leader_of_entry, leader_in, settings_by, settings_of_entry, settings_in, failsafe_by, failsafe_of_entry, failsafe_in, has_row};
 
 use lease_store::{Config, Key, KeyEntry, Value, key_entry_at};
 use pat_base::{Host, MemberId, MemberSet, Name};
@@ -76,9 +76,9 @@ impl Snapshot {
         &self.entries
     }
 
-    /// What is held at a key. `None` exactly where the key was absent.
-    pub fn held(&self, key: Key) -> Option<&KeyEntry>
-        ensures { option_copied result ≡ held_in key self.now }
+    /// The entry of a key: its value and its revision. `None` exactly where the key was absent.
+    pub fn entry(&self, key: Key) -> Option<&KeyEntry>
+        ensures { option_copied result ≡ entry_in key self.now }
     {
         key_entry_at(&self.entries, key)
     }
@@ -87,36 +87,36 @@ impl Snapshot {
     pub fn leader(&self) -> Option<LeaderEntry>
         ensures { result ≡ leader_in self.now }
     {
-        leader_held(self.held(Key::Leader))
+        leader_of_entry(self.entry(Key::Leader))
     }
 
     /// What the configuration sets; these settings where there is none.
     pub fn settings_or(&self, settings: Config) -> Config
         ensures { result ≡ settings_in settings self.now }
     {
-        settings_held(settings, self.held(Key::Config))
+        settings_of_entry(settings, self.entry(Key::Config))
     }
 
     /// The members that the failsafe key lists. `None` exactly where the key was absent.
     pub fn failsafe(&self) -> Option<MemberSet>
         ensures { result ≡ failsafe_in self.now }
     {
-        failsafe_held(self.held(Key::Failsafe))
+        failsafe_of_entry(self.entry(Key::Failsafe))
     }
 
     /// Whether the history has the row of this timeline.
     pub fn has_row(&self, timeline: u64) -> bool
         ensures { result ≡ has_row timeline self.now }
     {
-        self.held(Key::History(timeline)).is_some()
+        self.entry(Key::History(timeline)).is_some()
     }
 }
 
-fn leader_held(held: Option<&KeyEntry>) -> Option<LeaderEntry>
-    ensures { result ≡ leader_held (option_copied held.entry) }
+fn leader_of_entry(found: Option<&KeyEntry>) -> Option<LeaderEntry>
+    ensures { result ≡ leader_of_entry (option_copied found.entry) }
 {
-    let held = held?;
-    leader_by(held.revision, &held.value)
+    let found = found?;
+    leader_by(found.revision, &found.value)
 }
 
 fn leader_by(revision: u64, value: &Value) -> Option<LeaderEntry>
@@ -131,12 +131,12 @@ fn leader_by(revision: u64, value: &Value) -> Option<LeaderEntry>
     }
 }
 
-fn settings_held(settings: Config, held: Option<&KeyEntry>) -> Config
-    ensures { result ≡ settings_held settings (option_copied held.entry) }
+fn settings_of_entry(settings: Config, found: Option<&KeyEntry>) -> Config
+    ensures { result ≡ settings_of_entry settings (option_copied found.entry) }
 {
-    match held {
+    match found {
         None => settings,
-        Some(held) => settings_by(settings, &held.value),
+        Some(found) => settings_by(settings, &found.value),
     }
 }
 
@@ -149,11 +149,11 @@ fn settings_by(settings: Config, value: &Value) -> Config
     }
 }
 
-fn failsafe_held(held: Option<&KeyEntry>) -> Option<MemberSet>
-    ensures { result ≡ failsafe_held (option_copied held.entry) }
+fn failsafe_of_entry(found: Option<&KeyEntry>) -> Option<MemberSet>
+    ensures { result ≡ failsafe_of_entry (option_copied found.entry) }
 {
-    let held = held?;
-    failsafe_by(&held.value)
+    let found = found?;
+    failsafe_by(&found.value)
 }
 
 fn failsafe_by(value: &Value) -> Option<MemberSet>

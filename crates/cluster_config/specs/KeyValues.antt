@@ -1,0 +1,67 @@
+-- What single keys of a snapshot say.
+use Rattle.std.specs.Prelude.{Bool, true, false, Option, Some, None}
+use Rattle.pat_base.specs.declared.lsn.Lsn.{Lsn}
+use Rattle.lease_store.specs.Defaults.{default_config}
+use Rattle.lease_store.specs.declared.config.Config.{Config}
+use Rattle.lease_store.specs.declared.key.Key.TheVariants as keys
+use Rattle.lease_store.specs.declared.value.FailoverKey.{FailoverKey}
+use Rattle.lease_store.specs.declared.value.KeyEntry.{KeyEntry}
+use Rattle.lease_store.specs.declared.value.SyncKey.{SyncKey}
+use Rattle.lease_store.specs.declared.value.Value.{Value}
+use Rattle.lease_store.specs.declared.value.Value.TheVariants as values
+use Rattle.cluster_config.specs.Snapshots.{SnapshotFacts, entry_in, settings_in}
+
+-- what the configuration sets
+abbrev pub config_in : SnapshotFacts → Config
+config_in snapshot = settings_in default_config snapshot
+
+-- the failover that a value of the failover key asks for
+abbrev pub failover_by : Value → Option FailoverKey
+failover_by (values.Failover failover) = Some failover
+failover_by _ = None
+
+-- the failover that the entry of the failover key asks for
+abbrev pub failover_of_entry : Option KeyEntry → Option FailoverKey
+failover_of_entry None = None
+failover_of_entry (Some found) = failover_by found.value
+
+-- the failover or the switchover that is asked for, if one is
+abbrev pub failover_in : SnapshotFacts → Option FailoverKey
+failover_in snapshot = failover_of_entry (entry_in keys.Failover snapshot)
+
+-- who replicates synchronously, by a value of the sync key
+abbrev pub sync_by : Value → Option SyncKey
+sync_by (values.Sync sync) = Some sync
+sync_by _ = None
+
+-- who replicates synchronously, by the entry of the sync key
+abbrev pub sync_of_entry : Option KeyEntry → Option SyncKey
+sync_of_entry None = None
+sync_of_entry (Some found) = sync_by found.value
+
+-- who replicates synchronously, where the sync key is there
+abbrev pub sync_in : SnapshotFacts → Option SyncKey
+sync_in snapshot = sync_of_entry (entry_in keys.Sync snapshot)
+
+-- where the leader's log ends, by a value of the status key
+abbrev pub status_by : Value → Option Lsn
+status_by (values.Status end) = Some end
+status_by _ = None
+
+-- where the leader's log ends, by the entry of the status key
+abbrev pub status_of_entry : Option KeyEntry → Option Lsn
+status_of_entry None = None
+status_of_entry (Some found) = status_by found.value
+
+-- where the leader's log ends, as it told last, if it did
+abbrev pub status_in : SnapshotFacts → Option Lsn
+status_in snapshot = status_of_entry (entry_in keys.Status snapshot)
+
+-- the sync key, where the synchronous mode is on
+abbrev pub active_sync_where : Bool → Option SyncKey → Option SyncKey
+active_sync_where false sync = None
+active_sync_where true sync = sync
+
+-- the sync key, where the synchronous mode is active: it is on, and the key is there
+abbrev pub active_sync_in : SnapshotFacts → Option SyncKey
+active_sync_in snapshot = active_sync_where (config_in snapshot).synchronous_mode (sync_in snapshot)

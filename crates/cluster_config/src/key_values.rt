@@ -1,0 +1,97 @@
+//! What single keys of a snapshot say.
+ghost use Rattle.std.specs.Prelude.{◌≡◌, option_copied};
+ghost use Rattle.cluster_config.specs.KeyValues.{config_in, failover_by, failover_of_entry, failover_in, sync_by, sync_of_entry, sync_in, status_by, status_of_entry, status_in, active_sync_in};
+
+use crate::Snapshot;
+use lease_store::{Config, FailoverKey, Key, KeyEntry, SyncKey, Value};
+use pat_base::Lsn;
+
+impl Snapshot {
+    /// What the configuration sets.
+    pub fn config(&self) -> Config
+        ensures { result ≡ config_in self.now }
+    {
+        self.settings_or(Config::defaults())
+    }
+
+    /// The failover or the switchover that is asked for. `None` exactly where the failover key was absent.
+    pub fn failover(&self) -> Option<FailoverKey>
+        ensures { result ≡ failover_in self.now }
+    {
+        failover_of_entry(self.entry(Key::Failover))
+    }
+
+    /// Who replicates synchronously. `None` exactly where the sync key was absent.
+    pub fn sync(&self) -> Option<SyncKey>
+        ensures { result ≡ sync_in self.now }
+    {
+        sync_of_entry(self.entry(Key::Sync))
+    }
+
+    /// Where the leader's log ends, as it told last. `None` exactly where the status key was absent.
+    pub fn status(&self) -> Option<Lsn>
+        ensures { result ≡ status_in self.now }
+    {
+        status_of_entry(self.entry(Key::Status))
+    }
+
+    /// Who replicates synchronously, where the synchronous mode is active. `None` exactly where it is off or the sync key
+    /// was absent.
+    pub fn active_sync(&self) -> Option<SyncKey>
+        ensures { result ≡ active_sync_in self.now }
+    {
+        if self.config().synchronous_mode {
+            self.sync()
+        } else {
+            None
+        }
+    }
+}
+
+fn failover_of_entry(found: Option<&KeyEntry>) -> Option<FailoverKey>
+    ensures { result ≡ failover_of_entry (option_copied found.entry) }
+{
+    let found = found?;
+    failover_by(&found.value)
+}
+
+fn failover_by(value: &Value) -> Option<FailoverKey>
+    ensures { result ≡ failover_by value.now }
+{
+    match value {
+        Value::Failover(failover) => Some(*failover),
+        _ => None,
+    }
+}
+
+fn sync_of_entry(found: Option<&KeyEntry>) -> Option<SyncKey>
+    ensures { result ≡ sync_of_entry (option_copied found.entry) }
+{
+    let found = found?;
+    sync_by(&found.value)
+}
+
+fn sync_by(value: &Value) -> Option<SyncKey>
+    ensures { result ≡ sync_by value.now }
+{
+    match value {
+        Value::Sync(sync) => Some(*sync),
+        _ => None,
+    }
+}
+
+fn status_of_entry(found: Option<&KeyEntry>) -> Option<Lsn>
+    ensures { result ≡ status_of_entry (option_copied found.entry) }
+{
+    let found = found?;
+    status_by(&found.value)
+}
+
+fn status_by(value: &Value) -> Option<Lsn>
+    ensures { result ≡ status_by value.now }
+{
+    match value {
+        Value::Status(end) => Some(*end),
+        _ => None,
+    }
+}
