@@ -1,0 +1,4 @@
+pub mod Bars
+pub mod Eligibility
+pub mod Outcome
+pub mod Peers

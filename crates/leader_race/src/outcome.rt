@@ -1,0 +1,165 @@
+//! Who wins the race for a free leader key.
+ghost use Rattle.std.specs.Prelude.{◌≡◌, ◌&&◌};
+ghost use Rattle.std.specs.Result.{result_err};
+ghost use Rattle.leader_race.specs.Outcome.{racer_of, other_writes, ahead, priority, unless, outcome_of};
+ghost use Rattle.leader_race.specs.Peers.{counts, is_standby_if, is_compared, is_below, is_level, writes_elsewhere, is_ahead, is_preferred, bars_by, member_where, earlier, first_of};
+
+use crate::bars::{first_bar, judged};
+use crate::eligibility::may_fail_over;
+use crate::racer::{Racer, Rule};
+use cluster_config::{AgentView, Snapshot, is_candidate, is_standby};
+use lease_store::{Bar, SyncKey};
+use pat_base::{Lsn, MemberId, PeerAnswer};
+
+/// Whether a member that may race wins, by the answers of the others, in whatever order they came; or what bars it, by the
+/// first rule that applies, and of the members that bar by that rule the one that the script declares first. An answer of
+/// its own, or of a member that may not fail over, doesn't count (Patroni's documentation, "YAML Configuration Settings",
+/// under "Tags"). Equal logs are decided by priority alone. It takes no memory.
+pub fn wins(view: &AgentView<'_>, seen: &Snapshot, answers: &[PeerAnswer]) -> Result<(), Bar>
+    ensures { result_err result ≡ outcome_of view.now seen.now answers.now }
+{
+    let racer = racer_of(view, seen);
+    let names_me = is_candidate(view.me, seen.failover());
+    judged(first_bar(&[
+        other_writes(&racer, answers),
+        unless(names_me, ahead(&racer, answers)),
+        unless(names_me, priority(&racer, answers)),
+    ]))
+}
+
+/// What the answers are compared with.
+fn racer_of(view: &AgentView<'_>, seen: &Snapshot) -> Racer
+    ensures { result ≡ racer_of view.now seen.now }
+{
+    Racer {
+        me: view.me,
+        end: view.end,
+        priority: view.tags.failover_priority,
+        sync: seen.active_sync(),
+    }
+}
+
+fn other_writes(racer: &Racer, answers: &[PeerAnswer]) -> Option<Bar>
+    ensures { result ≡ other_writes racer.now answers.now }
+{
+    let member = first_of(racer, Rule::OtherWrites, answers)?;
+    Some(Bar::OtherWrites(member))
+}
+
+fn ahead(racer: &Racer, answers: &[PeerAnswer]) -> Option<Bar>
+    ensures { result ≡ ahead racer.now answers.now }
+{
+    let member = first_of(racer, Rule::Ahead, answers)?;
+    Some(Bar::Ahead(member))
+}
+
+fn priority(racer: &Racer, answers: &[PeerAnswer]) -> Option<Bar>
+    ensures { result ≡ priority racer.now answers.now }
+{
+    let member = first_of(racer, Rule::Priority, answers)?;
+    Some(Bar::Priority(member))
+}
+
+/// A rule that doesn't apply where this is so.
+fn unless(excepted: bool, bar: Option<Bar>) -> Option<Bar>
+    ensures { result ≡ unless excepted bar }
+{
+    if excepted { None } else { bar }
+}
+
+/// Of the members whose answers bar by the rule, the one that the script declares first.
+fn first_of(racer: &Racer, rule: Rule, answers: &[PeerAnswer]) -> Option<MemberId>
+    ensures { result ≡ first_of (bars_by racer.now rule) answers.now }
+{
+    let mut first = None;
+    for answer in answers {
+        first = earlier(first, barring(racer, rule, answer));
+    }
+    first
+}
+
+/// The member that answered, where its answer bars by the rule.
+fn barring(racer: &Racer, rule: Rule, answer: &PeerAnswer) -> Option<MemberId>
+    ensures { result ≡ member_where (bars_by racer.now rule answer.now) answer.now.member }
+{
+    if bars_by(racer, rule, answer) {
+        Some(answer.member)
+    } else {
+        None
+    }
+}
+
+/// Of two members the one that the script declares first.
+fn earlier(member: Option<MemberId>, other: Option<MemberId>) -> Option<MemberId>
+    ensures { result ≡ earlier member other }
+{
+    match (member, other) {
+        (None, other) => other,
+        (member, None) => member,
+        (Some(member), Some(other)) if other.number < member.number => Some(other),
+        (Some(member), Some(_)) => Some(member),
+    }
+}
+
+fn bars_by(racer: &Racer, rule: Rule, answer: &PeerAnswer) -> bool
+    ensures { result ≡ bars_by racer.now rule answer.now }
+{
+    match rule {
+        Rule::OtherWrites => counts(racer.me, answer) && answer.writes,
+        Rule::Ahead => is_compared(racer, answer) && is_below(racer.end, answer.end),
+        Rule::Priority => is_preferred(racer, answer),
+    }
+}
+
+fn is_preferred(racer: &Racer, answer: &PeerAnswer) -> bool
+    ensures { result ≡ is_preferred racer.now answer.now }
+{
+    is_compared(racer, answer)
+        && is_level(racer.end, answer.end)
+        && racer.priority < answer.tags.failover_priority
+}
+
+/// Whether an answer counts: another member gave it, which may fail over.
+fn counts(me: MemberId, answer: &PeerAnswer) -> bool
+    ensures { result ≡ counts me answer.now }
+{
+    answer.member.number != me.number && may_fail_over(&answer.tags)
+}
+
+/// Whether the member that answered is compared with the one that races.
+fn is_compared(racer: &Racer, answer: &PeerAnswer) -> bool
+    ensures { result ≡ is_compared racer.now answer.now }
+{
+    counts(racer.me, answer) && is_standby_if(racer.sync, answer.member)
+}
+
+/// Whether the member is a standby, where the synchronous mode is active.
+fn is_standby_if(sync: Option<SyncKey>, member: MemberId) -> bool
+    ensures { result ≡ is_standby_if sync member }
+{
+    match sync {
+        None => true,
+        Some(sync) => is_standby(member, sync),
+    }
+}
+
+/// Whether the first end lies below the second.
+fn is_below(end: Option<Lsn>, other: Option<Lsn>) -> bool
+    ensures { result ≡ is_below end other }
+{
+    match (end, other) {
+        (_, None) => false,
+        (None, Some(_)) => true,
+        (Some(end), Some(other)) => end.position < other.position,
+    }
+}
+
+/// Whether both logs are there, and end at one position.
+fn is_level(end: Option<Lsn>, other: Option<Lsn>) -> bool
+    ensures { result ≡ is_level end other }
+{
+    match (end, other) {
+        (Some(end), Some(other)) => end.position == other.position,
+        _ => false,
+    }
+}

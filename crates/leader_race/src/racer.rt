@@ -1,0 +1,23 @@
+//! A member that races, and the rules by which the answers of others bar it.
+
+use lease_store::SyncKey;
+use pat_base::{Lsn, MemberId};
+
+/// A member that races: what the answers of others are compared with.
+#[derive(Clone, Copy, Debug, PartialEq, Eq)]
+pub(crate) struct Racer {
+    pub me: MemberId,
+    /// Where its log ends, if it has one.
+    pub end: Option<Lsn>,
+    pub priority: i64,
+    /// The sync key, where the synchronous mode is active.
+    pub sync: Option<SyncKey>,
+}
+
+/// The rules by which answers bar, in their order.
+#[derive(Clone, Copy, Debug, PartialEq, Eq)]
+pub(crate) enum Rule {
+    OtherWrites,
+    Ahead,
+    Priority,
+}
