@@ -2,7 +2,7 @@
 use Rattle.std.specs.Prelude.{ℕ, ◌+◌, List, [], ◌∷◌, Option, Some, None, map, length, slice_get}
 use Rattle.pat_base.specs.declared.name.Name.{Name}
 use Rattle.pat_base.specs.declared.ticks.Ticks.{Ticks}
-use Rattle.pat_base.specs.Changes.{changed_by}
+use Rattle.pat_base.specs.Changes.{with_changed}
 use Rattle.event_book.specs.declared.event.AgentEvent.{AgentEvent}
 use Rattle.event_book.specs.declared.event.AgentEvent.TheVariants as agents
 use Rattle.event_book.specs.declared.event.Event.{Event}
@@ -31,16 +31,16 @@ agent_after (Some outcome) agent = Some (record { role = outcome.role; knows = o
 
 -- the agents after an input of this member's
 abbrev pub agent_facts_with : List (Option AgentFacts) → Member → Option Outcome → List (Option AgentFacts)
-agent_facts_with agents member outcome = changed_by agents member.id.number (agent_after outcome)
+agent_facts_with agents member outcome = with_changed agents member.id.number (agent_after outcome)
 
 -- the agents after that of this member ended
 abbrev pub agent_facts_without : List (Option AgentFacts) → Member → List (Option AgentFacts)
-agent_facts_without agents member = changed_by agents member.id.number (λ agent. None)
+agent_facts_without agents member = with_changed agents member.id.number (λ agent. None)
 
 -- the agents of a cluster of this name with these members, at this moment, after one ended or started
 abbrev pub agent_facts_moved : Name → List Member → ℕ → List (Option AgentFacts) → AgentEvent → List (Option AgentFacts)
 agent_facts_moved scope members now known (agents.Killed member) = agent_facts_without known member
-agent_facts_moved scope members now known (agents.Started member run) = changed_by known member.id.number (λ agent. Some (starting_agent (who_of scope members member) now run))
+agent_facts_moved scope members now known (agents.Started member run) = with_changed known member.id.number (λ agent. Some (starting_agent (who_of scope members member) now run))
 agent_facts_moved scope members now known _ = known
 
 -- the agents after one was woken, ended or started

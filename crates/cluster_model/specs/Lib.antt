@@ -18,4 +18,5 @@ pub mod State
 pub mod Steps
 pub mod Streaming
 pub mod Tags
+pub mod Beginnings
 pub mod Ticking

@@ -32,10 +32,11 @@ use Rattle.cluster_model.specs.declared.delivery.Delivery.TheVariants as deliver
 use Rattle.cluster_model.specs.declared.heard_message.HeardMessage.{HeardMessage}
 use Rattle.cluster_model.specs.Deliveries.{delivery_of}
 use Rattle.cluster_model.specs.Hearing.{heard_from}
+use Rattle.cluster_model.specs.Beginnings.{begin_kinds}
 use Rattle.cluster_model.specs.Commands.{kinds_of}
 use Rattle.cluster_model.specs.Inputs.{moment_of, outcome_of, outcome_of_heard, may_act, outputs_of, standing_of, is_to_wake}
 use Rattle.cluster_model.specs.Limits.{most_in_flight}
-use Rattle.cluster_model.specs.Orders.{declared_member, order_kind, replica_start_kinds, server_at, stop_kinds, promotion_kinds, feed_kinds, arming, feeding}
+use Rattle.cluster_model.specs.Orders.{declared_member, order_kind, replica_start_kinds, server_at, stop_kinds, feed_kinds, arming, feeding}
 use Rattle.cluster_model.specs.Parts.{event_of, events_of, events_then, for_some, each}
 use Rattle.cluster_model.specs.State.{Cluster}
 
@@ -71,14 +72,14 @@ replica_start_events cluster member leader = for_some (server_at cluster member)
 abbrev pub stop_events : Cluster → Member → Reason → List Event
 stop_events cluster member reason = for_some (server_at cluster member) (λ s. events_of cluster (stop_kinds member reason s))
 
--- the server of a member is promoted, where it is a replica
-abbrev pub promotion_events : Cluster → Member → List Event
-promotion_events cluster member = for_some (server_at cluster member) (λ s. events_of cluster (promotion_kinds member cluster.book.acknowledged s))
+-- the server of a member begins by the order of its agent, where it can
+abbrev pub begin_events : Cluster → Member → List Event
+begin_events cluster member = for_some (server_at cluster member) (λ s. events_of cluster (begin_kinds member cluster.book.acknowledged s))
 
 -- what an output of the agent of a member comes to, on the message that it heard
 abbrev pub output_events : Member → HeardMessage → Cluster → Output → List Event
 output_events member heard cluster (outputs.Send to sequence body) = sending_events cluster member (slice_get cluster.book.agents member.id.number) (receiver_of cluster.book.members to) sequence body
-output_events member heard cluster outputs.Promote = promotion_events cluster member
+output_events member heard cluster outputs.Begin = begin_events cluster member
 output_events member heard cluster (outputs.Armed until) = events_of cluster (feed_kinds member heard (arming member until heard))
 output_events member heard cluster (outputs.Fed until) = events_of cluster (feed_kinds member heard (feeding member until heard))
 output_events member heard cluster (outputs.StartReplica leader) = replica_start_events cluster member (declared_member cluster.book.members leader)

@@ -24,7 +24,6 @@ use Rattle.ha_loop.specs.declared.output.Output.{Output}
 use Rattle.ha_loop.specs.declared.output.Output.TheVariants as outputs
 use Rattle.cluster_model.specs.declared.heard_message.HeardMessage.{HeardMessage}
 use Rattle.cluster_model.specs.Commands.{kinds_of}
-use Rattle.cluster_model.specs.Losing.{beginning_kinds}
 use Rattle.cluster_model.specs.State.{Cluster}
 
 -- the server of a member
@@ -35,10 +34,6 @@ server_at cluster member = slice_get cluster.book.servers member.id.number
 abbrev pub declared_member : List Member → Option MemberId → Option Member
 declared_member members None = None
 declared_member members (Some id) = slice_get members id.number
-
--- a replica begins to accept writes on the next timeline
-abbrev pub promotion_kinds : Member → List ℕ → ServerFacts → List EventKind
-promotion_kinds member acknowledged s = if is_replica s.state then beginning_kinds member (s.timeline + 1) acknowledged s.log else []
 
 -- the watchdog of a member gets its first deadline, on the message that was heard
 abbrev pub arming : Member → Ticks → HeardMessage → EventKind

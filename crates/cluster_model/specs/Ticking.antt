@@ -1,25 +1,21 @@
--- What a tick brings beside the clock: machines are reset, keys expire, and servers end.
-use Rattle.std.specs.Prelude.{ℕ, ◌+◌, ◌++◌, nat_le, if◌then◌else◌, true, List, [], ◌∷◌, Option, Some, None, option_and_then, slice_get}
+-- What a tick brings beside the clock: machines are reset, keys expire, and servers begin and end.
+use Rattle.std.specs.Prelude.{ℕ, ◌+◌, ◌++◌, if◌then◌else◌, true, List, [], ◌∷◌, Option, Some, None, option_and_then, slice_get}
 use Rattle.pat_base.specs.declared.member_id.MemberId.{MemberId}
-use Rattle.pat_base.specs.declared.server_state.State.{State}
-use Rattle.pat_base.specs.declared.server_state.State.TheVariants as states
 use Rattle.pat_base.specs.declared.ticks.Ticks.{Ticks}
 use Rattle.lease_store.specs.declared.key.Key.{Key}
 use Rattle.lease_store.specs.declared.key.Key.TheVariants as keys
 use Rattle.lease_store.specs.Answers.{expired_holder, expired_keys}
-use Rattle.pg_model.specs.Facts.{ServerFacts}
 use Rattle.event_book.specs.declared.event.Event.{Event}
 use Rattle.event_book.specs.declared.event.EventKind.{EventKind}
 use Rattle.event_book.specs.declared.event.EventKind.TheVariants as kinds
-use Rattle.event_book.specs.declared.event.ServerEvent.TheVariants as servers
 use Rattle.event_book.specs.declared.event.StoreEvent.TheVariants as stores
 use Rattle.event_book.specs.declared.event.WatchdogEvent.TheVariants as watchdogs
 use Rattle.event_book.specs.declared.member.Member.{Member}
-use Rattle.event_book.specs.Members.{server_of}
 use Rattle.leader_key.specs.Watchdog.{is_due_at}
+use Rattle.cluster_model.specs.Beginnings.{completion_kinds}
 use Rattle.cluster_model.specs.Commands.{kinds_of}
 use Rattle.cluster_model.specs.Orders.{declared_member}
-use Rattle.cluster_model.specs.Parts.{event_of, events_of, events_then, each}
+use Rattle.cluster_model.specs.Parts.{event_of, events_of, events_then, for_some, each}
 use Rattle.cluster_model.specs.State.{Cluster}
 
 -- the machine of a member is reset by its watchdog, where that is due
@@ -50,21 +46,13 @@ abbrev pub next_expiries : Cluster → List EventKind
 next_expiries cluster =
     expiries_of (declared_member cluster.book.members (expired_holder cluster.book.keys (cluster.book.clock + 1))) (expired_keys cluster.book.keys (cluster.book.clock + 1))
 
--- the stop of a primary is complete: its server accepts writes no longer. Other stops, and starts, are complete with the tick itself
-abbrev pub completion_by : ℕ → Member → State → Option EventKind
-completion_by now member (states.Stopping true at) = if nat_le at.0 now then Some (kinds.Server (servers.Ended (server_of member))) else None
-completion_by now member _ = None
-
--- so it is with this server
-abbrev pub completion_of : ℕ → Member → ServerFacts → Option EventKind
-completion_of now member s = completion_by now member s.state
-
--- what that brings
+-- the start or the stop of the server of a member as a primary is complete, where its moment has come
 abbrev pub completion_events : Cluster → Member → List Event
-completion_events cluster member = events_of cluster (kinds_of (option_and_then (completion_of cluster.book.clock member) (slice_get cluster.book.servers member.id.number)))
+completion_events cluster member =
+    for_some (slice_get cluster.book.servers member.id.number) (λ s. events_of cluster (completion_kinds cluster.book.clock member cluster.book.acknowledged s))
 
 -- the clock grows by one, with which starts and stops of servers that don't write are complete, and what has expired is dropped; the machines whose
--- watchdogs are due are reset; what expired is told; and stops of primaries are complete. Each in script order
+-- watchdogs are due are reset; what expired is told; and starts and stops of primaries are complete. Each in script order
 abbrev pub tick_events : Cluster → List Event
 tick_events cluster =
     events_then cluster (event_of cluster kinds.Tick) (λ ticked.

@@ -1,10 +1,12 @@
 //! What happens in a cluster, by definition: the cluster at a moment, and the events of each step of a script.
 #![tactic(auto)]
 
+mod beginning;
 mod delivery;
 mod heard_message;
 mod laws;
 
+pub use beginning::{Beginning, Completion};
 pub use delivery::Delivery;
 pub use heard_message::HeardMessage;
 pub use laws::other_concerns_change_nothing;

@@ -156,7 +156,7 @@ stray-holds now ttl revision o b none = let ended : Outcome = ending_server now 
 
 takes-holds : (now ttl : Ticks) (revision : ℕ) (o b : Outcome) → b.knows.waited ≡ None → Holds now o (takes_key now ttl revision b)
 takes-holds now ttl revision o b none = let back : Outcome = gives_back revision (record b { outputs = listed outputs.CannotArm b.outputs }) in let begun : Outcome = begins now revision (arming now ttl b) in
-    if-cases (Holds now o) (may_take now b.machine) (arms now ttl revision b) (gives_back revision b)
+    if-cases (Holds now o) (may_take now b.knows b.machine) (arms now ttl revision b) (gives_back revision b)
     (λ _. if-cases (Holds now o) (is_refusing b.machine.watchdog.mode b.machine.watchdog.works) back begun (λ _. nothing now o back none) (λ _. nothing now o begun none))
     (λ _. nothing now o (gives_back revision b) none)
 

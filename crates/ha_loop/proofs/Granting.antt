@@ -3,7 +3,6 @@ use Rattle.std.proofs.Common.{◌≡◌, ℕ, ◌&&◌, ◌||◌, Bool, true, fa
 use Rattle.pat_base.specs.declared.ticks.Ticks.{Ticks}
 use Rattle.lease_store.specs.declared.granted.Granted.{Granted}
 use Rattle.leader_key.specs.Watchdog.{is_armable}
-use Rattle.pg_model.specs.Facts.{is_replica}
 use Rattle.cluster_config.specs.Snapshots.{SnapshotFacts}
 use Rattle.event_book.specs.declared.reason.Reason.TheVariants.{StartTooLong, WatchdogNotArmed}
 use Rattle.pat_base.specs.declared.server_state.Required.TheVariants.{Nobody}
@@ -11,9 +10,9 @@ use Rattle.ha_loop.specs.declared.knowledge.Waited.{Waited}
 use Rattle.ha_loop.specs.declared.output.Output.{Output}
 use Rattle.ha_loop.specs.declared.output.Output.TheVariants as outputs
 use Rattle.ha_loop.specs.declared.role.Why.TheVariants.{HandOver}
-use Rattle.ha_loop.specs.Acting.{armed, fed_until, arming, feeding, ending_server, is_held, is_refusing, waiting_no_more}
+use Rattle.ha_loop.specs.Acting.{armed, fed_until, arming, feeding, ending_server, is_hold_active, is_refusing, waiting_no_more}
 use Rattle.ha_loop.specs.Agents.{Leader, Ending, Outcome}
-use Rattle.ha_loop.specs.Decisions.{is_decision, is_lease_of, is_start_too_long, leader_renewed, takes_over, stray_renewed, may_take, gives_back, begins, arms, takes_key, granted}
+use Rattle.ha_loop.specs.Decisions.{is_decision, is_lease_of, is_start_too_long, leader_renewed, takes_over, stray_renewed, can_begin, may_take, gives_back, begins, arms, takes_key, granted}
 use Rattle.ha_loop.specs.Outputs.{listed, is_feeding, has_one}
 use Rattle.ha_loop.specs.Powers.{IsAwaitedLease, GrantMay}
 use Rattle.ha_loop.specs.Powers.GrantMay.{Nothing, Leads}
@@ -22,9 +21,9 @@ use Rattle.ha_loop.proofs.Bringing.{same-role, no-lease}
 use Rattle.ha_loop.proofs.Living.{no-way, stop-live}
 use Rattle.ha_loop.proofs.Rows.{if-cases, granted-by}
 
-pub take-free : (held replica : Bool) → not held && replica ≡ true → held ≡ false
-take-free true replica e = sym e
-take-free false replica e = refl
+pub take-free : (held can : Bool) → not held && can ≡ true → held ≡ false
+take-free true can e = sym e
+take-free false can e = refl
 
 either-true : (a b : Bool) → b ≡ true → a || b ≡ true
 either-true true b e = refl
@@ -68,19 +67,19 @@ stray-may now sequence grant snapshot o awaited =
     (λ _. Nothing (same-role o (ending_server now WatchdogNotArmed (Told snapshot o)) refl (stop-live now o.machine.server)) refl)
     (λ _. Leads awaited refl refl refl refl (armed-told o.outputs _ (is_armable o.machine.watchdog.mode o.machine.watchdog.works)) (λ lives. inl lives) (λ lives. inl lives))
 
-arms-may : (now : Ticks) (sequence : ℕ) (grant : Granted) (snapshot : SnapshotFacts) (o : Outcome) (awaited : IsAwaitedLease sequence grant o.knows) → is_held now o.machine.hold ≡ false → GrantMay now sequence grant snapshot o (arms now awaited.waited.ttl grant.revision (Told snapshot o))
+arms-may : (now : Ticks) (sequence : ℕ) (grant : Granted) (snapshot : SnapshotFacts) (o : Outcome) (awaited : IsAwaitedLease sequence grant o.knows) → is_hold_active now o.machine.hold ≡ false → GrantMay now sequence grant snapshot o (arms now awaited.waited.ttl grant.revision (Told snapshot o))
 arms-may now sequence grant snapshot o awaited free = let back : Outcome = gives_back grant.revision (record (Told snapshot o) { outputs = listed outputs.CannotArm o.outputs }) in
     let arm : Outcome = arming now awaited.waited.ttl (Told snapshot o) in
     if-cases (GrantMay now sequence grant snapshot o) (is_refusing o.machine.watchdog.mode o.machine.watchdog.works) back (begins now grant.revision arm)
     (λ _. Nothing (no-lease o back refl refl (λ e. e)) refl)
     (λ ready. Leads awaited refl refl refl refl
-    (λ armable. one-before is_feeding (listed (outputs.Require Nobody) arm.outputs) outputs.Promote (one-before is_feeding arm.outputs (outputs.Require Nobody) (armed-told o.outputs _ (is_armable o.machine.watchdog.mode o.machine.watchdog.works) armable)))
+    (λ armable. one-before is_feeding (listed (outputs.Require Nobody) arm.outputs) outputs.Begin (one-before is_feeding arm.outputs (outputs.Require Nobody) (armed-told o.outputs _ (is_armable o.machine.watchdog.mode o.machine.watchdog.works) armable)))
     (λ _. inr free) (λ _. inr ready))
 
 takes-may : (now : Ticks) (sequence : ℕ) (grant : Granted) (snapshot : SnapshotFacts) (o : Outcome) (awaited : IsAwaitedLease sequence grant o.knows) → GrantMay now sequence grant snapshot o (takes_key now awaited.waited.ttl grant.revision (Told snapshot o))
 takes-may now sequence grant snapshot o awaited = let back : Outcome = gives_back grant.revision (Told snapshot o) in
-    if-cases (GrantMay now sequence grant snapshot o) (may_take now o.machine) (arms now awaited.waited.ttl grant.revision (Told snapshot o)) back
-    (λ may. arms-may now sequence grant snapshot o awaited (take-free (is_held now o.machine.hold) (is_replica o.machine.server.state) may))
+    if-cases (GrantMay now sequence grant snapshot o) (may_take now o.knows o.machine) (arms now awaited.waited.ttl grant.revision (Told snapshot o)) back
+    (λ may. arms-may now sequence grant snapshot o awaited (take-free (is_hold_active now o.machine.hold) (can_begin now o.knows o.machine.server o.machine.server.state) may))
     (λ _. Nothing (no-lease o back refl refl (λ e. e)) refl)
 
 pub both-true : (a b : Bool) → a && b ≡ true → (a ≡ true) × (b ≡ true)

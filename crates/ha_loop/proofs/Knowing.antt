@@ -11,7 +11,7 @@ use Rattle.lease_store.specs.declared.granted.Granted.{Granted}
 use Rattle.lease_store.specs.declared.key.Key.TheVariants as keys
 use Rattle.lease_store.specs.declared.value.KeyEntry.{KeyEntry}
 use Rattle.wal_model.specs.declared.entry.HistoryPoint.{HistoryPoint}
-use Rattle.cluster_config.specs.Snapshots.{SnapshotFacts, held_in, failsafe_by, failsafe_held, failsafe_in}
+use Rattle.cluster_config.specs.Snapshots.{SnapshotFacts, entry_in, failsafe_by, failsafe_of_entry, failsafe_in}
 use Rattle.event_book.specs.declared.reason.Reason.TheVariants.{StartTooLong, WatchdogNotArmed}
 use Rattle.lease_law.specs.Leases.{LeaderSeen, FailsafeKey}
 use Rattle.lease_law.specs.Past.{set_members}
@@ -157,10 +157,10 @@ told-listed true revision members e = inl refl
 told-listed false revision (Some members) e = inr (record { revision = revision; members = set_members members }, refl)
 told-listed false revision None e = absurd (no-way e)
 
-told-held : (was : Bool) (held : Option KeyEntry) → was || is_some (failsafe_held held) ≡ true → (was ≡ true) ⊎ ((key : FailsafeKey) × (failsafe_entry_seen held ≡ Some key))
-told-held was (Some held) e = told-listed was held.revision (failsafe_by held.value) e
-told-held true None e = inl refl
-told-held false None e = absurd (no-way e)
+told-entry : (was : Bool) (found : Option KeyEntry) → was || is_some (failsafe_of_entry found) ≡ true → (was ≡ true) ⊎ ((key : FailsafeKey) × (failsafe_entry_seen found ≡ Some key))
+told-entry was (Some found) e = told-listed was found.revision (failsafe_by found.value) e
+told-entry true None e = inl refl
+told-entry false None e = absurd (no-way e)
 
 -- a snapshot is the newest
 pub tells : (snapshot : SnapshotFacts) (o : Outcome) → Onward (Some snapshot) o (record o { knows = informed snapshot o.knows })
@@ -170,7 +170,7 @@ tells snapshot o = record {
   last = omega arith;
   waits = λ n e. absurd (none-some _ e);
   known = λ p e. known-more o.knows.known (failsafe_in snapshot) p e;
-  informed = λ e. told-held o.knows.informed (held_in keys.Failsafe snapshot) e;
+  informed = λ e. told-entry o.knows.informed (entry_in keys.Failsafe snapshot) e;
   failsafe = λ key e. inr e;
   leader = λ seen e. inr e;
   hold = refl;
@@ -294,7 +294,7 @@ arms-onward now ttl revision snapshot o = let back : Outcome = gives_back revisi
 
 takes-onward : (now ttl : Ticks) (revision : ℕ) (snapshot : SnapshotFacts) (o : Outcome) → Onward (Some snapshot) o (takes_key now ttl revision (Told snapshot o))
 takes-onward now ttl revision snapshot o = let back : Outcome = gives_back revision (Told snapshot o) in
-    if-cases (Onward (Some snapshot) o) (may_take now o.machine) (arms now ttl revision (Told snapshot o)) back
+    if-cases (Onward (Some snapshot) o) (may_take now o.knows o.machine) (arms now ttl revision (Told snapshot o)) back
     (λ _. arms-onward now ttl revision snapshot o) (λ _. quiet-told snapshot o back refl refl refl refl refl (omega arith) refl refl)
 
 pub granted-onward : (now : Ticks) (sequence : ℕ) (grant : Granted) (snapshot : SnapshotFacts) (o : Outcome) → Onward (Some snapshot) o (granted now sequence grant snapshot o)

@@ -5,7 +5,7 @@ use Rattle.pat_base.specs.declared.member_set.MemberSet.{MemberSet}
 use Rattle.pat_base.specs.declared.ticks.Ticks.{Ticks}
 use Rattle.lease_store.specs.declared.granted.Granted.{Granted}
 use Rattle.lease_store.specs.declared.value.KeyEntry.{KeyEntry}
-use Rattle.cluster_config.specs.Snapshots.{SnapshotFacts, failsafe_by, failsafe_held}
+use Rattle.cluster_config.specs.Snapshots.{SnapshotFacts, failsafe_by, failsafe_of_entry}
 use Rattle.leader_key.specs.declared.watchdog.Mode.{Mode}
 use Rattle.leader_key.specs.Watchdog.{WatchdogFacts, IsLeaseSpan, greatest_margin, timeout_of, is_armable, fed}
 use Rattle.lease_law.specs.Leases.{LeaderSeen, FailsafeKey}
@@ -15,7 +15,7 @@ use Rattle.lease_law.specs.Past.{set_members}
 use Rattle.lease_law.proofs.Tools.{some-is, none-some}
 use Rattle.ha_loop.specs.declared.knowledge.Knowledge.{Knowledge}
 use Rattle.ha_loop.specs.declared.knowledge.Waited.{Waited}
-use Rattle.ha_loop.specs.Acting.{is_held}
+use Rattle.ha_loop.specs.Acting.{is_hold_active}
 use Rattle.ha_loop.specs.Agents.{Outcome}
 use Rattle.ha_loop.specs.Decisions.{asks_lease}
 use Rattle.ha_loop.specs.Lawful.{StandsIn, HearsAnswer, IsYoung, TellsLease, HearsGrant}
@@ -84,9 +84,9 @@ listed-known : (known : MemberSet) (revision : ℕ) (listed : Option MemberSet) 
 listed-known known revision (Some members) key is p e = known-listed known members p (ap (λ (k : FailsafeKey). k.members p) (some-is (record { revision = revision; members = set_members members }) key is) ∙ e)
 listed-known known revision None key is p e = absurd (none-some key is)
 
-pub held-known : (known : MemberSet) (held : Option KeyEntry) (key : FailsafeKey) → failsafe_entry_seen held ≡ Some key → (p : ℕ) → key.members p ≡ true → set_members (known_with known (failsafe_held held)) p ≡ true
-held-known known (Some held) key is p e = listed-known known held.revision (failsafe_by held.value) key is p e
-held-known known None key is p e = absurd (none-some key is)
+pub entry-known : (known : MemberSet) (found : Option KeyEntry) (key : FailsafeKey) → failsafe_entry_seen found ≡ Some key → (p : ℕ) → key.members p ≡ true → set_members (known_with known (failsafe_of_entry found)) p ≡ true
+entry-known known (Some found) key is p e = listed-known known found.revision (failsafe_by found.value) key is p e
+entry-known known None key is p e = absurd (none-some key is)
 
 -- a feed changes the deadline alone, and by the same of the watchdog before
 record SameWatchdog (w v : WatchdogFacts) : Type 0 where
@@ -120,11 +120,11 @@ new-deadline now ttl o b after leaves armable is = let same : SameWatchdog o.mac
     ∙ ap (λ (margin : Option Ticks). some_of (now.0 + timeout_of margin ttl)) same.margin)
 
 -- no hold is active
-hold-over : (now : Ticks) (hold : Option Ticks) → is_held now hold ≡ false → hold_seen hold ≤ now.0
+hold-over : (now : Ticks) (hold : Option Ticks) → is_hold_active now hold ≡ false → hold_seen hold ≤ now.0
 hold-over now None e = omega arith
 hold-over now (Some hold) e = grind (arith, nat_tests)
 
-pub free-of : (s : State) (m runs : ℕ) (now : Ticks) (o b : Outcome) → StandsIn s m runs now o → LeavesMachine o b → is_held now b.machine.hold ≡ false → (s.members m).hold ≤ s.clock
+pub free-of : (s : State) (m runs : ℕ) (now : Ticks) (o b : Outcome) → StandsIn s m runs now o → LeavesMachine o b → is_hold_active now b.machine.hold ≡ false → (s.members m).hold ≤ s.clock
 free-of s m runs now o b stands leaves free = let over : hold_seen b.machine.hold ≤ now.0 = hold-over now b.machine.hold free in
     let same : hold_seen b.machine.hold ≡ hold_seen o.machine.hold = ap (λ (h : Option Ticks). hold_seen h) leaves.hold in
     let is : (s.members m).hold ≡ hold_seen o.machine.hold = ap (λ (x : MachineSeen). x.hold) stands.member in

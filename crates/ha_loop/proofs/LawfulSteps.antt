@@ -8,7 +8,7 @@ use Rattle.pat_base.specs.ServerState.{live}
 use Rattle.lease_store.specs.declared.granted.Granted.{Granted}
 use Rattle.lease_store.specs.declared.key.Key.TheVariants as keys
 use Rattle.wal_model.specs.declared.entry.HistoryPoint.{HistoryPoint}
-use Rattle.cluster_config.specs.Snapshots.{SnapshotFacts, held_in}
+use Rattle.cluster_config.specs.Snapshots.{SnapshotFacts, entry_in}
 use Rattle.leader_key.specs.Watchdog.{IsLeaseSpan}
 use Rattle.lease_law.specs.Leases.{LeaderSeen, FailsafeKey}
 use Rattle.lease_law.specs.States.{Machine as MachineSeen, State, Acts as LawActs}
@@ -39,7 +39,7 @@ use Rattle.ha_loop.proofs.Fitting.{before-fits}
 use Rattle.ha_loop.proofs.Granting.{awaited-lease, granted-may as grant-may}
 use Rattle.ha_loop.proofs.Knowing.{IsAlone, alone-of, ends-of, Onward, before-onward, wake-onward, got-onward, refused-onward, granted-onward, onward-then, step-onward}
 use Rattle.ha_loop.proofs.Lawful.{was_of, acts-seen, seen-acts, watchdog-leaves, parted-by, lawful-of}
-use Rattle.ha_loop.proofs.LawfulGrants.{heard-leader, heard-failsafe, hears-grant, fed-of, held-known, armable-before, new-deadline, free-of}
+use Rattle.ha_loop.proofs.LawfulGrants.{heard-leader, heard-failsafe, hears-grant, fed-of, entry-known, armable-before, new-deadline, free-of}
 use Rattle.ha_loop.proofs.Leaving.{behind, before-leaves, wake-leaves, read-leaves, refusal-leaves}
 use Rattle.ha_loop.proofs.Living.{no-way}
 use Rattle.ha_loop.proofs.Rows.{before-by, wake-by}
@@ -151,7 +151,7 @@ leads-brought s m runs sequence input now grant snapshot o after sound stands he
       fed = fed-of s m runs sequence input.heard now grant snapshot o stands hears awaited (span-of o.knows awaited.waited sound awaited.is);
       feeds = is.feeds ∙ told (armable-before o b (before-leaves now o) tells.armable);
       by_grant = ap (λ (x : MachineSeen). x.by_failsafe) is.machine;
-      known = λ key e p listed. ap (λ (set : MemberSet). set_members set p) known ∙ held-known b.knows.known (held_in keys.Failsafe snapshot) key (sym tells.failsafe ∙ e) p listed;
+      known = λ key e p listed. ap (λ (set : MemberSet). set_members set p) known ∙ entry-known b.knows.known (entry_in keys.Failsafe snapshot) key (sym tells.failsafe ∙ e) p listed;
     } in record {
       watchdog = SetByGrant knows-it (ap (λ (x : MachineSeen). x.deadline) is.machine ∙ new-deadline now awaited.waited.ttl.0 o b after (before-leaves now o) tells.armable fed) refl
           (acts-free s m runs input now o after stands is unready (λ lives. elim (free lives) [ inl was ↦ inl ((before-brings now o).live was) | inr over ↦ inr (free-of s m runs now o b stands (before-leaves now o) over) ]));

@@ -12,3 +12,4 @@ pub mod Lawful
 pub mod LawfulGrants
 pub mod LawfulSteps
 pub mod Asking
+pub mod Waiting

@@ -166,7 +166,7 @@ stray-reaches now ttl start revision o r =
     (λ _. end-reaches now start WatchdogNotArmed o r) (λ _. arm-reaches now ttl start o r)
 
 begin-reaches : (now : Ticks) (start : Machine) (revision : ℕ) (o : Outcome) → Reaches now start o → Reaches now start (begins now revision o)
-begin-reaches now start revision o r = one-more now start o.machine _ outputs.Promote tt (one-more now start o.machine o.outputs _ tt r)
+begin-reaches now start revision o r = one-more now start o.machine _ outputs.Begin tt (one-more now start o.machine o.outputs _ tt r)
 
 arms-reaches : (now ttl : Ticks) (start : Machine) (revision : ℕ) (o : Outcome) → Reaches now start o → Reaches now start (arms now ttl revision o)
 arms-reaches now ttl start revision o r =
@@ -176,7 +176,7 @@ arms-reaches now ttl start revision o r =
 
 takes-reaches : (now ttl : Ticks) (start : Machine) (revision : ℕ) (o : Outcome) → Reaches now start o → Reaches now start (takes_key now ttl revision o)
 takes-reaches now ttl start revision o r =
-    if-cases (Reaches now start) (may_take now o.machine) (arms now ttl revision o) (gives_back revision o)
+    if-cases (Reaches now start) (may_take now o.knows o.machine) (arms now ttl revision o) (gives_back revision o)
     (λ _. arms-reaches now ttl start revision o r) (λ _. one-more now start o.machine o.outputs _ tt r)
 
 granted-reaches : (now : Ticks) (start : Machine) (sequence : ℕ) (grant : Granted) (snapshot : SnapshotFacts) (o : Outcome) → Reaches now start o → Reaches now start (granted now sequence grant snapshot o)

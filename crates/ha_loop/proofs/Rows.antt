@@ -13,7 +13,7 @@ use Rattle.ha_loop.specs.declared.knowledge.Question.{Question}
 use Rattle.ha_loop.specs.declared.knowledge.Question.TheVariants.{Reading, Creating, Renewing}
 use Rattle.ha_loop.specs.declared.knowledge.Waited.{Waited}
 use Rattle.ha_loop.specs.declared.role.Why.{Why}
-use Rattle.ha_loop.specs.Acting.{disarming, waiting_no_more, touching, starting_replica, following_server, is_held}
+use Rattle.ha_loop.specs.Acting.{disarming, waiting_no_more, touching, starting_replica, following_server, is_hold_active}
 use Rattle.ha_loop.specs.Agents.{RoleFacts, Follower, Holder, Ready, Leader, Ending, Stray, Outcome}
 use Rattle.ha_loop.specs.Before.{leader_finds_ended, has_ended, finds_live, stray_finds_ended, before_as, before}
 use Rattle.ha_loop.specs.Decisions.{may_create, leader_renewed, stray_renewed, takes_key, lease_granted, belongs, accepted_grant, is_lease_of, granted_for, granted, is_decision, follower_for, renewal_refused, refused_as, refused_for, refused}
@@ -126,7 +126,7 @@ got-others P now points snapshot leader (Ready held) o is some rows = rows.other
 got-others P now points snapshot leader (Ending held why) o is some rows = rows.other
 
 own-found : (P : Outcome → Type 0) (now : Ticks) (points : List HistoryPoint) (snapshot : SnapshotFacts) (leader : LeaderEntry) (o : Outcome) → is_active o.role ≡ true → leader_in snapshot ≡ Some leader → leader.holder.number == o.knows.who.me.number ≡ true → GotRows P now points snapshot o → P (finds_own_key now points leader.revision (record o { knows = read_noted now snapshot o.knows }))
-own-found P now points snapshot leader o active some mine rows = if-cases P (is_held now o.machine.hold) (touching (record o { knows = read_noted now snapshot o.knows })) (renewing now points leader.revision (record o { knows = read_noted now snapshot o.knows })) (λ _. rows.touches) (λ _. rows.renews active leader some mine)
+own-found P now points snapshot leader o active some mine rows = if-cases P (is_hold_active now o.machine.hold) (touching (record o { knows = read_noted now snapshot o.knows })) (renewing now points leader.revision (record o { knows = read_noted now snapshot o.knows })) (λ _. rows.touches) (λ _. rows.renews active leader some mine)
 
 got-own : (P : Outcome → Type 0) (now : Ticks) (points : List HistoryPoint) (snapshot : SnapshotFacts) (leader : LeaderEntry) (role : RoleFacts) (o : Outcome) → is_active o.role ≡ true → leader_in snapshot ≡ Some leader → leader.holder.number == o.knows.who.me.number ≡ true → GotRows P now points snapshot o → P (own_key now points leader.revision role (record o { knows = read_noted now snapshot o.knows }))
 got-own P now points snapshot leader (Leader held) o active some mine rows = rows.renews active leader some mine

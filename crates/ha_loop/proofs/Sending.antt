@@ -10,7 +10,6 @@ use Rattle.pat_base.specs.ServerState.{live}
 use Rattle.lease_store.specs.declared.granted.Granted.{Granted}
 use Rattle.lease_store.specs.declared.txn.Txn.{Txn}
 use Rattle.lease_store.specs.declared.txn.Txn.TheVariants as txns
-use Rattle.pg_model.specs.Facts.{is_replica}
 use Rattle.wal_model.specs.declared.entry.HistoryPoint.{HistoryPoint}
 use Rattle.cluster_config.specs.declared.snapshot.LeaderEntry.{LeaderEntry}
 use Rattle.cluster_config.specs.Snapshots.{SnapshotFacts, leader_in}
@@ -25,10 +24,10 @@ use Rattle.ha_loop.specs.declared.output.Output.TheVariants as outputs
 use Rattle.ha_loop.specs.declared.output.Target.TheVariants as targets
 use Rattle.ha_loop.specs.declared.role.Why.{Why}
 use Rattle.ha_loop.specs.declared.role.Why.TheVariants.{HandOver, Lost}
-use Rattle.ha_loop.specs.Acting.{armed, fed_until, disarmed, deadline_after, arming, feeding, ending_server, touching, starting_replica, following_server, is_held, is_refusing, waiting_no_more}
+use Rattle.ha_loop.specs.Acting.{armed, fed_until, disarmed, deadline_after, arming, feeding, ending_server, touching, starting_replica, following_server, is_hold_active, is_refusing, waiting_no_more}
 use Rattle.ha_loop.specs.Agents.{RoleFacts, Follower, Holder, Ready, Leader, Ending, Stray, Outcome}
 use Rattle.ha_loop.specs.Before.{has_ended, before}
-use Rattle.ha_loop.specs.Decisions.{is_decision, is_lease_of, may_create, is_start_too_long, leader_renewed, takes_over, stray_renewed, may_take, gives_back, begins, arms, takes_key, granted, refused}
+use Rattle.ha_loop.specs.Decisions.{is_decision, is_lease_of, may_create, is_start_too_long, leader_renewed, takes_over, stray_renewed, can_begin, may_take, gives_back, begins, arms, takes_key, granted, refused}
 use Rattle.ha_loop.specs.Fits.{Fits}
 use Rattle.ha_loop.specs.Outputs.{listed, is_arming, has_one, BeginsOnly, OutputsBeginBehind}
 use Rattle.ha_loop.specs.Powers.{Acts, lease_of}
@@ -44,7 +43,7 @@ use Rattle.ha_loop.proofs.Rows.{if-cases, before-by, overdue-by, turn-by, wake-b
 -- an output that sends nothing, takes no hold, and by which no server comes to accept writes
 abbrev pub IsSilent : Output → Type 0
 IsSilent (outputs.Send to sequence body) = ⊥
-IsSilent outputs.Promote = ⊥
+IsSilent outputs.Begin = ⊥
 IsSilent (outputs.HoldTaken until from sequence) = ⊥
 IsSilent _ = Unit {0}
 
@@ -71,7 +70,7 @@ pub record SendsNew (G : ℕ → Type 0) (o after : Outcome) (sequence : ℕ) (b
 abbrev pub MayPut : (ℕ → Type 0) → Outcome → Outcome → Output → Type 0
 MayPut G o after (outputs.Send targets.Store sequence body) = SendsNew G o after sequence body
 MayPut G o after (outputs.Send (targets.Member member) sequence body) = ⊥
-MayPut G o after outputs.Promote = (revision : ℕ) × G revision
+MayPut G o after outputs.Begin = (revision : ℕ) × G revision
 MayPut G o after (outputs.HoldTaken until from sequence) = ⊥
 MayPut G o after _ = Unit {0}
 
@@ -80,7 +79,7 @@ AllMay G o after = All (MayPut G o after) after.outputs
 
 silent-may : (G : ℕ → Type 0) (o after : Outcome) (output : Output) → IsSilent output → MayPut G o after output
 silent-may G o after (outputs.Send to sequence body) e = absurd e
-silent-may G o after outputs.Promote e = absurd e
+silent-may G o after outputs.Begin e = absurd e
 silent-may G o after (outputs.HoldTaken until from sequence) e = e
 silent-may G o after _ e = tt
 
@@ -294,7 +293,7 @@ gives-back-may G revision o b later ended given silent = let back : Outcome = gi
 
 begins-may : (G : ℕ → Type 0) (now : Ticks) (revision : ℕ) (o b : Outcome) → G revision → All IsSilent b.outputs → AllMay G o (begins now revision b)
 begins-may G now revision o b given silent = let begun : Outcome = begins now revision b in
-    push G o begun (listed (outputs.Require Nobody) b.outputs) outputs.Promote (front G o begun (listed (outputs.Require Nobody) b.outputs) (silently b.outputs (outputs.Require Nobody) silent tt)) (revision, given)
+    push G o begun (listed (outputs.Require Nobody) b.outputs) outputs.Begin (front G o begun (listed (outputs.Require Nobody) b.outputs) (silently b.outputs (outputs.Require Nobody) silent tt)) (revision, given)
 
 arms-may : (G : ℕ → Type 0) (now ttl : Ticks) (revision : ℕ) (o b : Outcome) → o.knows.sequence ≤ b.knows.sequence → live b.machine.server.state ≡ false → G revision → All IsSilent b.outputs → AllMay G o (arms now ttl revision b)
 arms-may G now ttl revision o b later ended given silent = let cannot : Outcome = record b { outputs = listed outputs.CannotArm b.outputs } in let arm : Outcome = arming now ttl b in
@@ -304,7 +303,7 @@ arms-may G now ttl revision o b later ended given silent = let cannot : Outcome 
 
 takes-may : (G : ℕ → Type 0) (now ttl : Ticks) (revision : ℕ) (o b : Outcome) → o.knows.sequence ≤ b.knows.sequence → live b.machine.server.state ≡ false → G revision → All IsSilent b.outputs → AllMay G o (takes_key now ttl revision b)
 takes-may G now ttl revision o b later ended given silent =
-    if-cases (AllMay G o) (may_take now b.machine) (arms now ttl revision b) (gives_back revision b)
+    if-cases (AllMay G o) (may_take now b.knows b.machine) (arms now ttl revision b) (gives_back revision b)
     (λ _. arms-may G now ttl revision o b later ended given silent) (λ _. gives-back-may G revision o b later ended given silent)
 
 -- who may have asked for the leader key while it was absent has no live server
@@ -346,11 +345,11 @@ granted-may G now sequence grant snapshot o alone later fits gives silent = gran
 
 -- where nothing is granted no server comes to accept writes
 unbegun : (o after : Outcome) (output : Output) → MayPut (λ r. ⊥) o after output → BeginsOnly ⊥ output
-unbegun o after outputs.Promote may = may.1
+unbegun o after outputs.Begin may = may.1
 unbegun o after _ may = tt
 
 never-one : (P : Type 0) (output : Output) → BeginsOnly ⊥ output → BeginsOnly P output
-never-one P outputs.Promote e = absurd e
+never-one P outputs.Begin e = absurd e
 never-one P _ e = tt
 
 never : (P : List Output → Type 0) (before-it outs : List Output) → All (BeginsOnly ⊥) outs → OutputsBeginBehind P before-it outs
@@ -370,7 +369,7 @@ behind-push P before-it (one ∷ outs) output begin last =
 -- who may begin by this grant, behind these outputs: no hold is active, and the watchdog was armed
 pub record BeginsOn (now : Ticks) (sequence : ℕ) (grant : Granted) (o : Outcome) (before-it : List Output) : Type 0 where
   pub decides : Decides sequence grant o
-  pub free : is_held now o.machine.hold ≡ false
+  pub free : is_hold_active now o.machine.hold ≡ false
   pub armed_is : has_one is_arming before-it ≡ true
 
 armed-first : (outs : List Output) (until : Ticks) (armable : Bool) → armable ≡ true → has_one is_arming (armed (if armable then Some until else None) outs) ≡ true
@@ -378,7 +377,7 @@ armed-first outs until true is = one-last is_arming outs (outputs.Armed until) r
 armed-first outs until false is = absurd (no-way is)
 
 silent-never : (output : Output) → IsSilent output → BeginsOnly ⊥ output
-silent-never outputs.Promote silent = silent
+silent-never outputs.Begin silent = silent
 silent-never _ silent = tt
 
 silent-begins : (P : List Output → Type 0) (outs : List Output) → All IsSilent outs → OutputsBeginBehind P [] outs
@@ -387,7 +386,7 @@ silent-begins P outs silent = never P [] outs (All-weaker IsSilent (BeginsOnly �
 gives-back-begins : (P : List Output → Type 0) (revision : ℕ) (b : Outcome) → All IsSilent b.outputs → OutputsBeginBehind P [] (gives_back revision b).outputs
 gives-back-begins P revision b silent = behind-push P [] b.outputs (outputs.Send targets.Store (b.knows.sequence + 1) (bodies.Request (txns.Release revision))) (silent-begins P b.outputs silent) (λ all is. tt)
 
-arms-begins : (now ttl : Ticks) (sequence : ℕ) (grant : Granted) (revision : ℕ) (o b : Outcome) → Decides sequence grant o → is_held now o.machine.hold ≡ false → is_armable b.machine.watchdog.mode b.machine.watchdog.works ≡ true → All IsSilent b.outputs
+arms-begins : (now ttl : Ticks) (sequence : ℕ) (grant : Granted) (revision : ℕ) (o b : Outcome) → Decides sequence grant o → is_hold_active now o.machine.hold ≡ false → is_armable b.machine.watchdog.mode b.machine.watchdog.works ≡ true → All IsSilent b.outputs
     → OutputsBeginBehind (BeginsOn now sequence grant o) [] (arms now ttl revision b).outputs
 arms-begins now ttl sequence grant revision o b decides free armable silent =
     let cannot : Outcome = record b { outputs = listed outputs.CannotArm b.outputs } in
@@ -395,15 +394,15 @@ arms-begins now ttl sequence grant revision o b decides free armable silent =
     let told : has_one is_arming arm.outputs ≡ true = armed-first b.outputs _ (is_armable b.machine.watchdog.mode b.machine.watchdog.works) armable in
     if-cases (λ (x : Outcome). OutputsBeginBehind (BeginsOn now sequence grant o) [] x.outputs) (is_refusing b.machine.watchdog.mode b.machine.watchdog.works) (gives_back revision cannot) (begins now revision arm)
     (λ _. gives-back-begins (BeginsOn now sequence grant o) revision cannot (silently b.outputs outputs.CannotArm silent tt))
-    (λ _. behind-push (BeginsOn now sequence grant o) [] (listed (outputs.Require Nobody) arm.outputs) outputs.Promote
+    (λ _. behind-push (BeginsOn now sequence grant o) [] (listed (outputs.Require Nobody) arm.outputs) outputs.Begin
     (silent-begins (BeginsOn now sequence grant o) (listed (outputs.Require Nobody) arm.outputs) (silently arm.outputs (outputs.Require Nobody) (silent-armed (deadline_after now ttl b.machine.watchdog) b.outputs silent) tt))
     (λ all is. record { decides = decides; free = free; armed_is = subst (λ (l : List Output). has_one is_arming l ≡ true) (sym is) (one-before is_arming arm.outputs (outputs.Require Nobody) told) }))
 
 takes-begins : (now ttl : Ticks) (sequence : ℕ) (grant : Granted) (revision : ℕ) (o b : Outcome) → Decides sequence grant o → b.machine.hold ≡ o.machine.hold → is_armable b.machine.watchdog.mode b.machine.watchdog.works ≡ true → All IsSilent b.outputs
     → OutputsBeginBehind (BeginsOn now sequence grant o) [] (takes_key now ttl revision b).outputs
 takes-begins now ttl sequence grant revision o b decides hold armable silent =
-    if-cases (λ (x : Outcome). OutputsBeginBehind (BeginsOn now sequence grant o) [] x.outputs) (may_take now b.machine) (arms now ttl revision b) (gives_back revision b)
-    (λ may. arms-begins now ttl sequence grant revision o b decides (subst (λ (h : Option Ticks). is_held now h ≡ false) hold (take-free (is_held now b.machine.hold) (is_replica b.machine.server.state) may)) armable silent)
+    if-cases (λ (x : Outcome). OutputsBeginBehind (BeginsOn now sequence grant o) [] x.outputs) (may_take now b.knows b.machine) (arms now ttl revision b) (gives_back revision b)
+    (λ may. arms-begins now ttl sequence grant revision o b decides (subst (λ (h : Option Ticks). is_hold_active now h ≡ false) hold (take-free (is_hold_active now b.machine.hold) (can_begin now b.knows b.machine.server b.machine.server.state) may)) armable silent)
     (λ _. gives-back-begins (BeginsOn now sequence grant o) revision b silent)
 
 granted-begins : (now : Ticks) (sequence : ℕ) (grant : Granted) (snapshot : SnapshotFacts) (b : Outcome) → (Decides sequence grant b → is_armable b.machine.watchdog.mode b.machine.watchdog.works ≡ true) → All IsSilent b.outputs
@@ -439,7 +438,7 @@ pub grant-begins : (now : Ticks) (sequence : ℕ) (grant : Granted) (snapshot : 
 grant-begins now sequence grant snapshot o alone armable silent = begins-fronts now sequence grant snapshot o (before now o) armable (before-fronts now o alone silent)
 
 begins-one : (P Q : Type 0) → (P → Q) → (output : Output) → BeginsOnly P output → BeginsOnly Q output
-begins-one P Q more outputs.Promote e = more e
+begins-one P Q more outputs.Begin e = more e
 begins-one P Q more _ e = tt
 
 pub begins-weaker : (P Q : List Output → Type 0) → ((outs : List Output) → P outs → Q outs) → (before-it outs : List Output) → OutputsBeginBehind P before-it outs → OutputsBeginBehind Q before-it outs

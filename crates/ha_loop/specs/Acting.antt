@@ -5,7 +5,8 @@ use Rattle.pat_base.specs.declared.server_id.ServerId.{ServerId}
 use Rattle.pat_base.specs.declared.ticks.Ticks.{Ticks}
 use Rattle.lease_store.specs.declared.config.Config.{Config}
 use Rattle.lease_store.specs.declared.txn.Txn.TheVariants as txns
-use Rattle.pg_model.specs.Status.{status_replica_started, status_stopping, status_following, status_promoted}
+use Rattle.pg_model.specs.declared.status.ServerStatus.{ServerStatus}
+use Rattle.pg_model.specs.Status.{status_replica_started, status_primary_started, status_stopping, status_following, status_promoted}
 use Rattle.event_book.specs.declared.message.Body.{Body}
 use Rattle.event_book.specs.declared.message.Body.TheVariants as bodies
 use Rattle.event_book.specs.declared.reason.Reason.{Reason}
@@ -77,9 +78,13 @@ starting_replica now leader o = record o { machine = record o.machine { server =
 abbrev pub following_server : MemberId → Outcome → Outcome
 following_server leader o = record o { machine = record o.machine { server = status_following (server_id_of leader) o.machine.server }; outputs = listed (outputs.Follow leader) o.outputs }
 
--- the server is promoted
-abbrev pub promoting : Outcome → Outcome
-promoting o = record o { machine = record o.machine { server = status_promoted o.machine.server }; outputs = listed outputs.Promote o.outputs }
+-- a replica is promoted, and one that is down and was a primary starts as one again; another server stays as it is
+abbrev pub status_begun : Ticks → ServerStatus → ServerStatus
+status_begun now s = status_primary_started now (status_promoted s)
+
+-- the server begins to accept writes, at once or when its start is complete
+abbrev pub beginning : Ticks → Outcome → Outcome
+beginning now o = record o { machine = record o.machine { server = status_begun now o.machine.server }; outputs = listed outputs.Begin o.outputs }
 
 -- the machine with no deadline of its watchdog
 abbrev pub without_deadline : Machine → Machine
@@ -126,6 +131,6 @@ abbrev pub feeding : Ticks → Ticks → Outcome → Outcome
 feeding now ttl o = record o { machine = with_feed now ttl o.machine; outputs = fed_until (deadline_after now ttl o.machine.watchdog) o.outputs }
 
 -- whether a hold is active
-abbrev pub is_held : Ticks → Option Ticks → Bool
-is_held now None = false
-is_held now (Some hold) = nat_lt now.0 hold.0
+abbrev pub is_hold_active : Ticks → Option Ticks → Bool
+is_hold_active now None = false
+is_hold_active now (Some hold) = nat_lt now.0 hold.0

@@ -95,6 +95,7 @@ fresh_knowledge who first run = record {
   last_read = None;
   seen = None;
   settings = default_config;
+  turn_settings = default_config;
   begun = None;
   crashed = None;
   known = record { bits = 0 };

@@ -1,12 +1,12 @@
 -- What an agent does once the key store has decided on its request for the leader key.
-use Rattle.std.specs.Prelude.{ℕ, ◌-◌, ◌*◌, ◌==◌, ◌&&◌, nat_le, if◌then◌else◌, not, Bool, true, false, Option, Some, None}
+use Rattle.std.specs.Prelude.{ℕ, ◌-◌, ◌*◌, ◌==◌, ◌&&◌, nat_le, nat_lt, if◌then◌else◌, not, Bool, true, false, Option, Some, None}
 use Rattle.pat_base.specs.declared.member_id.MemberId.{MemberId}
 use Rattle.pat_base.specs.declared.server_state.Required.TheVariants.{Nobody}
 use Rattle.pat_base.specs.declared.server_state.State.{State}
 use Rattle.pat_base.specs.declared.server_state.State.TheVariants as states
 use Rattle.pat_base.specs.declared.ticks.Ticks.{Ticks}
 use Rattle.lease_store.specs.declared.granted.Granted.{Granted}
-use Rattle.pg_model.specs.Facts.{is_replica}
+use Rattle.pg_model.specs.declared.status.ServerStatus.{ServerStatus}
 use Rattle.event_book.specs.declared.reason.Reason.TheVariants.{StartTooLong, WatchdogNotArmed}
 use Rattle.cluster_config.specs.Snapshots.{SnapshotFacts}
 use Rattle.ha_loop.specs.declared.knowledge.Knowledge.{Knowledge}
@@ -16,7 +16,7 @@ use Rattle.ha_loop.specs.declared.knowledge.Waited.{Waited}
 use Rattle.ha_loop.specs.declared.machine.Machine.{Machine}
 use Rattle.ha_loop.specs.declared.output.Output.TheVariants as outputs
 use Rattle.ha_loop.specs.declared.role.Why.TheVariants.{HandOver}
-use Rattle.ha_loop.specs.Acting.{waiting_no_more, releasing, ending_server, promoting, arming, feeding, is_refusing, is_held}
+use Rattle.ha_loop.specs.Acting.{waiting_no_more, releasing, ending_server, beginning, arming, feeding, is_refusing, is_hold_active}
 use Rattle.ha_loop.specs.Agents.{RoleFacts, Follower, Holder, Leader, Ending, Stray, Outcome}
 use Rattle.ha_loop.specs.Outputs.{listed}
 use Rattle.ha_loop.specs.Snapshots.{informed, is_active, leader_loses_key, stray_loses_key}
@@ -49,17 +49,34 @@ abbrev pub stray_renewed : Ticks → Ticks → ℕ → Outcome → Outcome
 stray_renewed now ttl revision o =
     if is_refusing o.machine.watchdog.mode o.machine.watchdog.works then ending_server now WatchdogNotArmed o else takes_over now revision (arming now ttl o)
 
--- a member may take the leader key: its server is a running replica, and no hold is active
-abbrev pub may_take : Ticks → Machine → Bool
-may_take now machine = not (is_held now machine.hold) && is_replica machine.server.state
+-- so many ticks have passed since the crash was noted; none where none was
+abbrev pub since_crash : Ticks → Option Ticks → ℕ
+since_crash now None = 0
+since_crash now (Some crashed) = now.0 - crashed.0
+
+-- a server that is down may start as a primary again: its last run was one, and since its crash less time has passed than the start of a primary
+-- may take, by what this turn read
+abbrev pub may_start_again : Ticks → Knowledge → ServerStatus → Bool
+may_start_again now knows server = server.was_primary && nat_lt (since_crash now knows.crashed) (10 * knows.turn_settings.primary_start_timeout)
+
+-- the server can begin to accept writes, by its state
+abbrev pub can_begin : Ticks → Knowledge → ServerStatus → State → Bool
+can_begin now knows server states.Replica = true
+can_begin now knows server states.Stopped = may_start_again now knows server
+can_begin now knows server states.Crashed = may_start_again now knows server
+can_begin now knows server _ = false
+
+-- a member may take the leader key: no hold is active, and its server can begin
+abbrev pub may_take : Ticks → Knowledge → Machine → Bool
+may_take now knows machine = not (is_hold_active now machine.hold) && can_begin now knows machine.server machine.server.state
 
 -- the leader key is given back
 abbrev pub gives_back : ℕ → Outcome → Outcome
 gives_back revision o = record (releasing revision o) { role = Follower }
 
--- the member begins: commits wait for nobody, and the server is promoted
+-- the member begins: commits wait for nobody, and the server begins to accept writes
 abbrev pub begins : Ticks → ℕ → Outcome → Outcome
-begins now revision o = record (promoting (record o { outputs = listed (outputs.Require Nobody) o.outputs })) {
+begins now revision o = record (beginning now (record o { outputs = listed (outputs.Require Nobody) o.outputs })) {
   role = Leader revision;
   knows = record o.knows { begun = Some now; crashed = None };
 }
@@ -71,7 +88,7 @@ arms now ttl revision o =
 
 -- an agent that isn't leading gets a lease
 abbrev pub takes_key : Ticks → Ticks → ℕ → Outcome → Outcome
-takes_key now ttl revision o = if may_take now o.machine then arms now ttl revision o else gives_back revision o
+takes_key now ttl revision o = if may_take now o.knows o.machine then arms now ttl revision o else gives_back revision o
 
 -- what each role does with a lease that it was granted
 abbrev pub lease_granted : Ticks → Ticks → ℕ → RoleFacts → Outcome → Outcome

@@ -1,14 +1,14 @@
 -- What the outputs of an input, carried out in their order, make of a machine.
 use Rattle.std.specs.Prelude.{◌≡◌, nat_le, if◌then◌else◌, List, [], ◌∷◌, Option, Some, None, All}
 use Rattle.pat_base.specs.declared.ticks.Ticks.{Ticks}
-use Rattle.pg_model.specs.Status.{status_replica_started, status_stopping, status_following, status_promoted}
+use Rattle.pg_model.specs.Status.{status_replica_started, status_stopping, status_following}
 use Rattle.event_book.specs.Members.{server_id_of}
 use Rattle.pg_model.specs.declared.status.ServerStatus.{ServerStatus}
 use Rattle.ha_loop.specs.declared.machine.Machine.{Machine}
 use Rattle.ha_loop.specs.declared.output.Output.{Output}
 use Rattle.ha_loop.specs.declared.output.Output.TheVariants as outputs
 use Rattle.ha_loop.specs.declared.output.Target.TheVariants as targets
-use Rattle.ha_loop.specs.Acting.{upstream_of, without_deadline}
+use Rattle.ha_loop.specs.Acting.{status_begun, upstream_of, without_deadline}
 use Rattle.ha_loop.specs.Agents.{Outcome}
 
 -- the machine with this server
@@ -26,7 +26,7 @@ later_hold until (Some hold) = if nat_le hold.0 until.0 then until else hold
 
 -- the machine once this output is carried out at this moment
 abbrev pub machine_after_output : Ticks → Machine → Output → Machine
-machine_after_output now machine outputs.Promote = with_server (status_promoted machine.server) machine
+machine_after_output now machine outputs.Begin = with_server (status_begun now machine.server) machine
 machine_after_output now machine (outputs.StartReplica leader) = with_server (status_replica_started now (upstream_of leader) machine.server) machine
 machine_after_output now machine (outputs.Stop reason) = with_server (status_stopping now machine.server) machine
 machine_after_output now machine (outputs.Follow leader) = with_server (status_following (server_id_of leader) machine.server) machine

@@ -34,7 +34,7 @@ has_one test (output ∷ later) = test output || has_one test later
 
 -- P holds, where the server comes to accept writes by this output, or will when its start is complete
 abbrev pub BeginsOnly : Type 0 → Output → Type 0
-BeginsOnly P outputs.Promote = P
+BeginsOnly P outputs.Begin = P
 BeginsOnly P _ = Unit {0}
 
 -- P holds of the outputs before each one by which the server comes to accept writes; the first list stands before the second

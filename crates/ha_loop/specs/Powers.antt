@@ -7,7 +7,7 @@ use Rattle.leader_key.specs.Watchdog.{fed, is_armable}
 use Rattle.cluster_config.specs.Snapshots.{SnapshotFacts, failsafe_in}
 use Rattle.ha_loop.specs.declared.knowledge.Knowledge.{Knowledge}
 use Rattle.ha_loop.specs.declared.knowledge.Waited.{Waited}
-use Rattle.ha_loop.specs.Acting.{is_held, is_refusing}
+use Rattle.ha_loop.specs.Acting.{is_hold_active, is_refusing}
 use Rattle.ha_loop.specs.Agents.{RoleFacts, Holder, Ready, Leader, Ending, Outcome}
 use Rattle.ha_loop.specs.Decisions.{is_decision, is_lease_of}
 use Rattle.ha_loop.specs.Outputs.{is_feeding, has_one}
@@ -71,6 +71,6 @@ pub data GrantMay (now : Ticks) (sequence : ℕ) (grant : Granted) (snapshot : S
   Leads : (awaited : IsAwaitedLease sequence grant o.knows) → (fed : after.machine.watchdog ≡ fed now.0 awaited.waited.ttl.0 o.machine.watchdog) → (lease : lease_of after.role ≡ Some grant.revision) → (unready : is_ready after.role ≡ false)
       → (known : after.knows.known ≡ known_with o.knows.known (failsafe_in snapshot))
       → (told : is_armable o.machine.watchdog.mode o.machine.watchdog.works ≡ true → has_one is_feeding after.outputs ≡ true)
-      → (free : live after.machine.server.state ≡ true → (live o.machine.server.state ≡ true) ⊎ (is_held now o.machine.hold ≡ false))
+      → (free : live after.machine.server.state ≡ true → (live o.machine.server.state ≡ true) ⊎ (is_hold_active now o.machine.hold ≡ false))
       → (armed : live after.machine.server.state ≡ true → (live o.machine.server.state ≡ true) ⊎ (is_refusing o.machine.watchdog.mode o.machine.watchdog.works ≡ false))
       → GrantMay now sequence grant snapshot o after

@@ -6,7 +6,7 @@ use Rattle.pat_base.specs.ServerState.{live}
 use Rattle.lease_store.specs.declared.key.Key.TheVariants as keys
 use Rattle.lease_store.specs.declared.value.KeyEntry.{KeyEntry}
 use Rattle.cluster_config.specs.declared.snapshot.LeaderEntry.{LeaderEntry}
-use Rattle.cluster_config.specs.Snapshots.{SnapshotFacts, held_in, leader_in, failsafe_by}
+use Rattle.cluster_config.specs.Snapshots.{SnapshotFacts, entry_in, leader_in, failsafe_by}
 use Rattle.lease_law.specs.Leases.{LeaderSeen, FailsafeKey}
 use Rattle.lease_law.specs.Past.{set_members}
 use Rattle.lease_law.specs.States.{Agent as AgentSeen, Machine as MachineSeen}
@@ -32,10 +32,10 @@ abbrev pub failsafe_listed : ℕ → Option MemberSet → Option FailsafeKey
 failsafe_listed revision None = None
 failsafe_listed revision (Some members) = Some (record { revision = revision; members = set_members members })
 
--- the same of what is held at the failsafe key
+-- the same of the entry of the failsafe key
 abbrev pub failsafe_entry_seen : Option KeyEntry → Option FailsafeKey
 failsafe_entry_seen None = None
-failsafe_entry_seen (Some held) = failsafe_listed held.revision (failsafe_by held.value)
+failsafe_entry_seen (Some found) = failsafe_listed found.revision (failsafe_by found.value)
 
 -- what the law sees of the leader key of a snapshot
 abbrev pub leader_seen : SnapshotFacts → Option LeaderSeen
@@ -43,7 +43,7 @@ leader_seen snapshot = leader_entry_seen (leader_in snapshot)
 
 -- what the law sees of the failsafe key of a snapshot
 abbrev pub failsafe_seen : SnapshotFacts → Option FailsafeKey
-failsafe_seen snapshot = failsafe_entry_seen (held_in keys.Failsafe snapshot)
+failsafe_seen snapshot = failsafe_entry_seen (entry_in keys.Failsafe snapshot)
 
 -- the same of a snapshot that may be absent
 abbrev pub leader_seen_if : Option SnapshotFacts → Option LeaderSeen

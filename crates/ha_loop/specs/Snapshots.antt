@@ -24,7 +24,7 @@ use Rattle.ha_loop.specs.declared.knowledge.Question.{Question}
 use Rattle.ha_loop.specs.declared.knowledge.Question.TheVariants.{Reading, Creating, Renewing}
 use Rattle.ha_loop.specs.declared.knowledge.Waited.{Waited}
 use Rattle.ha_loop.specs.declared.role.Why.TheVariants.{Lost}
-use Rattle.ha_loop.specs.Acting.{seconds_after, lease_span, asking, touching, waiting_no_more, ending_server, starting_replica, following_server, is_held}
+use Rattle.ha_loop.specs.Acting.{seconds_after, lease_span, asking, touching, waiting_no_more, ending_server, starting_replica, following_server, is_hold_active}
 use Rattle.ha_loop.specs.Agents.{RoleFacts, Follower, Holder, Leader, Ending, Stray, Outcome}
 use Rattle.ha_loop.specs.Info.{info_of}
 
@@ -87,7 +87,7 @@ renewing now points revision o = asking now Renewing (seconds_after (turn_start 
 
 -- an agent that isn't leading finds the leader key its own: it asks for the renewal, unless its hold is active
 abbrev pub finds_own_key : Ticks → List HistoryPoint → ℕ → Outcome → Outcome
-finds_own_key now points revision o = if is_held now o.machine.hold then touching o else renewing now points revision o
+finds_own_key now points revision o = if is_hold_active now o.machine.hold then touching o else renewing now points revision o
 
 -- the leader key is its own
 abbrev pub own_key : Ticks → List HistoryPoint → ℕ → RoleFacts → Outcome → Outcome
@@ -177,9 +177,9 @@ abbrev pub awaits_read : Option Waited → ℕ → Bool
 awaits_read None sequence = false
 awaits_read (Some waited) sequence = is_read waited.question && waited.sequence == sequence
 
--- a read was answered at this moment, with this snapshot
+-- a read was answered at this moment, with this snapshot: what this turn asks for is judged by its settings
 abbrev pub read_noted : Ticks → SnapshotFacts → Knowledge → Knowledge
-read_noted now snapshot knows = record (informed snapshot knows) { last_read = Some now }
+read_noted now snapshot knows = record (informed snapshot knows) { last_read = Some now; turn_settings = settings_in knows.settings snapshot }
 
 -- the answer to a read that is waited for is used by a role that reads
 abbrev pub accepted : Ticks → List HistoryPoint → SnapshotFacts → Outcome → Outcome

@@ -34,6 +34,15 @@ has_turn now knows = is_none knows.waited && nat_le knows.next_turn.0 now.0
 abbrev pub is_due : Ticks → RoleFacts → Knowledge → Machine → Bool
 is_due now role knows machine = finds_ended role machine.server.state || (is_overdue now knows.waited || has_turn now knows)
 
+-- from when on an agent has something to do that waits so, or has its next turn then
+abbrev pub waits_until : Option Waited → Ticks → Ticks
+waits_until None next_turn = next_turn
+waits_until (Some waited) next_turn = waited.until
+
+-- from when on there is something to do for an agent whose server is in this state
+abbrev pub due_from : RoleFacts → Knowledge → State → Ticks
+due_from role knows state = if finds_ended role state then record { 0 = 0 } else waits_until knows.waited knows.next_turn
+
 -- a leader whose read or renewal isn't answered in time ends its server, since another may have its key soon
 abbrev pub leader_out_of_reach : Ticks → ℕ → Outcome → Outcome
 leader_out_of_reach now revision o = record (ending_server now StoreOutOfReach o) { role = Ending revision Lost }

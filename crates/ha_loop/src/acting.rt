@@ -10,7 +10,7 @@ ghost use Rattle.leader_key.specs.Watchdog.{IsLeaseSpan, is_armable};
 ghost use Rattle.ha_loop.specs.declared.output.Output.TheVariants as outputs;
 ghost use Rattle.ha_loop.specs.declared.output.Target.TheVariants as targets;
 ghost use Rattle.ha_loop.specs.declared.role.Why.TheVariants as whys;
-ghost use Rattle.ha_loop.specs.Acting.{counted, waiting, lease_span, without_deadline, disarmed, deadline_after, with_feed, is_refusing, armed, fed_until, is_held};
+ghost use Rattle.ha_loop.specs.Acting.{counted, waiting, lease_span, without_deadline, disarmed, deadline_after, with_feed, is_refusing, armed, fed_until, is_hold_active};
 ghost use Rattle.ha_loop.specs.Agents.{IsSound, IsWithin, Ending, role_of, latest};
 ghost use Rattle.ha_loop.specs.Info.{info_of};
 ghost use Rattle.ha_loop.specs.Outputs.{listed};
@@ -255,8 +255,8 @@ fn deadline_of(watchdog: &Watchdog) -> Option<Ticks>
 }
 
 /// Whether a hold is active.
-pub(crate) fn is_held(now: Ticks, hold: Option<Ticks>) -> bool
-    ensures { result ≡ is_held now hold }
+pub(crate) fn is_hold_active(now: Ticks, hold: Option<Ticks>) -> bool
+    ensures { result ≡ is_hold_active now hold }
 {
     match hold {
         None => false,

@@ -1,6 +1,8 @@
 //! Agents.
-ghost use Rattle.std.specs.Prelude.{ℕ, Bool, ◌≡◌, ◌≤◌, ◌<◌, ◌+◌, ◌-◌, ◌^◌, [], Some, None, false, option_copied};
+ghost use Rattle.std.specs.Prelude.{ℕ, Bool, ◌≡◌, ◌≤◌, ◌<◌, ◌+◌, ◌-◌, ◌^◌, [], Some, None, false, nat_le, option_copied};
+ghost use Rattle.pat_base.specs.declared.ticks.Ticks.{Ticks};
 ghost use Rattle.lease_law.specs.States.{start_machine};
+ghost use Rattle.ha_loop.specs.declared.machine.Machine.{Machine};
 ghost use Rattle.ha_loop.specs.declared.heard.Heard.TheVariants as heards;
 ghost use Rattle.ha_loop.specs.Agents.{AgentFacts, RoleFacts, IsSound, IsWithin, Follower, role_of, word_of, fresh_knowledge, made, latest, most_messages};
 ghost use Rattle.ha_loop.specs.Lawful.{IsLawfulFrom};
@@ -8,17 +10,17 @@ ghost use Rattle.ha_loop.specs.Outputs.{most_outputs};
 ghost use Rattle.ha_loop.specs.Seen.{machine_with, machine_seen};
 ghost use Rattle.ha_loop.specs.Start.{started_machine};
 ghost use Rattle.ha_loop.specs.Table.{step, act};
-ghost use Rattle.ha_loop.specs.Wake.{is_due};
+ghost use Rattle.ha_loop.specs.Wake.{due_from, is_due};
 
 use crate::before::before;
 use crate::decisions::{granted, refused};
 use crate::role::Role;
 use crate::snapshots::got;
-use crate::wake::{is_due, wake};
+use crate::wake::{due_from, is_due, wake};
 use crate::{Heard, Knowledge, Machine, Outputs, Who};
 use cluster_config::{AgentView, RoleWord};
 use lease_store::{Config, OperatorAction};
-use pat_base::{MemberSet, Ticks};
+use pat_base::{MemberSet, State, Ticks};
 use std::marker::Model;
 use wal_model::History;
 
@@ -73,6 +75,14 @@ impl Agent {
         ensures { result ≡ is_due now self.now.role self.now.knows machine.now }
     {
         is_due(&self.role, &self.knows, machine, now)
+    }
+
+    /// From when on there is something to do for it if it is woken, as long as its server stays in this state.
+    pub fn due_from(&self, state: State) -> Ticks
+        ensures moment { result ≡ due_from self.now.role self.now.knows state }
+        ensures exact { (now : Ticks) (machine : Machine) → machine.server.state ≡ state → is_due now self.now.role self.now.knows machine ≡ nat_le result.0 now.0 }
+    {
+        due_from(&self.role, &self.knows, state)
     }
 
     /// One input, by the decision table. `history` is that of the own server. It takes no memory and refuses nothing; the
@@ -189,6 +199,7 @@ fn fresh_knowledge(who: Who, first: Ticks, run: u64) -> Knowledge
         last_read: None,
         seen: None,
         settings: Config::defaults(),
+        turn_settings: Config::defaults(),
         begun: None,
         crashed: None,
         known: MemberSet::empty(),

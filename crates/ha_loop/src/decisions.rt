@@ -3,7 +3,7 @@ ghost use Rattle.std.specs.Prelude.{◌≡◌, ◌≤◌, ◌<◌, ◌+◌, ◌*
 ghost use Rattle.leader_key.specs.Lease.{lease_revision, writer_revision};
 ghost use Rattle.leader_key.specs.Watchdog.{IsLeaseSpan};
 ghost use Rattle.ha_loop.specs.declared.knowledge.Knowledge.{Knowledge};
-ghost use Rattle.ha_loop.specs.Acting.{is_refusing, is_held, waiting_no_more};
+ghost use Rattle.ha_loop.specs.Acting.{is_refusing, is_hold_active, waiting_no_more};
 ghost use Rattle.ha_loop.specs.Agents.{IsSound, IsWithin, Follower, Leader, Stray, role_of, made, latest};
 ghost use Rattle.ha_loop.specs.Decisions.{has_lasted, is_start_too_long, judges_start, leader_renewed, takes_over, stray_renewed, may_take, gives_back, begins, arms, takes_key, lease_granted, may_create, belongs, accepted_grant, asks_lease, is_decision, is_lease_of, granted_for, granted, follower_for, create_refused, renewal_refused, refused_as, refused_for, refused};
 

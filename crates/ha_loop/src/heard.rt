@@ -7,12 +7,12 @@ use lease_store::{Expected, Granted, Key};
 #[derive(Debug, Drop)]
 pub enum Heard {
     Wake,
-    /// What the key store held when it answered.
+    /// What the key store had when it answered.
     Got {
         sequence: u64,
         snapshot: Snapshot,
     },
-    /// A request was granted; with what the key store held then.
+    /// A request was granted; with what the key store had then.
     Granted {
         sequence: u64,
         granted: Granted,

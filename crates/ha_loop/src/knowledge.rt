@@ -44,6 +44,8 @@ pub struct Knowledge {
     /// The newest snapshot, and the settings of its configuration.
     pub seen: Option<Snapshot>,
     pub settings: Config,
+    /// The settings that the last turn read: what it asked for is judged by them.
+    pub turn_settings: Config,
     /// When this run began the server, or took it over.
     pub begun: Option<Ticks>,
     /// When a leader was first found without its server.

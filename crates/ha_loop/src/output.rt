@@ -19,8 +19,8 @@ pub enum Output {
         sequence: u64,
         body: Body,
     },
-    /// The server is promoted.
-    Promote,
+    /// The server begins to accept writes: a replica is promoted, and one that is down and was a primary starts as one again.
+    Begin,
     /// The server starts as a replica of this member's, or of none.
     StartReplica {
         leader: Option<MemberId>,

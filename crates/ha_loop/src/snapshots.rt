@@ -6,7 +6,7 @@ ghost use Rattle.pg_model.specs.Status.{status_replica_started, status_following
 ghost use Rattle.ha_loop.specs.declared.knowledge.Question.TheVariants as questions;
 ghost use Rattle.ha_loop.specs.declared.output.Output.TheVariants as outputs;
 ghost use Rattle.ha_loop.specs.declared.output.Target.TheVariants as targets;
-ghost use Rattle.ha_loop.specs.Acting.{seconds_after, lease_span, counted, waiting, upstream_of, is_held};
+ghost use Rattle.ha_loop.specs.Acting.{seconds_after, lease_span, counted, waiting, upstream_of, is_hold_active};
 ghost use Rattle.ha_loop.specs.Agents.{IsSound, IsWithin, Follower, role_of, made, latest};
 ghost use Rattle.ha_loop.specs.Info.{info_of};
 ghost use Rattle.ha_loop.specs.Outputs.{listed};
@@ -15,7 +15,7 @@ ghost use Rattle.ha_loop.specs.Snapshots.{known_with, informed, status_told, row
 mod following;
 mod renewing;
 
-use crate::acting::{ask, end_server, is_held, lose, touch};
+use crate::acting::{ask, end_server, is_hold_active, lose, touch};
 use crate::info::info_of;
 use crate::role::Role;
 use crate::{Knowledge, Machine, Outputs, Question, Waited};
@@ -58,6 +58,7 @@ pub(crate) fn got(
     let leader = snapshot.leader();
     inform(knows, snapshot);
     knows.last_read = Some(now);
+    knows.turn_settings = knows.settings;
     led(role, knows, machine, out, now, history, leader)
 }
 
@@ -186,7 +187,7 @@ fn finds_own_key(
     ensures numbers { knows.new.sequence ≤ knows.old.sequence + 1 }
     ensures room { out.old.spare ≤ out.new.spare + 1 }
 {
-    if is_held(now, machine.hold) {
+    if is_hold_active(now, machine.hold) {
         touch(knows, machine, out);
     } else {
         renew(knows, machine, out, now, history, revision);

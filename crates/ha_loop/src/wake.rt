@@ -10,7 +10,7 @@ ghost use Rattle.ha_loop.specs.declared.role.Why.TheVariants as whys;
 ghost use Rattle.ha_loop.specs.Acting.{seconds_after, counted, waiting};
 ghost use Rattle.ha_loop.specs.Agents.{IsSound, IsWithin, Ending, role_of, made, latest};
 ghost use Rattle.ha_loop.specs.Outputs.{listed};
-ghost use Rattle.ha_loop.specs.Wake.{finds_ended, is_overdue, has_turn, is_due, leader_out_of_reach, stray_out_of_reach, out_of_reach_as, out_of_reach, unanswered, overdue_for, overdue, reading, is_stopping, turn_as, turn_noted, turn_begins, turned, woken};
+ghost use Rattle.ha_loop.specs.Wake.{finds_ended, is_overdue, has_turn, is_due, due_from, waits_until, leader_out_of_reach, stray_out_of_reach, out_of_reach_as, out_of_reach, unanswered, overdue_for, overdue, reading, is_stopping, turn_as, turn_noted, turn_begins, turned, woken};
 
 use crate::acting::{ask, end_server, lose};
 use crate::before::before;
@@ -77,6 +77,25 @@ fn has_turn(now: Ticks, knows: &Knowledge) -> bool
     ensures { result ≡ has_turn now knows.now }
 {
     knows.waited.is_none() && knows.next_turn <= now
+}
+
+/// From when on there is something to do for an agent whose server is in this state.
+pub(crate) fn due_from(role: &Role, knows: &Knowledge, state: State) -> Ticks
+    ensures { result ≡ due_from (role_of role.now) knows.now state }
+{
+    if finds_ended(role, state) {
+        return Ticks(0);
+    }
+    waits_until(knows.waited, knows.next_turn)
+}
+
+fn waits_until(waited: Option<Waited>, next_turn: Ticks) -> Ticks
+    ensures { result ≡ waits_until waited next_turn }
+{
+    match waited {
+        None => next_turn,
+        Some(waited) => waited.until,
+    }
 }
 
 /// A deadline that has passed.

@@ -1,6 +1,6 @@
 -- An event at which no agent acts keeps a book's past and its cluster matched.
 use Rattle.std.proofs.Common.{ℕ, ◌≡◌, ◌<◌, ◌==◌, ◌++◌, Bool, true, false, cond, List, [], ◌∷◌, length, slice_get, Option, Some, None, option_map, refl, ◌∙◌, ap, sym, subst}
-use Rattle.pat_base.specs.Changes.{changed_by}
+use Rattle.pat_base.specs.Changes.{with_changed}
 use Rattle.event_book.specs.declared.agent_process.AgentProcess.{AgentProcess}
 use Rattle.event_book.specs.declared.event.AgentEvent.TheVariants as agents
 use Rattle.event_book.specs.declared.event.Event.{Event}
@@ -28,53 +28,49 @@ use Rattle.lease_law.proofs.Tools.{eq-from}
 use Rattle.lease_law.proofs.Unpaused.{pauses-by}
 use Rattle.bridge_law.specs.Flights.{IsCausal}
 use Rattle.bridge_law.proofs.Flights.{flight-by}
-use Rattle.run_law.specs.Asides.{IsAside}
+use Rattle.run_law.specs.Asides.{IsAside, IsAsideIn}
 use Rattle.run_law.specs.Bridged.{KnowsItself, KnowThemselves, IsMatched}
 use Rattle.run_law.specs.Declaring.{member_count}
-use Rattle.run_law.specs.Machines.{IsWithinMembers, run_in}
+use Rattle.run_law.specs.Machines.{run_in}
 use Rattle.run_law.proofs.Machines.{machines-by, sized-by}
 use Rattle.run_law.proofs.Places.{get-changed, length-changed, there}
-use Rattle.run_law.proofs.Waiting.{waiting-aside, waiting-started}
+use Rattle.run_law.proofs.Waiting.{aside-within, waiting-aside, waiting-started}
 
 -- what such an event is beside
-aside-members : (count : ℕ) (kind : EventKind) → IsAside kind → IsWithinMembers count kind
-aside-members count (kinds.Watchdog (watchdogs.Armed member until answer)) is = absurd is
-aside-members count (kinds.Watchdog (watchdogs.Fed member until basis)) is = absurd is
-aside-members count (kinds.Watchdog (watchdogs.HoldTaken member until from run sequence)) is = absurd is
-aside-members count (kinds.Server (servers.Began server timeline)) is = absurd is
-aside-members count (kinds.Agent (agents.Started agent run)) is = absurd is
-aside-members count _ is = tt
+aside-spanned : (May : ℕ → Type 0) (kind : EventKind) → IsAsideIn May kind → IsSpanned kind
+aside-spanned May (kinds.Store (stores.Granted number by txn standbys)) is = absurd is
+aside-spanned May _ is = tt
 
-aside-spanned : (kind : EventKind) → IsAside kind → IsSpanned kind
-aside-spanned (kinds.Store (stores.Granted number by txn standbys)) is = absurd is
-aside-spanned _ is = tt
+aside-causal : (May : ℕ → Type 0) (past : Past) (facts : Facts) (kind : EventKind) → IsAsideIn May kind → IsCausal past facts kind
+aside-causal May past facts (kinds.Message (messages.Sent number message)) is = absurd is
+aside-causal May past facts _ is = tt
 
-aside-causal : (past : Past) (facts : Facts) (kind : EventKind) → IsAside kind → IsCausal past facts kind
-aside-causal past facts (kinds.Message (messages.Sent number message)) is = absurd is
-aside-causal past facts _ is = tt
+pub aside-hands_off : (May : ℕ → Type 0) (kind : EventKind) → IsAsideIn May kind → IsHandsOffKind kind
+aside-hands_off May (kinds.Store (stores.Granted number by txn standbys)) is = absurd is
+aside-hands_off May (kinds.Server (servers.Promoted server)) is = absurd is
+aside-hands_off May _ is = tt
 
-pub aside-hands_off : (kind : EventKind) → IsAside kind → IsHandsOffKind kind
-aside-hands_off (kinds.Store (stores.Granted number by txn standbys)) is = absurd is
-aside-hands_off (kinds.Server (servers.Promoted server)) is = absurd is
-aside-hands_off _ is = tt
+aside-begins : (May P : ℕ → Type 0) (kind : EventKind) → IsAsideIn May kind → ((n : ℕ) → May n → P n) → BeginsKind P kind
+aside-begins May P (kinds.Server (servers.Began server timeline)) is so = so server.id.number is
+aside-begins May P _ is so = tt
 
-aside-begins : (P : ℕ → Type 0) (kind : EventKind) → IsAside kind → BeginsKind P kind
-aside-begins P (kinds.Server (servers.Began server timeline)) is = absurd is
-aside-begins P _ is = tt
+-- who begins at such events may
+pub asides-begin-as : (May : ℕ → Type 0) (P : List Event → ℕ → Type 0) (before events : List Event) → AllAre (IsAsideIn May) events → ((book : List Event) (n : ℕ) → May n → P book n) → BeginsBehind P before events
+asides-begin-as May P before [] all so = tt
+asides-begin-as May P before (event ∷ events) all so = (aside-begins May (P before) event.kind all.0 (so before), asides-begin-as May P (before ++ event ∷ []) events all.1 so)
 
 -- nobody begins at such events
 pub asides-begin : (P : List Event → ℕ → Type 0) (before events : List Event) → AllAre IsAside events → BeginsBehind P before events
-asides-begin P before [] all = tt
-asides-begin P before (event ∷ events) all = (aside-begins (P before) event.kind all.0, asides-begin P (before ++ event ∷ []) events all.1)
+asides-begin P before events all = asides-begin-as (λ n. ⊥) P before events all (λ book n e. absurd e)
 
-pub aside-sized : (cluster : Cluster) (kind : EventKind) → IsAside kind → length (agent_facts_after cluster kind) ≡ length cluster.agents
-aside-sized cluster (kinds.Message (messages.Sent number message)) is = absurd is
-aside-sized cluster (kinds.Message (messages.Delivered number)) is = absurd is
-aside-sized cluster (kinds.Watchdog (watchdogs.Reset member)) is = length-changed cluster.agents _ _
-aside-sized cluster (kinds.Agent (agents.Woken agent)) is = absurd is
-aside-sized cluster (kinds.Agent (agents.Killed agent)) is = length-changed cluster.agents _ _
-aside-sized cluster (kinds.Agent (agents.Started agent run)) is = absurd is
-aside-sized cluster _ is = refl
+pub aside-sized : (May : ℕ → Type 0) (cluster : Cluster) (kind : EventKind) → IsAsideIn May kind → length (agent_facts_after cluster kind) ≡ length cluster.agents
+aside-sized May cluster (kinds.Message (messages.Sent number message)) is = absurd is
+aside-sized May cluster (kinds.Message (messages.Delivered number)) is = absurd is
+aside-sized May cluster (kinds.Watchdog (watchdogs.Reset member)) is = length-changed cluster.agents _ _
+aside-sized May cluster (kinds.Agent (agents.Woken agent)) is = absurd is
+aside-sized May cluster (kinds.Agent (agents.Killed agent)) is = length-changed cluster.agents _ _
+aside-sized May cluster (kinds.Agent (agents.Started agent run)) is = absurd is
+aside-sized May cluster _ is = refl
 
 -- an agent and its process change together
 knows-at : (processes : List AgentProcess) (agents : List (Option AgentFacts)) (k m : ℕ) (change : AgentProcess → AgentProcess) (becomes : Option AgentFacts → Option AgentFacts) (agent : AgentFacts) (same : Bool) → (m == k) ≡ same
@@ -87,7 +83,7 @@ knows-at processes agents k m change becomes agent false e here before is = befo
 
 knows-changed : (processes : List AgentProcess) (agents : List (Option AgentFacts)) (k : ℕ) (change : AgentProcess → AgentProcess) (becomes : Option AgentFacts → Option AgentFacts)
     → ((m : ℕ) (agent : AgentFacts) → m ≡ k → option_map becomes (slice_get agents m) ≡ Some (Some agent) → KnowsItself m (option_map change (slice_get processes m)) agent)
-    → KnowThemselves processes agents → KnowThemselves (changed_by processes k change) (changed_by agents k becomes)
+    → KnowThemselves processes agents → KnowThemselves (with_changed processes k change) (with_changed agents k becomes)
 knows-changed processes agents k change becomes here before m agent is =
     subst (λ (o : Option AgentProcess). KnowsItself m o agent) (sym (get-changed processes k m change))
     (knows-at processes agents k m change becomes agent (m == k) refl (here m agent) (before m agent) (sym (get-changed agents k m becomes) ∙ is))
@@ -113,51 +109,60 @@ suspended-knows m to true process agent old = record {
 suspended-knows m to false process agent old = old
 
 knows-suspended : (to : Bool) (processes : List AgentProcess) (agents : List (Option AgentFacts)) (k : ℕ)
-    → KnowThemselves processes agents → KnowThemselves (changed_by processes k (λ process. record process { suspended = to })) agents
+    → KnowThemselves processes agents → KnowThemselves (with_changed processes k (λ process. record process { suspended = to })) agents
 knows-suspended to processes agents k before m agent is =
     subst (λ (o : Option AgentProcess). KnowsItself m o agent) (sym (get-changed processes k m _)) (suspended-knows m to (m == k) (slice_get processes m) agent (before m agent is))
 
-aside-knows : (cluster : Cluster) (kind : EventKind) → IsAside kind
+aside-knows : (May : ℕ → Type 0) (cluster : Cluster) (kind : EventKind) → IsAsideIn May kind
     → KnowThemselves cluster.book.agents cluster.agents → KnowThemselves (agents_after cluster.book.agents kind) (agent_facts_after cluster kind)
-aside-knows cluster (kinds.Message (messages.Sent number message)) is old = absurd is
-aside-knows cluster (kinds.Message (messages.Delivered number)) is old = absurd is
-aside-knows cluster (kinds.Watchdog (watchdogs.Reset member)) is old =
+aside-knows May cluster (kinds.Message (messages.Sent number message)) is old = absurd is
+aside-knows May cluster (kinds.Message (messages.Delivered number)) is old = absurd is
+aside-knows May cluster (kinds.Watchdog (watchdogs.Reset member)) is old =
     knows-changed cluster.book.agents cluster.agents member.id.number _ _ (λ m agent here none. absurd (none-there (slice_get cluster.agents m) agent none)) old
-aside-knows cluster (kinds.Agent (agents.Woken agent)) is old = absurd is
-aside-knows cluster (kinds.Agent (agents.Killed member)) is old =
+aside-knows May cluster (kinds.Agent (agents.Woken agent)) is old = absurd is
+aside-knows May cluster (kinds.Agent (agents.Killed member)) is old =
     knows-changed cluster.book.agents cluster.agents member.id.number _ _ (λ m agent here none. absurd (none-there (slice_get cluster.agents m) agent none)) old
-aside-knows cluster (kinds.Agent (agents.Started member run)) is old = absurd is
-aside-knows cluster (kinds.Agent (agents.Suspended member)) is old = knows-suspended true cluster.book.agents cluster.agents member.id.number old
-aside-knows cluster (kinds.Agent (agents.Resumed member)) is old = knows-suspended false cluster.book.agents cluster.agents member.id.number old
-aside-knows cluster _ is old = old
+aside-knows May cluster (kinds.Agent (agents.Started member run)) is old = absurd is
+aside-knows May cluster (kinds.Agent (agents.Suspended member)) is old = knows-suspended true cluster.book.agents cluster.agents member.id.number old
+aside-knows May cluster (kinds.Agent (agents.Resumed member)) is old = knows-suspended false cluster.book.agents cluster.agents member.id.number old
+aside-knows May cluster _ is old = old
 
--- one such event
-pub aside-matched : (head : HeadText) (past : Past) (cluster : Cluster) (kind : EventKind) → IsAside kind
+-- one such event, in which one of the members begins if anybody does
+pub aside-matched : (May : ℕ → Type 0) (head : HeadText) (past : Past) (cluster : Cluster) (kind : EventKind) → IsAsideIn May kind → ((n : ℕ) → May n → n < member_count head)
     → IsMatched head past cluster → IsMatched head (past_after past kind) (cluster_after cluster kind)
-aside-matched head past cluster kind is old = record {
+aside-matched May head past cluster kind is within old = record {
   members = old.members;
   options = old.options;
   sized = sized-by (member_count head) cluster.book kind old.sized;
-  agents_sized = aside-sized cluster kind is ∙ old.agents_sized;
-  store = same-by past cluster.book kind (aside-spanned kind is) old.store;
-  flight = flight-by past cluster.book kind (aside-causal past cluster.book kind is) old.store old.flight;
-  machines = machines-by (member_count head) past cluster.book kind old.sized (aside-members (member_count head) kind is) old.machines;
-  unpaused = pauses-by cluster.book kind (aside-hands_off kind is) old.unpaused;
-  agents = aside-knows cluster kind is old.agents;
-  waiting = waiting-aside head past cluster kind is old;
+  agents_sized = aside-sized May cluster kind is ∙ old.agents_sized;
+  store = same-by past cluster.book kind (aside-spanned May kind is) old.store;
+  flight = flight-by past cluster.book kind (aside-causal May past cluster.book kind is) old.store old.flight;
+  machines = machines-by (member_count head) past cluster.book kind old.sized (aside-within May (member_count head) kind is (aside-begins May (λ n. n < member_count head) kind is within)) old.machines;
+  unpaused = pauses-by cluster.book kind (aside-hands_off May kind is) old.unpaused;
+  agents = aside-knows May cluster kind is old.agents;
+  waiting = waiting-aside May head past cluster kind is old;
 }
 
 -- a list of them
+pub asides-matched-as : (May : ℕ → Type 0) (head : HeadText) (past : Past) (cluster : Cluster) (events : List Event) → AllAre (IsAsideIn May) events → ((n : ℕ) → May n → n < member_count head)
+    → IsMatched head past cluster → IsMatched head (past_over past events) (cluster_over cluster events)
+asides-matched-as May head past cluster [] all within old = old
+asides-matched-as May head past cluster (event ∷ events) all within old =
+    asides-matched-as May head (past_after past event.kind) (cluster_after cluster event.kind) events all.1 within (aside-matched May head past cluster event.kind all.0 within old)
+
 pub asides-matched : (head : HeadText) (past : Past) (cluster : Cluster) (events : List Event) → AllAre IsAside events
     → IsMatched head past cluster → IsMatched head (past_over past events) (cluster_over cluster events)
-asides-matched head past cluster [] all old = old
-asides-matched head past cluster (event ∷ events) all old = asides-matched head (past_after past event.kind) (cluster_after cluster event.kind) events all.1 (aside-matched head past cluster event.kind all.0 old)
+asides-matched head past cluster events all old = asides-matched-as (λ n. ⊥) head past cluster events all (λ n e. absurd e) old
 
 -- the same behind a book
+pub matched-behind-as : (May : ℕ → Type 0) (head : HeadText) (book : List Event) (cluster : Cluster) (events : List Event) → AllAre (IsAsideIn May) events → ((n : ℕ) → May n → n < member_count head)
+    → IsMatched head (past_of book) cluster → IsMatched head (past_of (book ++ events)) (cluster_over cluster events)
+matched-behind-as May head book cluster events all within old =
+    subst (λ (past : Past). IsMatched head past (cluster_over cluster events)) (sym (past-append first_past book events)) (asides-matched-as May head (past_of book) cluster events all within old)
+
 pub matched-behind : (head : HeadText) (book : List Event) (cluster : Cluster) (events : List Event) → AllAre IsAside events
     → IsMatched head (past_of book) cluster → IsMatched head (past_of (book ++ events)) (cluster_over cluster events)
-matched-behind head book cluster events all old =
-    subst (λ (past : Past). IsMatched head past (cluster_over cluster events)) (sym (past-append first_past book events)) (asides-matched head (past_of book) cluster events all old)
+matched-behind head book cluster events all old = matched-behind-as (λ n. ⊥) head book cluster events all (λ n e. absurd e) old
 
 -- ---- an agent starts
 started-knows : (count : ℕ) (cluster : Cluster) (member : Member) (run : ℕ) → length cluster.book.agents ≡ count → member.id.number < count

@@ -2,7 +2,7 @@
 use Rattle.std.proofs.Common.{ℕ, ◌≡◌, ◌≤◌, ◌++◌, ◌==◌, ◌&&◌, ◌||◌, not, Bool, true, false, cond, List, slice_get, slice_set, Option, Some, None, option_and_then, refl, ◌∙◌, ap, sym, subst, arith}
 use Rattle.std.proofs.lemmas.List.{set-get_or}
 use Rattle.std.proofs.lemmas.Option.{get_or_from_slice_get}
-use Rattle.pat_base.specs.Changes.{changed_at, changed_by}
+use Rattle.pat_base.specs.Changes.{changed_at, with_changed}
 use Rattle.event_book.specs.declared.agent_process.AgentProcess.{AgentProcess}
 use Rattle.event_book.specs.declared.event.AgentEvent.TheVariants as agents
 use Rattle.event_book.specs.declared.event.Event.{Event}
@@ -54,7 +54,7 @@ unchanged-at : (agents : List (Option AgentFacts)) (k : ℕ) (found : Option (Op
 unchanged-at agents k None is = refl
 unchanged-at agents k (Some agent) is = ap (λ (a : Option AgentFacts). slice_set agents k a) (sym (get_or_from_slice_get agents k agent agent is)) ∙ set-get_or agents k agent
 
-unchanged : (agents : List (Option AgentFacts)) (k : ℕ) → changed_by agents k (agent_after None) ≡ agents
+unchanged : (agents : List (Option AgentFacts)) (k : ℕ) → with_changed agents k (agent_after None) ≡ agents
 unchanged agents k = unchanged-at agents k (slice_get agents k) refl
 
 -- a wake that nobody hears

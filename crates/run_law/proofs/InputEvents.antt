@@ -18,13 +18,17 @@ use Rattle.ha_loop.specs.declared.output.Output.{Output}
 use Rattle.ha_loop.specs.declared.output.Output.TheVariants as outputs
 use Rattle.ha_loop.specs.declared.output.Target.TheVariants as targets
 use Rattle.ha_loop.specs.Orders.{IsOfTable}
+use Rattle.cluster_model.specs.declared.beginning.Beginning.{Beginning}
+use Rattle.cluster_model.specs.declared.beginning.Beginning.TheVariants as beginnings
 use Rattle.cluster_model.specs.declared.heard_message.HeardMessage.{HeardMessage}
+use Rattle.cluster_model.specs.Beginnings.{begin_kinds, beginning_of, kinds_by}
 use Rattle.cluster_model.specs.Commands.{kinds_of}
 use Rattle.cluster_model.specs.Limits.{most_in_flight}
 use Rattle.summary.specs.Lacking.{lacks_in}
-use Rattle.cluster_model.specs.Losing.{beginning_kinds, loss_if}
+use Rattle.cluster_model.specs.Losing.{loss_if}
+use Rattle.wal_model.specs.declared.entry.Entry.{Entry}
 use Rattle.cluster_model.specs.Messages.{agent_message, lost_at_once, sending_events, output_events}
-use Rattle.cluster_model.specs.Orders.{declared_member, following_of, is_same_required, order_kind, promotion_kinds, arming, feeding, feed_kinds, replica_start_kinds, require_of, required_names, server_at, stop_kind, stop_kinds, stop_of, upstream_of}
+use Rattle.cluster_model.specs.Orders.{declared_member, following_of, is_same_required, order_kind, arming, feeding, feed_kinds, replica_start_kinds, require_of, required_names, server_at, stop_kind, stop_kinds, stop_of, upstream_of}
 use Rattle.cluster_model.specs.Parts.{events_of, for_some}
 use Rattle.cluster_model.specs.State.{Cluster}
 use Rattle.lease_law.specs.Premises.{AllAre}
@@ -48,13 +52,14 @@ module _ (member : Member) (run heard : ℕ) (Q : Output → Type 0) where
   loss-mine true = (refl, tt)
   loss-mine false = tt
 
-  promote-mine : (s : ServerFacts) (acknowledged : List ℕ) (test : Bool) → Q outputs.Promote → AllKinds Mine (if test then beginning_kinds member (s.timeline + 1) acknowledged s.log else [])
-  promote-mine s acknowledged true is = ((refl, is), loss-mine (lacks_in (entries_of s.log) acknowledged))
-  promote-mine s acknowledged false is = tt
+  begin-mine : (acknowledged : List ℕ) (log : Option (List Entry)) (begins : Option Beginning) → Q outputs.Begin → AllKinds Mine (kinds_by member acknowledged log begins)
+  begin-mine acknowledged log None is = tt
+  begin-mine acknowledged log (Some (beginnings.AtOnce timeline)) is = ((refl, is), loss-mine (lacks_in (entries_of log) acknowledged))
+  begin-mine acknowledged log (Some beginnings.WithItsStart) is = (refl, tt)
 
-  promotes-mine : (cluster : Cluster) (found : Option ServerFacts) → Q outputs.Promote → AllAre Mine (for_some found (λ s. events_of cluster (promotion_kinds member cluster.book.acknowledged s)))
-  promotes-mine cluster None is = tt
-  promotes-mine cluster (Some s) is = all-kinds Mine cluster (promotion_kinds member cluster.book.acknowledged s) (promote-mine s cluster.book.acknowledged (is_replica s.state) is)
+  begins-mine : (cluster : Cluster) (found : Option ServerFacts) → Q outputs.Begin → AllAre Mine (for_some found (λ s. events_of cluster (begin_kinds member cluster.book.acknowledged s)))
+  begins-mine cluster None is = tt
+  begins-mine cluster (Some s) is = all-kinds Mine cluster (begin_kinds member cluster.book.acknowledged s) (begin-mine cluster.book.acknowledged s.log (beginning_of s) is)
 
   follow-mine : (leader : Option Member) → HoldsIf Mine (following_of member leader)
   follow-mine None = tt
@@ -98,7 +103,7 @@ module _ (member : Member) (run heard : ℕ) (Q : Output → Type 0) where
 
   order-mine : (cluster : Cluster) (message : HeardMessage) → message.number ≡ heard → (output : Output) → IsOfTable output → Q output → HoldsIf Mine (order_kind cluster member message output)
   order-mine cluster message at (outputs.Send to sequence body) table is = tt
-  order-mine cluster message at outputs.Promote table is = tt
+  order-mine cluster message at outputs.Begin table is = tt
   order-mine cluster message at (outputs.StartReplica leader) table is = tt
   order-mine cluster message at (outputs.Stop reason) table is = tt
   order-mine cluster message at (outputs.Follow leader) table is = holds-then Mine (upstream_of member (slice_get cluster.book.members leader.number)) (server_at cluster member) (λ s. upstream-mine (slice_get cluster.book.members leader.number) (is_replica s.state))
@@ -119,7 +124,7 @@ module _ (member : Member) (run heard : ℕ) (Q : Output → Type 0) where
       → (output : Output) → IsOfTable output → Q output → AllAre Mine (output_events member message cluster output)
   output-mine cluster message at runs (outputs.Send targets.Store sequence body) table is = sends-mine cluster sequence body (slice_get cluster.book.agents member.id.number) runs is
   output-mine cluster message at runs (outputs.Send (targets.Member id) sequence body) table is = absurd table
-  output-mine cluster message at runs outputs.Promote table is = promotes-mine cluster (server_at cluster member) is
+  output-mine cluster message at runs outputs.Begin table is = begins-mine cluster (server_at cluster member) is
   output-mine cluster message at runs (outputs.Armed until) table is = all-kinds Mine cluster (feed_kinds member message (arming member until message)) (refl, ((refl, at, is), tt))
   output-mine cluster message at runs (outputs.Fed until) table is = all-kinds Mine cluster (feed_kinds member message (feeding member until message)) (refl, ((refl, ap (λ (n : ℕ). bases.Grant n) at, is), tt))
   output-mine cluster message at runs (outputs.StartReplica leader) table is = starts-mine cluster (declared_member cluster.book.members leader) (server_at cluster member)

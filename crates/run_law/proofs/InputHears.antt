@@ -9,7 +9,7 @@ use Rattle.lease_store.specs.declared.value.KeyEntry.{KeyEntry}
 use Rattle.lease_store.specs.declared.value.Value.{Value}
 use Rattle.lease_store.specs.declared.value.Value.TheVariants as values
 use Rattle.lease_store.specs.KeyOrder.{key_cmp}
-use Rattle.cluster_config.specs.Snapshots.{leader_held}
+use Rattle.cluster_config.specs.Snapshots.{leader_of_entry}
 use Rattle.event_book.specs.declared.link.LinkEnd.{LinkEnd}
 use Rattle.event_book.specs.declared.link.LinkEnd.TheVariants as ends
 use Rattle.event_book.specs.declared.member.Member.{Member}
@@ -42,7 +42,7 @@ use Rattle.run_law.proofs.InputSeen.{IsFound, armable-of, has-margin, is-young}
 
 -- ---- the keys of a snapshot, as agents and as the law see them
 leader-by : (revision : ℕ) (value : Value) (expiry : Option Ticks) → IsLeased (Some (record { value = value; revision = revision; expiry = expiry }))
-    → leader_entry_seen (leader_held (Some (record { value = value; revision = revision; expiry = expiry }))) ≡ seen_of (leader_key_of (Some (record { value = value; revision = revision; expiry = expiry })))
+    → leader_entry_seen (leader_of_entry (Some (record { value = value; revision = revision; expiry = expiry }))) ≡ seen_of (leader_key_of (Some (record { value = value; revision = revision; expiry = expiry })))
 leader-by revision (values.Leader member) (Some expiry) leased = refl
 leader-by revision (values.Leader member) None leased = absurd (both leased)
 leader-by revision (values.Config config) expiry leased = refl
@@ -53,9 +53,9 @@ leader-by revision (values.Status end) expiry leased = refl
 leader-by revision (values.History row) expiry leased = refl
 leader-by revision (values.Failsafe members) expiry leased = refl
 
-leader-is : (found : Option KeyEntry) → IsLeased found → leader_entry_seen (leader_held found) ≡ seen_of (leader_key_of found)
+leader-is : (found : Option KeyEntry) → IsLeased found → leader_entry_seen (leader_of_entry found) ≡ seen_of (leader_key_of found)
 leader-is None leased = refl
-leader-is (Some held) leased = leader-by held.revision held.value held.expiry leased
+leader-is (Some found) leased = leader-by found.revision found.value found.expiry leased
 
 failsafe-by : (revision : ℕ) (value : Value) (expiry : Option Ticks)
     → failsafe_entry_seen (Some (record { value = value; revision = revision; expiry = expiry })) ≡ failsafe_key_of (Some (record { value = value; revision = revision; expiry = expiry }))
@@ -70,7 +70,7 @@ failsafe-by revision (values.History row) expiry = refl
 
 failsafe-is : (found : Option KeyEntry) → failsafe_entry_seen found ≡ failsafe_key_of found
 failsafe-is None = refl
-failsafe-is (Some held) = failsafe-by held.revision held.value held.expiry
+failsafe-is (Some found) = failsafe-by found.revision found.value found.expiry
 
 -- ---- the parts of a message
 pub message-is : (message : Message) (from to : LinkEnd) (body : Body) → message.from ≡ from → message.to ≡ to → message.body ≡ body

@@ -6,7 +6,7 @@ use Rattle.std.proofs.lemmas.Option.{slice_get_within}
 use Rattle.std.proofs.Common.{◌≡◌, ◌≢◌, ◌⊎◌, ◌++◌, ◌≤◌, ◌<◌, ℕ, Bool, true, false, List, [], ◌∷◌, Option, Some, None, All, Contains, length, slice_get, refl, sym, subst, ap, ◌∙◌, inl, inr}
 use Rattle.std.proofs.lemmas.List.Elements.{All-contains_itself}
 use Rattle.std.proofs.Math.Path.{fun_ext}
-use Rattle.pat_base.specs.Changes.{changed_by}
+use Rattle.pat_base.specs.Changes.{with_changed}
 use Rattle.pat_base.specs.declared.ticks.Ticks.{Ticks}
 use Rattle.pg_model.specs.Facts.{ServerFacts}
 use Rattle.event_book.specs.declared.agent_process.AgentProcess.{AgentProcess}
@@ -228,8 +228,8 @@ module _ (head : HeadText) (book : List Event) (cluster : Cluster) (good : Bridg
   run-is : agent.knows.run ≡ run_in cluster.book.agents M
   run-is = knows-it.run ∙ sym (ap run_now knows-it.is)
 
-  module _ (acts : agent_facts_after cluster opening ≡ changed_by cluster.agents M (agent_after (Some After))) where
-    agents-are : Later.agents ≡ changed_by cluster.agents M (agent_after (Some After))
+  module _ (acts : agent_facts_after cluster opening ≡ with_changed cluster.agents M (agent_after (Some After))) where
+    agents-are : Later.agents ≡ with_changed cluster.agents M (agent_after (Some After))
     agents-are = stays.agents ∙ acts
 
     processes-are : Later.book.agents ≡ cluster.book.agents
@@ -264,9 +264,7 @@ module _ (head : HeadText) (book : List Event) (cluster : Cluster) (good : Bridg
       server = record {
         server = found.mirrors.server.server;
         is = ap (λ (l : List ServerFacts). slice_get l M) begun.servers ∙ found.mirrors.server.is;
-        state_is = found.mirrors.server.state_is;
-        stop_is = found.mirrors.server.stop_is;
-        start_is = found.mirrors.server.start_is;
+        seen_is = found.mirrors.server.seen_is;
       };
       deadline = ap (λ (l : List (Option Ticks)). slice_get l M) begun.deadlines ∙ found.mirrors.deadline;
       hold = ap (λ (l : List (Option Ticks)). slice_get l M) begun.holds ∙ found.mirrors.hold;

@@ -1,5 +1,5 @@
 -- The machine of a member behind what an input of its agent brings.
-use Rattle.pat_base.specs.Changes.{changed_by}
+use Rattle.pat_base.specs.Changes.{with_changed}
 use Rattle.std.proofs.Common.{◌≡◌, ◌+◌, ◌==◌, ◌&&◌, ◌||◌, not, nat_le, ℕ, Bool, true, false, if◌then◌else◌, List, [], ◌∷◌, Option, Some, None, length, slice_get, option_and_then, refl, sym, subst, ap, ◌∙◌}
 use Rattle.pat_base.specs.declared.server_id.ServerId.{ServerId}
 use Rattle.pat_base.specs.declared.server_state.Required.{Required}
@@ -8,8 +8,8 @@ use Rattle.pat_base.specs.declared.server_state.State.TheVariants as states
 use Rattle.pat_base.specs.declared.ticks.Ticks.{Ticks}
 use Rattle.pg_model.specs.Facts.{ServerFacts, entries_of, is_down, is_replica, is_up}
 use Rattle.pg_model.specs.declared.status.ServerStatus.{ServerStatus}
-use Rattle.pg_model.specs.Running.{is_primary, moment_after, started}
-use Rattle.pg_model.specs.Status.{status_promoted, status_replica_started, status_stopping, status_following}
+use Rattle.pg_model.specs.Running.{is_primary, moment_after, started, starting}
+use Rattle.pg_model.specs.Status.{status_promoted, status_started, status_starting, status_replica_started, status_primary_started, status_ending, status_stopping, status_following}
 use Rattle.event_book.specs.declared.agent_process.AgentProcess.{AgentProcess}
 use Rattle.event_book.specs.declared.event.EventKind.{EventKind}
 use Rattle.event_book.specs.declared.event.EventKind.TheVariants as kinds
@@ -24,128 +24,175 @@ use Rattle.event_book.specs.declared.message.Body.{Body}
 use Rattle.event_book.specs.declared.reason.Basis.TheVariants as bases
 use Rattle.event_book.specs.declared.reason.Reason.{Reason}
 use Rattle.event_book.specs.Members.{server_of, server_id_of}
-use Rattle.event_book.specs.Servers.{begun_in, starts_as_replica, stops}
+use Rattle.event_book.specs.Servers.{begun_in, starts_as_primary, starts_as_replica, stops}
 use Rattle.ha_loop.specs.declared.machine.Machine.{Machine}
 use Rattle.ha_loop.specs.declared.output.Output.{Output}
 use Rattle.ha_loop.specs.declared.output.Output.TheVariants as outputs
 use Rattle.ha_loop.specs.declared.output.Target.TheVariants as targets
-use Rattle.ha_loop.specs.Acting.{upstream_of as upstream_id}
+use Rattle.ha_loop.specs.Acting.{status_begun, upstream_of as upstream_id}
 use Rattle.ha_loop.specs.Orders.{IsOfTable, machine_after_output, with_server}
+use Rattle.cluster_model.specs.declared.beginning.Beginning.TheVariants as beginnings
 use Rattle.cluster_model.specs.declared.heard_message.HeardMessage.{HeardMessage}
 use Rattle.cluster_model.specs.Cluster.{cluster_after, cluster_over}
+use Rattle.cluster_model.specs.Beginnings.{beginning_in, begin_kinds, kinds_by}
 use Rattle.cluster_model.specs.Commands.{kinds_of}
 use Rattle.cluster_model.specs.Limits.{most_in_flight}
 use Rattle.cluster_model.specs.Messages.{agent_message, lost_at_once, sending_events, output_events}
 use Rattle.summary.specs.Lacking.{lacks_in}
-use Rattle.cluster_model.specs.Losing.{beginning_kinds, loss_if}
-use Rattle.cluster_model.specs.Orders.{declared_member, following_of, is_same_required, promotion_kinds, replica_start_kinds, require_of, required_names, server_at, stop_kind, stop_kinds, upstream_of}
+use Rattle.cluster_model.specs.Losing.{loss_if}
+use Rattle.cluster_model.specs.Orders.{declared_member, following_of, is_same_required, replica_start_kinds, require_of, required_names, server_at, stop_kind, stop_kinds, upstream_of}
 use Rattle.cluster_model.specs.Parts.{events_of, for_some}
 use Rattle.cluster_model.specs.State.{Cluster}
 use Rattle.run_law.proofs.InputStays.{item-here}
 
--- the server of a member is in this state, with these delays of its stops and starts
-pub record IsServer (cluster : Cluster) (m : ℕ) (state : State) (stop start : Ticks) : Type 0 where
+-- what is read of a server: its state, whether its last run was a primary, and how long its stops and starts take
+pub record Seen : Type 0 where
+  pub state : State
+  pub was_primary : Bool
+  pub stop : Ticks
+  pub start : Ticks
+
+abbrev pub facts_seen : ServerFacts → Seen
+facts_seen s = record { state = s.state; was_primary = s.was_primary; stop = s.stop_delay; start = s.start_delay }
+
+abbrev pub status_seen : ServerStatus → Seen
+status_seen s = record { state = s.state; was_primary = s.was_primary; stop = s.stop_delay; start = s.start_delay }
+
+-- the server of a member is seen so
+pub record IsServer (cluster : Cluster) (m : ℕ) (seen : Seen) : Type 0 where
   pub server : ServerFacts
   pub is : slice_get cluster.book.servers m ≡ Some server
-  pub state_is : server.state ≡ state
-  pub stop_is : server.stop_delay ≡ stop
-  pub start_is : server.start_delay ≡ start
+  pub seen_is : facts_seen server ≡ seen
 
 -- the member's machine, as far as the law reads it
 pub record Mirrors (cluster : Cluster) (m : ℕ) (machine : Machine) : Type 0 where
-  pub server : IsServer cluster m machine.server.state machine.server.stop_delay machine.server.start_delay
+  pub server : IsServer cluster m (status_seen machine.server)
   pub deadline : slice_get cluster.book.deadlines m ≡ Some machine.watchdog.deadline
   pub hold : slice_get cluster.book.holds m ≡ Some machine.hold
 
--- ---- what orders make of a state
-abbrev state_promoted : State → State
-state_promoted state = if is_replica state then states.Primary else state
+-- ---- what orders make of what is seen
+abbrev seen_begun : Seen → Seen
+seen_begun x = record x { state = states.Primary; was_primary = true }
 
-abbrev state_started : Ticks → Ticks → State → State
-state_started now delay state = if is_down state then (if delay.0 == 0 then states.Replica else states.Starting false (moment_after now delay)) else state
+abbrev seen_started : Bool → Seen → Seen
+seen_started true x = seen_begun x
+seen_started false x = record x { state = states.Replica }
 
-abbrev state_stopping : Ticks → Ticks → State → State
-state_stopping now delay state = if is_up state then (if delay.0 == 0 then states.Stopped else states.Stopping (is_primary state) (moment_after now delay)) else state
+abbrev seen_starting : Bool → Ticks → Seen → Seen
+seen_starting as_primary now x = if x.start.0 == 0 then seen_started as_primary x else record x { state = states.Starting as_primary (moment_after now x.start) }
+
+abbrev seen_promoted : Seen → Seen
+seen_promoted x = if is_replica x.state then seen_begun x else x
+
+abbrev seen_replica_started : Ticks → Seen → Seen
+seen_replica_started now x = if is_down x.state then seen_starting false now (record x { was_primary = false }) else x
+
+abbrev seen_primary_started : Ticks → Seen → Seen
+seen_primary_started now x = if is_down x.state && x.was_primary then seen_starting true now x else x
+
+abbrev seen_ending : Ticks → Bool → Seen → Seen
+seen_ending now primary x = if x.stop.0 == 0 then record x { state = states.Stopped } else record x { state = states.Stopping primary (moment_after now x.stop) }
+
+abbrev seen_stopping : Ticks → Seen → Seen
+seen_stopping now x = if is_up x.state then seen_ending now (is_primary x.state) x else x
+
+-- one that is down starts as a primary again, if its last run was one
+abbrev seen_again : Ticks → Seen → Seen
+seen_again now x = if x.was_primary then seen_starting true now x else x
+
+-- what the order to begin makes of it, by its state
+abbrev seen_begins : Ticks → State → Seen → Seen
+seen_begins now states.Replica x = seen_begun x
+seen_begins now states.Stopped x = seen_again now x
+seen_begins now states.Crashed x = seen_again now x
+seen_begins now _ x = x
 
 -- a field of what is chosen
 chosen : {A B : Type 0} (field : A → B) (test : Bool) (x y : A) → field (if test then x else y) ≡ (if test then field x else field y)
 chosen field true x y = refl
 chosen field false x y = refl
 
-constant : {A : Type 0} (test : Bool) (x : A) → (if test then x else x) ≡ x
-constant true x = refl
-constant false x = refl
+-- what is chosen of equal things
+chosen-same : {A : Type 0} (test : Bool) (x x' y : A) → x ≡ x' → (if test then x else y) ≡ (if test then x' else y)
+chosen-same test x x' y e = ap (λ z. if test then z else y) e
 
-promoted-state : (s : ServerStatus) → (status_promoted s).state ≡ state_promoted s.state
-promoted-state s = chosen (λ (x : ServerStatus). x.state) (is_replica s.state) (record s { state = states.Primary; timeline = s.timeline + 1; was_primary = true }) s
+status-started-at : (as_primary : Bool) (s : ServerStatus) → status_seen (status_started as_primary s) ≡ seen_started as_primary (status_seen s)
+status-started-at true s = refl
+status-started-at false s = refl
 
-promoted-delays : (s : ServerStatus) → ((status_promoted s).stop_delay ≡ s.stop_delay) × ((status_promoted s).start_delay ≡ s.start_delay)
-promoted-delays s = by (is_replica s.state)
-  where
-    by : (b : Bool) → let after : ServerStatus = (if b then record s { state = states.Primary; timeline = s.timeline + 1; was_primary = true } else s) in (after.stop_delay ≡ s.stop_delay) × (after.start_delay ≡ s.start_delay)
-    by true = (refl, refl)
-    by false = (refl, refl)
+status-starting : (as_primary : Bool) (now : Ticks) (s : ServerStatus) → status_seen (status_starting as_primary now s) ≡ seen_starting as_primary now (status_seen s)
+status-starting as_primary now s =
+    chosen status_seen (s.start_delay.0 == 0) (status_started as_primary s) (record s { state = states.Starting as_primary (moment_after now s.start_delay) })
+    ∙ chosen-same (s.start_delay.0 == 0) (status_seen (status_started as_primary s)) (seen_started as_primary (status_seen s)) (record (status_seen s) { state = states.Starting as_primary (moment_after now s.start_delay) }) (status-started-at as_primary s)
 
-started-in : (now : Ticks) (s : ServerStatus) → let after : ServerStatus = (if s.start_delay.0 == 0 then record s { state = states.Replica } else record s { state = states.Starting false (moment_after now s.start_delay) }) in
-    (after.state ≡ (if s.start_delay.0 == 0 then states.Replica else states.Starting false (moment_after now s.start_delay))) × (after.stop_delay ≡ s.stop_delay) × (after.start_delay ≡ s.start_delay)
-started-in now s = by (s.start_delay.0 == 0)
-  where
-    by : (b : Bool) → let after : ServerStatus = (if b then record s { state = states.Replica } else record s { state = states.Starting false (moment_after now s.start_delay) }) in
-        (after.state ≡ (if b then states.Replica else states.Starting false (moment_after now s.start_delay))) × (after.stop_delay ≡ s.stop_delay) × (after.start_delay ≡ s.start_delay)
-    by true = (refl, refl, refl)
-    by false = (refl, refl, refl)
+status-promoted : (s : ServerStatus) → status_seen (status_promoted s) ≡ seen_promoted (status_seen s)
+status-promoted s = chosen status_seen (is_replica s.state) (record s { state = states.Primary; timeline = s.timeline + 1; was_primary = true }) s
 
-status-started : (now : Ticks) (upstream : Option ServerId) (s : ServerStatus) → let after = status_replica_started now upstream s in
-    (after.state ≡ state_started now s.start_delay s.state) × (after.stop_delay ≡ s.stop_delay) × (after.start_delay ≡ s.start_delay)
-status-started now upstream s = by (is_down s.state)
-  where
-    changed : ServerStatus
-    changed = record s { upstream = upstream; was_primary = false }
+status-replica-started : (now : Ticks) (upstream : Option ServerId) (s : ServerStatus) → status_seen (status_replica_started now upstream s) ≡ seen_replica_started now (status_seen s)
+status-replica-started now upstream s =
+    let behind : ServerStatus = record s { upstream = upstream; was_primary = false } in
+    chosen status_seen (is_down s.state) (status_starting false now behind) s
+    ∙ chosen-same (is_down s.state) (status_seen (status_starting false now behind)) (seen_starting false now (status_seen behind)) (status_seen s) (status-starting false now behind)
 
-    by : (b : Bool) → let after : ServerStatus = (if b then (if s.start_delay.0 == 0 then record s { upstream = upstream; was_primary = false; state = states.Replica } else record s { upstream = upstream; was_primary = false; state = states.Starting false (moment_after now s.start_delay) }) else s) in
-        (after.state ≡ (if b then (if s.start_delay.0 == 0 then states.Replica else states.Starting false (moment_after now s.start_delay)) else s.state)) × (after.stop_delay ≡ s.stop_delay) × (after.start_delay ≡ s.start_delay)
-    by true = started-in now (record s { upstream = upstream; was_primary = false })
-    by false = (refl, refl, refl)
+status-primary-started : (now : Ticks) (s : ServerStatus) → status_seen (status_primary_started now s) ≡ seen_primary_started now (status_seen s)
+status-primary-started now s =
+    chosen status_seen (is_down s.state && s.was_primary) (status_starting true now s) s
+    ∙ chosen-same (is_down s.state && s.was_primary) (status_seen (status_starting true now s)) (seen_starting true now (status_seen s)) (status_seen s) (status-starting true now s)
 
-stopping-in : (now : Ticks) (primary z : Bool) (s : ServerStatus) → let after : ServerStatus = (if z then record s { state = states.Stopped } else record s { state = states.Stopping primary (moment_after now s.stop_delay) }) in
-    (after.state ≡ (if z then states.Stopped else states.Stopping primary (moment_after now s.stop_delay))) × (after.stop_delay ≡ s.stop_delay) × (after.start_delay ≡ s.start_delay)
-stopping-in now primary true s = (refl, refl, refl)
-stopping-in now primary false s = (refl, refl, refl)
+-- the order to begin, by the state of the server
+ordered-by : (now : Ticks) (state : State) (was : Bool) (stop start : Ticks) → let x : Seen = record { state = state; was_primary = was; stop = stop; start = start } in seen_primary_started now (seen_promoted x) ≡ seen_begins now state x
+ordered-by now states.Replica was stop start = refl
+ordered-by now states.Stopped was stop start = refl
+ordered-by now states.Crashed was stop start = refl
+ordered-by now _ was stop start = refl
 
-status-stopping : (now : Ticks) (s : ServerStatus) → let after = status_stopping now s in
-    (after.state ≡ state_stopping now s.stop_delay s.state) × (after.stop_delay ≡ s.stop_delay) × (after.start_delay ≡ s.start_delay)
-status-stopping now s = by (is_up s.state)
-  where
-    by : (b : Bool) → let after : ServerStatus = (if b then (if s.stop_delay.0 == 0 then record s { state = states.Stopped } else record s { state = states.Stopping (is_primary s.state) (moment_after now s.stop_delay) }) else s) in
-        (after.state ≡ (if b then (if s.stop_delay.0 == 0 then states.Stopped else states.Stopping (is_primary s.state) (moment_after now s.stop_delay)) else s.state)) × (after.stop_delay ≡ s.stop_delay) × (after.start_delay ≡ s.start_delay)
-    by true = stopping-in now (is_primary s.state) (s.stop_delay.0 == 0) s
-    by false = (refl, refl, refl)
+status-begun-seen : (now : Ticks) (s : ServerStatus) → status_seen (status_begun now s) ≡ seen_begins now s.state (status_seen s)
+status-begun-seen now s =
+    status-primary-started now (status_promoted s)
+    ∙ ap (seen_primary_started now) (status-promoted s)
+    ∙ ordered-by now s.state s.was_primary s.stop_delay s.start_delay
 
-status-following : (upstream : ServerId) (s : ServerStatus) → let after = status_following upstream s in (after.state ≡ s.state) × (after.stop_delay ≡ s.stop_delay) × (after.start_delay ≡ s.start_delay)
+status-stopping : (now : Ticks) (s : ServerStatus) → status_seen (status_stopping now s) ≡ seen_stopping now (status_seen s)
+status-stopping now s =
+    chosen status_seen (is_up s.state) (status_ending now s) s
+    ∙ chosen-same (is_up s.state) (status_seen (status_ending now s)) (seen_ending now (is_primary s.state) (status_seen s)) (status_seen s)
+    (chosen status_seen (s.stop_delay.0 == 0) (record s { state = states.Stopped }) (record s { state = states.Stopping (is_primary s.state) (moment_after now s.stop_delay) }))
+
+status-following : (upstream : ServerId) (s : ServerStatus) → status_seen (status_following upstream s) ≡ status_seen s
 status-following upstream s = by (is_replica s.state)
   where
-    by : (b : Bool) → let after : ServerStatus = (if b then record s { upstream = Some upstream; diverged = false } else s) in (after.state ≡ s.state) × (after.stop_delay ≡ s.stop_delay) × (after.start_delay ≡ s.start_delay)
-    by true = (refl, refl, refl)
-    by false = (refl, refl, refl)
+    by : (b : Bool) → let after : ServerStatus = (if b then record s { upstream = Some upstream; diverged = false } else s) in status_seen after ≡ status_seen s
+    by true = refl
+    by false = refl
 
 -- ---- what events make of a server
-begun-is : (state : State) (s : ServerFacts) → ((begun_in state s).state ≡ states.Primary) × ((begun_in state s).stop_delay ≡ s.stop_delay) × ((begun_in state s).start_delay ≡ s.start_delay)
-begun-is states.Replica s = (refl, refl, refl)
-begun-is _ s = (refl, refl, refl)
+begun-seen : (state : State) (s : ServerFacts) → facts_seen (begun_in state s) ≡ seen_begun (facts_seen s)
+begun-seen states.Replica s = refl
+begun-seen _ s = refl
 
-starting-is : (now : Ticks) (z : Bool) (s : ServerFacts) → let after : ServerFacts = (if z then started false s else record s { state = states.Starting false (moment_after now s.start_delay) }) in
-    (after.state ≡ (if z then states.Replica else states.Starting false (moment_after now s.start_delay))) × (after.stop_delay ≡ s.stop_delay) × (after.start_delay ≡ s.start_delay)
-starting-is now true s = (refl, refl, refl)
-starting-is now false s = (refl, refl, refl)
+facts-started : (as_primary : Bool) (s : ServerFacts) → facts_seen (started as_primary s) ≡ seen_started as_primary (facts_seen s)
+facts-started true s = refl
+facts-started false s = refl
 
-replica-started-is : (now : ℕ) (s : ServerFacts) → let after = starts_as_replica now s in (after.state ≡ state_started (record { 0 = now }) s.start_delay s.state) × (after.stop_delay ≡ s.stop_delay) × (after.start_delay ≡ s.start_delay)
-replica-started-is now s = by (is_down s.state)
-  where
-    by : (b : Bool) → let behind : ServerFacts = record s { upstream = None; was_primary = false } in
-        let after : ServerFacts = (if b then (if s.start_delay.0 == 0 then started false behind else record behind { state = states.Starting false (moment_after (record { 0 = now }) s.start_delay) }) else s) in
-        (after.state ≡ (if b then (if s.start_delay.0 == 0 then states.Replica else states.Starting false (moment_after (record { 0 = now }) s.start_delay)) else s.state)) × (after.stop_delay ≡ s.stop_delay) × (after.start_delay ≡ s.start_delay)
-    by true = starting-is (record { 0 = now }) (s.start_delay.0 == 0) (record s { upstream = None; was_primary = false })
-    by false = (refl, refl, refl)
+facts-starting : (as_primary : Bool) (now : Ticks) (s : ServerFacts) → facts_seen (starting as_primary now s) ≡ seen_starting as_primary now (facts_seen s)
+facts-starting as_primary now s =
+    chosen facts_seen (s.start_delay.0 == 0) (started as_primary s) (record s { state = states.Starting as_primary (moment_after now s.start_delay) })
+    ∙ chosen-same (s.start_delay.0 == 0) (facts_seen (started as_primary s)) (seen_started as_primary (facts_seen s)) (record (facts_seen s) { state = states.Starting as_primary (moment_after now s.start_delay) }) (facts-started as_primary s)
+
+facts-replica-started : (now : ℕ) (s : ServerFacts) → facts_seen (starts_as_replica now s) ≡ seen_replica_started (record { 0 = now }) (facts_seen s)
+facts-replica-started now s =
+    let at : Ticks = record { 0 = now } in
+    let behind : ServerFacts = record s { upstream = None; was_primary = false } in
+    chosen facts_seen (is_down s.state) (starting false at behind) s
+    ∙ chosen-same (is_down s.state) (facts_seen (starting false at behind)) (seen_starting false at (facts_seen behind)) (facts_seen s) (facts-starting false at behind)
+
+-- one that is down and whose starts take time starts as a primary
+slowly-started : (now : ℕ) (s : ServerFacts) (z : Bool) → (s.start_delay.0 == 0) ≡ z → is_down s.state ≡ true → z ≡ false → facts_seen (starts_as_primary now s) ≡ seen_starting true (record { 0 = now }) (facts_seen s)
+slowly-started now s z e down slow =
+    let at : Ticks = record { 0 = now } in
+    ap (λ (b : Bool). facts_seen (if b && not (s.start_delay.0 == 0) then starting true at s else s)) down
+    ∙ ap (λ (b : Bool). facts_seen (if not b then starting true at s else s)) (e ∙ slow)
+    ∙ facts-starting true at s
 
 no-both : {A : Type 0} → true ≡ false → A
 no-both e = absurd (way e)
@@ -155,44 +202,41 @@ no-both e = absurd (way e)
 
 stops-by : (now : Ticks) (s : ServerFacts) (up primary z : Bool) → (primary && z) ≡ false
     → let after : ServerFacts = (if up && (not primary || not z) then (if z then record s { state = states.Stopped; waiting = [] } else record s { state = states.Stopping primary (moment_after now s.stop_delay) }) else s) in
-    (after.state ≡ (if up then (if z then states.Stopped else states.Stopping primary (moment_after now s.stop_delay)) else s.state)) × (after.stop_delay ≡ s.stop_delay) × (after.start_delay ≡ s.start_delay)
-stops-by now s false primary z quiet = (refl, refl, refl)
-stops-by now s true false true quiet = (refl, refl, refl)
-stops-by now s true false false quiet = (refl, refl, refl)
-stops-by now s true true false quiet = (refl, refl, refl)
+    facts_seen after ≡ (if up then (if z then record (facts_seen s) { state = states.Stopped } else record (facts_seen s) { state = states.Stopping primary (moment_after now s.stop_delay) }) else facts_seen s)
+stops-by now s false primary z quiet = refl
+stops-by now s true false true quiet = refl
+stops-by now s true false false quiet = refl
+stops-by now s true true false quiet = refl
 stops-by now s true true true quiet = no-both quiet
 
-stops-is : (now : ℕ) (s : ServerFacts) → (is_primary s.state && s.stop_delay.0 == 0) ≡ false
-    → let after = stops now s in (after.state ≡ state_stopping (record { 0 = now }) s.stop_delay s.state) × (after.stop_delay ≡ s.stop_delay) × (after.start_delay ≡ s.start_delay)
-stops-is now s quiet = stops-by (record { 0 = now }) s (is_up s.state) (is_primary s.state) (s.stop_delay.0 == 0) quiet
+stops-seen : (now : ℕ) (s : ServerFacts) → (is_primary s.state && s.stop_delay.0 == 0) ≡ false → facts_seen (stops now s) ≡ seen_stopping (record { 0 = now }) (facts_seen s)
+stops-seen now s quiet = stops-by (record { 0 = now }) s (is_up s.state) (is_primary s.state) (s.stop_delay.0 == 0) quiet
 
 -- an end at once
-ended-by : (now delay : Ticks) (state : State) (up primary z : Bool) → up ≡ true → (primary && z) ≡ true → states.Stopped ≡ (if up then (if z then states.Stopped else states.Stopping primary (moment_after now delay)) else state)
-ended-by now delay state true true true up is = refl
-ended-by now delay state true true false up is = no-both (sym is)
-ended-by now delay state true false z up is = no-both (sym is)
-ended-by now delay state false primary z up is = no-both (sym up)
+ended-by : (now : Ticks) (x : Seen) (up primary z : Bool) → up ≡ true → (primary && z) ≡ true
+    → record x { state = states.Stopped } ≡ (if up then (if z then record x { state = states.Stopped } else record x { state = states.Stopping primary (moment_after now x.stop) }) else x)
+ended-by now x true true true up is = refl
+ended-by now x true true false up is = no-both (sym is)
+ended-by now x true false z up is = no-both (sym is)
+ended-by now x false primary z up is = no-both (sym up)
 
 -- ---- the server behind an event of its own
-moves : (cluster later : Cluster) (m : ℕ) (change : ServerFacts → ServerFacts) (state after : State) (stop start : Ticks) → slice_get later.book.servers m ≡ slice_get (changed_by cluster.book.servers m change) m
-    → ((s : ServerFacts) → s.state ≡ state → s.stop_delay ≡ stop → s.start_delay ≡ start → ((change s).state ≡ after) × ((change s).stop_delay ≡ stop) × ((change s).start_delay ≡ start))
-    → IsServer cluster m state stop start → IsServer later m after stop start
-moves cluster later m change state after stop start same makes old =
-    let made = makes old.server old.state_is old.stop_is old.start_is in
-    record { server = change old.server; is = same ∙ item-here cluster.book.servers m change old.server old.is; state_is = made.0; stop_is = made.1; start_is = made.2 }
+moves : (cluster later : Cluster) (m : ℕ) (change : ServerFacts → ServerFacts) (x after : Seen) → slice_get later.book.servers m ≡ slice_get (with_changed cluster.book.servers m change) m
+    → ((s : ServerFacts) → facts_seen s ≡ x → facts_seen (change s) ≡ after) → IsServer cluster m x → IsServer later m after
+moves cluster later m change x after same makes old =
+    record { server = change old.server; is = same ∙ item-here cluster.book.servers m change old.server old.is; seen_is = makes old.server old.seen_is }
 
-stays-server : (cluster later : Cluster) (m : ℕ) (state : State) (stop start : Ticks) → slice_get later.book.servers m ≡ slice_get cluster.book.servers m → IsServer cluster m state stop start → IsServer later m state stop start
-stays-server cluster later m state stop start same old = record { server = old.server; is = same ∙ old.is; state_is = old.state_is; stop_is = old.stop_is; start_is = old.start_is }
+stays-server : (cluster later : Cluster) (m : ℕ) (x : Seen) → slice_get later.book.servers m ≡ slice_get cluster.book.servers m → IsServer cluster m x → IsServer later m x
+stays-server cluster later m x same old = record { server = old.server; is = same ∙ old.is; seen_is = old.seen_is }
 
-as-server : (later : Cluster) (m : ℕ) (state after : State) (stop stop' start start' : Ticks) → after ≡ state → stop' ≡ stop → start' ≡ start → IsServer later m state stop start → IsServer later m after stop' start'
-as-server later m state after stop stop' start start' e f g is = record { server = is.server; is = is.is; state_is = is.state_is ∙ sym e; stop_is = is.stop_is ∙ sym f; start_is = is.start_is ∙ sym g }
+as-server : (later : Cluster) (m : ℕ) (x after : Seen) → after ≡ x → IsServer later m x → IsServer later m after
+as-server later m x after e is = record { server = is.server; is = is.is; seen_is = is.seen_is ∙ sym e }
 
 -- an order changes the server alone
-ordered : (cluster later : Cluster) (m : ℕ) (machine : Machine) (after : ServerStatus) (state : State) → slice_get later.book.deadlines m ≡ slice_get cluster.book.deadlines m → slice_get later.book.holds m ≡ slice_get cluster.book.holds m
-    → (after.state ≡ state) → (after.stop_delay ≡ machine.server.stop_delay) → (after.start_delay ≡ machine.server.start_delay)
-    → IsServer later m state machine.server.stop_delay machine.server.start_delay → Mirrors cluster m machine → Mirrors later m (with_server after machine)
-ordered cluster later m machine after state deadlines holds e f g is old = record {
-  server = as-server later m state after.state machine.server.stop_delay after.stop_delay machine.server.start_delay after.start_delay e f g is;
+ordered : (cluster later : Cluster) (m : ℕ) (machine : Machine) (after : ServerStatus) (x : Seen) → slice_get later.book.deadlines m ≡ slice_get cluster.book.deadlines m → slice_get later.book.holds m ≡ slice_get cluster.book.holds m
+    → status_seen after ≡ x → IsServer later m x → Mirrors cluster m machine → Mirrors later m (with_server after machine)
+ordered cluster later m machine after x deadlines holds e is old = record {
+  server = as-server later m x (status_seen after) e is;
   deadline = deadlines ∙ old.deadline;
   hold = holds ∙ old.hold;
 }
@@ -200,7 +244,7 @@ ordered cluster later m machine after state deadlines holds e f g is old = recor
 unmoved : (cluster later : Cluster) (m : ℕ) (machine : Machine) → slice_get later.book.servers m ≡ slice_get cluster.book.servers m → slice_get later.book.deadlines m ≡ slice_get cluster.book.deadlines m → slice_get later.book.holds m ≡ slice_get cluster.book.holds m
     → Mirrors cluster m machine → Mirrors later m machine
 unmoved cluster later m machine servers deadlines holds old = record {
-  server = stays-server cluster later m machine.server.state machine.server.stop_delay machine.server.start_delay servers old.server;
+  server = stays-server cluster later m (status_seen machine.server) servers old.server;
   deadline = deadlines ∙ old.deadline;
   hold = holds ∙ old.hold;
 }
@@ -218,29 +262,58 @@ module _ (member : Member) where
   loss-here cluster machine true old = unmoved cluster (cluster_after cluster (kinds.Replication (replications.Lacks (server_of member)))) member.id.number machine refl refl refl old
   loss-here cluster machine false old = old
 
-  promote-by : (cluster : Cluster) (machine : Machine) (s : ServerFacts) (acknowledged : List ℕ) (b : Bool) → is_replica machine.server.state ≡ b → Here cluster machine
-      → Here (Behind cluster (if b then beginning_kinds member (s.timeline + 1) acknowledged s.log else [])) (with_server (status_promoted machine.server) machine)
-  promote-by cluster machine s acknowledged true replica old =
-      let later = cluster_after cluster (kinds.Server (servers.Began (server_of member) (s.timeline + 1))) in
-      loss-here later (with_server (status_promoted machine.server) machine) (lacks_in (entries_of s.log) acknowledged)
-      (ordered cluster later member.id.number machine (status_promoted machine.server) states.Primary refl refl
-      (promoted-state machine.server ∙ ap (λ (b : Bool). if b then states.Primary else machine.server.state) replica)
-      (promoted-delays machine.server).0 (promoted-delays machine.server).1
-      (moves cluster later member.id.number (λ s. begun_in s.state s) machine.server.state states.Primary machine.server.stop_delay machine.server.start_delay refl
-      (λ s state stop start. let made = begun-is s.state s in (made.0, made.1 ∙ stop, made.2 ∙ start)) old.server)
-      old)
-  promote-by cluster machine s acknowledged false replica old =
-      ordered cluster cluster member.id.number machine (status_promoted machine.server) machine.server.state refl refl
-      (promoted-state machine.server ∙ ap (λ (b : Bool). if b then states.Primary else machine.server.state) replica)
-      (promoted-delays machine.server).0 (promoted-delays machine.server).1
-      old.server old
+  -- it begins at once
+  at-once : (cluster : Cluster) (machine : Machine) (after : ServerStatus) (timeline : ℕ) (test : Bool) (s : ServerFacts) → slice_get cluster.book.servers member.id.number ≡ Some s → status_seen after ≡ seen_begun (facts_seen s)
+      → Here cluster machine → Here (Behind cluster (kinds.Server (servers.Began (server_of member) timeline) ∷ kinds_of (loss_if member test))) (with_server after machine)
+  at-once cluster machine after timeline test s is e old =
+      let later = cluster_after cluster (kinds.Server (servers.Began (server_of member) timeline)) in
+      loss-here later (with_server after machine) test
+      (ordered cluster later member.id.number machine after (seen_begun (facts_seen s)) refl refl e
+      (record { server = begun_in s.state s; is = item-here cluster.book.servers member.id.number (λ s. begun_in s.state s) s is; seen_is = begun-seen s.state s }) old)
 
-  promote-here : (cluster : Cluster) (machine : Machine) → Here cluster machine
-      → Here (cluster_over cluster (for_some (server_at cluster member) (λ s. events_of cluster (promotion_kinds member cluster.book.acknowledged s)))) (with_server (status_promoted machine.server) machine)
-  promote-here cluster machine old =
+  -- or when its start is complete
+  with-start : (cluster : Cluster) (machine : Machine) (after : ServerStatus) (s : ServerFacts) → slice_get cluster.book.servers member.id.number ≡ Some s → is_down s.state ≡ true → (s.start_delay.0 == 0) ≡ false
+      → status_seen after ≡ seen_starting true (record { 0 = cluster.book.clock }) (facts_seen s)
+      → Here cluster machine → Here (cluster_after cluster (kinds.Server (servers.StartsAsPrimary (server_of member)))) (with_server after machine)
+  with-start cluster machine after s is down slow e old =
+      let later = cluster_after cluster (kinds.Server (servers.StartsAsPrimary (server_of member))) in
+      ordered cluster later member.id.number machine after (seen_starting true (record { 0 = cluster.book.clock }) (facts_seen s)) refl refl e
+      (record { server = starts_as_primary cluster.book.clock s; is = item-here cluster.book.servers member.id.number (starts_as_primary cluster.book.clock) s is; seen_is = slowly-started cluster.book.clock s false slow down refl }) old
+
+  -- nothing comes of it
+  no-start : (cluster : Cluster) (machine : Machine) (after : ServerStatus) (s : ServerFacts) → slice_get cluster.book.servers member.id.number ≡ Some s → status_seen after ≡ facts_seen s → Here cluster machine → Here cluster (with_server after machine)
+  no-start cluster machine after s is e old = ordered cluster cluster member.id.number machine after (facts_seen s) refl refl e (record { server = s; is = is; seen_is = refl }) old
+
+  again-here : (cluster : Cluster) (machine : Machine) (after : ServerStatus) (s : ServerFacts) (was z : Bool) → slice_get cluster.book.servers member.id.number ≡ Some s → is_down s.state ≡ true → s.was_primary ≡ was → (s.start_delay.0 == 0) ≡ z
+      → status_seen after ≡ seen_again (record { 0 = cluster.book.clock }) (facts_seen s) → Here cluster machine
+      → Here (Behind cluster (kinds_by member cluster.book.acknowledged s.log (if was then Some (if z then beginnings.AtOnce s.timeline else beginnings.WithItsStart) else None))) (with_server after machine)
+  again-here cluster machine after s false z is down was zero e old =
+      no-start cluster machine after s is (e ∙ ap (λ (b : Bool). if b then seen_starting true (record { 0 = cluster.book.clock }) (facts_seen s) else facts_seen s) was) old
+  again-here cluster machine after s true true is down was zero e old =
+      at-once cluster machine after s.timeline (lacks_in (entries_of s.log) cluster.book.acknowledged) s is
+      (e ∙ ap (λ (b : Bool). if b then seen_starting true (record { 0 = cluster.book.clock }) (facts_seen s) else facts_seen s) was
+      ∙ ap (λ (b : Bool). if b then seen_begun (facts_seen s) else record (facts_seen s) { state = states.Starting true (moment_after (record { 0 = cluster.book.clock }) s.start_delay) }) zero) old
+  again-here cluster machine after s true false is down was zero e old =
+      with-start cluster machine after s is down zero
+      (e ∙ ap (λ (b : Bool). if b then seen_starting true (record { 0 = cluster.book.clock }) (facts_seen s) else facts_seen s) was) old
+
+  begin-by : (cluster : Cluster) (machine : Machine) (after : ServerStatus) (s : ServerFacts) (state : State) → slice_get cluster.book.servers member.id.number ≡ Some s → s.state ≡ state
+      → status_seen after ≡ seen_begins (record { 0 = cluster.book.clock }) state (facts_seen s) → Here cluster machine
+      → Here (Behind cluster (kinds_by member cluster.book.acknowledged s.log (beginning_in state s))) (with_server after machine)
+  begin-by cluster machine after s states.Replica is here e old = at-once cluster machine after (s.timeline + 1) (lacks_in (entries_of s.log) cluster.book.acknowledged) s is e old
+  begin-by cluster machine after s states.Stopped is here e old = again-here cluster machine after s s.was_primary (s.start_delay.0 == 0) is (ap is_down here) refl refl e old
+  begin-by cluster machine after s states.Crashed is here e old = again-here cluster machine after s s.was_primary (s.start_delay.0 == 0) is (ap is_down here) refl refl e old
+  begin-by cluster machine after s _ is here e old = no-start cluster machine after s is e old
+
+  begin-here : (cluster : Cluster) (machine : Machine) → Here cluster machine
+      → Here (cluster_over cluster (for_some (server_at cluster member) (λ s. events_of cluster (begin_kinds member cluster.book.acknowledged s)))) (with_server (status_begun (record { 0 = cluster.book.clock }) machine.server) machine)
+  begin-here cluster machine old =
       let s = old.server.server in
-      subst (λ (found : Option ServerFacts). Here (cluster_over cluster (for_some found (λ s. events_of cluster (promotion_kinds member cluster.book.acknowledged s)))) (with_server (status_promoted machine.server) machine)) (sym old.server.is)
-      (promote-by cluster machine s cluster.book.acknowledged (is_replica s.state) (ap is_replica (sym old.server.state_is)) old)
+      let now : Ticks = record { 0 = cluster.book.clock } in
+      let after = status_begun now machine.server in
+      subst (λ (found : Option ServerFacts). Here (cluster_over cluster (for_some found (λ s. events_of cluster (begin_kinds member cluster.book.acknowledged s)))) (with_server after machine)) (sym old.server.is)
+      (begin-by cluster machine after s s.state old.server.is refl
+      (status-begun-seen now machine.server ∙ ap (λ (x : Seen). seen_begins now x.state x) (sym old.server.seen_is)) old)
 
   -- it follows another one, or doesn't
   follows-here : (cluster : Cluster) (machine : Machine) (leader : Option Member) → Here cluster machine → Here (Behind cluster (kinds_of (following_of member leader))) machine
@@ -248,7 +321,7 @@ module _ (member : Member) where
   follows-here cluster machine (Some leader) old =
       let later = cluster_after cluster (kinds.Server (servers.Follows (server_of member) (server_of leader))) in
       record {
-        server = moves cluster later member.id.number _ machine.server.state machine.server.state machine.server.stop_delay machine.server.start_delay refl (λ s state stop start. (state, stop, start)) old.server;
+        server = moves cluster later member.id.number _ (status_seen machine.server) (status_seen machine.server) refl (λ s seen. seen) old.server;
         deadline = old.deadline;
         hold = old.hold;
       }
@@ -261,8 +334,8 @@ module _ (member : Member) where
       → Here (Behind cluster (kinds_of (option_and_then (upstream_of member leader) (server_at cluster member)))) (with_server (status_following upstream machine.server) machine)
   follow-here cluster machine upstream leader old =
       let s = old.server.server in
-      let made = status-following upstream machine.server in
-      let with-it : Here cluster (with_server (status_following upstream machine.server) machine) = ordered cluster cluster member.id.number machine (status_following upstream machine.server) machine.server.state refl refl made.0 made.1 made.2 old.server old in
+      let with-it : Here cluster (with_server (status_following upstream machine.server) machine) =
+      ordered cluster cluster member.id.number machine (status_following upstream machine.server) (status_seen machine.server) refl refl (status-following upstream machine.server) old.server old in
       subst (λ (found : Option ServerFacts). Here (Behind cluster (kinds_of (option_and_then (upstream_of member leader) found))) (with_server (status_following upstream machine.server) machine)) (sym old.server.is)
       (follow-by cluster (with_server (status_following upstream machine.server) machine) leader (is_replica s.state) with-it)
 
@@ -272,7 +345,7 @@ module _ (member : Member) where
   require-by cluster machine required names false old =
       let later = cluster_after cluster (kinds.Replication (replications.RequiredSet (server_of member) required names)) in
       record {
-        server = moves cluster later member.id.number _ machine.server.state machine.server.state machine.server.stop_delay machine.server.start_delay refl (λ s state stop start. (state, stop, start)) old.server;
+        server = moves cluster later member.id.number _ (status_seen machine.server) (status_seen machine.server) refl (λ s seen. seen) old.server;
         deadline = old.deadline;
         hold = old.hold;
       }
@@ -290,63 +363,58 @@ module _ (member : Member) where
   start-by cluster machine upstream leader true down old =
       let now : Ticks = record { 0 = cluster.book.clock } in
       let after = status_replica_started now upstream machine.server in
-      let made = status-started now upstream machine.server in
       let later = cluster_after cluster (kinds.Server (servers.StartsAsReplica (server_of member))) in
-      let state = state_started now machine.server.start_delay machine.server.state in
+      let x = seen_replica_started now (status_seen machine.server) in
       follows-here later (with_server after machine) leader
-      (ordered cluster later member.id.number machine after state refl refl made.0 made.1 made.2
-      (moves cluster later member.id.number (starts_as_replica cluster.book.clock) machine.server.state state machine.server.stop_delay machine.server.start_delay refl
-      (λ s st stop start. let it = replica-started-is cluster.book.clock s in (it.0 ∙ ap (λ (x : Ticks). state_started now x s.state) start ∙ ap (state_started now machine.server.start_delay) st, it.1 ∙ stop, it.2 ∙ start)) old.server)
+      (ordered cluster later member.id.number machine after x refl refl (status-replica-started now upstream machine.server)
+      (moves cluster later member.id.number (starts_as_replica cluster.book.clock) (status_seen machine.server) x refl
+      (λ s seen. facts-replica-started cluster.book.clock s ∙ ap (seen_replica_started now) seen) old.server)
       old)
   start-by cluster machine upstream leader false down old =
       let now : Ticks = record { 0 = cluster.book.clock } in
-      let made = status-started now upstream machine.server in
-      ordered cluster cluster member.id.number machine (status_replica_started now upstream machine.server) machine.server.state refl refl
-      (made.0 ∙ ap (λ (b : Bool). if b then (if machine.server.start_delay.0 == 0 then states.Replica else states.Starting false (moment_after now machine.server.start_delay)) else machine.server.state) down) made.1 made.2 old.server old
+      ordered cluster cluster member.id.number machine (status_replica_started now upstream machine.server) (status_seen machine.server) refl refl
+      (status-replica-started now upstream machine.server
+      ∙ ap (λ (b : Bool). if b then seen_starting false now (record (status_seen machine.server) { was_primary = false }) else status_seen machine.server) down) old.server old
 
   start-here : (cluster : Cluster) (machine : Machine) (upstream : Option ServerId) (leader : Option Member) → Here cluster machine
       → Here (cluster_over cluster (for_some (server_at cluster member) (λ s. events_of cluster (replica_start_kinds member leader s)))) (with_server (status_replica_started (record { 0 = cluster.book.clock }) upstream machine.server) machine)
   start-here cluster machine upstream leader old =
       let s = old.server.server in
       subst (λ (found : Option ServerFacts). Here (cluster_over cluster (for_some found (λ s. events_of cluster (replica_start_kinds member leader s)))) (with_server (status_replica_started (record { 0 = cluster.book.clock }) upstream machine.server) machine)) (sym old.server.is)
-      (start-by cluster machine upstream leader (is_down s.state) (ap is_down (sym old.server.state_is)) old)
+      (start-by cluster machine upstream leader (is_down s.state) (ap (λ (x : Seen). is_down x.state) (sym old.server.seen_is)) old)
 
   -- it shuts down, where it runs or starts
   stop-kind : (cluster : Cluster) (machine : Machine) (b : Bool) → is_up machine.server.state ≡ true → (is_primary machine.server.state && machine.server.stop_delay.0 == 0) ≡ b → Here cluster machine
       → Here (cluster_after cluster (if b then kinds.Server (servers.Ended (server_of member)) else kinds.Server (servers.Stops (server_of member)))) (with_server (status_stopping (record { 0 = cluster.book.clock }) machine.server) machine)
   stop-kind cluster machine true up is old =
       let now : Ticks = record { 0 = cluster.book.clock } in
-      let made = status-stopping now machine.server in
       let later = cluster_after cluster (kinds.Server (servers.Ended (server_of member))) in
-      ordered cluster later member.id.number machine (status_stopping now machine.server) states.Stopped refl refl
-      (made.0 ∙ sym (ended-by now machine.server.stop_delay machine.server.state (is_up machine.server.state) (is_primary machine.server.state) (machine.server.stop_delay.0 == 0) up is)) made.1 made.2
-      (moves cluster later member.id.number _ machine.server.state states.Stopped machine.server.stop_delay machine.server.start_delay refl (λ s st stop start. (refl, stop, start)) old.server)
+      let x = status_seen machine.server in
+      ordered cluster later member.id.number machine (status_stopping now machine.server) (record x { state = states.Stopped }) refl refl
+      (status-stopping now machine.server ∙ sym (ended-by now x (is_up machine.server.state) (is_primary machine.server.state) (machine.server.stop_delay.0 == 0) up is))
+      (moves cluster later member.id.number _ x (record x { state = states.Stopped }) refl (λ s seen. ap (λ (y : Seen). let z : Seen = record y { state = states.Stopped } in z) seen) old.server)
       old
   stop-kind cluster machine false up is old =
       let now : Ticks = record { 0 = cluster.book.clock } in
-      let made = status-stopping now machine.server in
       let later = cluster_after cluster (kinds.Server (servers.Stops (server_of member))) in
-      ordered cluster later member.id.number machine (status_stopping now machine.server) (state_stopping now machine.server.stop_delay machine.server.state) refl refl made.0 made.1 made.2
-      (moves cluster later member.id.number (stops cluster.book.clock) machine.server.state (state_stopping now machine.server.stop_delay machine.server.state) machine.server.stop_delay machine.server.start_delay refl
-      (λ s st stop start.
-      let it = stops-is cluster.book.clock s (ap (λ (x : State). is_primary x && s.stop_delay.0 == 0) st ∙ ap (λ (x : Ticks). is_primary machine.server.state && x.0 == 0) stop ∙ is) in
-      (it.0 ∙ ap (λ (x : Ticks). state_stopping now x s.state) stop ∙ ap (state_stopping now machine.server.stop_delay) st, it.1 ∙ stop, it.2 ∙ start)) old.server)
+      let x = status_seen machine.server in
+      ordered cluster later member.id.number machine (status_stopping now machine.server) (seen_stopping now x) refl refl (status-stopping now machine.server)
+      (moves cluster later member.id.number (stops cluster.book.clock) x (seen_stopping now x) refl
+      (λ s seen. stops-seen cluster.book.clock s (ap (λ (y : Seen). is_primary y.state && y.stop.0 == 0) seen ∙ is) ∙ ap (seen_stopping now) seen) old.server)
       old
 
-  stop-by : (cluster : Cluster) (machine : Machine) (s : ServerFacts) (b : Bool) → s.state ≡ machine.server.state → s.stop_delay ≡ machine.server.stop_delay → is_up machine.server.state ≡ b → Here cluster machine
+  stop-by : (cluster : Cluster) (machine : Machine) (s : ServerFacts) (b : Bool) → facts_seen s ≡ status_seen machine.server → is_up machine.server.state ≡ b → Here cluster machine
       → Here (Behind cluster (kinds_of (if b then Some (stop_kind member s.state s.stop_delay) else None))) (with_server (status_stopping (record { 0 = cluster.book.clock }) machine.server) machine)
-  stop-by cluster machine s true state stop up old =
-      stop-kind cluster machine (is_primary s.state && s.stop_delay.0 == 0) up
-      (sym (ap (λ (x : State). is_primary x && s.stop_delay.0 == 0) state ∙ ap (λ (x : Ticks). is_primary machine.server.state && x.0 == 0) stop)) old
-  stop-by cluster machine s false state stop up old =
+  stop-by cluster machine s true seen up old =
+      stop-kind cluster machine (is_primary s.state && s.stop_delay.0 == 0) up (ap (λ (y : Seen). is_primary y.state && y.stop.0 == 0) (sym seen)) old
+  stop-by cluster machine s false seen up old =
       let now : Ticks = record { 0 = cluster.book.clock } in
-      let made = status-stopping now machine.server in
-      ordered cluster cluster member.id.number machine (status_stopping now machine.server) machine.server.state refl refl
-      (made.0 ∙ ap (λ (b : Bool). if b then (if machine.server.stop_delay.0 == 0 then states.Stopped else states.Stopping (is_primary machine.server.state) (moment_after now machine.server.stop_delay)) else machine.server.state) up) made.1 made.2 old.server old
+      ordered cluster cluster member.id.number machine (status_stopping now machine.server) (status_seen machine.server) refl refl
+      (status-stopping now machine.server ∙ ap (λ (b : Bool). if b then seen_ending now (is_primary machine.server.state) (status_seen machine.server) else status_seen machine.server) up) old.server old
 
   noted : (cluster : Cluster) (machine : Machine) (reason : Reason) → Here cluster machine → Here (cluster_after cluster (kinds.Note (notes.EndsServer member reason))) machine
   noted cluster machine reason old = record {
-    server = stays-server cluster (cluster_after cluster (kinds.Note (notes.EndsServer member reason))) member.id.number machine.server.state machine.server.stop_delay machine.server.start_delay refl old.server;
+    server = stays-server cluster (cluster_after cluster (kinds.Note (notes.EndsServer member reason))) member.id.number (status_seen machine.server) refl old.server;
     deadline = old.deadline;
     hold = old.hold;
   }
@@ -356,7 +424,7 @@ module _ (member : Member) where
   stop-here cluster machine reason old =
       let s = old.server.server in
       subst (λ (found : Option ServerFacts). Here (cluster_over cluster (for_some found (λ s. events_of cluster (stop_kinds member reason s)))) (with_server (status_stopping (record { 0 = cluster.book.clock }) machine.server) machine)) (sym old.server.is)
-      (stop-by (cluster_after cluster (kinds.Note (notes.EndsServer member reason))) machine s (is_up s.state) old.server.state_is old.server.stop_is (ap is_up (sym old.server.state_is)) (noted cluster machine reason old))
+      (stop-by (cluster_after cluster (kinds.Note (notes.EndsServer member reason))) machine s (is_up s.state) old.server.seen_is (ap (λ (x : Seen). is_up x.state) (sym old.server.seen_is)) (noted cluster machine reason old))
 
   lost-here : (cluster : Cluster) (machine : Machine) (test : Bool) (number : ℕ) → Here cluster machine → Here (Behind cluster (lost_at_once test number)) machine
   lost-here cluster machine true number old = unmoved cluster (cluster_after cluster (kinds.Message (Lost number))) member.id.number machine refl refl refl old
@@ -373,23 +441,23 @@ module _ (member : Member) where
       → Here (cluster_over cluster (output_events member message cluster output)) (machine_after_output (record { 0 = cluster.book.clock }) machine output)
   output-here cluster message machine (outputs.Send targets.Store sequence body) table old = sends-here cluster machine sequence body (slice_get cluster.book.agents member.id.number) old
   output-here cluster message machine (outputs.Send (targets.Member id) sequence body) table old = absurd table
-  output-here cluster message machine outputs.Promote table old = promote-here cluster machine old
+  output-here cluster message machine outputs.Begin table old = begin-here cluster machine old
   output-here cluster message machine (outputs.StartReplica leader) table old = start-here cluster machine (upstream_id leader) (declared_member cluster.book.members leader) old
   output-here cluster message machine (outputs.Stop reason) table old = stop-here cluster machine reason old
   output-here cluster message machine (outputs.Follow leader) table old = follow-here cluster machine (server_id_of leader) (slice_get cluster.book.members leader.number) old
   output-here cluster message machine (outputs.Require required) table old = require-here cluster machine required old
   output-here cluster message machine (outputs.Armed until) table old = record {
-    server = stays-server cluster (cluster_after (cluster_after cluster (kinds.Watchdog (watchdogs.Measured member message.sent))) (kinds.Watchdog (watchdogs.Armed member until message.number))) member.id.number machine.server.state machine.server.stop_delay machine.server.start_delay refl old.server;
+    server = stays-server cluster (cluster_after (cluster_after cluster (kinds.Watchdog (watchdogs.Measured member message.sent))) (kinds.Watchdog (watchdogs.Armed member until message.number))) member.id.number (status_seen machine.server) refl old.server;
     deadline = item-here cluster.book.deadlines member.id.number _ machine.watchdog.deadline old.deadline;
     hold = old.hold;
   }
   output-here cluster message machine (outputs.Fed until) table old = record {
-    server = stays-server cluster (cluster_after (cluster_after cluster (kinds.Watchdog (watchdogs.Measured member message.sent))) (kinds.Watchdog (watchdogs.Fed member until (bases.Grant message.number)))) member.id.number machine.server.state machine.server.stop_delay machine.server.start_delay refl old.server;
+    server = stays-server cluster (cluster_after (cluster_after cluster (kinds.Watchdog (watchdogs.Measured member message.sent))) (kinds.Watchdog (watchdogs.Fed member until (bases.Grant message.number)))) member.id.number (status_seen machine.server) refl old.server;
     deadline = item-here cluster.book.deadlines member.id.number _ machine.watchdog.deadline old.deadline;
     hold = old.hold;
   }
   output-here cluster message machine outputs.Disarmed table old = record {
-    server = stays-server cluster (cluster_after cluster (kinds.Watchdog (watchdogs.Disarmed member))) member.id.number machine.server.state machine.server.stop_delay machine.server.start_delay refl old.server;
+    server = stays-server cluster (cluster_after cluster (kinds.Watchdog (watchdogs.Disarmed member))) member.id.number (status_seen machine.server) refl old.server;
     deadline = item-here cluster.book.deadlines member.id.number _ machine.watchdog.deadline old.deadline;
     hold = old.hold;
   }

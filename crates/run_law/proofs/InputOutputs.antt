@@ -135,7 +135,7 @@ module _ (member : Member) (run : ℕ) (message : HeardMessage) where
   pub output-numbered : (cluster : Cluster) (output : Output) → Runs cluster.book.agents → IsOfTable output → AreNumberedAbove cluster.book.sent (Brings cluster output)
   output-numbered cluster (outputs.Send targets.Store sequence body) runs table = send-numbered cluster sequence body (slice_get cluster.book.agents member.id.number)
   output-numbered cluster (outputs.Send (targets.Member id) sequence body) runs table = absurd table
-  output-numbered cluster outputs.Promote runs table = other-numbered cluster outputs.Promote runs table tt
+  output-numbered cluster outputs.Begin runs table = other-numbered cluster outputs.Begin runs table tt
   output-numbered cluster (outputs.StartReplica leader) runs table = other-numbered cluster (outputs.StartReplica leader) runs table tt
   output-numbered cluster (outputs.Stop reason) runs table = other-numbered cluster (outputs.Stop reason) runs table tt
   output-numbered cluster (outputs.Follow leader) runs table = other-numbered cluster (outputs.Follow leader) runs table tt
@@ -240,7 +240,7 @@ module _ (member : Member) (run : ℕ) (message : HeardMessage) where
     aside = all-both (KeepsMomentOf message.number) before (measured cluster ∷ []) kept (tt, tt);
     fed = (refl, refl);
   }
-  arming-told cluster outputs.Promote before kept e = absurd (no-way e)
+  arming-told cluster outputs.Begin before kept e = absurd (no-way e)
     where
       no-way : false ≡ true → ⊥
       no-way e = cc

@@ -22,7 +22,7 @@ use Rattle.run_law.specs.Bridged.{IsMatched}
 use Rattle.run_law.specs.Declaring.{declared_of, margin_said, works_of, works_said}
 use Rattle.run_law.specs.Machines.{deadline_now, hold_now, live_now, run_in}
 use Rattle.run_law.specs.Volatile.{agent_now, machine_in}
-use Rattle.run_law.proofs.InputMachines.{Mirrors}
+use Rattle.run_law.proofs.InputMachines.{Mirrors, Seen}
 use Rattle.run_law.proofs.SameMachine.{machine-same}
 
 -- ---- the machine that an agent finds
@@ -41,7 +41,7 @@ found-by cluster member receives machine (Some options) (Some deadline) (Some ho
     subst (IsFound cluster member) (some-is _ machine e) (record {
       options = options;
       options_is = a;
-      mirrors = record { server = record { server = s; is = d; state_is = refl; stop_is = refl; start_is = refl }; deadline = b; hold = c };
+      mirrors = record { server = record { server = s; is = d; seen_is = refl }; deadline = b; hold = c };
       mode = refl;
       works = refl;
       margin = refl;
@@ -69,7 +69,7 @@ pub seen-of : (cluster : Cluster) (m : ℕ) (agent : AgentFacts) (machine : Mach
     → machine_in cluster m ≡ machine_seen agent.role agent.knows machine false (run_in cluster.book.agents m)
 seen-of cluster m agent machine mirrors is =
     machine-same _ _ _ _ _ _ _ _ _ _ _ _
-    (ap live_now mirrors.server.is ∙ ap live mirrors.server.state_is)
+    (ap live_now mirrors.server.is ∙ ap (λ (x : Seen). live x.state) mirrors.server.seen_is)
     (ap deadline_now mirrors.deadline ∙ deadline-is machine.watchdog.deadline)
     refl
     (ap hold_now mirrors.hold ∙ hold-is machine.hold)

@@ -1,7 +1,7 @@
 -- What an input of an agent leaves as it was, beside its member's machine.
 use Rattle.std.proofs.Common.{◌≡◌, ◌≢◌, ℕ, List, [], ◌∷◌, Some, All, slice_get, option_map, refl, sym, subst, ap, ◌∙◌}
 use Rattle.std.proofs.lemmas.List.Elements.{All-head, All-tail}
-use Rattle.pat_base.specs.Changes.{changed_by}
+use Rattle.pat_base.specs.Changes.{with_changed}
 use Rattle.pg_model.specs.Facts.{ServerFacts}
 use Rattle.event_book.specs.declared.agent_process.AgentProcess.{AgentProcess}
 use Rattle.event_book.specs.declared.event.Event.{Event}
@@ -50,7 +50,7 @@ stays-then m a b c first second = record {
 }
 
 -- the item of its own
-pub item-here : {A : Type 0} (xs : List A) (k : ℕ) (change : A → A) (x : A) → slice_get xs k ≡ Some x → slice_get (changed_by xs k change) k ≡ Some (change x)
+pub item-here : {A : Type 0} (xs : List A) (k : ℕ) (change : A → A) (x : A) → slice_get xs k ≡ Some x → slice_get (with_changed xs k change) k ≡ Some (change x)
 item-here xs k change x is = get-here xs k change ∙ ap (option_map change) is
 
 -- ---- one event of an input
@@ -75,11 +75,12 @@ module _ (member : Member) (run heard : ℕ) (Q : Output → Type 0) where
   clock-one now kinds.Tick is = absurd is
   clock-one now _ is = refl
 
-  other-one : (known : List ServerFacts) (server : ServerOf) (change : ServerFacts → ServerFacts) (n : ℕ) → n ≢ member.id.number → server ≡ server_of member → slice_get (changed_by known server.id.number change) n ≡ slice_get known n
+  other-one : (known : List ServerFacts) (server : ServerOf) (change : ServerFacts → ServerFacts) (n : ℕ) → n ≢ member.id.number → server ≡ server_of member → slice_get (with_changed known server.id.number change) n ≡ slice_get known n
   other-one known server change n other is = get-elsewhere known server.id.number n change (λ e. other (e ∙ ap (λ (s : ServerOf). s.id.number) is))
 
   servers-by : (now : ℕ) (known : List ServerFacts) (happening : ServerEvent) → Mine (kinds.Server happening) → (n : ℕ) → n ≢ member.id.number → slice_get (servers_after now known (kinds.Server happening)) n ≡ slice_get known n
   servers-by now known (servers.Began server timeline) is n other = other-one known server _ n other is.0
+  servers-by now known (servers.StartsAsPrimary server) is n other = other-one known server _ n other is
   servers-by now known (servers.StartsAsReplica server) is n other = other-one known server _ n other is
   servers-by now known (servers.Follows server upstream) is n other = other-one known server _ n other is
   servers-by now known (servers.Ended server) is n other = other-one known server _ n other is

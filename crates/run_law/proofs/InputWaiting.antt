@@ -3,7 +3,7 @@ use Rattle.std.proofs.Common.{◌≡◌, ◌≢◌, ◌⊎◌, ◌==◌, ◌≤�
 use Rattle.std.specs.Option.{ForSome}
 use Rattle.std.proofs.lemmas.List.Elements.{All-contains}
 use Rattle.pat_base.specs.declared.ticks.Ticks.{Ticks}
-use Rattle.pat_base.specs.Changes.{changed_by}
+use Rattle.pat_base.specs.Changes.{with_changed}
 use Rattle.leader_key.specs.Watchdog.{IsLeaseSpan}
 use Rattle.event_book.specs.declared.agent_process.AgentProcess.{AgentProcess}
 use Rattle.event_book.specs.declared.message.Body.{Body}
@@ -136,7 +136,7 @@ the-after (Some found) outcome agent e = some-is (record { role = outcome.role; 
 -- by whether it is the one whose input it is
 pub agents-after : (m clock : ℕ) (now : Ticks) (agent : AgentFacts) (outcome : Outcome) (asked after : ℕ → Option Question) (agents : List (Option AgentFacts)) → slice_get agents m ≡ Some (Some agent)
     → ((i : ℕ) (q : Question) → after i ≡ Some q → (asked i ≡ Some q) ⊎ IsSentBy m agent.knows.run clock outcome.outputs (Requested q)) → AsksAnew now agent.knows outcome.knows outcome.outputs → now.0 ≡ clock
-    → EndsAlone outcome.role outcome.knows.waited → AreAgentsSound asked agents → AreAgentsSound after (changed_by agents m (agent_after (Some outcome)))
+    → EndsAlone outcome.role outcome.knows.waited → AreAgentsSound asked agents → AreAgentsSound after (with_changed agents m (agent_after (Some outcome)))
 agents-after m clock now agent outcome asked after agents here questions anew at ends old n one is =
     by (n == m) refl (sym (get-changed agents m n (agent_after (Some outcome))) ∙ is)
   where
@@ -164,7 +164,7 @@ runs-after m clock run outs asked after processes in-run questions old n i q e m
 
 -- agents know themselves
 pub knows-after : (m : ℕ) (agent : AgentFacts) (outcome : Outcome) (processes : List AgentProcess) (agents : List (Option AgentFacts)) → slice_get agents m ≡ Some (Some agent)
-    → outcome.knows.who ≡ agent.knows.who → outcome.knows.run ≡ agent.knows.run → KnowThemselves processes agents → KnowThemselves processes (changed_by agents m (agent_after (Some outcome)))
+    → outcome.knows.who ≡ agent.knows.who → outcome.knows.run ≡ agent.knows.run → KnowThemselves processes agents → KnowThemselves processes (with_changed agents m (agent_after (Some outcome)))
 knows-after m agent outcome processes agents here who run old n one is =
     by (n == m) refl (sym (get-changed agents m n (agent_after (Some outcome))) ∙ is)
   where

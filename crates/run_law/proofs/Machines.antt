@@ -3,7 +3,7 @@ use Rattle.std.proofs.Common.{ℕ, ◌≡◌, ◌≢◌, ◌<◌, ◌≤◌, ◌
 use Rattle.std.proofs.lemmas.Option.{slice_get_cases, slice_get_past}
 use Rattle.std.proofs.lemmas.Bool.Decides.{nat_tests}
 use Rattle.pat_base.specs.declared.ticks.Ticks.{Ticks}
-use Rattle.pat_base.specs.Changes.{changed_by}
+use Rattle.pat_base.specs.Changes.{with_changed}
 use Rattle.pg_model.specs.Facts.{ServerFacts}
 use Rattle.event_book.specs.declared.agent_process.AgentProcess.{AgentProcess}
 use Rattle.event_book.specs.declared.reason.Basis.{Basis}
@@ -43,7 +43,7 @@ module _ {A B : Type 0} (see : Option A → B) where
 
   pub seen-put : (f : ℕ → B) (xs : List A) (k m : ℕ) (change : A → A) (x : B)
       → see (option_map change (slice_get xs k)) ≡ x → f m ≡ see (slice_get xs m)
-      → put_at f k x m ≡ see (slice_get (changed_by xs k change) m)
+      → put_at f k x m ≡ see (slice_get (with_changed xs k change) m)
   seen-put f xs k m change x here before = seen-put-at f xs k m change x (m == k) refl here before ∙ ap see (sym (get-changed xs k m change))
 
   -- nothing is seen to change
@@ -53,7 +53,7 @@ module _ {A B : Type 0} (see : Option A → B) where
   seen-kept-at xs k m change false same = refl
 
   pub seen-kept : (xs : List A) (k m : ℕ) (change : A → A) → ((found : Option A) → see (option_map change found) ≡ see found)
-      → see (slice_get (changed_by xs k change) m) ≡ see (slice_get xs m)
+      → see (slice_get (with_changed xs k change) m) ≡ see (slice_get xs m)
   seen-kept xs k m change same = ap see (get-changed xs k m change) ∙ seen-kept-at xs k m change (m == k) same
 
 -- within the list there is an item to change

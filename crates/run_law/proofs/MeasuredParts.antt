@@ -40,7 +40,7 @@ use Rattle.cluster_model.specs.State.{Cluster}
 use Rattle.cluster_model.specs.Streaming.{confirm_of, source_of, unconfirmed_end}
 use Rattle.cluster_model.specs.Ticking.{tick_events}
 use Rattle.lease_law.specs.Premises.{AllAre, Moments}
-use Rattle.run_law.specs.Asides.{IsAside, IsQuiet}
+use Rattle.run_law.specs.Asides.{IsAside, IsAsideIn, IsQuiet}
 use Rattle.run_law.proofs.Commands.{command-quiet}
 use Rattle.run_law.proofs.InputEvents.{holds-if, holds-then}
 use Rattle.run_law.proofs.Lists.{AllKinds, HoldsIf, all-kinds, one-kind}
@@ -50,11 +50,11 @@ use Rattle.run_law.proofs.Streams.{IsQuietIf, acknowledge-quiet, confirm-quiet}
 use Rattle.run_law.proofs.Ticks.{IsBeside, Rest, rest-beside}
 
 -- ---- what feeds and sends nothing
-aside-plain : (kind : EventKind) → IsAside kind → IsPlain kind
-aside-plain (kinds.Watchdog (watchdogs.Armed member until answer)) is = absurd is
-aside-plain (kinds.Watchdog (watchdogs.Fed member until basis)) is = absurd is
-aside-plain (kinds.Message (messages.Sent number message)) is = absurd is
-aside-plain _ is = tt
+aside-plain : (May : ℕ → Type 0) (kind : EventKind) → IsAsideIn May kind → IsPlain kind
+aside-plain May (kinds.Watchdog (watchdogs.Armed member until answer)) is = absurd is
+aside-plain May (kinds.Watchdog (watchdogs.Fed member until basis)) is = absurd is
+aside-plain May (kinds.Message (messages.Sent number message)) is = absurd is
+aside-plain May _ is = tt
 
 quiet-plain : (kind : EventKind) → IsQuiet kind → IsPlain kind
 quiet-plain (kinds.Watchdog happening) is = absurd is
@@ -69,16 +69,16 @@ quiet-if : (found : Option EventKind) → IsQuietIf found → HoldsIf IsPlain fo
 quiet-if None is = tt
 quiet-if (Some kind) is = quiet-plain kind is
 
-beside-plain : (events : List Event) → AllAre IsBeside events → AllAre IsPlain events
-beside-plain [] all = tt
-beside-plain (event ∷ events) all = (aside-plain event.kind all.0.0, beside-plain events all.1)
+beside-plain : (May : ℕ → Type 0) (events : List Event) → AllAre (IsBeside May) events → AllAre IsPlain events
+beside-plain May [] all = tt
+beside-plain May (event ∷ events) all = (aside-plain May event.kind all.0.0, beside-plain May events all.1)
 
 plain-if : (cluster : Cluster) (found : Option EventKind) → HoldsIf IsPlain found → AllAre IsPlain (events_of cluster (kinds_of found))
 plain-if cluster found is = all-kinds IsPlain cluster (kinds_of found) (one-kind IsPlain found is)
 
 -- ---- a tick
 pub tells-tick : Tells tick_events
-tells-tick moments cluster knows = told-plain moments cluster (tick_events cluster) (tt, beside-plain (Rest cluster) (rest-beside cluster))
+tells-tick moments cluster knows = told-plain moments cluster (tick_events cluster) (tt, beside-plain (λ n. Unit {0}) (Rest cluster) (rest-beside (λ n. Unit {0}) cluster (λ n lives. tt)))
 
 -- ---- streams
 confirm-plain : (cluster : Cluster) (member from : Member) → AllAre IsPlain (confirm_events cluster member from)

@@ -4,14 +4,14 @@ use Rattle.std.proofs.lemmas.Option.{slice_get-get_or, slice_get_cases, slice_ge
 use Rattle.std.proofs.lemmas.Bool.Decides.{nat_tests}
 use Rattle.std.proofs.lemmas.List.{get_or-set_same, get_or-set_other}
 use Rattle.std.proofs.Math.ListN.{length-set}
-use Rattle.pat_base.specs.Changes.{changed_at, changed_by}
+use Rattle.pat_base.specs.Changes.{changed_at, with_changed}
 
 length-found : {A : Type 0} (xs : List A) (k : ℕ) (change : A → A) (found : Option A) → length (changed_at xs k change found) ≡ length xs
 length-found xs k change None = refl
 length-found xs k change (Some x) = length-set xs k (change x)
 
 -- as many are left
-pub length-changed : {A : Type 0} (xs : List A) (k : ℕ) (change : A → A) → length (changed_by xs k change) ≡ length xs
+pub length-changed : {A : Type 0} (xs : List A) (k : ℕ) (change : A → A) → length (with_changed xs k change) ≡ length xs
 length-changed xs k change = length-found xs k change (slice_get xs k)
 
 same-number : (m k : ℕ) → (m == k) ≡ true → m ≡ k
@@ -41,7 +41,7 @@ get-found xs k m change (Some x) true is e =
 get-found xs k m change (Some x) false is e = set-other xs k m (change x) (other-number m k e)
 
 -- what stands at a place then
-pub get-changed : {A : Type 0} (xs : List A) (k m : ℕ) (change : A → A) → slice_get (changed_by xs k change) m ≡ cond (m == k) (option_map change (slice_get xs m)) (slice_get xs m)
+pub get-changed : {A : Type 0} (xs : List A) (k m : ℕ) (change : A → A) → slice_get (with_changed xs k change) m ≡ cond (m == k) (option_map change (slice_get xs m)) (slice_get xs m)
 get-changed xs k m change = get-found xs k m change (slice_get xs k) (m == k) refl refl
 
 -- there is an item at each place within a list
@@ -55,9 +55,9 @@ eq-other : (m k : ℕ) → m ≢ k → (m == k) ≡ false
 eq-other m k other = grind (arith, nat_tests)
 
 -- at the place that changes
-pub get-here : {A : Type 0} (xs : List A) (k : ℕ) (change : A → A) → slice_get (changed_by xs k change) k ≡ option_map change (slice_get xs k)
+pub get-here : {A : Type 0} (xs : List A) (k : ℕ) (change : A → A) → slice_get (with_changed xs k change) k ≡ option_map change (slice_get xs k)
 get-here xs k change = get-changed xs k k change ∙ ap (λ b. cond b (option_map change (slice_get xs k)) (slice_get xs k)) (eq-self k)
 
 -- and elsewhere
-pub get-elsewhere : {A : Type 0} (xs : List A) (k m : ℕ) (change : A → A) → m ≢ k → slice_get (changed_by xs k change) m ≡ slice_get xs m
+pub get-elsewhere : {A : Type 0} (xs : List A) (k m : ℕ) (change : A → A) → m ≢ k → slice_get (with_changed xs k change) m ≡ slice_get xs m
 get-elsewhere xs k m change other = get-changed xs k m change ∙ ap (λ b. cond b (option_map change (slice_get xs m)) (slice_get xs m)) (eq-other m k other)

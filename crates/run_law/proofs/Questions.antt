@@ -261,7 +261,7 @@ stray-reaches now ttl known revision o r = let armed-now : Outcome = arming now 
     (λ _. one-more now known o.knows o.outputs _ tt r) (λ _. goes-on now known armed-now.knows _ armed-now.outputs refl refl refl refl (arm-reaches now ttl known o r))
 
 begin-reaches : (now : Ticks) (known : Knowledge) (revision : ℕ) (o : Outcome) → Reaches now known o → Reaches now known (begins now revision o)
-begin-reaches now known revision o r = goes-on now known o.knows _ _ refl refl refl refl (one-more now known o.knows _ outputs.Promote tt (one-more now known o.knows o.outputs _ tt r))
+begin-reaches now known revision o r = goes-on now known o.knows _ _ refl refl refl refl (one-more now known o.knows _ outputs.Begin tt (one-more now known o.knows o.outputs _ tt r))
 
 arms-reaches : (now ttl : Ticks) (known : Knowledge) (revision : ℕ) (o : Outcome) → Reaches now known o → Reaches now known (arms now ttl revision o)
 arms-reaches now ttl known revision o r =
@@ -271,7 +271,7 @@ arms-reaches now ttl known revision o r =
 
 takes-reaches : (now ttl : Ticks) (known : Knowledge) (revision : ℕ) (o : Outcome) → Reaches now known o → Reaches now known (takes_key now ttl revision o)
 takes-reaches now ttl known revision o r =
-    if-cases (Reaches now known) (may_take now o.machine) (arms now ttl revision o) (gives_back revision o)
+    if-cases (Reaches now known) (may_take now o.knows o.machine) (arms now ttl revision o) (gives_back revision o)
     (λ _. arms-reaches now ttl known revision o r) (λ _. send-reaches now known (bodies.Request (txns.Release revision)) o tt r)
 
 granted-reaches : (now : Ticks) (known : Knowledge) (sequence : ℕ) (grant : Granted) (snapshot : SnapshotFacts) (o : Outcome) → Reaches now known o → Reaches now known (granted now sequence grant snapshot o)

@@ -1,7 +1,7 @@
 -- Events that change nothing of what the law reads keep it.
 use Rattle.std.proofs.Common.{ℕ, ◌≡◌, ◌++◌, Bool, true, false, List, [], ◌∷◌, map, slice_get, Option, Some, None, option_map, refl, ◌∙◌, ap, sym}
 use Rattle.std.proofs.lemmas.Option.{slice_get-map}
-use Rattle.pat_base.specs.Changes.{changed_by}
+use Rattle.pat_base.specs.Changes.{with_changed}
 use Rattle.pat_base.specs.ServerState.{live}
 use Rattle.pg_model.specs.Facts.{ServerFacts}
 use Rattle.event_book.specs.declared.event.AgentEvent.TheVariants as agents
@@ -51,7 +51,7 @@ live-mapped change same None = refl
 live-mapped change same (Some s) = same s
 
 -- and where the one that changes does
-pub live-one : (known : List ServerFacts) (k m : ℕ) (change : ServerFacts → ServerFacts) → ((s : ServerFacts) → live (change s).state ≡ live s.state) → live_in (changed_by known k change) m ≡ live_in known m
+pub live-one : (known : List ServerFacts) (k m : ℕ) (change : ServerFacts → ServerFacts) → ((s : ServerFacts) → live (change s).state ≡ live s.state) → live_in (with_changed known k change) m ≡ live_in known m
 live-one known k m change same = seen-kept live_now known k m change (live-mapped change same)
 
 quiet-server : (now : ℕ) (known : List ServerFacts) (happening : ServerEvent) (m : ℕ) → IsQuiet (kinds.Server happening) → live_in (servers_by now known happening) m ≡ live_in known m
@@ -66,7 +66,7 @@ pub quiet-machine : (cluster : Cluster) (kind : EventKind) → IsQuiet kind → 
 quiet-machine cluster (kinds.Store happening) is m = refl
 quiet-machine cluster (kinds.Server happening) is m = machine-same _ _ _ _ _ _ _ _ _ _ _ _ (quiet-server cluster.book.clock cluster.book.servers happening m is) refl refl refl refl refl
 quiet-machine cluster (kinds.Log happening) is m =
-    machine-same _ _ _ _ _ _ _ _ _ _ _ _ (live-kept cluster.book.servers _ m (logged-kept (λ s. live s.state) (λ s t state required confirmed. ap live state) cluster.book.servers happening)) refl refl refl refl refl
+    machine-same _ _ _ _ _ _ _ _ _ _ _ _ (live-kept cluster.book.servers _ m (logged-kept (λ s. live s.state) (λ s t live writes required confirmed. live) cluster.book.servers happening)) refl refl refl refl refl
 quiet-machine cluster (kinds.Replication happening) is m =
     machine-same _ _ _ _ _ _ _ _ _ _ _ _ (live-kept cluster.book.servers _ m (replicated-kept (λ s. live s.state) (λ s t state log. ap live state) cluster.book.servers happening)) refl refl refl refl refl
 quiet-machine cluster (kinds.Agent (agents.Suspended agent)) is m = machine-same _ _ _ _ _ _ _ _ _ _ _ _ refl refl refl refl refl (seen-kept run_now cluster.book.agents agent.id.number m _ (suspended-run true))

@@ -1,10 +1,11 @@
--- What a tick makes of machines: those whose watchdogs are due are reset, and servers end whose stops are complete.
+-- What a tick makes of machines: those whose watchdogs are due are reset, servers end whose stops are complete, and servers begin that were live
+-- before.
 use Rattle.std.proofs.Common.{ℕ, ◌≡◌, ◌≢◌, ◌<◌, ◌+◌, ◌==◌, ◌&&◌, ◌||◌, nat_le, Bool, true, false, cond, List, [], ◌∷◌, length, slice_get, Option, Some, None, option_and_then, option_map, refl, ◌∙◌, ap, sym, subst}
 use Rattle.pat_base.specs.declared.server_state.State.{State}
 use Rattle.pat_base.specs.declared.server_state.State.TheVariants as states
 use Rattle.pat_base.specs.declared.ticks.Ticks.{Ticks}
 use Rattle.pat_base.specs.ServerState.{live}
-use Rattle.pg_model.specs.Facts.{ServerFacts}
+use Rattle.pg_model.specs.Facts.{ServerFacts, entries_of}
 use Rattle.pg_model.specs.Running.{completed, started, stopped}
 use Rattle.pg_model.specs.Servers.{ticked_unless_live}
 use Rattle.event_book.specs.declared.event.EventKind.{EventKind}
@@ -15,10 +16,16 @@ use Rattle.event_book.specs.declared.member.Member.{Member}
 use Rattle.event_book.specs.Members.{server_of}
 use Rattle.event_book.proofs.Changed.{kept-each, same-if}
 use Rattle.cluster_model.specs.Cluster.{cluster_after, cluster_over}
+use Rattle.cluster_model.specs.declared.beginning.Completion.TheVariants as completions
+use Rattle.cluster_model.specs.Beginnings.{completed_by, completion_in, completion_kinds}
 use Rattle.cluster_model.specs.Commands.{kinds_of}
-use Rattle.cluster_model.specs.Parts.{each, events_of}
+use Rattle.cluster_model.specs.Losing.{loss_if}
+use Rattle.summary.specs.Lacking.{lacks_in}
+use Rattle.event_book.specs.Servers.{begun_in}
+use Rattle.event_book.specs.declared.event.ReplicationEvent.TheVariants as replications
+use Rattle.cluster_model.specs.Parts.{each, events_of, for_some}
 use Rattle.cluster_model.specs.State.{Cluster}
-use Rattle.cluster_model.specs.Ticking.{completion_by, completion_events, completion_of, reset_events, reset_of}
+use Rattle.cluster_model.specs.Ticking.{completion_events, reset_events, reset_of}
 use Rattle.lease_law.specs.States.{Machine, is_due, tick_machine}
 use Rattle.lease_law.proofs.Tools.{eq-from, ne-from}
 use Rattle.run_law.proofs.Lists.{AllKinds}
@@ -152,15 +159,6 @@ stops_now now (Some s) = stops_by now s.state
 abbrev pub stops_seen : Cluster → ℕ → Bool
 stops_seen cluster m = stops_now cluster.book.clock (slice_get cluster.book.servers m)
 
-completed-state : (now : ℕ) (x : Member) (state : State) → completion_by now x state ≡ cond (stops_by now state) (Some (kinds.Server (servers.Ended (server_of x)))) None
-completed-state now x (states.Stopping true at) = refl
-completed-state now x (states.Stopping false at) = refl
-completed-state now x _ = refl
-
-completed-found : (now : ℕ) (x : Member) (found : Option ServerFacts) → option_and_then (completion_of now x) found ≡ cond (stops_now now found) (Some (kinds.Server (servers.Ended (server_of x)))) None
-completed-found now x None = refl
-completed-found now x (Some s) = completed-state now x s.state
-
 -- the cluster behind the end of this member's server, if its stop is complete
 abbrev after-end : Cluster → Member → Bool → Cluster
 after-end cluster x ends = cluster_over cluster (events_of cluster (kinds_of (cond ends (Some (kinds.Server (servers.Ended (server_of x)))) None)))
@@ -173,10 +171,10 @@ stopped-stops : (now : ℕ) (found : Option ServerFacts) → stops_now now (opti
 stopped-stops now None = refl
 stopped-stops now (Some s) = refl
 
--- what the end of a server leaves of one machine, and of whether its stop is complete
-record EndsAs (cluster later : Cluster) (m : ℕ) (same : Bool) : Type 0 where
-  machine : machine_in later m ≡ tick_machine false (same && stops_seen cluster m) (machine_in cluster m)
-  stops : stops_seen later m ≡ cond (same && stops_seen cluster m) false (stops_seen cluster m)
+-- what a server that begins or ends leaves of one machine, and of whether its stop is complete
+pub record EndsAs (cluster later : Cluster) (m : ℕ) (same : Bool) : Type 0 where
+  pub machine : machine_in later m ≡ tick_machine false (same && stops_seen cluster m) (machine_in cluster m)
+  pub stops : stops_seen later m ≡ cond (same && stops_seen cluster m) false (stops_seen cluster m)
 
 end-at : (cluster : Cluster) (x : Member) (m : ℕ) (ends same : Bool) → stops_seen cluster x.id.number ≡ ends → (m == x.id.number) ≡ same → EndsAs cluster (after-end cluster x ends) m same
 end-at cluster x m true true is e =
@@ -202,10 +200,73 @@ end-at cluster x m false true is e =
     }
 end-at cluster x m false false is e = record { machine = refl; stops = refl }
 
-end-one : (cluster : Cluster) (x : Member) (m : ℕ) → EndsAs cluster (cluster_over cluster (completion_events cluster x)) m (m == x.id.number)
-end-one cluster x m =
-    subst (λ (o : Option EventKind). EndsAs cluster (cluster_over cluster (events_of cluster (kinds_of o))) m (m == x.id.number)) (sym (completed-found cluster.book.clock x (slice_get cluster.book.servers x.id.number)))
-    (end-at cluster x m (stops_seen cluster x.id.number) (m == x.id.number) refl refl)
+-- a server that begins was live, and its stop isn't complete
+begun-live : (state : State) (s : ServerFacts) → live (begun_in state s).state ≡ true
+begun-live states.Replica s = refl
+begun-live _ s = refl
+
+begun-stops : (now : ℕ) (state : State) (s : ServerFacts) → stops_by now (begun_in state s).state ≡ false
+begun-stops now states.Replica s = refl
+begun-stops now _ s = refl
+
+-- the cluster behind the beginning of this member's server
+abbrev after-begin : Cluster → Member → ℕ → Bool → Cluster
+after-begin cluster x timeline lacks = cluster_over cluster (events_of cluster (kinds.Server (servers.Began (server_of x) timeline) ∷ kinds_of (loss_if x lacks)))
+
+lacking-leaves : (cluster : Cluster) (x : Member) (m : ℕ) (same lacks : Bool) (before : Cluster) → EndsAs before cluster m same → EndsAs before (cluster_over cluster (events_of cluster (kinds_of (loss_if x lacks)))) m same
+lacking-leaves cluster x m same true before ends = record { machine = quiet-machine cluster (kinds.Replication (replications.Lacks (server_of x))) tt m ∙ ends.machine; stops = ends.stops }
+lacking-leaves cluster x m same false before ends = ends
+
+begin-at : (cluster : Cluster) (x : Member) (m timeline : ℕ) (lacks same : Bool) (s : ServerFacts) → slice_get cluster.book.servers x.id.number ≡ Some s → live s.state ≡ true → stops_by cluster.book.clock s.state ≡ false → (m == x.id.number) ≡ same
+    → EndsAs cluster (after-begin cluster x timeline lacks) m same
+begin-at cluster x m timeline lacks true s is lives none e =
+    let k : ℕ = x.id.number in
+    let stays : stops_seen cluster k ≡ false = ap (stops_now cluster.book.clock) is ∙ none in
+    lacking-leaves (cluster_after cluster (kinds.Server (servers.Began (server_of x) timeline))) x m true lacks cluster
+    (subst (λ (n : ℕ). EndsAs cluster (cluster_after cluster (kinds.Server (servers.Began (server_of x) timeline))) n true) (sym (eq-from m k e)) (record {
+      machine = machine-same _ _ _ _ _ _ _ _ _ _ _ _
+          (ap live_now (get-here cluster.book.servers k _) ∙ ap (λ (found : Option ServerFacts). live_now (option_map (λ s. begun_in s.state s) found)) is ∙ begun-live s.state s ∙ sym (ap live_now is ∙ lives)) refl refl refl refl refl
+          ∙ ap (λ b. tick_machine false b (machine_in cluster k)) (sym stays);
+      stops = ap (stops_now cluster.book.clock) (get-here cluster.book.servers k _) ∙ ap (λ (found : Option ServerFacts). stops_now cluster.book.clock (option_map (λ s. begun_in s.state s) found)) is
+          ∙ begun-stops cluster.book.clock s.state s ∙ sym (ap (λ b. cond b false b) stays);
+    }))
+begin-at cluster x m timeline lacks false s is lives none e =
+    let k : ℕ = x.id.number in
+    let other : m ≢ k = ne-from m k e in
+    lacking-leaves (cluster_after cluster (kinds.Server (servers.Began (server_of x) timeline))) x m false lacks cluster (record {
+      machine = machine-same _ _ _ _ _ _ _ _ _ _ _ _ (ap live_now (get-elsewhere cluster.book.servers k m _ other)) refl refl refl refl refl;
+      stops = ap (stops_now cluster.book.clock) (get-elsewhere cluster.book.servers k m _ other);
+    })
+
+-- nothing is complete at this server
+still-at : (cluster : Cluster) (x : Member) (m : ℕ) (found : Option ServerFacts) → slice_get cluster.book.servers x.id.number ≡ found → stops_now cluster.book.clock found ≡ false → EndsAs cluster cluster m (m == x.id.number)
+still-at cluster x m found is none = end-at cluster x m false (m == x.id.number) (ap (stops_now cluster.book.clock) is ∙ none) refl
+
+begin-if : (cluster : Cluster) (x : Member) (m : ℕ) (due : Bool) (s : ServerFacts) → slice_get cluster.book.servers x.id.number ≡ Some s → live s.state ≡ true → stops_by cluster.book.clock s.state ≡ false
+    → EndsAs cluster (cluster_over cluster (events_of cluster (completed_by x cluster.book.acknowledged s.log (cond due (Some (completions.Begins s.timeline)) None)))) m (m == x.id.number)
+begin-if cluster x m true s is lives none = begin-at cluster x m s.timeline (lacks_in (entries_of s.log) cluster.book.acknowledged) (m == x.id.number) s is lives none refl
+begin-if cluster x m false s is lives none = still-at cluster x m (Some s) is none
+
+end-if : (cluster : Cluster) (x : Member) (m : ℕ) (due : Bool) (s : ServerFacts) → slice_get cluster.book.servers x.id.number ≡ Some s → stops_by cluster.book.clock s.state ≡ due
+    → EndsAs cluster (cluster_over cluster (events_of cluster (completed_by x cluster.book.acknowledged s.log (cond due (Some completions.Ends) None)))) m (m == x.id.number)
+end-if cluster x m true s is due = end-at cluster x m true (m == x.id.number) (ap (stops_now cluster.book.clock) is ∙ due) refl
+end-if cluster x m false s is due = still-at cluster x m (Some s) is due
+
+complete-by : (cluster : Cluster) (x : Member) (m : ℕ) (s : ServerFacts) (state : State) → slice_get cluster.book.servers x.id.number ≡ Some s → s.state ≡ state
+    → EndsAs cluster (cluster_over cluster (events_of cluster (completed_by x cluster.book.acknowledged s.log (completion_in cluster.book.clock s.timeline state)))) m (m == x.id.number)
+complete-by cluster x m s (states.Starting true at) is here = begin-if cluster x m (nat_le at.0 cluster.book.clock) s is (ap live here) (ap (stops_by cluster.book.clock) here)
+complete-by cluster x m s (states.Starting false at) is here = still-at cluster x m (Some s) is (ap (stops_by cluster.book.clock) here)
+complete-by cluster x m s (states.Stopping true at) is here = end-if cluster x m (nat_le at.0 cluster.book.clock) s is (ap (stops_by cluster.book.clock) here)
+complete-by cluster x m s (states.Stopping false at) is here = still-at cluster x m (Some s) is (ap (stops_by cluster.book.clock) here)
+complete-by cluster x m s _ is here = still-at cluster x m (Some s) is (ap (stops_by cluster.book.clock) here)
+
+complete-at : (cluster : Cluster) (x : Member) (m : ℕ) (found : Option ServerFacts) → slice_get cluster.book.servers x.id.number ≡ found
+    → EndsAs cluster (cluster_over cluster (for_some found (λ s. events_of cluster (completion_kinds cluster.book.clock x cluster.book.acknowledged s)))) m (m == x.id.number)
+complete-at cluster x m None is = still-at cluster x m None is refl
+complete-at cluster x m (Some s) is = complete-by cluster x m s s.state is refl
+
+pub end-one : (cluster : Cluster) (x : Member) (m : ℕ) → EndsAs cluster (cluster_over cluster (completion_events cluster x)) m (m == x.id.number)
+end-one cluster x m = complete-at cluster x m (slice_get cluster.book.servers x.id.number) refl
 
 twice-ended : (machine : Machine) (same more ends : Bool)
     → tick_machine false (more && cond (same && ends) false ends) (tick_machine false (same && ends) machine) ≡ tick_machine false ((same || more) && ends) machine

@@ -2,7 +2,7 @@
 use Rattle.std.proofs.Common.{ℕ, ◌≡◌, ◌<◌, ◌==◌, Bool, true, false, cond, List, length, slice_get, Option, Some, None, option_map, refl, ◌∙◌, sym, subst, arith}
 use Rattle.std.proofs.lemmas.Option.{slice_get-map}
 use Rattle.pat_base.specs.declared.name.Name.{Name}
-use Rattle.pat_base.specs.Changes.{changed_by}
+use Rattle.pat_base.specs.Changes.{with_changed}
 use Rattle.event_book.specs.declared.agent_process.AgentProcess.{AgentProcess}
 use Rattle.event_book.specs.declared.event.AgentEvent.TheVariants as agents
 use Rattle.event_book.specs.declared.event.EventKind.{EventKind}
@@ -24,7 +24,8 @@ use Rattle.lease_law.specs.Past.{Past, first_past, past_after, runs_after}
 use Rattle.lease_law.proofs.Tools.{eq-from, none-some, put-all, some-is}
 use Rattle.bridge_law.specs.Waiting.{IsLastRun}
 use Rattle.bridge_law.proofs.Waits.{run-new}
-use Rattle.run_law.specs.Asides.{IsAside}
+use Rattle.run_law.specs.Asides.{IsAsideIn}
+use Rattle.event_book.specs.Writers.{BeginsKind}
 use Rattle.run_law.specs.Bridged.{IsMatched}
 use Rattle.run_law.specs.Declaring.{declared_members, member_count}
 use Rattle.run_law.specs.Machines.{IsWithinMembers, run_in}
@@ -34,33 +35,35 @@ use Rattle.run_law.proofs.Machines.{runs-of}
 use Rattle.run_law.proofs.Places.{get-changed}
 
 -- ---- what such an event leaves
-aside-asked : (past : Past) (kind : EventKind) → IsAside kind → (past_after past kind).asked ≡ past.asked
-aside-asked past (kinds.Message (messages.Sent number message)) is = absurd is
-aside-asked past (kinds.Message (messages.Delivered number)) is = refl
-aside-asked past (kinds.Message (messages.Lost number)) is = refl
-aside-asked past _ is = refl
+aside-asked : (May : ℕ → Type 0) (past : Past) (kind : EventKind) → IsAsideIn May kind → (past_after past kind).asked ≡ past.asked
+aside-asked May past (kinds.Message (messages.Sent number message)) is = absurd is
+aside-asked May past (kinds.Message (messages.Delivered number)) is = refl
+aside-asked May past (kinds.Message (messages.Lost number)) is = refl
+aside-asked May past _ is = refl
 
-aside-sends : (kind : EventKind) → IsAside kind → SendsAddressed kind
-aside-sends (kinds.Message (messages.Sent number message)) is = absurd is
-aside-sends (kinds.Message (messages.Delivered number)) is = tt
-aside-sends (kinds.Message (messages.Lost number)) is = tt
-aside-sends _ is = tt
+aside-sends : (May : ℕ → Type 0) (kind : EventKind) → IsAsideIn May kind → SendsAddressed kind
+aside-sends May (kinds.Message (messages.Sent number message)) is = absurd is
+aside-sends May (kinds.Message (messages.Delivered number)) is = tt
+aside-sends May (kinds.Message (messages.Lost number)) is = tt
+aside-sends May _ is = tt
 
-aside-within : (count : ℕ) (kind : EventKind) → IsAside kind → IsWithinMembers count kind
-aside-within count (kinds.Watchdog (watchdogs.Armed member until answer)) is = absurd is
-aside-within count (kinds.Watchdog (watchdogs.Fed member until basis)) is = absurd is
-aside-within count (kinds.Watchdog (watchdogs.HoldTaken member until from run sequence)) is = absurd is
-aside-within count (kinds.Server (servers.Began server timeline)) is = absurd is
-aside-within count (kinds.Agent (agents.Started agent run)) is = absurd is
-aside-within count _ is = tt
+-- whose server begins is one of so many
+pub aside-within : (May : ℕ → Type 0) (count : ℕ) (kind : EventKind) → IsAsideIn May kind → BeginsKind (λ n. n < count) kind → IsWithinMembers count kind
+aside-within May count (kinds.Watchdog (watchdogs.Armed member until answer)) is begins = absurd is
+aside-within May count (kinds.Watchdog (watchdogs.Fed member until basis)) is begins = absurd is
+aside-within May count (kinds.Watchdog (watchdogs.HoldTaken member until from run sequence)) is begins = absurd is
+aside-within May count (kinds.Server (servers.Began server timeline)) is begins = begins
+aside-within May count (kinds.Agent (agents.Started agent run)) is begins = absurd is
+aside-within May count _ is begins = tt
 
-aside-runs : (runs : ℕ → ℕ) (kind : EventKind) (m : ℕ) → IsAside kind → runs_after runs kind m ≡ runs m
-aside-runs runs (kinds.Agent (agents.Started agent run)) m is = absurd is
-aside-runs runs (kinds.Agent _) m is = refl
-aside-runs runs _ m is = refl
+aside-runs : (May : ℕ → Type 0) (runs : ℕ → ℕ) (kind : EventKind) (m : ℕ) → IsAsideIn May kind → runs_after runs kind m ≡ runs m
+aside-runs May runs (kinds.Agent (agents.Started agent run)) m is = absurd is
+aside-runs May runs (kinds.Agent _) m is = refl
+aside-runs May runs _ m is = refl
 
-same-run : (processes : List AgentProcess) (kind : EventKind) (m : ℕ) → IsAside kind → run_in (agents_after processes kind) m ≡ run_in processes m
-same-run processes kind m is = sym (runs-of (run_in processes) processes kind (aside-within (length processes) kind is) (λ n. refl) m) ∙ aside-runs (run_in processes) kind m is
+same-run : (May : ℕ → Type 0) (processes : List AgentProcess) (kind : EventKind) (m : ℕ) → IsAsideIn May kind → run_in (agents_after processes kind) m ≡ run_in processes m
+same-run May processes (kinds.Server happening) m is = refl
+same-run May processes kind m is = sym (runs-of (run_in processes) processes kind (aside-within May (length processes) kind is tt) (λ n. refl) m) ∙ aside-runs May (run_in processes) kind m is
 
 -- an agent that is left was there
 left-by : (found : Option (Option AgentFacts)) (same : Bool) (agent : AgentFacts) → cond same (option_map (λ (agent : Option AgentFacts). let none : Option AgentFacts = None in none) found) found ≡ Some (Some agent) → found ≡ Some (Some agent)
@@ -68,26 +71,26 @@ left-by found false agent e = e
 left-by None true agent e = absurd (none-some (Some agent) e)
 left-by (Some found) true agent e = absurd (none-some agent (some-is None (Some agent) e))
 
-left-there : (agents : List (Option AgentFacts)) (k m : ℕ) (agent : AgentFacts) → slice_get (changed_by agents k (λ agent. None)) m ≡ Some (Some agent) → slice_get agents m ≡ Some (Some agent)
+left-there : (agents : List (Option AgentFacts)) (k m : ℕ) (agent : AgentFacts) → slice_get (with_changed agents k (λ agent. None)) m ≡ Some (Some agent) → slice_get agents m ≡ Some (Some agent)
 left-there agents k m agent e = left-by (slice_get agents m) (m == k) agent (sym (get-changed agents k m (λ agent. None)) ∙ e)
 
-aside-left : (cluster : Cluster) (kind : EventKind) (m : ℕ) (agent : AgentFacts) → IsAside kind → slice_get (agent_facts_after cluster kind) m ≡ Some (Some agent) → slice_get cluster.agents m ≡ Some (Some agent)
-aside-left cluster (kinds.Message (messages.Sent number message)) m agent is e = absurd is
-aside-left cluster (kinds.Message (messages.Delivered number)) m agent is e = absurd is
-aside-left cluster (kinds.Watchdog (watchdogs.Reset member)) m agent is e = left-there cluster.agents member.id.number m agent e
-aside-left cluster (kinds.Agent (agents.Woken member)) m agent is e = absurd is
-aside-left cluster (kinds.Agent (agents.Killed member)) m agent is e = left-there cluster.agents member.id.number m agent e
-aside-left cluster (kinds.Agent (agents.Started member run)) m agent is e = absurd is
-aside-left cluster _ m agent is e = e
+aside-left : (May : ℕ → Type 0) (cluster : Cluster) (kind : EventKind) (m : ℕ) (agent : AgentFacts) → IsAsideIn May kind → slice_get (agent_facts_after cluster kind) m ≡ Some (Some agent) → slice_get cluster.agents m ≡ Some (Some agent)
+aside-left May cluster (kinds.Message (messages.Sent number message)) m agent is e = absurd is
+aside-left May cluster (kinds.Message (messages.Delivered number)) m agent is e = absurd is
+aside-left May cluster (kinds.Watchdog (watchdogs.Reset member)) m agent is e = left-there cluster.agents member.id.number m agent e
+aside-left May cluster (kinds.Agent (agents.Woken member)) m agent is e = absurd is
+aside-left May cluster (kinds.Agent (agents.Killed member)) m agent is e = left-there cluster.agents member.id.number m agent e
+aside-left May cluster (kinds.Agent (agents.Started member run)) m agent is e = absurd is
+aside-left May cluster _ m agent is e = e
 
-pub waiting-aside : (head : HeadText) (past : Past) (cluster : Cluster) (kind : EventKind) → IsAside kind → IsMatched head past cluster
+pub waiting-aside : (May : ℕ → Type 0) (head : HeadText) (past : Past) (cluster : Cluster) (kind : EventKind) → IsAsideIn May kind → IsMatched head past cluster
     → AgentsAreSound (past_after past kind) (cluster_after cluster kind)
-waiting-aside head past cluster kind aside old =
-    let asked = aside-asked past kind aside in
+waiting-aside May head past cluster kind aside old =
+    let asked = aside-asked May past kind aside in
     record {
-      carried = carried-by past cluster.book kind (record { store = old.store; flight = old.flight }) (aside-sends kind aside) old.waiting.carried;
-      runs = λ m. subst (λ (n : ℕ). IsLastRun (past_after past kind).asked m n) (sym (same-run cluster.book.agents kind m aside)) (subst (λ (a : ℕ → Option Question). IsLastRun a m (run_in cluster.book.agents m)) (sym asked) (old.waiting.runs m));
-      agents = λ m agent e. subst (λ (a : ℕ → Option Question). IsAgentSound a m agent) (sym asked) (old.waiting.agents m agent (aside-left cluster kind m agent aside e));
+      carried = carried-by past cluster.book kind (record { store = old.store; flight = old.flight }) (aside-sends May kind aside) old.waiting.carried;
+      runs = λ m. subst (λ (n : ℕ). IsLastRun (past_after past kind).asked m n) (sym (same-run May cluster.book.agents kind m aside)) (subst (λ (a : ℕ → Option Question). IsLastRun a m (run_in cluster.book.agents m)) (sym asked) (old.waiting.runs m));
+      agents = λ m agent e. subst (λ (a : ℕ → Option Question). IsAgentSound a m agent) (sym asked) (old.waiting.agents m agent (aside-left May cluster kind m agent aside e));
     }
 
 -- ---- the start of an agent

@@ -28,8 +28,9 @@ pub record IsQuestionOf (member : Member) (run : ℕ) (Q : Output → Type 0) (m
 abbrev pub IsOfInput : Member → ℕ → ℕ → (Output → Type 0) → EventKind → Type 0
 IsOfInput member run heard Q (kinds.Message (messages.Sent number message)) = IsQuestionOf member run Q message
 IsOfInput member run heard Q (kinds.Message (messages.Lost number)) = Unit {0}
-IsOfInput member run heard Q (kinds.Server (servers.Began server timeline)) = (server ≡ server_of member) × Q outputs.Promote
+IsOfInput member run heard Q (kinds.Server (servers.Began server timeline)) = (server ≡ server_of member) × Q outputs.Begin
 IsOfInput member run heard Q (kinds.Server (servers.StartsAsReplica server)) = server ≡ server_of member
+IsOfInput member run heard Q (kinds.Server (servers.StartsAsPrimary server)) = server ≡ server_of member
 IsOfInput member run heard Q (kinds.Server (servers.Follows server upstream)) = server ≡ server_of member
 IsOfInput member run heard Q (kinds.Server (servers.Ended server)) = server ≡ server_of member
 IsOfInput member run heard Q (kinds.Server (servers.Stops server)) = server ≡ server_of member

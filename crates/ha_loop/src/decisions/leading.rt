@@ -1,19 +1,19 @@
 //! What an agent does with a lease that it gets.
 ghost use Rattle.std.specs.Prelude.{◌≡◌, ◌≤◌, ◌<◌, ◌+◌, ◌*◌, ◌-◌, ◌^◌, Some, None, false, true, is_err};
-ghost use Rattle.pg_model.specs.Facts.{is_replica};
 ghost use Rattle.leader_key.specs.Lease.{lease_revision, armed_revision, writer_revision};
 ghost use Rattle.leader_key.specs.Watchdog.{IsLeaseSpan};
-ghost use Rattle.ha_loop.specs.Acting.{is_refusing, is_held, arming, feeding};
+ghost use Rattle.ha_loop.specs.Acting.{is_refusing, is_hold_active, arming, feeding};
 ghost use Rattle.ha_loop.specs.Agents.{IsSound, IsWithin, Follower, Leader, Stray, role_of, made, latest};
-ghost use Rattle.ha_loop.specs.Decisions.{has_lasted, is_start_too_long, judges_start, leader_renewed, takes_over, stray_renewed, may_take, gives_back, begins, arms, takes_key};
+ghost use Rattle.ha_loop.specs.Decisions.{has_lasted, is_start_too_long, judges_start, leader_renewed, takes_over, stray_renewed, since_crash, may_start_again, can_begin, may_take, gives_back, begins, arms, takes_key};
 
-use crate::acting::{arm, end_server, feed, is_held, release};
+use crate::acting::{arm, end_server, feed, is_hold_active, release};
 use crate::role::Role;
 use crate::{Knowledge, Machine, Output, Outputs, Why};
 use event_book::Reason;
 use leader_key::{Armed, Lease, Writer};
 use lease_store::Granted;
 use pat_base::{Required, State, Ticks};
+use pg_model::ServerStatus;
 
 /// The lease of a leader is renewed: its watchdog is fed.
 pub(super) fn leader_renewed(
@@ -134,7 +134,7 @@ pub(super) fn take_key(
     ensures numbers { knows.new.sequence ≤ knows.old.sequence + 1 }
     ensures room { out.old.spare ≤ out.new.spare + 3 }
 {
-    if !may_take(now, machine) {
+    if !may_take(now, knows, machine) {
         release(lease, knows, out);
         return Role::Follower;
     }
@@ -148,14 +148,44 @@ pub(super) fn take_key(
     }
 }
 
-/// A member may take the leader key: its server is a running replica, and no hold is active.
-fn may_take(now: Ticks, machine: &Machine) -> bool
-    ensures { result ≡ may_take now machine.now }
+/// A member may take the leader key: no hold is active, and its server can begin.
+fn may_take(now: Ticks, knows: &Knowledge, machine: &Machine) -> bool
+    ensures { result ≡ may_take now knows.now machine.now }
 {
-    !is_held(now, machine.hold) && matches!(machine.server.state, State::Replica)
+    !is_hold_active(now, machine.hold) && can_begin(now, knows, &machine.server)
 }
 
-/// The member begins: commits wait for nobody, and the server is promoted.
+/// The server can begin to accept writes: a replica, or one that is down and may start as a primary again.
+fn can_begin(now: Ticks, knows: &Knowledge, server: &ServerStatus) -> bool
+    ensures { result ≡ can_begin now knows.now server.now server.now.state }
+{
+    match server.state {
+        State::Replica => true,
+        State::Stopped | State::Crashed => may_start_again(now, knows, server),
+        _ => false,
+    }
+}
+
+/// A server that is down may start as a primary again: its last run was one, and since its crash less time has passed than the
+/// start of a primary may take (Patroni's documentation, "Dynamic Configuration Settings": `primary_start_timeout`).
+fn may_start_again(now: Ticks, knows: &Knowledge, server: &ServerStatus) -> bool
+    ensures { result ≡ may_start_again now knows.now server.now }
+{
+    let span = knows.turn_settings.primary_start_timeout_ticks();
+    server.was_primary && since_crash(now, knows.crashed) < span.0
+}
+
+/// So many ticks have passed since the crash was noted; none where none was.
+fn since_crash(now: Ticks, crashed: Option<Ticks>) -> u64
+    ensures { result ≡ since_crash now crashed }
+{
+    match crashed {
+        None => 0,
+        Some(crashed) => now.0.saturating_sub(crashed.0),
+    }
+}
+
+/// The member begins: commits wait for nobody, and the server begins to accept writes.
 fn begin(
     armed: Armed,
     knows: &mut Knowledge,
@@ -164,6 +194,7 @@ fn begin(
     now: Ticks,
 ) -> Role
     requires sound { IsSound knows.old }
+    requires moment { now.0 ≤ latest }
     requires server { IsWithin machine.old.server }
     requires room { 2 ≤ out.old.spare }
     ensures outcome { made (role_of result) knows.new machine.new out.new.outputs ≡ begins now (armed_revision armed) (made Follower knows.old machine.old out.old.outputs) }
@@ -176,7 +207,8 @@ fn begin(
     out.put(Output::Require {
         required: Required::Nobody,
     });
-    out.put(Output::Promote);
+    out.put(Output::Begin);
     machine.server.promote();
+    machine.server.start_primary(now);
     Role::Leader(Writer::begin(armed))
 }
