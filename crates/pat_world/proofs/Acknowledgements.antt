@@ -1,5 +1,5 @@
 -- Commits that are acknowledged, one event at a time.
-use Rattle.std.proofs.Common.{◌≡◌, ℕ, suc, zero, ◌+◌, ◌<◌, ◌&&◌, Bool, true, false, List, [], ◌∷◌, ◌++◌, length, map, drop, All, Option, Some, None, ◌⊎◌, inl, inr, append_assoc, arith, refl, ◌∙◌, ap, sym, subst}
+use Rattle.std.proofs.Common.{◌≡◌, ℕ, suc, zero, ◌+◌, ◌<◌, ◌&&◌, Bool, true, false, List, [], ◌∷◌, ◌++◌, length, drop, All, Option, Some, None, ◌⊎◌, inl, inr, append_assoc, arith, refl, ◌∙◌, ap, sym, subst}
 use Rattle.std.specs.Prelude.{slice_get, slice_set, option_and_then, if◌then◌else◌}
 use Rattle.std.proofs.lemmas.Bool.{cases_eq}
 use Rattle.std.proofs.lemmas.List.Elements.{All-nil, All-cons}
@@ -7,7 +7,7 @@ use Rattle.std.proofs.lemmas.Option.{slice_get_within}
 use Rattle.pat_base.specs.declared.server_state.Required.{Required}
 use Rattle.pat_base.specs.declared.lsn.Lsn.{Lsn}
 use Rattle.pat_base.specs.declared.ticks.Ticks.{Ticks}
-use Rattle.pat_base.specs.Changes.{changed_at, changed_by}
+use Rattle.pat_base.specs.Changes.{changed_at, with_changed}
 use Rattle.pat_base.specs.ServerState.{writes}
 use Rattle.pg_model.specs.declared.waiting.Waiting.{Waiting}
 use Rattle.pg_model.specs.Facts.{ServerFacts}
@@ -98,7 +98,7 @@ none-of true required confirmed (first ∷ more) is = none-met (is_met required 
 pub ready-none : (s : ServerFacts) → next_acknowledged s ≡ None → (may_acknowledge s ≡ false) × (ready_commits s ≡ [])
 ready-none s is = none-of (writes s.state) s.required s.confirmed s.waiting is
 
-got-with : (known : List ServerFacts) (place : ℕ) (s : ServerFacts) (change : ServerFacts → ServerFacts) → slice_get known place ≡ Some s → slice_get (changed_by known place change) place ≡ Some (change s)
+got-with : (known : List ServerFacts) (place : ℕ) (s : ServerFacts) (change : ServerFacts → ServerFacts) → slice_get known place ≡ Some s → slice_get (with_changed known place change) place ≡ Some (change s)
 got-with known place s change is =
     ap (λ (o : Option ServerFacts). slice_get (changed_at known place change o) place) is ∙ got-set_same known place (change s) (slice_get_within known place s is)
 
@@ -133,17 +133,17 @@ HasRoom-acknowledged cluster member commit events room = record {
 
 -- what the loop does once
 pub acknowledged-one : (cluster : Cluster) (member : Member) (commit : ℕ) (s : ServerFacts) (server : ServerOf) (known : List ServerFacts) (told : List ℕ) (tick : Ticks) (has longer : List Event)
-    → slice_get cluster.book.servers member.id.number ≡ Some s → next_acknowledged s ≡ Some commit → known ≡ changed_by cluster.book.servers member.id.number acknowledged
+    → slice_get cluster.book.servers member.id.number ≡ Some s → next_acknowledged s ≡ Some commit → known ≡ with_changed cluster.book.servers member.id.number acknowledged
     → told ≡ cluster.book.acknowledged ++ commit ∷ [] → server ≡ server_of member → tick.0 ≡ cluster.book.clock
     → longer ≡ has ++ record { tick = tick; kind = kinds.Replication (replications.Acknowledged server commit) } ∷ []
     → Emits cluster (telling cluster known told) has longer (event_of cluster (acknowledgement member commit)) 0
 acknowledged-one cluster member commit s server known told tick has longer there next known_is told_is server_is at longer_is =
     let place = member.id.number in
     let kind : EventKind = acknowledgement member commit in
-    let servers : known ≡ changed_by cluster.book.servers place one_told = known_is ∙ ap (changed_at cluster.book.servers place acknowledged) there
+    let servers : known ≡ with_changed cluster.book.servers place one_told = known_is ∙ ap (changed_at cluster.book.servers place acknowledged) there
     ∙ ap (slice_set cluster.book.servers place) (ready-next s commit next).1 ∙ sym (ap (changed_at cluster.book.servers place one_told) there) in
     let state : telling cluster known told ≡ cluster_after cluster kind = ap (λ (xs : List ServerFacts). telling cluster xs told) servers
-    ∙ ap (telling cluster (changed_by cluster.book.servers place one_told)) told_is ∙ sym (serving-cluster_after cluster kind tt) in
+    ∙ ap (telling cluster (with_changed cluster.book.servers place one_told)) told_is ∙ sym (serving-cluster_after cluster kind tt) in
     record {
       state = state;
       event = longer_is ∙ ap (λ (x : ServerOf). has ++ record { tick = tick; kind = kinds.Replication (replications.Acknowledged x commit) } ∷ []) server_is ∙ ap (λ es. has ++ es) (stamped-is cluster tick kind at);
@@ -152,25 +152,25 @@ acknowledged-one cluster member commit s server known told tick has longer there
 
 -- who waits for a commit no longer lacks no other one
 pub losses-same : (known : List ServerFacts) (place : ℕ) (s : ServerFacts) (commit : ℕ) (members : List Member) → slice_get known place ≡ Some s
-    → losses_of commit (changed_by known place one_told) members ≡ losses_of commit known members
+    → losses_of commit (with_changed known place one_told) members ≡ losses_of commit known members
 losses-same known place s commit [] there = refl
 losses-same known place s commit (member ∷ members) there =
-    ap (λ (ks : List EventKind). ks ++ losses_of commit (changed_by known place one_told) members) (at (cases_eq member.id.number place))
+    ap (λ (ks : List EventKind). ks ++ losses_of commit (with_changed known place one_told) members) (at (cases_eq member.id.number place))
     ∙ ap (λ (ks : List EventKind). loss_of commit member (slice_get known member.id.number) ++ ks) (losses-same known place s commit members there)
   where
-    at : (member.id.number ≡ place) ⊎ (member.id.number ≡ place → ⊥) → loss_of commit member (slice_get (changed_by known place one_told) member.id.number) ≡ loss_of commit member (slice_get known member.id.number)
+    at : (member.id.number ≡ place) ⊎ (member.id.number ≡ place → ⊥) → loss_of commit member (slice_get (with_changed known place one_told) member.id.number) ≡ loss_of commit member (slice_get known member.id.number)
     at (inl e) =
-        ap (λ (n : ℕ). loss_of commit member (slice_get (changed_by known place one_told) n)) e ∙ ap (loss_of commit member) (got-with known place s one_told there)
+        ap (λ (n : ℕ). loss_of commit member (slice_get (with_changed known place one_told) n)) e ∙ ap (loss_of commit member) (got-with known place s one_told there)
         ∙ ap (loss_of commit member) (sym there) ∙ ap (λ (n : ℕ). loss_of commit member (slice_get known n)) (sym e)
     at (inr other) =
         ap (loss_of commit member) (ap (λ (o : Option ServerFacts). slice_get (changed_at known place one_told o) member.id.number) there ∙ got-set_other known place member.id.number (one_told s) other)
 
 -- so the other acknowledgements stay as they are
 pub acknowledgements-same : (known : List ServerFacts) (place : ℕ) (s : ServerFacts) (members : List Member) (member : Member) (commits : List ℕ) → slice_get known place ≡ Some s
-    → acknowledgements (changed_by known place one_told) members member commits ≡ acknowledgements known members member commits
+    → acknowledgements (with_changed known place one_told) members member commits ≡ acknowledgements known members member commits
 acknowledgements-same known place s members member [] there = refl
 acknowledgements-same known place s members member (commit ∷ commits) there =
-    ap (λ (ks : List EventKind). acknowledgement member commit ∷ (ks ++ acknowledgements (changed_by known place one_told) members member commits)) (losses-same known place s commit members there)
+    ap (λ (ks : List EventKind). acknowledgement member commit ∷ (ks ++ acknowledgements (with_changed known place one_told) members member commits)) (losses-same known place s commit members there)
     ∙ ap (λ (ks : List EventKind). acknowledgement member commit ∷ (losses_of commit known members ++ ks)) (acknowledgements-same known place s members member commits there)
 
 -- a commit is acknowledged, and it is told who lacks it
@@ -217,7 +217,7 @@ acknowledged-rest cluster member commit s there next =
 
 pub acknowledge-more : (start cluster view : Cluster) (member : Member) (commit : ℕ) (server : ServerOf) (known : List ServerFacts) (told : List ℕ) (tick : Ticks) (had has longer longest whole : List Event)
     → Left start cluster had has whole (acknowledge_events cluster member) 0 0 → option_and_then next_acknowledged (slice_get cluster.book.servers member.id.number) ≡ Some commit
-    → known ≡ changed_by cluster.book.servers member.id.number acknowledged → told ≡ cluster.book.acknowledged ++ commit ∷ [] → server ≡ server_of member → tick.0 ≡ cluster.book.clock
+    → known ≡ with_changed cluster.book.servers member.id.number acknowledged → told ≡ cluster.book.acknowledged ++ commit ∷ [] → server ≡ server_of member → tick.0 ≡ cluster.book.clock
     → longer ≡ has ++ record { tick = tick; kind = kinds.Replication (replications.Acknowledged server commit) } ∷ []
     → telling cluster known told ≡ view → longest ≡ longer ++ at_once view (losses_of commit view.book.servers view.book.members)
     → Left start (telling cluster known told) had longest whole (acknowledge_events (telling cluster known told) member) 0 0
@@ -226,7 +226,7 @@ acknowledge-more start cluster view member commit server known told tick had has
     let place = member.id.number in
     let after = telling cluster known told in
     let losses = losses_of commit cluster.book.servers cluster.book.members in
-    let servers : known ≡ changed_by cluster.book.servers place one_told = known_is ∙ ap (changed_at cluster.book.servers place acknowledged) found.1
+    let servers : known ≡ with_changed cluster.book.servers place one_told = known_is ∙ ap (changed_at cluster.book.servers place acknowledged) found.1
     ∙ ap (slice_set cluster.book.servers place) (ready-next found.0 commit found.2).1 ∙ sym (ap (changed_at cluster.book.servers place one_told) found.1) in
     let lost : losses_of commit known cluster.book.members ≡ losses = ap (λ (xs : List ServerFacts). losses_of commit xs cluster.book.members) servers ∙ losses-same cluster.book.servers place found.0 commit cluster.book.members found.1 in
     let written : longest ≡ longer ++ at_once after losses = longest_is ∙ ap (λ (c : Cluster). longer ++ at_once c (losses_of commit c.book.servers c.book.members)) (sym view_is) ∙ ap (λ (ks : List EventKind). longer ++ at_once after ks) lost in
@@ -237,7 +237,7 @@ acknowledge-more start cluster view member commit server known told tick had has
     (Emits-then cluster after after has longer longest (event_of cluster (acknowledgement member commit)) (λ later. at_once later losses) 0 0 0 one two (omega arith)) (omega arith)
 
 -- fewer commits wait
-pub acknowledge-fewer : (known after : List ServerFacts) (place commit : ℕ) → option_and_then next_acknowledged (slice_get known place) ≡ Some commit → after ≡ changed_by known place acknowledged
+pub acknowledge-fewer : (known after : List ServerFacts) (place commit : ℕ) → option_and_then next_acknowledged (slice_get known place) ≡ Some commit → after ≡ with_changed known place acknowledged
     → waiting_at (slice_get after place) < waiting_at (slice_get known place)
 acknowledge-fewer known after place commit is after_is =
     let found = found-next (slice_get known place) commit is in
@@ -246,7 +246,7 @@ acknowledge-fewer known after place commit is after_is =
     subst (λ (o : Option ServerFacts). waiting_at o < waiting_at (slice_get known place)) (sym later)
     (subst (λ (o : Option ServerFacts). length (one_told found.0).waiting < waiting_at o) (sym found.1) ready.2)
 
-none-left : (known : List ServerFacts) (place : ℕ) (found : Option ServerFacts) → slice_get known place ≡ found → option_and_then next_acknowledged found ≡ None → changed_by known place acknowledged ≡ known
+none-left : (known : List ServerFacts) (place : ℕ) (found : Option ServerFacts) → slice_get known place ≡ found → option_and_then next_acknowledged found ≡ None → with_changed known place acknowledged ≡ known
 none-left known place None there is = ap (changed_at known place acknowledged) there
 none-left known place (Some s) there is =
     ap (changed_at known place acknowledged) there ∙ ap (λ (b : Bool). slice_set known place (if b then one_told s else s)) (ready-none s is).0 ∙ set-same known place s there
@@ -258,7 +258,7 @@ no-kinds known members member (Some s) is = ap (acknowledgements known members m
 -- none is left
 pub acknowledge-end : (start cluster : Cluster) (member : Member) (known : List ServerFacts) (had has whole : List Event)
     → Left start cluster had has whole (acknowledge_events cluster member) 0 0 → option_and_then next_acknowledged (slice_get cluster.book.servers member.id.number) ≡ None
-    → known ≡ changed_by cluster.book.servers member.id.number acknowledged → Emits start (telling cluster known cluster.book.acknowledged) had has whole 0
+    → known ≡ with_changed cluster.book.servers member.id.number acknowledged → Emits start (telling cluster known cluster.book.acknowledged) had has whole 0
 acknowledge-end start cluster member known had has whole left none known_is =
     let place = member.id.number in
     let same : known ≡ cluster.book.servers = known_is ∙ none-left cluster.book.servers place (slice_get cluster.book.servers place) refl none in

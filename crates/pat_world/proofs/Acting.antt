@@ -1,5 +1,5 @@
 -- What an input of an agent brings at most: messages of its run, and outputs.
-use Rattle.std.proofs.Common.{◌≡◌, ℕ, ◌+◌, ◌≤◌, ◌++◌, true, false, List, [], ◌∷◌, All, length, length-append, Option, Some, None, arith, refl}
+use Rattle.std.proofs.Common.{ℕ, ◌+◌, ◌≤◌, List, [], ◌∷◌, All, length, length-append, Option, Some, None, arith}
 use Rattle.std.proofs.lemmas.List.Elements.{All-push}
 use Rattle.pat_base.specs.declared.member_id.MemberId.{MemberId}
 use Rattle.pat_base.specs.declared.ticks.Ticks.{Ticks}
@@ -15,12 +15,12 @@ use Rattle.ha_loop.specs.declared.role.Why.TheVariants.{HandOver, Lost}
 use Rattle.ha_loop.specs.Acting.{arming, armed, deadline_after, disarmed, fed_until, feeding, is_refusing, touching}
 use Rattle.ha_loop.specs.Agents.{Leader, Follower, Outcome}
 use Rattle.ha_loop.specs.Before.{before, has_ended}
-use Rattle.ha_loop.specs.Decisions.{arms, begins, gives_back, granted, is_start_too_long, judges_start, leader_renewed, may_take, refused, stray_renewed, takes_key, takes_over}
+use Rattle.ha_loop.specs.Decisions.{arms, begins, gives_back, granted, is_start_too_long, leader_renewed, may_take, refused, stray_renewed, takes_key, takes_over}
 use Rattle.ha_loop.specs.Outputs.{listed, most_outputs}
 use Rattle.ha_loop.specs.Snapshots.{follows, finds_free, got, informed, read_noted}
 use Rattle.ha_loop.specs.Table.{step}
 use Rattle.ha_loop.specs.Wake.{overdue, turned, woken}
-use Rattle.ha_loop.proofs.Rows.{if-cases, before-by, overdue-by, turn-by, wake-by, got-by, refused-by, granted-by, follow-by, free-by, GrantRows}
+use Rattle.ha_loop.proofs.Rows.{if-cases, before-by, overdue-by, turn-by, wake-by, got-by, refused-by, granted-by, follow-by, free-by}
 use Rattle.pat_world.specs.Short.{AsksShortly}
 
 -- from this number of messages and these outputs on there are so many more at most, and each asks shortly if each did before
@@ -148,7 +148,7 @@ back-row held o = one o.knows.sequence (o.knows.sequence + 1) o.outputs _ (omega
 begins-row : (now : Ticks) (held : ℕ) (o : Outcome) → Brings 2 o (begins now held o)
 begins-row now held o =
     grows-then 1 1 2 o.knows.sequence o.knows.sequence o.knows.sequence o.outputs _ _ (omega arith)
-    (one o.knows.sequence o.knows.sequence o.outputs _ (omega arith) tt) (one o.knows.sequence o.knows.sequence _ outputs.Promote (omega arith) tt)
+    (one o.knows.sequence o.knows.sequence o.outputs _ (omega arith) tt) (one o.knows.sequence o.knows.sequence _ outputs.Begin (omega arith) tt)
 
 arms-row : (now ttl : Ticks) (held : ℕ) (o : Outcome) → Row o (arms now ttl held o)
 arms-row now ttl held o = if-cases (Row o) (is_refusing o.machine.watchdog.mode o.machine.watchdog.works) (gives_back held (record o { outputs = listed outputs.CannotArm o.outputs })) (begins now held (arming now ttl o))
@@ -158,7 +158,7 @@ arms-row now ttl held o = if-cases (Row o) (is_refusing o.machine.watchdog.mode 
     (armed-one o.knows.sequence (deadline_after now ttl o.machine.watchdog) o.outputs) (begins-row now held (arming now ttl o)))
 
 takes-row : (now ttl : Ticks) (held : ℕ) (o : Outcome) → Row o (takes_key now ttl held o)
-takes-row now ttl held o = if-cases (Row o) (may_take now o.machine) (arms now ttl held o) (gives_back held o) (λ _. arms-row now ttl held o)
+takes-row now ttl held o = if-cases (Row o) (may_take now o.knows o.machine) (arms now ttl held o) (gives_back held o) (λ _. arms-row now ttl held o)
     (λ _. weaker 1 9 o.knows.sequence (o.knows.sequence + 1) o.outputs _ (omega arith) (back-row held o))
 
 renewed-row : (now ttl : Ticks) (held : ℕ) (o : Outcome) → Row o (leader_renewed now ttl held o)

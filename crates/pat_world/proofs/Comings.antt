@@ -1,7 +1,6 @@
 -- What happens keeps what a world keeps.
-use Rattle.std.proofs.Common.{◌≡◌, ℕ, ◌≤◌, List, [], ◌∷◌, ◌++◌, Some, arith, refl, ◌∙◌, ap}
+use Rattle.std.proofs.Common.{◌≡◌, ℕ, List, [], ◌∷◌, ◌++◌, refl, ◌∙◌, ap}
 use Rattle.pat_base.specs.declared.ticks.Ticks.{Ticks}
-use Rattle.event_book.specs.declared.agent_process.AgentProcess.{AgentProcess}
 use Rattle.event_book.specs.declared.event.Event.{Event}
 use Rattle.event_book.specs.declared.event.EventKind.{EventKind}
 use Rattle.event_book.specs.declared.event.EventKind.TheVariants as kinds
@@ -9,48 +8,20 @@ use Rattle.event_book.specs.declared.event.AgentEvent.{AgentEvent}
 use Rattle.event_book.specs.declared.event.AgentEvent.TheVariants as agents
 use Rattle.event_book.specs.declared.event.MessageEvent.{MessageEvent}
 use Rattle.event_book.specs.declared.event.MessageEvent.TheVariants as messages
-use Rattle.event_book.specs.declared.event.WatchdogEvent.{WatchdogEvent}
-use Rattle.event_book.specs.declared.event.WatchdogEvent.TheVariants as watchdogs
-use Rattle.event_book.specs.Agents.{agents_after, agents_by_watchdog}
-use Rattle.event_book.specs.Flight.{Flight, InFlightFacts, in_flight, sent_after}
-use Rattle.event_book.specs.Links.{CutLinks, cuts_after}
+use Rattle.event_book.specs.Flight.{sent_after}
 use Rattle.cluster_model.specs.Cluster.{agent_facts_after, agent_facts_by, agent_facts_by_message, agent_facts_moved, cluster_after}
 use Rattle.cluster_model.specs.State.{Cluster}
 use Rattle.pat_world.specs.Apart.{agents_apart}
 use Rattle.pat_world.specs.Comes.{Counts, IsBare}
 use Rattle.cluster_model.specs.Parts.{event_of}
-use Rattle.pat_world.specs.Settled.{AreKeptBelow, settled_by, settled_after}
 use Rattle.pat_world.specs.Emits.{Emits}
 use Rattle.pat_world.proofs.Deciding.{stamped-is}
-use Rattle.pat_world.proofs.Settling.{kept-fewer, kept-nothing}
 use Rattle.pat_world.proofs.Taking.{Emits-one}
 
 -- what sends no message leaves the number of the last one
 pub sent-same : (last : ℕ) (kind : EventKind) → IsBare kind → sent_after last kind ≡ last
 sent-same last (kinds.Message (messages.Sent number message)) bare = absurd bare
 sent-same last _ bare = refl
-
--- a mark is as it was, or nothing
-pub record IsMarked (old new : ℕ) (before after : Flight) (agents states : List AgentProcess) (cuts links : CutLinks) : Type 0 where
-  pub below : new ≤ old
-  pub kept : AreKeptBelow old before agents cuts → ((n : ℕ) (message : InFlightFacts) → in_flight after n ≡ Some message → in_flight before n ≡ Some message) → AreKeptBelow new after states links
-
-cleared : (mark : ℕ) (before after : Flight) (agents states : List AgentProcess) (cuts links : CutLinks) → IsMarked mark 0 before after agents states cuts links
-cleared mark before after agents states cuts links = record { below = omega arith; kept = λ kept others. kept-nothing after states links }
-
-same-mark : (mark : ℕ) (before after : Flight) (agents : List AgentProcess) (cuts : CutLinks) → IsMarked mark mark before after agents agents cuts cuts
-same-mark mark before after agents cuts = record { below = omega arith; kept = λ kept others. kept-fewer mark before after agents cuts kept others }
-
-marked-by : (mark : ℕ) (before after : Flight) (agents : List AgentProcess) (cuts : CutLinks) (happening : WatchdogEvent) → IsMarked mark (settled_by mark happening) before after agents (agents_by_watchdog agents happening) cuts cuts
-marked-by mark before after agents cuts (watchdogs.Reset member) = cleared mark before after agents _ cuts cuts
-marked-by mark before after agents cuts _ = same-mark mark before after agents cuts
-
--- below the mark all is kept after what sends no message
-pub marked : (mark : ℕ) (before after : Flight) (agents : List AgentProcess) (cuts : CutLinks) (kind : EventKind) → IsMarked mark (settled_after mark kind) before after agents (agents_after agents kind) cuts (cuts_after cuts kind)
-marked mark before after agents cuts (kinds.Agent happening) = cleared mark before after agents _ cuts cuts
-marked mark before after agents cuts (kinds.Link happening) = cleared mark before after agents agents cuts _
-marked mark before after agents cuts (kinds.Watchdog happening) = marked-by mark before after agents cuts happening
-marked mark before after agents cuts _ = same-mark mark before after agents cuts
 
 -- one thing happened, and was written down
 pub Emits-told : (before after : Cluster) (tick : Ticks) (kind : EventKind) (had has : List Event) → Counts before kind → after ≡ cluster_after before kind → tick.0 ≡ after.book.clock → has ≡ had ++ record { tick = tick; kind = kind } ∷ []

@@ -4,7 +4,7 @@ use Rattle.std.specs.Prelude.{IfSome, option_map, slice_get, slice_set}
 use Rattle.std.proofs.lemmas.List.{set-get_or}
 use Rattle.std.proofs.lemmas.Option.{get_or_from_slice_get}
 use Rattle.pat_base.specs.declared.ticks.Ticks.{Ticks}
-use Rattle.pat_base.specs.Changes.{changed_at, changed_by}
+use Rattle.pat_base.specs.Changes.{changed_at, with_changed}
 use Rattle.wal_model.specs.declared.entry.HistoryPoint.{HistoryPoint}
 use Rattle.pg_model.specs.Facts.{ServerFacts}
 use Rattle.pg_model.specs.Servers.{without_spare}
@@ -53,7 +53,7 @@ heard-outcome cluster member heard points machine told is =
 
 -- the agent of a member has acted on what it heard
 pub heard-state : (cluster : Cluster) (member : Member) (heard : Heard) (points : List HistoryPoint) (machine : Machine) (agents : List (Option AgentFacts)) → points ≡ points_of cluster member → machine_of cluster member ≡ Some machine
-    → agents ≡ changed_by cluster.agents member.id.number (agent_after (outcome_at (moment_of cluster) points heard (agent_at cluster.agents member.id.number) (Some machine)))
+    → agents ≡ with_changed cluster.agents member.id.number (agent_after (outcome_at (moment_of cluster) points heard (agent_at cluster.agents member.id.number) (Some machine)))
     → ◌≡◌ {A = Cluster} (record cluster { agents = agents }) (record cluster { agents = agent_facts_with cluster.agents member (outcome_of cluster member heard) })
 heard-state cluster member heard points machine agents told is changed =
     ap (with_agents cluster) (changed ∙ ap (λ (o : Option Outcome). agent_facts_with cluster.agents member o) (heard-outcome cluster member heard points machine told is))

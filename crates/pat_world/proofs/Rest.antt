@@ -1,6 +1,5 @@
 -- A part of a step on its way: what is left, from the cluster as it is, completes the whole.
-use Rattle.std.proofs.Common.{◌≡◌, ℕ, ◌+◌, ◌-◌, ◌*◌, ◌≤◌, ◌<◌, true, false, List, [], ◌∷◌, ◌++◌, Some, length, length-append, drop, arith, append-nil, append_assoc, refl, ◌∙◌, ap, sym, subst, suc}
-use Rattle.std.specs.Map.{keys_of}
+use Rattle.std.proofs.Common.{◌≡◌, ℕ, ◌+◌, ◌-◌, ◌*◌, ◌≤◌, ◌<◌, Bool, true, false, List, [], ◌∷◌, ◌++◌, Some, length, length-append, drop, arith, append-nil, append_assoc, refl, ◌∙◌, ap, sym, subst, suc}
 use Rattle.std.specs.Prelude.{slice_get}
 use Rattle.std.proofs.lemmas.List.{drop_all}
 use Rattle.event_book.specs.declared.event.Event.{Event}
@@ -8,15 +7,15 @@ use Rattle.event_book.specs.declared.member.Member.{Member}
 use Rattle.cluster_script.specs.declared.line.Step.{Step}
 use Rattle.cluster_model.specs.Cluster.{cluster_over}
 use Rattle.cluster_model.specs.State.{Cluster}
-use Rattle.cluster_model.specs.Messages.{message_events, wake_events}
 use Rattle.cluster_model.specs.Next.{round_events, rounds_events, step_events}
 use Rattle.cluster_model.specs.Parts.{each, events_then, is_empty}
-use Rattle.cluster_model.specs.Limits.{most_in_flight, most_rounds}
-use Rattle.pat_world.specs.Room.{HasRoom, message_cost, round_cost, step_cost, wakes_cost}
+use Rattle.cluster_model.specs.Limits.{most_rounds}
+use Rattle.pat_world.specs.Room.{HasRoom, round_cost, step_cost}
 use Rattle.pat_world.specs.Emits.{Emits}
 use Rattle.pat_world.proofs.Rooms.{HasRoom-fewer}
+use Rattle.pat_world.proofs.Silence.{first-empty}
 use Rattle.pat_world.proofs.Starting.{drop-get}
-use Rattle.pat_world.proofs.Taking.{members-stay, cluster_over-append, Emits-then, Emits-weaker}
+use Rattle.pat_world.proofs.Taking.{members-stay, cluster_over-append, Emits-weaker}
 
 -- what happened so far, and the rest, are the whole; the rest has room
 pub record Left (start cluster : Cluster) (had has whole rest : List Event) (cost left : ℕ) : Type 0 where
@@ -89,13 +88,32 @@ rounds_events-last : (cluster : Cluster) (n k : ℕ) → n ≡ suc k → is_empt
 unfolding rounds_events
 rounds_events-last cluster n k e none = rw e (rw none refl)
 
-empty-of : (events : List Event) → length events ≡ 0 → (is_empty events ≡ true) × (events ≡ [])
+-- where nothing happens in a round, nothing happens in all of them
+pub rounds_events-still : (cluster : Cluster) → round_events cluster ≡ [] → rounds_events cluster most_rounds ≡ []
+rounds_events-still cluster none = rounds_events-last cluster most_rounds 39 refl (ap is_empty none)
+
+pub empty-of : (events : List Event) → length events ≡ 0 → (is_empty events ≡ true) × (events ≡ [])
 empty-of [] e = (refl, refl)
 empty-of (event ∷ events) e = absurd (omega (arith, e))
+
+empty-events : (events : List Event) → is_empty events ≡ true → events ≡ []
+empty-events [] e = refl
+empty-events (event ∷ events) e = absurd (no-way e)
+  where
+    no-way : false ≡ true → ⊥
+    no-way e = cc
 
 not-empty : (events : List Event) → (length events ≡ 0 → ⊥) → is_empty events ≡ false
 not-empty [] e = absurd (e refl)
 not-empty (event ∷ events) e = refl
+
+silent-if : (cluster : Cluster) (is_silent : Bool) → is_empty (round_events cluster) ≡ is_silent → rounds_events cluster most_rounds ≡ [] → round_events cluster ≡ []
+silent-if cluster true is none = empty-events (round_events cluster) is
+silent-if cluster false is none = (first-empty (round_events cluster) (rounds_events (cluster_over cluster (round_events cluster)) 39) (sym (rounds_events-one cluster most_rounds 39 refl is) ∙ none)).0
+
+-- where nothing happens in all rounds, nothing happens in the first
+pub rounds_events-silent : (cluster : Cluster) → rounds_events cluster most_rounds ≡ [] → round_events cluster ≡ []
+rounds_events-silent cluster none = silent-if cluster (is_empty (round_events cluster)) refl none
 
 -- a round in which something happened, and then the rounds that may follow
 pub rounds_events-next : (cluster : Cluster) (at : ℕ) (had has : List Event) → at < most_rounds → has ≡ had ++ round_events cluster → (length has ≡ length had → ⊥)
@@ -129,14 +147,6 @@ rounds_events-none cluster n e = rw e refl
 
 pub rounds_events-end : (cluster : Cluster) (at : ℕ) → most_rounds ≤ at → rounds_events cluster (most_rounds - at) ≡ []
 rounds_events-end cluster at h = rounds_events-none cluster (most_rounds - at) (omega (arith, h))
-
--- the agents are woken, and then the messages move; only some of those in flight need be looked at
-pub round_events-took : (cluster woken after : Cluster) (had mid has : List Event) (numbers : List ℕ) → Emits cluster woken had mid (each wake_events cluster cluster.book.members) wakes_cost
-    → each message_events woken (keys_of woken.book.flight) ≡ each message_events woken numbers → length numbers ≤ most_in_flight → Emits woken after mid has (each message_events woken numbers) (message_cost * length numbers)
-    → Emits cluster after had has (round_events cluster) round_cost
-round_events-took cluster woken after had mid has numbers one same short two =
-    Emits-then cluster woken after had mid has (each wake_events cluster cluster.book.members) (λ later. each message_events later (keys_of later.book.flight)) wakes_cost
-    (message_cost * length numbers) round_cost one (subst (λ (es : List Event). Emits woken after mid has es (message_cost * length numbers)) (sym same) two) (omega (arith, short))
 
 -- what happens in a step, of the step as it was read
 pub stepped : (cluster after : Cluster) (had has : List Event) (read step : Step) (cost : ℕ) → read ≡ step → Emits cluster after had has (step_events cluster step) cost → cost ≤ step_cost → Emits cluster after had has (step_events cluster read) step_cost

@@ -28,7 +28,7 @@ use Rattle.event_book.specs.Keys.{keys_after}
 use Rattle.ha_loop.specs.declared.heard.Heard.{Heard}
 use Rattle.ha_loop.specs.declared.heard.Heard.TheVariants.{Wake}
 use Rattle.ha_loop.specs.declared.machine.Machine.{Machine}
-use Rattle.ha_loop.specs.Agents.{AgentFacts, Outcome, made, most_messages}
+use Rattle.ha_loop.specs.Agents.{AgentFacts, made, most_messages}
 use Rattle.ha_loop.specs.Outputs.{most_outputs}
 use Rattle.ha_loop.specs.Table.{step}
 use Rattle.wal_model.specs.declared.entry.HistoryPoint.{HistoryPoint}

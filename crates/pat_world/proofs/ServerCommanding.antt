@@ -1,33 +1,23 @@
 -- What commands do at servers.
-use Rattle.std.proofs.Common.{◌≡◌, ℕ, ◌+◌, ◌^◌, ◌<◌, ◌&&◌, nat_le, Bool, true, false, List, Option, Some, None, IsTrue, arith, refl, ◌∙◌, ap, sym, subst}
-use Rattle.std.specs.Prelude.{option_and_then, slice_get, slice_set, if◌then◌else◌, IfSome}
+use Rattle.std.proofs.Common.{◌≡◌, ℕ, ◌+◌, ◌^◌, ◌<◌, ◌&&◌, nat_le, Bool, true, false, List, Option, Some, None, arith, refl, ◌∙◌, ap, sym, subst}
+use Rattle.std.specs.Prelude.{slice_get, slice_set, if◌then◌else◌, IfSome}
 use Rattle.std.proofs.lemmas.List.{set-get_or}
 use Rattle.std.proofs.lemmas.Option.{get_or_from_slice_get, none-some, same_Some}
-use Rattle.pat_base.specs.Changes.{changed_at, changed_by}
+use Rattle.pat_base.specs.Changes.{changed_at, with_changed}
 use Rattle.pat_base.specs.ServerState.{writes}
 use Rattle.wal_model.specs.declared.entry.Entry.{Entry}
 use Rattle.wal_model.specs.Log.{end_of}
-use Rattle.pg_model.specs.Facts.{ServerFacts, entries_of, is_down, is_replica}
+use Rattle.pg_model.specs.Facts.{ServerFacts, entries_of, is_down}
 use Rattle.pg_model.specs.Replication.{entry_of}
-use Rattle.pg_model.specs.Running.{replica_started, stopping}
+use Rattle.pg_model.specs.Running.{primary_started, replica_started, stopping}
 use Rattle.pg_model.specs.Servers.{entry_at, entry_for}
-use Rattle.event_book.specs.declared.event.Event.{Event}
-use Rattle.event_book.specs.declared.event.EventKind.TheVariants as kinds
-use Rattle.event_book.specs.declared.event.ServerEvent.TheVariants as servers
 use Rattle.event_book.specs.declared.member.Member.{Member}
-use Rattle.event_book.specs.declared.member.ServerOf.{ServerOf}
-use Rattle.event_book.specs.Members.{server_of}
-use Rattle.event_book.specs.Servers.{starts_as_replica, stops, stops_quietly}
-use Rattle.cluster_model.specs.Cluster.{cluster_after}
+use Rattle.event_book.specs.Servers.{starts_as_primary, starts_as_replica, starts_slowly, stops, stops_quietly}
 use Rattle.cluster_model.specs.State.{Cluster}
 use Rattle.pat_world.specs.Comes.{MayCome}
-use Rattle.cluster_model.specs.Parts.{events_of, for_some, event_of}
 use Rattle.pat_world.specs.Room.{HasRoom}
-use Rattle.pat_world.specs.Promoting.{promoted_timeline}
 use Rattle.cluster_model.specs.ServerCommands.{commit_of}
-use Rattle.pat_world.specs.Emits.{Emits}
 use Rattle.pat_world.proofs.ServerRooms.{All-at}
-use Rattle.pat_world.proofs.Taking.{Emits-weaker}
 
 -- an entry is that of a commit with this number and of so many bytes
 pub record IsEntry (serial bytes : ℕ) (entry : Entry) : Type 0 where
@@ -63,32 +53,24 @@ pub timeline-below : (cluster : Cluster) (place : ℕ) → HasRoom cluster 2 →
 timeline-below cluster place room =
     roomy-at cluster.book.servers place (slice_get cluster.book.servers place) refl (λ s is. All-at ServerFacts (λ s. s.timeline + 2 < 2 ^ 60) cluster.book.servers place s room.timelines is)
 
-pub standby-if : (replica : Bool) (next timeline : ℕ) → (if replica then Some next else None) ≡ Some timeline → (replica ≡ true) × (next ≡ timeline)
-standby-if true next timeline is = (refl, same_Some next timeline is)
-standby-if false next timeline is = absurd (none-some timeline is)
-
-promotable-at : (found : Option ServerFacts) (timeline : ℕ) → option_and_then promoted_timeline found ≡ Some timeline → IfSome found (λ s. s.timeline < 2 ^ 60) → IfSome found (λ s. IsTrue (is_replica s.state) × (s.timeline < 2 ^ 60))
-promotable-at None timeline is below = tt
-promotable-at (Some s) timeline is below = ((standby-if (is_replica s.state) (s.timeline + 1) timeline is).0, below)
-
--- a server that has a timeline to be promoted to is a replica
-pub promotable : (cluster : Cluster) (place timeline : ℕ) → option_and_then promoted_timeline (slice_get cluster.book.servers place) ≡ Some timeline → HasRoom cluster 2
-    → IfSome (slice_get cluster.book.servers place) (λ s. IsTrue (is_replica s.state) × (s.timeline < 2 ^ 60))
-promotable cluster place timeline is room = promotable-at (slice_get cluster.book.servers place) timeline is (timeline-below cluster place room)
-
--- a replica may begin
-pub begun-comes : (cluster : Cluster) (member : Member) (timeline : ℕ) (server : ServerOf) → server ≡ server_of member → option_and_then promoted_timeline (slice_get cluster.book.servers member.id.number) ≡ Some timeline → HasRoom cluster 2
-    → MayCome cluster (kinds.Server (servers.Began server timeline))
-begun-comes cluster member timeline server server_is is room = rw server_is (record { bare = tt; counts = tt; serves = promotable cluster member.id.number timeline is room })
+pub replica-if : (replica : Bool) (next timeline : ℕ) → (if replica then Some next else None) ≡ Some timeline → (replica ≡ true) × (next ≡ timeline)
+replica-if true next timeline is = (refl, same_Some next timeline is)
+replica-if false next timeline is = absurd (none-some timeline is)
 
 set-got : (known : List ServerFacts) (place : ℕ) (s : ServerFacts) → slice_get known place ≡ Some s → slice_set known place s ≡ known
 set-got known place s there = ap (λ (t : ServerFacts). slice_set known place t) (sym (get_or_from_slice_get known place s s there)) ∙ set-get_or known place s
 
 -- a server that isn't down doesn't start
-pub not-down : (known : List ServerFacts) (place now : ℕ) (s : ServerFacts) → slice_get known place ≡ Some s → is_down s.state ≡ false → known ≡ changed_by known place (starts_as_replica now)
+pub not-down : (known : List ServerFacts) (place now : ℕ) (s : ServerFacts) → slice_get known place ≡ Some s → is_down s.state ≡ false → known ≡ with_changed known place (starts_as_replica now)
 not-down known place now s there up =
     sym (ap (λ (o : Option ServerFacts). changed_at known place (starts_as_replica now) o) there
     ∙ ap (λ (down : Bool). slice_set known place (if down then replica_started (record { 0 = now }) None s else s)) up ∙ set-got known place s there)
+
+-- nor does one start as a primary, or one whose starts take no time, with an event of its own
+pub no-primary-start : (known : List ServerFacts) (place now : ℕ) (s : ServerFacts) → slice_get known place ≡ Some s → is_down s.state && starts_slowly s ≡ false → known ≡ with_changed known place (starts_as_primary now)
+no-primary-start known place now s there quick =
+    sym (ap (λ (o : Option ServerFacts). changed_at known place (starts_as_primary now) o) there
+    ∙ ap (λ (slow : Bool). slice_set known place (if slow then primary_started (record { 0 = now }) s else s)) quick ∙ set-got known place s there)
 
 -- where there is room for one more event, the timeline of no server is at its end
 pub timeline-under : (cluster : Cluster) (place : ℕ) → HasRoom cluster 1 → IfSome (slice_get cluster.book.servers place) (λ s. s.timeline < 2 ^ 60)
@@ -99,7 +81,7 @@ timeline-under cluster place room = roomy-under cluster.book.servers place (slic
     roomy-under known place (Some s) is room = omega (arith, room s is)
 
 -- a server that doesn't stop quietly stays as it is where its shutdown is told
-pub not-quiet : (known : List ServerFacts) (place now : ℕ) (s : ServerFacts) → slice_get known place ≡ Some s → stops_quietly s ≡ false → known ≡ changed_by known place (stops now)
+pub not-quiet : (known : List ServerFacts) (place now : ℕ) (s : ServerFacts) → slice_get known place ≡ Some s → stops_quietly s ≡ false → known ≡ with_changed known place (stops now)
 not-quiet known place now s there loud =
     sym (ap (λ (o : Option ServerFacts). changed_at known place (stops now) o) there
     ∙ ap (λ (quiet : Bool). slice_set known place (if quiet then stopping (record { 0 = now }) s else s)) loud ∙ set-got known place s there)

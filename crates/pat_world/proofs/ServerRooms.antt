@@ -6,10 +6,11 @@ use Rattle.std.proofs.lemmas.Option.{slice_get_within, get_or_from_slice_get}
 use Rattle.pat_base.specs.declared.server_state.State.{State}
 use Rattle.pat_base.specs.declared.server_state.State.TheVariants as states
 use Rattle.pat_base.specs.declared.ticks.Ticks.{Ticks}
-use Rattle.pat_base.specs.Changes.{changed_at, changed_by}
+use Rattle.pat_base.specs.Changes.{changed_at, with_changed}
 use Rattle.pat_base.specs.ServerState.{live}
-use Rattle.pg_model.specs.Facts.{ServerFacts, is_down}
+use Rattle.pg_model.specs.Facts.{ServerFacts, is_creating, is_down}
 use Rattle.pg_model.specs.Replication.{received_from}
+use Rattle.pg_model.specs.Rewinding.{cloned, is_rewindable, rewound_to}
 use Rattle.pg_model.specs.Running.{completed, is_primary, primary_started, replica_started, started, stopped, stopping, ticked}
 use Rattle.pg_model.specs.Servers.{ticked_unless_live}
 use Rattle.event_book.specs.declared.event.EventKind.{EventKind}
@@ -23,7 +24,7 @@ use Rattle.event_book.specs.declared.event.ServerEvent.TheVariants as servers
 use Rattle.event_book.specs.declared.event.WatchdogEvent.{WatchdogEvent}
 use Rattle.event_book.specs.declared.event.WatchdogEvent.TheVariants as watchdogs
 use Rattle.event_book.specs.Acknowledged.{commits_after}
-use Rattle.event_book.specs.Servers.{begun_in, copied_by, received_by, servers_after, servers_by, servers_by_log, servers_by_replication, servers_by_watchdog, starts_as_primary, starts_as_replica, starts_slowly, stops, stops_quietly}
+use Rattle.event_book.specs.Servers.{becomes_copy, begun_in, copied_by, cut_to, goes_back, received_by, servers_after, servers_by, servers_by_log, servers_by_replication, servers_by_watchdog, starts_as_primary, starts_as_replica, starts_slowly, stops, stops_quietly}
 use Rattle.pat_world.specs.Comes.{CountsLog}
 
 -- what holds of each element holds of one
@@ -40,7 +41,7 @@ with-all_at P Q servers place change (Some s) is all weaker at = All-set Q serve
 
 -- what holds of each server holds with one changed
 pub with-all : (P Q : ServerFacts → Type 0) (servers : List ServerFacts) (place : ℕ) (change : ServerFacts → ServerFacts) → All P servers
-    → ((s : ServerFacts) → P s → Q s) → ((s : ServerFacts) → P s → Q (change s)) → All Q (changed_by servers place change)
+    → ((s : ServerFacts) → P s → Q s) → ((s : ServerFacts) → P s → Q (change s)) → All Q (with_changed servers place change)
 with-all P Q servers place change all weaker at = with-all_at P Q servers place change (slice_get servers place) refl all weaker at
 
 map-all : (P Q : ServerFacts → Type 0) (change : ServerFacts → ServerFacts) (servers : List ServerFacts) → All P servers → ((s : ServerFacts) → P s → Q (change s)) → All Q (map change servers)
@@ -104,7 +105,7 @@ quiet-if now s false = completed-timeline now s.state s
 abbrev Roomy : ℕ → List ServerFacts → Type 0
 Roomy events known = All (HasTimeline events) known
 
-with-same : (events : ℕ) (known : List ServerFacts) (place : ℕ) (change : ServerFacts → ServerFacts) → ((s : ServerFacts) → (change s).timeline ≡ s.timeline) → Roomy (1 + events) known → Roomy events (changed_by known place change)
+with-same : (events : ℕ) (known : List ServerFacts) (place : ℕ) (change : ServerFacts → ServerFacts) → ((s : ServerFacts) → (change s).timeline ≡ s.timeline) → Roomy (1 + events) known → Roomy events (with_changed known place change)
 with-same events known place change same all =
     with-all (HasTimeline (1 + events)) (HasTimeline events) known place change all (timeline-fewer events) (λ s room. timeline-as events s (change s) (same s) room)
 
@@ -130,15 +131,32 @@ room-received events known number from count (Some upstream) is all =
     let roomy = All-at ServerFacts (HasTimeline (1 + events)) known from upstream all is in
     with-all (HasTimeline (1 + events)) (HasTimeline events) known number (λ s. received_from count s upstream) all (timeline-fewer events) (λ s room. omega (arith, roomy))
 
-room-copied : (events : ℕ) (known : List ServerFacts) (number : ℕ) (found : Option ServerFacts) → Roomy (1 + events) known → Roomy events (copied_by known number found)
-room-copied events known number None all = fewer events known all
-room-copied events known number (Some source) all = with-same events known number _ (λ s. refl) all
+-- a server that is rewound or cloned has its source's timeline
+back-if : (events kept : ℕ) (source s : ServerFacts) (may : Bool) → HasTimeline (1 + events) source → HasTimeline (1 + events) s → HasTimeline events (if may then rewound_to kept s source else cut_to kept s)
+back-if events kept source s true theirs own = omega (arith, theirs)
+back-if events kept source s false theirs own = omega (arith, own)
+
+room-back : (events : ℕ) (known : List ServerFacts) (number from kept : ℕ) (found : Option ServerFacts) → slice_get known from ≡ found → Roomy (1 + events) known → Roomy events (with_changed known number (goes_back kept found))
+room-back events known number from kept None is all = with-same events known number (goes_back kept None) (λ s. refl) all
+room-back events known number from kept (Some source) is all =
+    let roomy = All-at ServerFacts (HasTimeline (1 + events)) known from source all is in
+    with-all (HasTimeline (1 + events)) (HasTimeline events) known number (goes_back kept (Some source)) all (timeline-fewer events) (λ s room. back-if events kept source s (is_rewindable s.state) roomy room)
+
+copy-if : (events : ℕ) (source s : ServerFacts) (may : Bool) → HasTimeline (1 + events) source → HasTimeline (1 + events) s → HasTimeline events (if may then cloned s source else record s { log = source.log })
+copy-if events source s true theirs own = omega (arith, theirs)
+copy-if events source s false theirs own = omega (arith, own)
+
+room-copied : (events : ℕ) (known : List ServerFacts) (number from : ℕ) (found : Option ServerFacts) → slice_get known from ≡ found → Roomy (1 + events) known → Roomy events (copied_by known number found)
+room-copied events known number from None is all = fewer events known all
+room-copied events known number from (Some source) is all =
+    let roomy = All-at ServerFacts (HasTimeline (1 + events)) known from source all is in
+    with-all (HasTimeline (1 + events)) (HasTimeline events) known number (becomes_copy source) all (timeline-fewer events) (λ s room. copy-if events source s (is_creating s.state) roomy room)
 
 room-logged : (events : ℕ) (known : List ServerFacts) (happening : LogEvent) → Roomy (1 + events) known → Roomy events (servers_by_log known happening)
 room-logged events known (logs.Appended server entry) all = with-same events known server.id.number _ (λ s. refl) all
 room-logged events known (logs.Received server from count) all = room-received events known server.id.number from.id.number count (slice_get known from.id.number) refl all
-room-logged events known (logs.Rewound server from kept at) all = with-same events known server.id.number _ (λ s. refl) all
-room-logged events known (logs.Copied server from) all = room-copied events known server.id.number (slice_get known from.id.number) all
+room-logged events known (logs.Rewound server from kept at) all = room-back events known server.id.number from.id.number kept (slice_get known from.id.number) refl all
+room-logged events known (logs.Copied server from) all = room-copied events known server.id.number from.id.number (slice_get known from.id.number) refl all
 room-logged events known (logs.Wiped server) all = with-same events known server.id.number _ (λ s. refl) all
 
 room-replicated : (events : ℕ) (known : List ServerFacts) (happening : ReplicationEvent) → Roomy (1 + events) known → Roomy events (servers_by_replication known happening)

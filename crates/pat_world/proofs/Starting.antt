@@ -13,7 +13,6 @@ use Rattle.event_book.specs.declared.member.Member.{Member}
 use Rattle.event_book.specs.declared.agent_process.AgentProcess.{AgentProcess}
 use Rattle.event_book.specs.Agents.{first_agents, running_in}
 use Rattle.event_book.specs.Members.{members_from, put_first}
-use Rattle.ha_loop.specs.Agents.{AgentFacts}
 use Rattle.cluster_model.specs.Starting.{cluster_of, first_agent}
 use Rattle.pat_world.specs.Room.{HasNumbers, HasRoom}
 use Rattle.pat_world.proofs.ServerRooms.{HasTimeline}

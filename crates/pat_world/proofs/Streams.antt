@@ -3,7 +3,7 @@ use Rattle.std.proofs.Common.{◌≡◌, ℕ, ◌==◌, ◌&&◌, Bool, true, fa
 use Rattle.std.specs.Prelude.{slice_get, if◌then◌else◌}
 use Rattle.pat_base.specs.declared.lsn.Lsn.{Lsn}
 use Rattle.pat_base.specs.declared.ticks.Ticks.{Ticks}
-use Rattle.pat_base.specs.Changes.{changed_by}
+use Rattle.pat_base.specs.Changes.{with_changed}
 use Rattle.pg_model.specs.declared.answers.Streamed.{Streamed}
 use Rattle.pg_model.specs.declared.answers.Streamed.TheVariants as streams
 use Rattle.pg_model.specs.Facts.{ServerFacts}
@@ -42,7 +42,7 @@ confirmed server member end = kinds.Replication (replications.Confirmed server m
 -- a replica confirmed the end of its log
 pub confirm-took : (cluster : Cluster) (member from : Member) (end : Lsn) (server : ServerOf) (known : List ServerFacts) (tick : Ticks) (had has : List Event)
     → unconfirmed_end member (slice_get cluster.book.servers member.id.number) (slice_get cluster.book.servers from.id.number) ≡ Some end → server ≡ server_of from
-    → known ≡ changed_by cluster.book.servers from.id.number (confirming member.id end) → tick.0 ≡ cluster.book.clock → has ≡ had ++ record { tick = tick; kind = confirmed server member end } ∷ []
+    → known ≡ with_changed cluster.book.servers from.id.number (confirming member.id end) → tick.0 ≡ cluster.book.clock → has ≡ had ++ record { tick = tick; kind = confirmed server member end } ∷ []
     → Emits cluster (with_servers cluster known) had has (confirm_events cluster member from) 1
 confirm-took cluster member from end server known tick had has is of_is told at has_is =
     subst (λ (o : Option Lsn). Emits cluster (with_servers cluster known) had has (events_of cluster (kinds_of (confirm_of member from o))) 1) (sym is)
@@ -95,7 +95,7 @@ pub connected : (known : List ServerFacts) (place from most : ℕ) → news_at k
 connected known place from most is = connected-between (slice_get known place) (slice_get known from) most is
 
 diverges-from : (known : List ServerFacts) (place most : ℕ) (at : Lsn) (found upstream : Option ServerFacts) → news_between found upstream most ≡ Some (streams.Diverged at)
-    → after_streamed_from known place (streams.Diverged at) upstream ≡ changed_by known place (λ s. record s { diverged = true })
+    → after_streamed_from known place (streams.Diverged at) upstream ≡ with_changed known place (λ s. record s { diverged = true })
 diverges-from known place most at None None is = absurd (no-news (streams.Diverged at) is)
 diverges-from known place most at (Some s) None is = absurd (no-news (streams.Diverged at) is)
 diverges-from known place most at found (Some upstream) is = refl
@@ -107,7 +107,7 @@ pub diverged-took : (cluster : Cluster) (member from : Member) (most : ℕ) (at 
     → Emits cluster (with_servers cluster known) had has (receive_events cluster member from (news_at cluster.book.servers member.id.number from.id.number most)) 2
 diverged-took cluster member from most at server upstream known tick had has news state server_is upstream_is moment has_is =
     let place = member.id.number in
-    let told : known ≡ changed_by cluster.book.servers place (λ s. record s { diverged = true }) = state ∙ ap (after_news_at cluster.book.servers place from.id.number) news
+    let told : known ≡ with_changed cluster.book.servers place (λ s. record s { diverged = true }) = state ∙ ap (after_news_at cluster.book.servers place from.id.number) news
     ∙ diverges-from cluster.book.servers place most at (slice_get cluster.book.servers place) (slice_get cluster.book.servers from.id.number) news in
     let kind : EventKind = kinds.Server (servers.Diverged (server_of member) (server_of from) at) in
     let written : has ≡ had ++ record { tick = tick; kind = kind } ∷ [] = has_is

@@ -1,5 +1,5 @@
 -- Agents that are woken, and act.
-use Rattle.std.proofs.Common.{◌≡◌, ℕ, ◌+◌, ◌≤◌, Bool, true, List, [], All, length, Option, Some, None, arith, refl, sym, subst}
+use Rattle.std.proofs.Common.{◌≡◌, ◌≤◌, Bool, true, List, [], All, length, Option, Some, None, arith, sym, subst}
 use Rattle.std.specs.Prelude.{if◌then◌else◌, slice_get}
 use Rattle.std.proofs.lemmas.List.Elements.{All-nil}
 use Rattle.pat_base.specs.declared.ticks.Ticks.{Ticks}
@@ -18,7 +18,7 @@ use Rattle.ha_loop.specs.Outputs.{most_outputs}
 use Rattle.cluster_model.specs.Inputs.{agent_at, is_to_wake, may_act, moment_of, outcome_at, outcome_of, outcome_of_heard, outputs_of, standing_of}
 use Rattle.cluster_model.specs.Machines.{machine_of, points_of}
 use Rattle.cluster_model.specs.Messages.{input_events, no_message, output_events, turn_events, turn_events_if, wake_events, wake_events_if, wake_events_of}
-use Rattle.cluster_model.specs.Parts.{each, events_then, event_of}
+use Rattle.cluster_model.specs.Parts.{each, event_of}
 use Rattle.cluster_model.specs.State.{Cluster}
 use Rattle.pat_world.specs.Emits.{Emits}
 use Rattle.pat_world.specs.Room.{input_cost, outputs_cost}

@@ -1,5 +1,5 @@
 -- A world as a cluster.
-use Rattle.pat_world.specs.declared.world.World.TheInside.{Inside}
+use Rattle.pat_world.specs.declared.stage.Stage.TheInside.{Inside}
 use Rattle.cluster_model.specs.State.{Cluster}
 
 -- what the fields of a world stand for

@@ -1,10 +1,10 @@
 -- Which happenings a cluster may take.
-use Rattle.std.specs.Prelude.{ℕ, ◌≡◌, ◌+◌, ◌^◌, ◌==◌, ◌<◌, ◌≤◌, nat_le, Bool, false, List, Some, IfSome, IsTrue, slice_get}
+use Rattle.std.specs.Prelude.{ℕ, ◌≡◌, ◌+◌, ◌^◌, ◌==◌, ◌&&◌, ◌<◌, ◌≤◌, nat_le, Bool, true, false, List, Some, IfSome, IsTrue, slice_get}
 use Rattle.std.specs.Option.{ForSome}
 use Rattle.pat_base.specs.declared.server_state.State.{State}
 use Rattle.pat_base.specs.declared.server_state.State.TheVariants as states
 use Rattle.pat_base.specs.declared.ticks.Ticks.{Ticks}
-use Rattle.pg_model.specs.Facts.{ServerFacts, is_replica}
+use Rattle.pg_model.specs.Facts.{ServerFacts}
 use Rattle.pg_model.specs.Servers.{entry_for}
 use Rattle.event_book.specs.declared.agent_process.AgentProcess.{AgentProcess}
 use Rattle.event_book.specs.declared.event.AgentEvent.{AgentEvent}
@@ -59,13 +59,26 @@ ends_at now states.Primary delay = delay.0 == 0
 ends_at now (states.Stopping was_primary at) delay = nat_le at.0 now
 ends_at now _ delay = false
 
--- a replica begins, a server ends that can, and no delay is longer than servers take. That a primary starts again, or that a log
--- diverged, doesn't come in this way
+-- a start of this server as a primary is complete at once
+abbrev pub starts_at_once : ServerFacts → Bool
+starts_at_once s = s.was_primary && s.start_delay.0 == 0
+
+-- whether a server in this state can accept writes from this moment on: as a replica that is promoted, as one that is down and starts as a primary at
+-- once, or since its start as a primary is complete
+abbrev pub begins_in : ℕ → ServerFacts → State → Bool
+begins_in now s states.Replica = true
+begins_in now s states.Stopped = starts_at_once s
+begins_in now s states.Crashed = starts_at_once s
+begins_in now s (states.Starting as_primary at) = as_primary && nat_le at.0 now
+begins_in now s _ = false
+
+-- a server begins that can, one ends that can, who starts as a primary again was one, and no delay is longer than servers take. That a log diverged
+-- doesn't come in this way
 abbrev pub ServerComes : ℕ → List ServerFacts → ServerEvent → Type 0
-ServerComes now known (servers.Began server timeline) = IfSome (slice_get known server.id.number) (λ s. IsTrue (is_replica s.state) × (s.timeline < 2 ^ 60))
+ServerComes now known (servers.Began server timeline) = IfSome (slice_get known server.id.number) (λ s. IsTrue (begins_in now s s.state) × (s.timeline < 2 ^ 60))
 ServerComes now known (servers.Ended server) = IfSome (slice_get known server.id.number) (λ s. IsTrue (ends_at now s.state s.stop_delay))
 ServerComes now known (servers.Slowed server stop start) = ForSome stop (λ delay. delay.0 ≤ 2 ^ 40) × ForSome start (λ delay. delay.0 ≤ 2 ^ 40)
-ServerComes now known (servers.StartsAsPrimary server) = ⊥
+ServerComes now known (servers.StartsAsPrimary server) = IfSome (slice_get known server.id.number) (λ s. IsTrue s.was_primary)
 ServerComes now known (servers.Diverged server upstream at) = ⊥
 ServerComes now known _ = Unit {0}
 

@@ -2,10 +2,11 @@ pub mod Apart
 pub mod Book
 pub mod Comes
 pub mod Emits
+pub mod Idle
+pub mod FlightIndex
 pub mod Launches
 pub mod OneWriter
 pub mod Promoting
 pub mod Reached
 pub mod Room
-pub mod Settled
 pub mod Short

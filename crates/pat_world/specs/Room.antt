@@ -37,7 +37,7 @@ stopping_cost = 1 + 1
 abbrev pub feeding_cost : ℕ
 feeding_cost = 1 + 1
 
--- a replica begins, and lacks a commit
+-- a server begins, and lacks a commit
 abbrev pub beginning_cost : ℕ
 beginning_cost = 1 + 1
 
@@ -101,11 +101,11 @@ schedule_cost = receiving_cost + rounds_cost
 abbrev pub resets_cost : ℕ
 resets_cost = 1 * most_members
 
--- the stop of each server is complete
+-- the start or the stop of each server is complete
 abbrev pub completions_cost : ℕ
-completions_cost = 1 * most_members
+completions_cost = beginning_cost * most_members
 
--- the clock grows by one, machines are reset, and stops are complete; expiries take no room
+-- the clock grows by one, machines are reset, and starts and stops are complete; expiries take no room
 abbrev pub tick_cost : ℕ
 tick_cost = 1 + resets_cost + completions_cost
 

@@ -1,6 +1,6 @@
 //! What a happening changes, field by field of what a book determines.
 ghost use Rattle.std.specs.Prelude.{ℕ, ◌≡◌, ◌≤◌, ◌<◌, ◌+◌, ◌^◌, OnOk, Some, length};
-ghost use Rattle.pat_base.specs.Changes.{changed_by};
+ghost use Rattle.pat_base.specs.Changes.{with_changed};
 ghost use Rattle.event_book.specs.Acknowledged.{acknowledged_after, commits_after};
 ghost use Rattle.event_book.specs.Agents.{agents_after};
 ghost use Rattle.event_book.specs.Clock.{now_after};
@@ -14,7 +14,6 @@ ghost use Rattle.cluster_model.specs.Limits.{most_members};
 ghost use Rattle.lease_store.specs.Keys.{Keys};
 ghost use Rattle.pat_world.specs.Apart.{agents_apart};
 ghost use Rattle.pat_world.specs.Comes.{IsBare};
-ghost use Rattle.pat_world.specs.Settled.{settled_by, settled_after};
 
 use crate::flight::Flight;
 use crate::links::CutLinks;
@@ -23,7 +22,7 @@ use crate::processes::{change_process, reset_process};
 use crate::watchdogs::{change_deadline, change_hold};
 use event_book::{
     AgentProcess, EventKind, LogEvent, Member, MessageEvent, ReplicationEvent, ServerEvent,
-    ServerOf, WatchdogEvent,
+    ServerOf,
 };
 use ha_loop::Agent;
 use lease_store::Store;
@@ -141,7 +140,7 @@ pub fn change_frozen(frozen: &mut Vec<bool>, kind: &EventKind)
 }
 
 fn set_frozen(frozen: &mut Vec<bool>, server: ServerOf, is_frozen: bool)
-    ensures { frozen.new.items ≡ changed_by frozen.old.items server.id.number (λ before. is_frozen) }
+    ensures { frozen.new.items ≡ with_changed frozen.old.items server.id.number (λ before. is_frozen) }
 {
     let place = server.id.number as usize;
     if place < frozen.len() {
@@ -167,24 +166,4 @@ pub fn change_acknowledged(told: &mut Vec<u64>, kind: &EventKind) -> Result<(), 
         told.push(*commit)?;
     }
     Ok(())
-}
-
-/// The number below which no message need be looked at after a happening.
-pub fn settled_after(settled: u64, kind: &EventKind) -> u64
-    ensures { result ≡ settled_after settled kind.now }
-{
-    match kind {
-        EventKind::Agent(_) | EventKind::Link(_) => 0,
-        EventKind::Watchdog(happening) => settled_by(settled, happening),
-        _ => settled,
-    }
-}
-
-fn settled_by(settled: u64, happening: &WatchdogEvent) -> u64
-    ensures { result ≡ settled_by settled happening.now }
-{
-    match happening {
-        WatchdogEvent::Reset { .. } => 0,
-        _ => settled,
-    }
 }

@@ -1,5 +1,5 @@
 //! Messages in flight.
-ghost use Rattle.std.specs.Prelude.{ℕ, ◌≡◌, ◌≢◌, ◌≤◌, ◌+◌, nat_le, [], length, OnOk, OnErr, IfOk, IfSome, IfNone, Some, is_some, if◌then◌else◌, option_copied};
+ghost use Rattle.std.specs.Prelude.{ℕ, ◌≡◌, ◌≢◌, ◌≤◌, ◌+◌, ◌↔◌, nat_le, [], length, OnOk, OnErr, IfOk, IfSome, IfNone, IsTrue, Some, None, is_some, if◌then◌else◌, option_copied};
 ghost use Rattle.std.specs.BTreeMap.{insert_entry};
 ghost use Rattle.std.specs.Map.{keys_of};
 ghost use Rattle.std.specs.List.Sorted.{IsStrictlySortedBy};
@@ -7,7 +7,6 @@ ghost use Rattle.std.specs.Ordering.{nat_cmp};
 ghost use Rattle.event_book.specs.Flight.{InFlightFacts, in_flight, without_message};
 ghost use Rattle.pat_world.specs.Launches.{launched_into};
 ghost use Rattle.cluster_model.specs.Limits.{most_in_flight};
-ghost use Rattle.pat_world.specs.Settled.{numbers_from};
 ghost use Rattle.pat_world.specs.Short.{IsSent};
 
 use event_book::Message;
@@ -20,7 +19,7 @@ use std::marker::Model;
 /// The most messages that may be in flight.
 const MOST: usize = 65_536;
 
-/// A message on its way, with what an answer of the store carries beside its words: what the store held when it was sent,
+/// A message on its way, with what an answer of the store carries beside its words: what the store had when it was sent,
 /// and the grant.
 #[derive(Drop)]
 pub struct InFlight {
@@ -75,6 +74,15 @@ impl Flight {
         self.messages.len()
     }
 
+    /// Whether none is in flight.
+    pub fn is_empty(&self) -> bool
+        ensures none { IsTrue result ↔ (self.now ≡ []) }
+        ensures few { length self.now ≤ most_in_flight }
+        ensures order { IsStrictlySortedBy nat_cmp (keys_of self.now) }
+    {
+        self.messages.len() == 0
+    }
+
     /// The message of this number. `None` exactly where it isn't in flight.
     pub fn get(&self, number: u64) -> Option<&InFlight>
         ensures { option_copied result ≡ in_flight self.now number }
@@ -104,22 +112,10 @@ impl Flight {
         ensures message { result ≡ in_flight self.old number }
         ensures sent { IfSome result IsSent }
         ensures absent { IfNone result (self.new ≡ self.old) }
+        ensures gone { in_flight self.new number ≡ None }
         ensures others { (n : ℕ) (m : InFlightFacts) → in_flight self.new n ≡ Some m → in_flight self.old n ≡ Some m }
     {
         self.messages.remove(&number)
-    }
-
-    /// The numbers of the messages in flight from this number on, in order. It fails only for want of memory.
-    pub fn numbers_from(&self, alloc: Global, mark: u64) -> Result<Vec<u64>, AllocError>
-        ensures numbers { IfOk result (λ numbers. numbers.items ≡ numbers_from mark self.now) }
-        ensures few { IfOk result (λ numbers. length numbers.items ≤ most_in_flight) }
-        ensures order { IsStrictlySortedBy nat_cmp (keys_of self.now) }
-    {
-        let mut numbers = Vec::new(alloc);
-        for (number, _) in self.messages.range(mark..) {
-            numbers.push(*number)?;
-        }
-        Ok(numbers)
     }
 }
 

@@ -4,6 +4,7 @@
 mod changes;
 mod deliveries;
 mod flight;
+mod flight_index;
 mod from_head;
 mod links;
 mod losing;
@@ -14,6 +15,7 @@ mod places;
 mod processes;
 mod server_changes;
 mod server_commands;
+mod stage;
 mod streaming;
 mod watchdogs;
 mod world;

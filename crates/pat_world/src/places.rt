@@ -1,10 +1,10 @@
 //! The agents of members, each at the place of its member. An agent can't be dropped: one that ends is wrecked.
 ghost use Rattle.std.specs.Prelude.{ℕ, ◌≡◌, ◌≤◌, ◌<◌, ◌+◌, [], List, Option, Some, None, All, IfSome, IfOk, length, map, option_copied};
-ghost use Rattle.pat_base.specs.Changes.{changed_by};
+ghost use Rattle.pat_base.specs.Changes.{with_changed};
 ghost use Rattle.ha_loop.specs.Agents.{AgentFacts, IsWithin, latest, most_messages};
 ghost use Rattle.ha_loop.specs.Outputs.{most_outputs};
 ghost use Rattle.cluster_model.specs.Cluster.{agent_after, agent_facts_moved, agent_facts_by_watchdog, agent_facts_without};
-ghost use Rattle.cluster_model.specs.Inputs.{agent_at, has_work, outcome_at, outputs_of, standing, starting_agent};
+ghost use Rattle.cluster_model.specs.Inputs.{agent_at, outcome_at, outputs_of, standing, starting_agent};
 ghost use Rattle.cluster_model.specs.Limits.{most_members};
 ghost use Rattle.cluster_model.specs.Starting.{first_agent};
 ghost use Rattle.pat_world.specs.Room.{HasNumbers};
@@ -47,16 +47,6 @@ fn wreck(slot: Option<Agent>) {
     }
 }
 
-/// Whether there is something to do for the agent at a place with this machine, if one is there.
-pub fn has_work(agents: &[Option<Agent>], place: usize, now: Ticks, machine: &Machine) -> bool
-    ensures { result ≡ has_work now (standing (agent_at agents.now place) (Some machine.now)) }
-{
-    match agent_at(agents, place) {
-        None => false,
-        Some(agent) => agent.due(now, machine),
-    }
-}
-
 /// The agent at a place, if one is there.
 pub fn agent_at(agents: &[Option<Agent>], place: usize) -> Option<&Agent>
     ensures { option_copied result ≡ agent_at agents.now place }
@@ -79,7 +69,7 @@ pub fn hear(
     requires numbers { All (HasNumbers 1) agents.old.items }
     requires room { most_outputs ≤ outputs.old.spare }
     requires none { outputs.old.outputs ≡ [] }
-    ensures agents { agents.new.items ≡ changed_by agents.old.items place (agent_after (outcome_at now history.now.points heard (agent_at agents.old.items place) (Some machine.old))) }
+    ensures agents { agents.new.items ≡ with_changed agents.old.items place (agent_after (outcome_at now history.now.points heard (agent_at agents.old.items place) (Some machine.old))) }
     ensures outputs { outputs.new.outputs ≡ outputs_of (outcome_at now history.now.points heard (agent_at agents.old.items place) (Some machine.old)) }
 {
     if place < agents.len() {
@@ -164,7 +154,7 @@ fn end(agents: &mut Vec<Option<Agent>>, member: Member)
 /// The agent of a member starts, in its run of this number; one that is there ends.
 fn begin(agents: &mut Vec<Option<Agent>>, member: Member, who: Who, now: Ticks, run: u64)
     requires { now.0 ≤ latest }
-    ensures { agents.new.items ≡ changed_by agents.old.items member.id.number (λ agent. Some (starting_agent who now.0 run)) }
+    ensures { agents.new.items ≡ with_changed agents.old.items member.id.number (λ agent. Some (starting_agent who now.0 run)) }
 {
     let place = member.id.number as usize;
     if place < agents.len() {

@@ -1,10 +1,10 @@
 //! What a happening changes at servers.
 ghost use Rattle.std.specs.Prelude.{◌≡◌, ◌<◌, ◌^◌, ◌==◌, ◌&&◌, ◌||◌, not, OnOk, IfSome, IsTrue, slice_get};
-ghost use Rattle.pat_base.specs.Changes.{changed_by};
-ghost use Rattle.event_book.specs.Servers.{servers_after, servers_by, servers_by_log, servers_by_replication, servers_by_watchdog, starts_as_replica, stops};
+ghost use Rattle.pat_base.specs.Changes.{with_changed};
+ghost use Rattle.event_book.specs.Servers.{begun_in, servers_after, servers_by, servers_by_log, servers_by_replication, servers_by_watchdog, starts_as_primary, starts_as_replica, stops};
 ghost use Rattle.pg_model.specs.Facts.{is_down, is_up};
 ghost use Rattle.pg_model.specs.Running.{is_primary, stopped};
-ghost use Rattle.pat_world.specs.Comes.{ends_at, LogComes, ReplicationComes, ServerComes, ServesAt};
+ghost use Rattle.pat_world.specs.Comes.{begins_in, ends_at, LogComes, ReplicationComes, ServerComes, ServesAt};
 
 use event_book::{EventKind, LogEvent, ReplicationEvent, ServerEvent, WatchdogEvent};
 use pat_base::{State, Ticks};
@@ -46,7 +46,7 @@ fn change_server(
     ensures { OnOk result (servers.new ≡ servers_by now.0 servers.old happening.now) }
 {
     match happening {
-        ServerEvent::Began { server, .. } => servers.promote(server.id.number as usize, now),
+        ServerEvent::Began { server, .. } => begin(servers, now, server.id.number as usize),
         ServerEvent::Ended { server } => {
             end(servers, now, server.id.number as usize);
             Ok(())
@@ -57,6 +57,10 @@ fn change_server(
         }
         ServerEvent::Stops { server } => {
             stop(servers, now, server.id.number as usize);
+            Ok(())
+        }
+        ServerEvent::StartsAsPrimary { server } => {
+            start_primary(servers, now, server.id.number as usize);
             Ok(())
         }
         ServerEvent::StartsAsReplica { server } => {
@@ -79,10 +83,47 @@ fn change_server(
     }
 }
 
+/// The server at a place begins to accept writes, which can: a replica is promoted, a start as a primary is complete, or one that is
+/// down starts as a primary at once. It fails only for want of memory.
+fn begin(servers: &mut Servers, now: Ticks, place: usize) -> Result<(), AllocError>
+    requires moment { now.0 < 2 ^ 61 }
+    requires begins { IfSome (slice_get servers.old place) (λ s. IsTrue (begins_in now.0 s s.state) × (s.timeline < 2 ^ 60)) }
+    ensures { OnOk result (servers.new ≡ with_changed servers.old place (λ s. begun_in s.state s)) }
+{
+    let Some(server) = servers.get(place) else {
+        return Ok(());
+    };
+    match server.state() {
+        State::Replica => servers.promote(place, now),
+        State::Starting { .. } => {
+            servers.complete(place, now);
+            Ok(())
+        }
+        _ => {
+            servers.start_primary(place, now);
+            Ok(())
+        }
+    }
+}
+
+/// The server at a place, whose last run was a primary, starts as one, where it is down and its starts take time.
+fn start_primary(servers: &mut Servers, now: Ticks, place: usize)
+    requires moment { now.0 < 2 ^ 61 }
+    requires primary { IfSome (slice_get servers.old place) (λ s. IsTrue s.was_primary) }
+    ensures { servers.new ≡ with_changed servers.old place (starts_as_primary now.0) }
+{
+    let Some(server) = servers.get(place) else {
+        return;
+    };
+    if is_down(server.state()) && server.start_delay() != Ticks(0) {
+        servers.start_primary(place, now);
+    }
+}
+
 /// The server at a place starts as a replica of none, where it is down.
 fn start_replica(servers: &mut Servers, now: Ticks, place: usize)
     requires { now.0 < 2 ^ 61 }
-    ensures { servers.new ≡ changed_by servers.old place (starts_as_replica now.0) }
+    ensures { servers.new ≡ with_changed servers.old place (starts_as_replica now.0) }
 {
     let Some(server) = servers.get(place) else {
         return;
@@ -96,7 +137,7 @@ fn start_replica(servers: &mut Servers, now: Ticks, place: usize)
 fn end(servers: &mut Servers, now: Ticks, place: usize)
     requires moment { now.0 < 2 ^ 61 }
     requires ends { IfSome (slice_get servers.old place) (λ s. IsTrue (ends_at now.0 s.state s.stop_delay)) }
-    ensures { servers.new ≡ changed_by servers.old place stopped }
+    ensures { servers.new ≡ with_changed servers.old place stopped }
 {
     let Some(server) = servers.get(place) else {
         return;
@@ -110,7 +151,7 @@ fn end(servers: &mut Servers, now: Ticks, place: usize)
 /// The shutdown of the server at a place begins, where that ends no writing at once.
 fn stop(servers: &mut Servers, now: Ticks, place: usize)
     requires { now.0 < 2 ^ 61 }
-    ensures { servers.new ≡ changed_by servers.old place (stops now.0) }
+    ensures { servers.new ≡ with_changed servers.old place (stops now.0) }
 {
     let Some(server) = servers.get(place) else {
         return;

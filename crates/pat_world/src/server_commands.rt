@@ -2,11 +2,12 @@
 ghost use Rattle.std.specs.Prelude.{◌≡◌, ◌<◌, ◌^◌, IfSome, option_and_then, slice_get};
 ghost use Rattle.pg_model.specs.Servers.{entry_for};
 ghost use Rattle.cluster_model.specs.State.{Cluster};
-ghost use Rattle.cluster_model.specs.Ticking.{completion_of};
+ghost use Rattle.cluster_model.specs.Beginnings.{again_by, beginning_of, completion_in, completion_of};
 ghost use Rattle.pat_world.specs.Comes.{MayCome};
 ghost use Rattle.pat_world.specs.Promoting.{promoted_timeline};
 ghost use Rattle.cluster_model.specs.ServerCommands.{is_gone, commit_of, crash_of, freezing_of, slow_by, slow_of};
 
+use cluster_model::{Beginning, Completion};
 use cluster_script::{Delay, SlowedCall};
 use event_book::{EventKind, LogEvent, Member, Note, ServerEvent, ServerOf};
 use pat_base::{State, Ticks};
@@ -47,19 +48,54 @@ fn is_gone(state: State) -> bool
     matches!(state, State::Crashed | State::Creating)
 }
 
-/// The completion of a stop: what happens where it is a primary's and its moment has come.
-pub fn completion_of(servers: &Servers, now: Ticks, member: Member) -> Option<EventKind>
-    ensures kind { result ≡ option_and_then (completion_of now.0 member) (slice_get servers.now member.id.number) }
-    ensures comes { (cluster : Cluster) → cluster.book.servers ≡ servers.now → cluster.book.clock ≡ now.0 → IfSome result (MayCome cluster) }
+/// How the server of a member begins by the order of its agent, if it can.
+pub fn beginning_of(servers: &Servers, member: Member) -> Option<Beginning>
+    requires { IfSome (slice_get servers.now member.id.number) (λ s. s.timeline < 2 ^ 60) }
+    ensures { result ≡ option_and_then beginning_of (slice_get servers.now member.id.number) }
 {
     let server = servers.get(member.id.number as usize)?;
     match server.state() {
+        State::Replica => Some(Beginning::AtOnce {
+            timeline: server.timeline() + 1,
+        }),
+        State::Stopped | State::Crashed if server.was_primary() => {
+            Some(again_by(server.timeline(), server.start_delay()))
+        }
+        _ => None,
+    }
+}
+
+/// A start as a primary on this timeline, where starts take so long.
+fn again_by(timeline: u64, delay: Ticks) -> Beginning
+    ensures { result ≡ again_by timeline delay }
+{
+    if delay.0 == 0 {
+        Beginning::AtOnce { timeline }
+    } else {
+        Beginning::WithItsStart
+    }
+}
+
+/// The completion of a start or a stop as a primary, where the moment of one has come.
+pub fn completion_of(servers: &Servers, now: Ticks, member: Member) -> Option<Completion>
+    ensures { result ≡ option_and_then (completion_of now.0) (slice_get servers.now member.id.number) }
+{
+    let server = servers.get(member.id.number as usize)?;
+    completion_in(now, server.timeline(), server.state())
+}
+
+fn completion_in(now: Ticks, timeline: u64, state: State) -> Option<Completion>
+    ensures { result ≡ completion_in now.0 timeline state }
+{
+    match state {
+        State::Starting {
+            as_primary: true,
+            at,
+        } if at <= now => Some(Completion::Begins { timeline }),
         State::Stopping {
             was_primary: true,
             at,
-        } if at <= now => Some(EventKind::Server(ServerEvent::Ended {
-            server: ServerOf::of(member),
-        })),
+        } if at <= now => Some(Completion::Ends),
         _ => None,
     }
 }

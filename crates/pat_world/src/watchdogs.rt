@@ -1,12 +1,13 @@
 //! Watchdogs and holds: what a happening changes of them, and whose machine is reset.
-ghost use Rattle.std.specs.Prelude.{◌≡◌, Some, None, IfSome, option_and_then, option_copied, slice_get};
-ghost use Rattle.pat_base.specs.Changes.{changed_by};
+ghost use Rattle.std.specs.Prelude.{ℕ, ◌≡◌, ◌<◌, ◌≤◌, false, Some, None, IfSome, option_and_then, option_copied, slice_get};
+ghost use Rattle.pat_base.specs.Changes.{with_changed};
 ghost use Rattle.event_book.specs.Watchdogs.{deadlines_by, holds_by, later_of, prolonged_to};
 ghost use Rattle.leader_key.specs.Watchdog.{is_due_at};
 ghost use Rattle.cluster_model.specs.Commands.{disarm_at_start, disarm_if, disarm_of};
 ghost use Rattle.cluster_model.specs.State.{Cluster};
 ghost use Rattle.cluster_model.specs.Ticking.{reset_of};
 ghost use Rattle.pat_world.specs.Comes.{MayCome};
+ghost use Rattle.pat_world.specs.Idle.{NoneResets};
 
 use event_book::{AgentProcess, EventKind, Member, WatchdogEvent};
 use ha_loop::Machine;
@@ -30,7 +31,7 @@ pub fn change_deadline(deadlines: &mut Vec<Option<Ticks>>, happening: &WatchdogE
 }
 
 fn set_deadline(deadlines: &mut Vec<Option<Ticks>>, member: Member, deadline: Option<Ticks>)
-    ensures { deadlines.new.items ≡ changed_by deadlines.old.items member.id.number (λ before. deadline) }
+    ensures { deadlines.new.items ≡ with_changed deadlines.old.items member.id.number (λ before. deadline) }
 {
     let place = member.id.number as usize;
     if place < deadlines.len() {
@@ -48,7 +49,7 @@ pub fn change_hold(holds: &mut Vec<Option<Ticks>>, happening: &WatchdogEvent)
 }
 
 fn prolong(holds: &mut Vec<Option<Ticks>>, member: Member, until: Ticks)
-    ensures { holds.new.items ≡ changed_by holds.old.items member.id.number (prolonged_to until) }
+    ensures { holds.new.items ≡ with_changed holds.old.items member.id.number (prolonged_to until) }
 {
     let place = member.id.number as usize;
     if place < holds.len() {
@@ -130,5 +131,28 @@ fn disarm_if(member: Member, deadline: Option<Ticks>) -> Option<EventKind>
     match deadline {
         None => None,
         Some(_) => Some(EventKind::Watchdog(WatchdogEvent::Disarmed { member })),
+    }
+}
+
+/// A moment, or the first of these deadlines where that comes sooner.
+pub fn first_deadline(deadlines: &[Option<Ticks>], most: Ticks) -> Ticks
+    ensures within { result.0 ≤ most.0 }
+    ensures before { (now : ℕ) → now < result.0 → NoneResets now deadlines.now }
+{
+    let mut first = most;
+    for deadline in deadlines {
+        first = sooner_deadline(first, *deadline);
+    }
+    first
+}
+
+/// A moment, or the deadline where that comes sooner.
+fn sooner_deadline(most: Ticks, deadline: Option<Ticks>) -> Ticks
+    ensures within { result.0 ≤ most.0 }
+    ensures before { (now : ℕ) → now < result.0 → is_due_at now deadline ≡ false }
+{
+    match deadline {
+        None => most,
+        Some(deadline) => { if deadline < most { deadline } else { most } }
     }
 }

@@ -1,114 +1,49 @@
 //! The world: it takes the steps of a script and hands out what happens.
-ghost use Rattle.std.specs.Prelude.{ℕ, List, ◌≡◌, ◌<◌, ◌≤◌, ◌+◌, ◌*◌, ◌^◌, ◌++◌, ◌∷◌, ◌↔◌, [], length, OnOk, OnErr, IfOk, IfSome, IsSome, option_and_then, slice_get, Some};
-ghost use Rattle.pat_base.specs.MemberId.{member_of};
-ghost use Rattle.cluster_script.specs.Script.{IsCommand, IsLink, IsMember};
+ghost use Rattle.std.specs.Prelude.{ℕ, List, ◌≡◌, ◌<◌, ◌≤◌, ◌+◌, ◌^◌, ◌++◌, [], IsTrue, OnOk, OnErr, IfOk, length, replicate, zero};
+ghost use Rattle.cluster_script.specs.declared.line.Step.TheVariants as steps;
 ghost use Rattle.event_book.specs.declared.event.Event.{Event};
+ghost use Rattle.event_book.specs.declared.event.EventKind.TheVariants as kinds;
 ghost use Rattle.cluster_model.specs.Acknowledging.{AreAcknowledged};
-ghost use Rattle.cluster_model.specs.Commands.{link_of};
-ghost use Rattle.cluster_model.specs.Limits.{most_rounds};
-ghost use Rattle.cluster_model.specs.Next.{round_events, rounds_events, declared, command_events, command_kind, scheduled_events, step_events, next_events};
+ghost use Rattle.cluster_model.specs.Cluster.{cluster_over};
+ghost use Rattle.cluster_model.specs.Next.{next_events, run_events};
+ghost use Rattle.cluster_model.specs.Parts.{event_of};
 ghost use Rattle.cluster_model.specs.Starting.{cluster_of};
 ghost use Rattle.cluster_model.specs.State.{Cluster};
-ghost use Rattle.cluster_model.specs.Steps.{IsStep, names_in};
-ghost use Rattle.pat_world.specs.Book.{StandsFor, next_of};
+ghost use Rattle.cluster_model.specs.Steps.{IsStep};
+ghost use Rattle.pat_world.specs.Book.{StandsFor, left_by, next_of};
+ghost use Rattle.pat_world.specs.Idle.{BringsTicks, IsIdle, IsTick, NothingIsDue};
 ghost use Rattle.pat_world.specs.OneWriter.{KeepsOneWriter};
-ghost use Rattle.pat_world.specs.Comes.{MayCome};
 ghost use Rattle.pat_world.specs.Emits.{Emits};
-ghost use Rattle.pat_world.specs.Room.{HasRoom, HasRoomFor, command_cost, round_cost, rounds_cost, schedule_cost, step_cost};
+ghost use Rattle.pat_world.specs.Room.{HasRoomFor, step_cost};
 
-mod acknowledging;
-mod agents;
-mod happening;
-mod messages;
-mod orders;
-mod servers;
-mod streaming;
-mod ticking;
-
-use crate::flight::Flight;
-use crate::from_head::{hosts_of, members_of, options_of, processes_of};
-use crate::links::{CutLinks, cut_of, join_of, link_of};
-use crate::members;
-use crate::places::{close_all, first_agents};
-use crate::processes::{hold_of, kill_of, resume_of};
-use crate::server_commands::{commit_of, crash_of, freezing_of, slow_of};
-use cluster_script::{Command, End, Head, MemberOptions, Step};
-use event_book::{AgentProcess, Event, EventKind, Link, Member};
-use ha_loop::{Agent, Outputs};
-use lease_store::{ConfigValue, Store};
-use pat_base::{Host, MemberId, Name, Ticks};
-use pg_model::Servers;
+use crate::stage::{Stage, note};
+use cluster_config::AgentView;
+use cluster_script::{Head, Step};
+use event_book::{Event, EventKind};
+use pat_base::{MemberId, Ticks};
 use std::alloc::{AllocError, Global};
 use std::marker::Model;
 
-/// The most rounds of one tick.
-const MOST_ROUNDS: usize = 40;
-
-/// A cluster at a moment: the clock, the key store, the declared members with their agents, machines and servers, the links that
-/// are cut, the messages in flight, and the commits. It can't be dropped, since an agent can't: `World::close` ends one.
+/// A cluster at a moment, which takes the steps of a script. It can't be dropped, since an agent can't: `World::close` ends
+/// one.
+///
+/// Most ticks bring nothing but themselves. Up to when that is so is found once, where a step of the default schedule brought its
+/// tick alone; until then a tick costs the same little however many members there are, and many of them no more than one.
 pub struct World {
-    alloc: Global,
-    scope: Name,
-    /// What the script declares of the members beside their names.
-    options: Vec<MemberOptions>,
-    /// Where members are reached, as snapshots tell agents.
-    hosts: Vec<(Name, Host)>,
-    clock: Ticks,
-    store: Store,
-    members: Vec<Member>,
-    processes: Vec<AgentProcess>,
-    /// The agents that run, each at the place of its member.
-    agents: Vec<Option<Agent>>,
-    /// When each watchdog resets its machine, if it is armed.
-    deadlines: Vec<Option<Ticks>>,
-    /// Until when each member promised not to take the leader key, if it did.
-    holds: Vec<Option<Ticks>>,
-    cuts: CutLinks,
-    flight: Flight,
-    sent: u64,
-    servers: Servers,
-    frozen: Vec<bool>,
-    /// The number of the last commit.
-    commits: u64,
-    /// The commits whose clients were told that they are stored, in order.
-    acknowledged: Vec<u64>,
-    /// Each message in flight with a number below this one is kept for an agent that is suspended, so no round need look at it.
-    settled: u64,
-    /// A buffer for what agents do, empty between two inputs.
-    outputs: Outputs,
+    stage: Stage,
+    /// Before this moment steps of the default schedule bring nothing but their ticks; 0 where nothing is known of that.
+    idle_before: u64,
 }
 
 impl Model for World {
-    ghost use Rattle.std.specs.Prelude.{◌≡◌, ◌≤◌, ◌+◌, [], length};
-    ghost use Rattle.cluster_model.specs.Limits.{most_members};
-    ghost use Rattle.cluster_model.specs.Machines.{hosts_of};
     ghost use Rattle.cluster_model.specs.State.{Cluster};
-    ghost use Rattle.pat_world.specs.Settled.{AreKeptBelow};
+    ghost use Rattle.pat_world.specs.Idle.{IsIdleBefore};
 
     ghost Value = { Cluster };
 
-    ghost view = { λ w. record {
-      scope = w.scope;
-      options = w.options.items;
-      book = record {
-        clock = w.clock.0;
-        keys = w.store;
-        members = w.members.items;
-        agents = w.processes.items;
-        cuts = w.cuts;
-        flight = w.flight;
-        sent = w.sent;
-        servers = w.servers;
-        frozen = w.frozen.items;
-        deadlines = w.deadlines.items;
-        holds = w.holds.items;
-        commits = w.commits;
-        acknowledged = w.acknowledged.items;
-      };
-      agents = w.agents.items;
-    } };
+    ghost view = { λ w. w.stage };
 
-    ghost invariant = { λ w. (length w.members.items ≤ most_members) × (w.settled ≤ w.sent + 1) × AreKeptBelow w.settled w.flight w.processes.items w.cuts × (w.hosts.items ≡ hosts_of w.members.items) × (w.outputs.outputs ≡ []) };
+    ghost invariant = { λ w. IsIdleBefore w.idle_before w.stage };
 }
 
 impl World {
@@ -118,84 +53,32 @@ impl World {
         ensures cluster { IfOk result (λ world. world ≡ cluster_of head.now) }
         ensures book { IfOk result (λ world. StandsFor (cluster_of head.now) [] world) }
     {
-        let world = World::first(alloc, head)?;
-        Ok(world)
-    }
-
-    /// The world of a script's head, before the first step. It fails only for want of memory.
-    fn first(alloc: Global, head: &Head) -> Result<World, AllocError>
-        ensures { IfOk result (λ world. world ≡ cluster_of head.now) }
-    {
-        let count = head.member_count();
-        let members = members_of(alloc, head)?;
-        let hosts = hosts_of(alloc, &members)?;
-        let options = options_of(alloc, head)?;
-        let processes = processes_of(alloc, count)?;
-        let deadlines = Vec::from_elem(alloc, None, count)?;
-        let holds = Vec::from_elem(alloc, None, count)?;
-        let cuts = CutLinks::none(alloc)?;
-        let servers = Servers::new(alloc, count, head.base())?;
-        let frozen = Vec::from_elem(alloc, false, count)?;
-        let store = Store::new(alloc, ConfigValue::defaults(alloc)?)?;
-        let scope = head.cluster();
-        // the agents come last, since nothing that fails may leave any of them behind
-        let agents = first_agents(alloc, scope, &members)?;
+        let stage = Stage::new(alloc, head)?;
         Ok(World {
-            alloc,
-            scope,
-            options,
-            hosts,
-            clock: Ticks(0),
-            store,
-            members,
-            processes,
-            agents,
-            deadlines,
-            holds,
-            cuts,
-            flight: Flight::new(alloc),
-            sent: 0,
-            servers,
-            frozen,
-            commits: 0,
-            acknowledged: Vec::new(alloc),
-            settled: 0,
-            outputs: Outputs::new(alloc),
+            stage,
+            idle_before: 0,
         })
     }
 
     /// Ends a world, and with it all agents that run.
     pub fn close(self) {
         let World {
-            alloc: _,
-            scope: _,
-            options: _,
-            hosts: _,
-            clock: _,
-            store: _,
-            members: _,
-            processes: _,
-            agents,
-            deadlines: _,
-            holds: _,
-            cuts: _,
-            flight: _,
-            sent: _,
-            servers: _,
-            frozen: _,
-            commits: _,
-            acknowledged: _,
-            settled: _,
-            outputs: _,
+            stage,
+            idle_before: _,
         } = self;
-        close_all(agents);
+        stage.close();
     }
 
     /// The moment, in ticks of 100 ms.
     pub fn clock(&self) -> Ticks
         ensures { result.0 ≡ self.now.book.clock }
     {
-        self.clock
+        self.stage.clock()
+    }
+
+    /// What the agent of a member shows of itself and of its server. `None` exactly where none runs.
+    pub fn view(&self, id: MemberId) -> Option<AgentView<'_>> {
+        self.stage.view(id)
     }
 
     /// One step of a script with these members, into an empty list. On Ok the events are those that come next, and the
@@ -221,159 +104,111 @@ impl World {
         taken
     }
 
-    /// What happens in a step, and then the acknowledgements.
+    /// Takes so many steps of the default schedule at once as are known to bring nothing but their ticks, at most as many as
+    /// wanted, and answers how many. 0 where the next one may bring more. It costs the same however many they are.
+    pub fn idle_for(&mut self, most: u64) -> u64
+        ensures most { result ≤ most }
+        ensures ticks { BringsTicks self.old result }
+        ensures world { self.new ≡ cluster_over self.old (run_events self.old (replicate result steps.Scheduled)) }
+        ensures room { (more : ℕ) → HasRoomFor self.old (result + more) → HasRoomFor self.new more }
+        ensures book { (start : Cluster) (book : List Event) → StandsFor start book self.old
+            → StandsFor start (book ++ run_events (left_by start book) (replicate result steps.Scheduled)) self.new }
+        ensures one_writer { KeepsOneWriter self.old (run_events self.old (replicate result steps.Scheduled)) }
+        ensures acknowledged { 0 < result → AreAcknowledged self.new.book.members self.new.book.servers }
+    {
+        let ticks = self.idle_ticks(most);
+        self.stage.pass(ticks);
+        ticks
+    }
+
+    /// A step: a tick that is known to bring nothing else, or any other one.
     fn play(&mut self, step: &Step, events: &mut Vec<Event>) -> Result<(), AllocError>
         requires room { HasRoomFor self.old 1 }
         requires declared { IsStep self.old.book.members step.now }
+        requires empty { events.old.items ≡ [] }
         ensures emits { OnOk result (Emits self.old self.new events.old.items events.new.items (next_events self.old step.now) step_cost) }
         ensures acknowledged { OnOk result (AreAcknowledged self.new.book.members self.new.book.servers) }
     {
-        self.perform(step, events)?;
-        self.acknowledge_all(events)
+        if self.brings_tick(step) {
+            return self.tick(step, events);
+        }
+        self.take(step, events)
     }
 
-    /// What happens in a step.
-    fn perform(&mut self, step: &Step, events: &mut Vec<Event>) -> Result<(), AllocError>
+    /// A tick that is known to bring nothing else.
+    fn tick(&mut self, step: &Step, events: &mut Vec<Event>) -> Result<(), AllocError>
+        requires room { HasRoomFor self.old 1 }
+        requires tick { IsTick step.now }
+        requires idle { IsIdle (self.old.book.clock + 1) self.old }
+        ensures emits { OnOk result (Emits self.old self.new events.old.items events.new.items (next_events self.old step.now) step_cost) }
+        ensures acknowledged { OnOk result (AreAcknowledged self.new.book.members self.new.book.servers) }
+    {
+        self.stage.pass(1);
+        note(events, self.stage.clock(), EventKind::Tick)
+    }
+
+    /// Any step. Where it brought nothing but the tick of the default schedule, it is found up to when that stays so.
+    fn take(&mut self, step: &Step, events: &mut Vec<Event>) -> Result<(), AllocError>
         requires room { HasRoomFor self.old 1 }
         requires declared { IsStep self.old.book.members step.now }
-        ensures { OnOk result (Emits self.old self.new events.old.items events.new.items (step_events self.old step.now) step_cost) }
+        requires empty { events.old.items ≡ [] }
+        ensures emits { OnOk result (Emits self.old self.new events.old.items events.new.items (next_events self.old step.now) step_cost) }
+        ensures acknowledged { OnOk result (AreAcknowledged self.new.book.members self.new.book.servers) }
     {
-        match step {
-            Step::Scheduled => {
-                self.tick(events)?;
-                self.scheduled(events)
-            }
-            Step::Tick => self.tick(events),
-            Step::Command(command) => self.command(command, events),
-        }
-    }
-
-    /// A tick of the default schedule: replicas receive, and then agents are woken and messages come.
-    fn scheduled(&mut self, events: &mut Vec<Event>) -> Result<(), AllocError>
-        requires { HasRoom self.old schedule_cost }
-        ensures { OnOk result (Emits self.old self.new events.old.items events.new.items (scheduled_events self.old) schedule_cost) }
-    {
-        self.all_receive(events)?;
-        self.rounds(events)
-    }
-
-    /// What a command comes to.
-    fn command(&mut self, command: &Command, events: &mut Vec<Event>) -> Result<(), AllocError>
-        requires room { HasRoom self.old command_cost }
-        requires declared { IsCommand (names_in self.old.book.members) command.now }
-        ensures { OnOk result (Emits self.old self.new events.old.items events.new.items (command_events self.old command.now) command_cost) }
-    {
-        match *command {
-            Command::Turn(id) => self.turn(self.declared(id), events),
-            Command::Deliver(number) => self.deliver(number, events),
-            Command::Lose(number) => self.lose(number, events),
-            Command::Restart(id) => self.restart(self.declared(id), events),
-            Command::Promote(id) => self.promote(self.declared(id), events),
-            Command::Stream(id, most) => self.receive(self.declared(id), most, events),
-            _ => self.happen_if(self.command_kind(command), events),
-        }
-    }
-
-    /// What a command comes to that brings one event at most.
-    fn command_kind(&self, command: &Command) -> Option<EventKind>
-        requires room { HasRoom self.now 1 }
-        requires declared { IsCommand (names_in self.now.book.members) command.now }
-        ensures kind { result ≡ command_kind self.now command.now }
-        ensures comes { IfSome result (MayCome self.now) }
-    {
-        match *command {
-            Command::Hold(id) => {
-                let member = self.declared(id);
-                hold_of(member, self.process(member)?)
-            }
-            Command::Resume(id) => {
-                let member = self.declared(id);
-                resume_of(member, self.process(member)?)
-            }
-            Command::Kill(id) => {
-                let member = self.declared(id);
-                kill_of(member, self.process(member)?)
-            }
-            Command::Crash(id) => crash_of(&self.servers, self.declared(id)),
-            Command::Commit(id, size) => {
-                let member = self.declared(id);
-                Some(commit_of(&self.servers, member, self.commits + 1, size.bytes))
-            }
-            Command::Freeze(id) => freezing_of(&self.frozen, self.declared(id), true),
-            Command::Thaw(id) => freezing_of(&self.frozen, self.declared(id), false),
-            Command::Slow(id, slowed, delay) => {
-                slow_of(&self.servers, self.declared(id), slowed, delay)
-            }
-            Command::Cut(first, second) => cut_of(&self.cuts, self.link(first, second)),
-            Command::Join(first, second) => join_of(&self.cuts, self.link(first, second)),
-            _ => None,
-        }
-    }
-
-    /// The rounds of a tick. A round in which nothing happens is the last.
-    fn rounds(&mut self, events: &mut Vec<Event>) -> Result<(), AllocError>
-        requires { HasRoom self.old rounds_cost }
-        ensures { OnOk result (Emits self.old self.new events.old.items events.new.items (rounds_events self.old most_rounds) rounds_cost) }
-    {
-        for done in 0..MOST_ROUNDS {
-            let before = events.len();
-            self.round(events)?;
-            if events.len() == before {
-                self.settle();
-                return Ok(());
-            }
-        }
+        self.idle_before = 0;
+        self.stage.play(step, events)?;
+        self.idle_before = idle_before(&self.stage, step, events.len());
         Ok(())
     }
 
-    /// A round: each due agent is woken, and then each message that is in flight at that point moves.
-    fn round(&mut self, events: &mut Vec<Event>) -> Result<(), AllocError>
-        requires { HasRoom self.old round_cost }
-        ensures { OnOk result (Emits self.old self.new events.old.items events.new.items (round_events self.old) round_cost) }
+    /// Whether a step is a tick that is known to bring nothing else.
+    fn brings_tick(&self, step: &Step) -> bool
+        ensures tick { IsTrue result → IsTick step.now }
+        ensures idle { IsTrue result → IsIdle (self.now.book.clock + 1) self.now }
     {
-        self.wakes(events)?;
-        let numbers = self.flight.numbers_from(self.alloc, self.settled)?;
-        self.pass_messages(&numbers, events)
+        if self.idle_ticks(1) == 0 {
+            return false;
+        }
+        is_tick(step)
     }
 
-    /// Nothing moves: all that is in flight is kept for agents that are suspended.
-    fn settle(&mut self)
-        requires still { round_events self.old ≡ [] }
-        requires room { HasRoom self.old 1 }
-        ensures { self.new ≡ self.old }
+    /// How many of the next ticks are known to bring nothing else, at most as many as wanted.
+    fn idle_ticks(&self, most: u64) -> u64
+        ensures most { result ≤ most }
+        ensures fits { self.now.book.clock + result < 2 ^ 64 }
+        ensures idle { 0 < result → IsIdle (self.now.book.clock + result) self.now }
     {
-        self.settled = self.sent + 1;
-    }
-
-    /// The member at a place.
-    fn member(&self, place: usize) -> Member
-        requires { place < length self.now.book.members }
-        ensures { slice_get self.now.book.members place ≡ Some result }
-    {
-        self.members[place]
-    }
-
-    /// The declared member of this number.
-    fn declared(&self, id: MemberId) -> Member
-        requires { IsMember (names_in self.now.book.members) id }
-        ensures { declared self.now id ≡ Some result }
-    {
-        members::declared(&self.members, id)
-    }
-
-    /// The link between two ends that a script names.
-    fn link(&self, first: End, second: End) -> Link
-        requires { IsLink (names_in self.now.book.members) first second }
-        ensures { link_of self.now.book.members first second ≡ Some result }
-    {
-        link_of(&self.members, first, second)
+        let clock = self.stage.clock().0;
+        if self.idle_before <= clock {
+            return 0;
+        }
+        let left = self.idle_before - clock - 1;
+        if left < most { left } else { most }
     }
 }
 
-/// Writes an event down.
-fn note(events: &mut Vec<Event>, tick: Ticks, kind: EventKind) -> Result<(), AllocError>
-    ensures { OnOk result (events.new.items ≡ events.old.items ++ record { tick = tick; kind = kind } ∷ []) }
+/// Before which moment a stage is idle after a step that brought so many events; 0 where that isn't known. Where a step of the default
+/// schedule brought one event, that was its tick.
+fn idle_before(stage: &Stage, step: &Step, events: usize) -> u64
+    ensures scheduled { 0 < result → step.now ≡ steps.Scheduled }
+    ensures one { 0 < result → events ≡ 1 }
+    ensures due { (now : ℕ) → now < result → NothingIsDue now stage.now }
 {
-    events.push(Event { tick, kind })?;
-    Ok(())
+    if events != 1 {
+        return 0;
+    }
+    match step {
+        Step::Scheduled => stage.due_from().0,
+        _ => 0,
+    }
+}
+
+/// Whether a step is a tick, alone or of the default schedule.
+fn is_tick(step: &Step) -> bool
+    ensures { IsTrue result → IsTick step.now }
+{
+    match step {
+        Step::Scheduled | Step::Tick => true,
+        Step::Command(_) => false,
+    }
 }

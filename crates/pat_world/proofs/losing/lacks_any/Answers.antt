@@ -1,5 +1,3 @@
-use Rattle.std.proofs.Common.{◌∙◌, ap}
-use Rattle.pg_model.specs.Facts.{entries_of}
 use Rattle.pat_world.proofs.Lacking.{lacks-all}
 use Rattle.pat_world.proofs.losing.lacks_any.Goals as goal
 

@@ -1,4 +1,4 @@
-use Rattle.std.proofs.Common.{◌≡◌, ◌∙◌, ◌++◌, [], ◌∷◌, List, Option, Some, ap, arith, rules}
+use Rattle.std.proofs.Common.{◌≡◌, ◌∙◌, ◌++◌, [], ◌∷◌, Option, arith, rules}
 use Rattle.ha_loop.specs.Agents.{AgentFacts}
 use Rattle.event_book.specs.declared.member.Member.{Member}
 use Rattle.cluster_model.specs.Starting.{first_agent}

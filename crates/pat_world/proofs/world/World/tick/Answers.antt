@@ -1,38 +1,20 @@
-use Rattle.std.proofs.Common.{◌∙◌, ◌+◌, ◌++◌, arith, refl, ap, sym, subst}
+use Rattle.std.proofs.Common.{◌+◌, ap, arith, ◌∙◌}
 use Rattle.std.proofs.lemmas.Result.{on_ok_weaker}
-use Rattle.lease_store.specs.Answers.{expired_keys}
-use Rattle.event_book.specs.declared.event.EventKind.TheVariants as kinds
-use Rattle.cluster_model.specs.Orders.{declared_member}
-use Rattle.cluster_model.specs.Parts.{event_of, events_at}
 use Rattle.cluster_model.specs.State.{Cluster}
-use Rattle.cluster_model.specs.Ticking.{expiries_of, tick_events}
-use Rattle.pat_world.specs.Emits.{Emits}
-use Rattle.pat_world.specs.Room.{completions_cost, resets_cost, tick_cost}
-use Rattle.pat_world.proofs.Expiring.{tick-took}
-use Rattle.pat_world.proofs.Rooms.{HasRoom-fewer}
-use Rattle.pat_world.proofs.Worlds.{seen}
+use Rattle.pat_world.proofs.Idling.{at_moment}
+use Rattle.pat_world.proofs.IdleTicks.{idle-passed, tick-noted}
 use Rattle.pat_world.proofs.world.World.tick.Goals as goal
 
-pub happen-requires-clause-room : goal.happen-requires-clause-room
-happen-requires-clause-room c = HasRoom-fewer c.args.self.now tick_cost 1 (omega arith) c.requires
+pub returns-clause-emits : goal.returns-clause-emits
+returns-clause-emits c =
+    let old = c.args.self.now in
+    let new = c.pass.ensures ∙ ap (λ (s : Cluster). at_moment s (s.book.clock + 1)) c.self.view_is in
+    on_ok_weaker c.note.result
+    (λ noted. tick-noted old c.pass.new.self c.args.events.now.items c.note.new.events.items c.args.step.now c.clock.result new c.clock.ensures noted c.requires.tick c.requires.idle)
+    c.note.ensures
 
-pub resets-requires : goal.resets-requires
-resets-requires c = c.in_ok-happen.ensures.room resets_cost (HasRoom-fewer c.args.self.now tick_cost (1 + resets_cost) (omega arith) c.requires)
+pub pass-requires : goal.pass-requires
+pass-requires c = omega (arith, c.requires.room.room.clock, ap (λ (s : Cluster). s.book.clock) c.self.view_is)
 
-pub completions-requires : goal.completions-requires
-completions-requires c = c.in_ok-resets.ensures.room completions_cost (c.in_ok-happen.ensures.room (resets_cost + completions_cost) c.requires)
-
-pub returns : goal.returns
-returns c =
-    let before = seen c.self.inside in
-    let now = before.book.clock + 1 in
-    let holder = c.declared_member-holder.ensures ∙ ap (λ m. declared_member m c.expired_holder-holder.result) c.deref.ensures.value ∙ ap (declared_member before.book.members) c.expired_holder-holder.ensures in
-    let all = c.deref-2.ensures.value ∙ c.in_ok-expired.ensures in
-    let told = c.in_ok-note_expiries.ensures ∙ ap (λ ks. c.resets.new.events.items ++ events_at c.self-2.inside.clock (expiries_of c.declared_member-holder.result ks)) all
-    ∙ ap (λ h. c.resets.new.events.items ++ events_at c.self-2.inside.clock (expiries_of h (expired_keys before.book.keys now))) holder in
-    on_ok_weaker c.completions.result
-    (λ took. subst (λ (b : Cluster). Emits b c.completions.new.self c.args.events.now.items c.completions.new.events.items (tick_events b) tick_cost) c.self.view_is
-    (tick-took before c.happen.new.self c.resets.new.self c.completions.new.self c.args.events.now.items c.happen.new.events.items c.resets.new.events.items c.note_expiries.new.events.items c.completions.new.events.items c.self-2.inside.clock
-    (subst (λ (b : Cluster). Emits b c.happen.new.self c.args.events.now.items c.happen.new.events.items (event_of b kinds.Tick) 1) (sym c.self.view_is) c.in_ok-happen.ensures)
-    c.in_ok-resets.ensures (ap (λ (b : Cluster). b.book.clock) c.self-2.view_is) told took))
-    c.completions.ensures
+pub invariant_of-self : goal.invariant_of-self
+invariant_of-self c = idle-passed c.self.inside.idle_before (c.self.inside.stage.book.clock + 1) c.self.inside.stage c.pass.new.self c.pass.ensures c.self.invariant

@@ -1,0 +1,67 @@
+use Rattle.std.proofs.Common.{◌∙◌, ◌+◌, refl, ap, sym, subst}
+use Rattle.std.proofs.lemmas.Result.{on_ok_weaker}
+use Rattle.lease_store.specs.Answers.{present_pairs}
+use Rattle.event_book.specs.Flight.{grant_for, snapshot_for}
+use Rattle.cluster_model.specs.State.{Cluster}
+use Rattle.pat_world.specs.Launches.{launched_into}
+use Rattle.cluster_model.specs.Messages.{send_events}
+use Rattle.pat_world.specs.Emits.{Emits}
+use Rattle.pat_world.proofs.Sending.{send-took, loaded-is, with_flight}
+use Rattle.pat_world.proofs.Tending.{numbered-sent, tended-looser, tended-sent}
+use Rattle.pat_world.proofs.Worlds.{seen}
+use Rattle.pat_world.proofs.stage.Stage.send.Goals as goal
+
+pub invariant_of-self : goal.invariant_of-self
+invariant_of-self c =
+    let w = c.self.inside in (
+      c.self.invariant.0,
+      c.self.invariant.1,
+      tended-looser w.index c.insert.new.self w.flight w.processes.items w.cuts c.insert.ensures.looser c.self.invariant.2,
+      c.self.invariant.3,
+      c.self.invariant.4,
+    )
+
+pub invariant_of-self-in_err-lost : goal.invariant_of-self-in_err-lost
+invariant_of-self-in_err-lost c =
+    let w = c.self.inside in (
+      c.self.invariant.0,
+      numbered-sent w.sent w.flight c.launch.new.self c.launch.ensures.others c.self.invariant.1,
+      tended-sent c.insert.new.self (w.sent + 1) w.flight c.launch.new.self w.processes.items w.cuts c.in_ok-insert.ensures.there c.launch.ensures.others (tended-looser w.index c.insert.new.self w.flight w.processes.items w.cuts c.insert.ensures.looser c.self.invariant.2),
+      c.self.invariant.3,
+      c.self.invariant.4,
+    )
+
+pub invariant_of-self-in_err-note : goal.invariant_of-self-in_err-note
+invariant_of-self-in_err-note c =
+    let w = c.self.inside in (
+      c.self.invariant.0,
+      numbered-sent w.sent w.flight c.launch.new.self c.launch.ensures.others c.self.invariant.1,
+      tended-sent c.insert.new.self (w.sent + 1) w.flight c.launch.new.self w.processes.items w.cuts c.in_ok-insert.ensures.there c.launch.ensures.others (tended-looser w.index c.insert.new.self w.flight w.processes.items w.cuts c.insert.ensures.looser c.self.invariant.2),
+      c.self.invariant.3,
+      c.self.invariant.4,
+    )
+
+pub invariant_of-self-2 : goal.invariant_of-self-2
+invariant_of-self-2 c =
+    let w = c.self.inside in (
+      c.self.invariant.0,
+      numbered-sent w.sent w.flight c.launch.new.self c.launch.ensures.others c.self.invariant.1,
+      tended-sent c.insert.new.self (w.sent + 1) w.flight c.launch.new.self w.processes.items w.cuts c.in_ok-insert.ensures.there c.launch.ensures.others (tended-looser w.index c.insert.new.self w.flight w.processes.items w.cuts c.insert.ensures.looser c.self.invariant.2),
+      c.self.invariant.3,
+      c.self.invariant.4,
+    )
+
+pub returns : goal.returns
+returns c =
+    let before = seen c.self.inside in
+    let message = c.args.message in
+    let grant = c.requires.grant ∙ ap (λ (f : Cluster). grant_for message.body message.to f.book.keys.revision) (sym c.self.view_is) in
+    let told = c.in_ok-snapshot_for.ensures.entries ∙ ap (λ (f : Cluster). snapshot_for message.body (present_pairs f.book.clock f.book.keys.pairs)) (sym c.self.view_is) in
+    let loaded = loaded-is before message c.in_ok-try_clone.field-0 c.self.inside.clock c.in_ok-snapshot_for.field-0.items c.args.grant c.in_ok-try_clone.ensures refl told grant in
+    let after = with_flight before c.launch.new.self (before.book.sent + 1) in
+    on_ok_weaker c.note_lost.result
+    (λ has. subst (λ (b : Cluster). Emits b after c.args.events.now.items c.note_lost.new.events.items (send_events b message) 2) c.self.view_is
+    (send-took before after message c.self.inside.clock c.launch.new.self c.in_ok-lost.lost c.args.events.now.items c.note.new.events.items c.note_lost.new.events.items refl
+    (c.in_ok-lost.ensures.flight ∙ ap (λ m. launched_into before.book.flight (before.book.sent + 1) m) loaded)
+    c.in_ok-lost.ensures.lost refl c.in_ok-note.ensures has))
+    c.note_lost.ensures

@@ -1,7 +1,0 @@
-use Rattle.cluster_model.specs.Ticking.{completion_events}
-use Rattle.pat_world.proofs.Rest.{EachLeft}
-use Rattle.pat_world.proofs.world.World.completions.Given as goal
-
--- the stops of the servers of the members from this place on are still to be completed
-abbrev pub invariant-loop-place : goal.invariant-loop-place
-invariant-loop-place l = EachLeft completion_events 1 l.fn.self l.self l.fn.events.items l.events.items l.fn.self.book.members l.place

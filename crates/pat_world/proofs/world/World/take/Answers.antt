@@ -1,0 +1,11 @@
+use Rattle.std.proofs.Common.{arith}
+use Rattle.pat_world.proofs.IdleTicks.{idle-before-none, idle-found}
+use Rattle.pat_world.proofs.world.World.take.Goals as goal
+
+pub invariant_of-self : goal.invariant_of-self
+invariant_of-self c = idle-before-none c.play.new.self
+
+pub invariant_of-self-2 : goal.invariant_of-self-2
+invariant_of-self-2 c =
+    idle-found c.self.inside.stage c.play.new.self c.args.events.now.items c.play.new.events.items c.args.step.now c.idle_before-self-inside.result c.len.result c.idle_before-self-inside.ensures.scheduled c.idle_before-self-inside.ensures.one c.idle_before-self-inside.ensures.due
+    c.requires.empty (omega (arith, c.len.ensures)) c.in_ok-play.ensures.emits c.in_ok-play.ensures.acknowledged
