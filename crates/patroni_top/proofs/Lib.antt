@@ -1,5 +1,6 @@
 pub mod Books
 pub mod Endings
+pub mod Idling
 pub mod Input
 pub mod Played
 pub mod Premises

@@ -1,17 +1,20 @@
 //! Steps, and what they print.
-ghost use Rattle.std.specs.Prelude.{◌≡◌, ◌<◌, ◌∷◌, ◌++◌, [], false, length, IfOk, OnOk, replicate, slice_get, Some};
+ghost use Rattle.std.specs.Prelude.{◌≡◌, ◌<◌, ◌∷◌, ◌++◌, [], false, All, List, length, IfOk, OnOk, replicate, slice_get, Some};
 ghost use Rattle.pat_base.specs.Prints.{Prints};
+ghost use Rattle.cluster_script.specs.declared.line.Step.TheVariants as steps;
 ghost use Rattle.cluster_script.specs.Script.{IsLine, names_of};
 ghost use Rattle.cluster_script.specs.Steps.{steps_of_line, steps_of};
 ghost use Rattle.cluster_model.specs.Cluster.{cluster_over};
 ghost use Rattle.cluster_model.specs.Next.{run_events};
 ghost use Rattle.cluster_model.specs.Starting.{cluster_of};
 ghost use Rattle.cluster_model.specs.Steps.{IsStep, names_in};
-ghost use Rattle.summary.specs.Sights.{noted_step};
+ghost use Rattle.event_book.specs.declared.event.Event.{Event};
+ghost use Rattle.summary.specs.Passing.{IsTickAlone};
+ghost use Rattle.summary.specs.Sights.{noted_step, noted_steps};
 ghost use Rattle.summary.specs.SummaryText.{closing_text};
 ghost use Rattle.pat_world.specs.Room.{HasRoomFor};
 ghost use Rattle.patroni_top.specs.Ended.{IsLeftBy};
-ghost use Rattle.patroni_top.specs.Playing.{Plays};
+ghost use Rattle.patroni_top.specs.Playing.{Idles, Plays};
 ghost use Rattle.patroni_top.specs.Run.{KeepsLimits, noted_from, output_of, printed_from, traced_after};
 ghost use Rattle.patroni_top.specs.Watches.{first_summary};
 
@@ -119,10 +122,34 @@ impl Player {
         ensures { Plays K.Sink self.old self.new out.old out.new result (steps_of_line line.now) }
     {
         match line {
-            Line::Run(count) => self.play_ticks(*count, &Step::Scheduled, out),
+            Line::Run(count) => self.play_run(*count, out),
             Line::Tick(count) => self.play_ticks(*count, &Step::Tick, out),
             Line::Command(command) => self.play_step(&Step::Command(*command), out),
         }
+    }
+
+    /// So many ticks of the default schedule. Those that bring nothing else are taken at once, as far as that is known: they print
+    /// nothing.
+    fn play_run<K: Sink>(&mut self, count: u64, out: &mut K) -> Result<(), PrintError>
+        requires { HasRoomFor self.old.world count }
+        ensures { Plays K.Sink self.old self.new out.old out.new result (replicate count steps.Scheduled) }
+    {
+        let mut left = count;
+        while left > 0 {
+            self.play_step(&Step::Scheduled, out)?;
+            left = self.idle(left - 1)?;
+        }
+        Ok(())
+    }
+
+    /// Takes those of so many ticks of the default schedule at once that are known to bring nothing else, and answers how many
+    /// are left.
+    fn idle(&mut self, count: u64) -> Result<u64, AllocError>
+        ensures { IfOk result (Idles self.old self.new count) }
+    {
+        let ticks = self.world.idle_for(count);
+        note_ticks(&mut self.summary, ticks)?;
+        Ok(count - ticks)
     }
 
     /// So many ticks of one kind.
@@ -166,6 +193,17 @@ fn note(summary: &mut Summary, events: &[Event]) -> Result<(), AllocError>
         return Err(AllocError);
     }
     summary.note_all(events);
+    Ok(())
+}
+
+/// Notes so many ticks that bring nothing else, under the same limit.
+fn note_ticks(summary: &mut Summary, ticks: u64) -> Result<(), AllocError>
+    ensures { OnOk result ((steps : List (List Event)) → length steps ≡ ticks → All IsTickAlone steps → summary.new ≡ noted_steps summary.old steps) }
+{
+    if summary.closing().end.0 > MOST_COUNTED || ticks > MOST_COUNTED {
+        return Err(AllocError);
+    }
+    summary.note_ticks(ticks);
     Ok(())
 }
 
