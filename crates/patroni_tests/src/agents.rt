@@ -47,7 +47,7 @@ fn server(rt: &impl Abort) -> ServerStatus {
 fn word(output: &Output) -> &'static str {
     match output {
         Output::Send { body, .. } => request(body),
-        Output::Promote => "promote",
+        Output::Begin => "begin",
         Output::StartReplica { .. } => "start as a replica",
         Output::Stop {
             reason: Reason::StoreOutOfReach,
@@ -164,7 +164,7 @@ fn one_member(rt: HostRuntime) -> Result<(), Fail> {
         granted,
         snapshot: held,
     };
-    let begun = ["armed until 251", "require", "promote"];
+    let begun = ["armed until 251", "require", "begin"];
     let agent = input(
         &rt,
         agent,

@@ -183,3 +183,18 @@ fn is_printed(rt: &impl Abort, alloc: Global, script: &str, printed: &str) -> Re
     assert_eq!(rt; ended.out.as_str(), printed, "{script}");
     Ok(())
 }
+
+/// Checks that a script gives this status and this line on `err`, and nothing on `out`.
+pub fn refuses(
+    rt: &impl Abort,
+    alloc: Global,
+    script: &str,
+    status: u8,
+    err: &str,
+) -> Result<(), Fail> {
+    let ended = run_in_memory(alloc, "run", script, NO_FAULTS)?;
+    assert_eq!(rt; ended.err.as_str(), err, "{err}");
+    assert_eq!(rt; ended.status, status, "{err}");
+    assert_eq!(rt; ended.out.as_str(), "", "{err}");
+    Ok(())
+}

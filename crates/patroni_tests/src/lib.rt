@@ -5,17 +5,25 @@
 #[cfg(test)]
 mod agents;
 #[cfg(test)]
+mod configurations;
+#[cfg(test)]
 mod in_memory;
 #[cfg(test)]
 mod limits;
 #[cfg(test)]
 mod logs;
 #[cfg(test)]
+mod races;
+#[cfg(test)]
 mod runs;
+#[cfg(test)]
+mod runs_of_messages;
 #[cfg(test)]
 mod runs_of_servers;
 #[cfg(test)]
 mod runs_of_watchdogs;
+#[cfg(test)]
+mod runs_refused;
 #[cfg(test)]
 mod scripts;
 #[cfg(test)]

@@ -87,7 +87,7 @@ const SERVERS_OF_NOBODY: [Run; 4] = [
 
 /// Servers under a leader.
 const SERVERS: [Run; 9] = [
-    // Which timeline a standby is promoted to tells what it received: all in a tick, nothing over a cut link or while it
+    // Which timeline a replica is promoted to tells what it received: all in a tick, nothing over a cut link or while it
     // is frozen, but what a line streams.
     (
         "run 1\npromote b\n",
@@ -140,7 +140,7 @@ const SERVERS: [Run; 9] = [
             ..QUIET
         },
     ),
-    // A crashed standby starts again under its leader, at once or after its delay, and receives in the tick in which it is
+    // A crashed replica starts again under its leader, at once or after its delay, and receives in the tick in which it is
     // ready.
     (
         "slow b start 5\ncrash b\nrun 104\npromote b\nrun 1\npromote b\n",
@@ -157,7 +157,7 @@ const SERVERS: [Run; 9] = [
             ..QUIET
         },
     ),
-    // A commit that a standby hasn't is lost when that one begins.
+    // A commit that a replica hasn't is lost when that one begins.
     (
         "freeze b\nrun 48\ncommit a 100\nhold a\nrun 310\n",
         "2 b is frozen\n\
@@ -179,16 +179,17 @@ const SERVERS: [Run; 9] = [
     ),
     // One that it has isn't.
     (
-        "run 48\ncommit a 100\nrun 1\ncrash a\nrun 60\n",
+        "run 48\ncommit a 100\nrun 1\nhold a\nrun 310\n",
         "50 commit 1 of 100 bytes on a\n\
          50 commit 1 is acknowledged\n\
-         51 a crashed\n\
-         101 a releases the leader key\n\
-         102 b takes the leader key\n\
-         102 b arms its watchdog until 352\n\
-         102 b accepts writes on timeline 3\n",
+         51 a is held\n\
+         251 a is reset by its watchdog\n\
+         301 the leader key of a expires\n\
+         302 b takes the leader key\n\
+         302 b arms its watchdog until 552\n\
+         302 b accepts writes on timeline 3\n",
         Closing {
-            end: 111,
+            end: 361,
             writers: "b",
             acknowledged: 1,
             ..QUIET
@@ -365,6 +366,83 @@ const SMALL_LOGS: [Run; 1] = [(
         lost: "first at 2",
     },
 )];
+
+/// A leader's server crashes, and its key is kept: it starts as a primary again, on its timeline.
+const CRASH_WITH_THE_KEY_KEPT: [Run; 5] = [
+    (
+        "run 48\ncrash a\nrun 60\n",
+        "50 a crashed\n\
+         101 a arms its watchdog until 351\n\
+         101 a accepts writes on timeline 2\n",
+        Closing {
+            end: 110,
+            writers: "a",
+            ..QUIET
+        },
+    ),
+    // It begins when its start is complete, and holds what it acknowledged.
+    (
+        "run 48\ncommit a 100\nslow a start 30\ncrash a\nrun 80\ncommit a 1\nrun 1\ncommit a 1\n",
+        "50 commit 1 of 100 bytes on a\n\
+         50 commit 1 is acknowledged\n\
+         50 a crashed\n\
+         101 a arms its watchdog until 351\n\
+         130 a refuses a commit\n\
+         131 a accepts writes on timeline 2\n\
+         131 commit 2 of 1 bytes on a\n\
+         131 commit 2 is acknowledged\n",
+        Closing {
+            end: 131,
+            writers: "a",
+            acknowledged: 2,
+            ..QUIET
+        },
+    ),
+    // A start that takes longer than 300 seconds is ended, and another member leads.
+    (
+        "run 48\nslow a start 4000\ncrash a\nrun 3060\n",
+        "50 a crashed\n\
+         101 a arms its watchdog until 351\n\
+         3101 a ends its server: the start took too long\n\
+         3101 a releases the leader key\n\
+         3102 b takes the leader key\n\
+         3102 b arms its watchdog until 3352\n\
+         3102 b accepts writes on timeline 3\n",
+        Closing {
+            end: 3110,
+            writers: "b",
+            ..QUIET
+        },
+    ),
+    // It crashes again while it starts: the next renewal starts it anew.
+    (
+        "run 48\nslow a start 150\ncrash a\nrun 70\ncrash a\nrun 250\n",
+        "50 a crashed\n\
+         101 a arms its watchdog until 351\n\
+         120 a crashed\n\
+         201 a arms its watchdog until 451\n\
+         351 a accepts writes on timeline 2\n",
+        Closing {
+            end: 370,
+            writers: "a",
+            ..QUIET
+        },
+    ),
+    // A reset in the tick in which its start is complete comes first.
+    (
+        "run 48\nslow a start 250\ncrash a\nrun 52\nhold a\nrun 260\n",
+        "50 a crashed\n\
+         101 a arms its watchdog until 351\n\
+         102 a is held\n\
+         351 a is reset by its watchdog\n",
+        Closing { end: 362, ..QUIET },
+    ),
+];
+
+#[test]
+fn crash_with_the_key_kept(rt: HostRuntime) -> Result<(), Fail> {
+    prints(&rt, rt.alloc(), &FOLLOWED, &CRASH_WITH_THE_KEY_KEPT)
+}
 
 #[test]
 fn promoted_by_hand(rt: HostRuntime) -> Result<(), Fail> {

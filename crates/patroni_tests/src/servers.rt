@@ -3,7 +3,7 @@ ghost use Rattle.std.specs.Prelude.{◌<◌, ◌^◌, IsTrue, IfSome, slice_get}
 ghost use Rattle.pg_model.specs.Facts.{is_replica, is_down};
 
 use pat_base::{Lsn, MemberId, MemberSet, Required, ServerId, State, Ticks};
-use pg_model::{CommitFault, InState, Server, Servers, Streamed};
+use pg_model::{CommitFault, InState, PgFault, Rewound, Server, Servers, Streamed};
 use std::alloc::{AllocError, Global};
 use std::process::Abort;
 use std::test::Fail;
@@ -33,9 +33,11 @@ enum Call {
     Follow,
     Commit,
     Stream,
+    Rewind,
+    CloneFrom,
 }
 
-const ALL: [Call; 7] = [
+const ALL: [Call; 9] = [
     Call::Promote,
     Call::StartReplica,
     Call::StartPrimary,
@@ -43,21 +45,30 @@ const ALL: [Call; 7] = [
     Call::Follow,
     Call::Commit,
     Call::Stream,
+    Call::Rewind,
+    Call::CloneFrom,
 ];
 
-/// Which calls are made in each state; all others are refused.
+/// Which calls are made in each state, with an upstream and a source that accepts writes; all others are refused. No server
+/// waits for a copy yet, so none is cloned.
 const CALLS: [(Case, &[Call]); 10] = [
     (
         Case::Replica,
-        &[Call::Promote, Call::Stop, Call::Follow, Call::Stream],
+        &[
+            Call::Promote,
+            Call::Stop,
+            Call::Follow,
+            Call::Stream,
+            Call::Rewind,
+        ],
     ),
     (Case::Primary, &[Call::Stop, Call::Commit]),
     (Case::StoppingReplica, &[]),
     (Case::StoppingPrimary, &[Call::Commit]),
-    (Case::StoppedReplica, &[Call::StartReplica]),
+    (Case::StoppedReplica, &[Call::StartReplica, Call::Rewind]),
     (
         Case::StoppedPrimary,
-        &[Call::StartReplica, Call::StartPrimary],
+        &[Call::StartReplica, Call::StartPrimary, Call::Rewind],
     ),
     (Case::CrashedReplica, &[Call::StartReplica]),
     (
@@ -115,6 +126,14 @@ fn commit(server: &mut Server, serial: u64, bytes: u64) -> Result<(), CommitFaul
 
 fn stream(server: &mut Server, upstream: &Server, most: usize) -> Option<Streamed> {
     server.stream(upstream, most).ok()
+}
+
+fn rewind(server: &mut Server, source: &Server) -> Result<Lsn, PgFault> {
+    server.rewind(source)
+}
+
+fn clone_from(server: &mut Server, source: &Server) -> Result<(), PgFault> {
+    server.clone_from(source)
 }
 
 fn require(server: &mut Server, required: Required) {
@@ -179,10 +198,10 @@ fn check_acknowledgement(rt: &impl Abort, server: &mut Server) {
 }
 
 fn check_streams(rt: &impl Abort, alloc: Global, server: &Server) -> Result<(), AllocError> {
-    let mut standby = fresh(alloc, 10)?;
-    check_stream(rt, &mut standby, server, Streamed::Received(1));
-    assert_eq!(rt; standby.timeline(), 2);
-    check_stream(rt, &mut fresh(alloc, 10)?, &standby, Streamed::NotConnected);
+    let mut replica = fresh(alloc, 10)?;
+    check_stream(rt, &mut replica, server, Streamed::Received(1));
+    assert_eq!(rt; replica.timeline(), 2);
+    check_stream(rt, &mut fresh(alloc, 10)?, &replica, Streamed::NotConnected);
     check_stream(
         rt,
         &mut fresh(alloc, 11)?,
@@ -192,9 +211,9 @@ fn check_streams(rt: &impl Abort, alloc: Global, server: &Server) -> Result<(), 
     Ok(())
 }
 
-fn check_stream(rt: &impl Abort, standby: &mut Server, server: &Server, answer: Streamed) {
-    assert_eq!(rt; stream(standby, server, 3), Some(answer));
-    assert_eq!(rt; standby.diverged(), matches!(answer, Streamed::Diverged(_)));
+fn check_stream(rt: &impl Abort, replica: &mut Server, server: &Server, answer: Streamed) {
+    assert_eq!(rt; stream(replica, server, 3), Some(answer));
+    assert_eq!(rt; replica.diverged(), matches!(answer, Streamed::Diverged(_)));
 }
 
 #[test]
@@ -203,6 +222,37 @@ fn refused_calls(rt: HostRuntime) -> Result<(), Fail> {
     assert_eq!(rt; commit(&mut server, 1, 1), Err(CommitFault::NotPrimary));
     promote(&mut server)?;
     assert_eq!(rt; promote(&mut server), Err(InState(State::Primary)));
+    let replica = fresh(rt.alloc(), 10)?;
+    let mut another = fresh(rt.alloc(), 10)?;
+    assert_eq!(rt; rewind(&mut another, &replica), Err(PgFault::NotPrimary));
+    assert_eq!(rt;
+        rewind(&mut server, &replica),
+        Err(PgFault::InState(State::Primary))
+    );
+    assert_eq!(rt;
+        clone_from(&mut another, &replica),
+        Err(PgFault::InState(State::Replica))
+    );
+    Ok(())
+}
+
+/// A primary that was shut down goes back to what its log has in common with the next primary's.
+#[test]
+fn a_rewind(rt: HostRuntime) -> Result<(), Fail> {
+    let mut source = fresh(rt.alloc(), 10)?;
+    promote(&mut source)?;
+    commit(&mut source, 2, 7)?;
+    let mut server = fresh(rt.alloc(), 10)?;
+    promote(&mut server)?;
+    commit(&mut server, 1, 5)?;
+    stop(&mut server, 10)?;
+    assert_eq!(rt; end(&server), Some(at(15)));
+    assert_eq!(rt; rewind(&mut server, &source)?, at(10));
+    assert_eq!(rt; end(&server), Some(at(10)));
+    assert_eq!(rt; server.state(), State::Replica);
+    assert!(rt; !server.was_primary());
+    check_stream(&rt, &mut server, &source, Streamed::Received(1));
+    assert_eq!(rt; end(&server), Some(at(17)));
     Ok(())
 }
 
@@ -222,7 +272,8 @@ fn each_call_in_each_state(rt: HostRuntime) -> Result<(), Fail> {
 
 /// Whether a call is made on a server in this state.
 fn is_made_in(alloc: Global, case: Case, call: Call) -> Result<bool, Fail> {
-    let upstream = fresh(alloc, 10)?;
+    let mut upstream = fresh(alloc, 10)?;
+    promote(&mut upstream)?;
     let mut server = fresh(alloc, 10)?;
     bring(&mut server, case)?;
     Ok(is_made(&mut server, call, &upstream))
@@ -237,6 +288,8 @@ fn is_made(server: &mut Server, call: Call, upstream: &Server) -> bool {
         Call::Follow => follow(server, ServerId { number: 2 }).is_ok(),
         Call::Commit => commit(server, 1, 5).is_ok(),
         Call::Stream => stream(server, upstream, 1).is_some(),
+        Call::Rewind => rewind(server, upstream).is_ok(),
+        Call::CloneFrom => clone_from(server, upstream).is_ok(),
     }
 }
 
@@ -280,12 +333,16 @@ enum Act {
     Promote(usize),
     Follow(usize, u8),
     Commit(usize, u64, u64),
-    /// The standby, the server that it receives from, and how many entries at most.
+    /// The replica, the server that it receives from, and how many entries at most.
     Stream(usize, usize, usize),
     Confirm(usize, u8, u32),
     Acknowledge(usize),
     Crash(usize),
     Restart(usize, u8),
+    /// The server, and the one that it is rewound to.
+    Rewind(usize, usize),
+    /// The server, and the one that it becomes a copy of.
+    CloneFrom(usize, usize),
 }
 
 /// What that answers.
@@ -298,10 +355,11 @@ enum Answer {
     Received(usize),
     Diverged(u64),
     Acknowledged(u64),
+    Rewound { kept: u64, at: u64 },
 }
 
 /// A run of three servers, whose logs begin with 10 bytes.
-const RUN: [(Act, Answer); 38] = [
+const RUN: [(Act, Answer); 46] = [
     (Act::Commit(0, 9, 5), Answer::Nothing),
     (Act::Follow(1, 0), Answer::Done),
     (Act::Follow(2, 0), Answer::Done),
@@ -344,6 +402,15 @@ const RUN: [(Act, Answer); 38] = [
     (Act::Stream(2, 1, 9), Answer::Diverged(23)),
     (Act::Crash(7), Answer::Done),
     (Act::Acknowledge(7), Answer::Nothing),
+    // Back to the four entries that both have, and on with the next one.
+    (Act::Rewind(2, 7), Answer::Nothing),
+    (Act::Rewind(0, 1), Answer::Nothing),
+    (Act::Rewind(1, 1), Answer::Nothing),
+    (Act::Rewind(2, 1), Answer::Rewound { kept: 4, at: 23 }),
+    (Act::Stream(2, 1, 9), Answer::Received(1)),
+    (Act::Stream(2, 1, 9), Answer::Nothing),
+    (Act::CloneFrom(2, 1), Answer::Nothing),
+    (Act::CloneFrom(7, 1), Answer::Nothing),
 ];
 
 #[test]
@@ -411,11 +478,13 @@ fn perform(servers: &mut Servers, act: Act) -> Result<Answer, AllocError> {
         Act::Acknowledge(place) => Ok(acknowledge_at(servers, place)),
         Act::Crash(place) => Ok(crash_at(servers, place)),
         Act::Restart(place, upstream) => Ok(restart_at(servers, place, upstream)),
+        Act::Rewind(place, from) => rewind_at(servers, place, from),
+        Act::CloneFrom(place, from) => clone_at(servers, place, from),
     }
 }
 
-/// Whether the server at a place, if there is one there, runs as a standby on a small timeline.
-fn is_standby(servers: &Servers, place: usize) -> bool
+/// Whether the server at a place, if there is one there, runs as a replica on a small timeline.
+fn runs_as_replica(servers: &Servers, place: usize) -> bool
     ensures promotable { IsTrue result → IfSome (slice_get servers.now place) (λ s. IsTrue (is_replica s.state) × (s.timeline < 2 ^ 60)) }
     ensures replica { IsTrue result → IfSome (slice_get servers.now place) (λ s. IsTrue (is_replica s.state)) }
 {
@@ -436,7 +505,7 @@ fn is_down_at(servers: &Servers, place: usize) -> bool
 }
 
 fn promote_at(servers: &mut Servers, place: usize) -> Result<Answer, AllocError> {
-    if !is_standby(servers, place) {
+    if !runs_as_replica(servers, place) {
         return Ok(Answer::Nothing);
     }
     servers.promote(place, Ticks(0))?;
@@ -445,7 +514,7 @@ fn promote_at(servers: &mut Servers, place: usize) -> Result<Answer, AllocError>
 
 fn follow_at(servers: &mut Servers, place: usize, upstream: u8) -> Answer {
     match ServerId::new(upstream) {
-        Some(upstream) if is_standby(servers, place) => {
+        Some(upstream) if runs_as_replica(servers, place) => {
             servers.follow(place, upstream);
             Answer::Done
         }
@@ -473,7 +542,7 @@ fn stream_at(
     from: usize,
     most: usize,
 ) -> Result<Answer, AllocError> {
-    if !is_standby(servers, place) {
+    if !runs_as_replica(servers, place) {
         return Ok(Answer::Nothing);
     }
     Ok(match servers.stream(place, from, most)? {
@@ -511,4 +580,22 @@ fn restart_at(servers: &mut Servers, place: usize, upstream: u8) -> Answer {
     }
     servers.start_replica(place, Ticks(20), ServerId::new(upstream));
     Answer::Done
+}
+
+fn rewind_at(servers: &mut Servers, place: usize, from: usize) -> Result<Answer, AllocError> {
+    Ok(match servers.rewind(place, from)? {
+        Some(Rewound { kept, at }) => Answer::Rewound {
+            kept,
+            at: at.position,
+        },
+        None => Answer::Nothing,
+    })
+}
+
+fn clone_at(servers: &mut Servers, place: usize, from: usize) -> Result<Answer, AllocError> {
+    if servers.clone_from(place, from)? {
+        Ok(Answer::Done)
+    } else {
+        Ok(Answer::Nothing)
+    }
 }

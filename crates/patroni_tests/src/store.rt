@@ -11,9 +11,9 @@ use std::alloc::Global;
 use std::process::Abort;
 use std::test::Fail;
 
-const TTL: Ticks = Ticks(300);
+pub(crate) const TTL: Ticks = Ticks(300);
 
-fn member(rt: &impl Abort, number: u8) -> MemberId {
+pub(crate) fn member(rt: &impl Abort, number: u8) -> MemberId {
     MemberId::new(number).expect(rt, "a member")
 }
 
@@ -21,7 +21,7 @@ fn end(rt: &impl Abort) -> Lsn {
     Lsn::new(83_886_080).expect(rt, "a position")
 }
 
-fn info(rt: &impl Abort) -> MemberInfo {
+pub(crate) fn info(rt: &impl Abort) -> MemberInfo {
     MemberInfo {
         host: Host::read(b"127.0.0.1").expect(rt, "a host"),
         tags: Tags {
@@ -56,7 +56,7 @@ fn span(txn: &Txn) -> Ticks
 }
 
 /// What a request is answered at a moment: its revision, or why it is refused.
-fn ask(
+pub(crate) fn ask(
     rt: &impl Abort,
     store: &mut Store,
     at: Ticks,
@@ -75,7 +75,7 @@ fn mismatch(key: Key, found: Expected) -> Result<u64, StoreRefusal> {
     Err(StoreRefusal::Mismatch { key, found })
 }
 
-fn create(rt: &impl Abort, failsafe: Option<Expected>) -> Txn {
+pub(crate) fn create(rt: &impl Abort, failsafe: Option<Expected>) -> Txn {
     create_as_read(rt, failsafe, None)
 }
 
@@ -88,7 +88,7 @@ fn create_as_read(rt: &impl Abort, failsafe: Option<Expected>, sync: Option<Expe
     }
 }
 
-fn renew(rt: &impl Abort, revision: u64) -> Txn {
+pub(crate) fn renew(rt: &impl Abort, revision: u64) -> Txn {
     Txn::Renew {
         revision,
         info: info(rt),
