@@ -1,7 +1,5 @@
 //! Runs that tell what comes of ticks, turns, messages, links and leases.
-use crate::in_memory::{
-    Closing, FOLLOWED, NO_FAULTS, QUIET, Run, TWO_MEMBERS, closed, prints, repeated, run_in_memory,
-};
+use crate::in_memory::{Closing, FOLLOWED, QUIET, Run, TWO_MEMBERS, prints};
 use std::test::Fail;
 
 /// What ticks, turns and traces print.
@@ -482,15 +480,6 @@ const DEADLINES: [Run; 4] = [
     ),
 ];
 
-const SIXTEEN_MEMBERS: &str = "cluster full\n\
-    member a\nmember b\nmember c\nmember d\nmember e\nmember f\nmember g\nmember h\n\
-    member i\nmember j\nmember k\nmember l\nmember m\nmember n\nmember o\nmember p\n";
-
-/// Each of sixteen agents gives up its question, if it has one, and reads.
-const SIXTEEN_READS: &str = "tick 100\n\
-    turn a\nturn b\nturn c\nturn d\nturn e\nturn f\nturn g\nturn h\n\
-    turn i\nturn j\nturn k\nturn l\nturn m\nturn n\nturn o\nturn p\n";
-
 #[test]
 fn ticks_and_turns(rt: HostRuntime) -> Result<(), Fail> {
     prints(&rt, rt.alloc(), &TWO_MEMBERS, &TICKS_AND_TURNS)?;
@@ -511,25 +500,4 @@ fn agents_and_links(rt: HostRuntime) -> Result<(), Fail> {
 fn leases(rt: HostRuntime) -> Result<(), Fail> {
     prints(&rt, rt.alloc(), &FOLLOWED, &LEASES)?;
     prints(&rt, rt.alloc(), &TWO_MEMBERS, &DEADLINES)
-}
-
-#[test]
-fn one_message_more_than_may_be_in_flight(rt: HostRuntime) -> Result<(), Fail> {
-    let alloc = rt.alloc();
-    let mut script = repeated(alloc, SIXTEEN_MEMBERS, SIXTEEN_READS, 4096)?;
-    script.push_str("tick 100\ntrace on\nturn a\nlose 65537\nlose 65536\nturn b\n")?;
-    let ended = run_in_memory(alloc, "run", script.as_str(), NO_FAULTS)?;
-    assert_eq!(rt; ended.status, 0);
-    let lines = "409700 message 65537 from a to store: read\n\
-        409700 message 65537 is lost\n\
-        409700 no message 65537\n\
-        409700 message 65536 is lost\n\
-        409700 message 65538 from b to store: read\n";
-    let closing = Closing {
-        end: 409_700,
-        ..QUIET
-    };
-    let wanted = closed(alloc, lines, closing)?;
-    assert_eq!(rt; ended.out.as_str(), wanted.as_str());
-    Ok(())
 }
