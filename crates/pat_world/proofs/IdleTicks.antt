@@ -13,40 +13,40 @@ use Rattle.cluster_model.specs.Starting.{cluster_of}
 use Rattle.cluster_model.specs.State.{Cluster}
 use Rattle.pat_world.specs.Book.{StandsFor, left_by}
 use Rattle.pat_world.specs.Emits.{Emits}
-use Rattle.pat_world.specs.Idle.{BringsTicks, IsIdle, IsIdleBefore, IsTick, NothingIsDue, NothingMoves}
+use Rattle.pat_world.specs.Idle.{BringsTicks, IsIdleBefore, IsIdleIn, NothingEnds, NothingIsDue}
 use Rattle.pat_world.specs.OneWriter.{KeepsOneWriter}
 use Rattle.pat_world.specs.Room.{HasRoom, HasRoomFor, step_cost}
 use Rattle.run_law.proofs.EveryRun.{runs-one}
-use Rattle.pat_world.proofs.Idling.{at_moment, idle-after, idle-at, next-idle, ticked-idle}
+use Rattle.pat_world.proofs.Idling.{at_moment, idle-after, idle-at, idle-ends, idle-ticks, next-idle, ticked-idle}
 use Rattle.pat_world.proofs.Rooms.{HasRoom-cluster_after, HasRoom-fewer}
 use Rattle.pat_world.proofs.Standing.{is-stands}
 use Rattle.pat_world.proofs.Stillness.{tick-alone}
 use Rattle.pat_world.proofs.Taking.{Emits-weaker, cluster_over-append}
 
 -- each step brings its tick and nothing else
-pub brings-ticks : (cluster : Cluster) (later count : ℕ) → cluster.book.clock + count ≤ later → (0 < count → IsIdle later cluster) → BringsTicks cluster count
+pub brings-ticks : (step : Step) (cluster : Cluster) (later count : ℕ) → cluster.book.clock + count ≤ later → (0 < count → IsIdleIn step later cluster) → BringsTicks cluster step count
 unfolding BringsTicks
-brings-ticks cluster later zero h idle = tt
-brings-ticks cluster later (suc count) h idle =
+brings-ticks step cluster later zero h idle = tt
+brings-ticks step cluster later (suc count) h idle =
     let now = idle (omega arith) in
-    let first = next-idle cluster later steps.Scheduled (omega (arith, h)) now tt in
-    let left : cluster_over cluster (next_events cluster steps.Scheduled) ≡ cluster_after cluster kinds.Tick = ap (cluster_over cluster) first in
-    (first, subst (λ (c : Cluster). BringsTicks c count) (sym left) (brings-ticks (cluster_after cluster kinds.Tick) later count (omega (arith, h)) (λ some. idle-after cluster later (omega (arith, h)) now)))
+    let first = next-idle step cluster later (omega (arith, h)) now in
+    let left : cluster_over cluster (next_events cluster step) ≡ cluster_after cluster kinds.Tick = ap (cluster_over cluster) first in
+    (first, subst (λ (c : Cluster). BringsTicks c step count) (sym left) (brings-ticks step (cluster_after cluster kinds.Tick) later count (omega (arith, h)) (λ some. idle-after step cluster later (omega (arith, h)) now)))
 
 -- and so many of them leave the cluster as it is, but for the clock
-pub passed : (cluster : Cluster) (later count : ℕ) → cluster.book.clock + count ≤ later → (0 < count → IsIdle later cluster)
-    → cluster_over cluster (run_events cluster (replicate count steps.Scheduled)) ≡ at_moment cluster (cluster.book.clock + count)
-passed cluster later zero h idle =
+pub passed : (step : Step) (cluster : Cluster) (later count : ℕ) → cluster.book.clock + count ≤ later → (0 < count → IsIdleIn step later cluster)
+    → cluster_over cluster (run_events cluster (replicate count step)) ≡ at_moment cluster (cluster.book.clock + count)
+passed step cluster later zero h idle =
     let same : cluster.book.clock ≡ cluster.book.clock + 0 = omega arith in
     ap (at_moment cluster) same
-passed cluster later (suc count) h idle =
+passed step cluster later (suc count) h idle =
     let now = idle (omega arith) in
     let ticked = cluster_after cluster kinds.Tick in
-    let first = next-idle cluster later steps.Scheduled (omega (arith, h)) now tt in
+    let first = next-idle step cluster later (omega (arith, h)) now in
     let moment : cluster.book.clock + 1 + count ≡ cluster.book.clock + suc count = omega arith in
-    ap (λ (es : List Event). cluster_over cluster (events_then cluster es (λ after. run_events after (replicate count steps.Scheduled)))) first
-    ∙ passed ticked later count (omega (arith, h)) (λ some. idle-after cluster later (omega (arith, h)) now)
-    ∙ ap (λ (c : Cluster). at_moment c (cluster.book.clock + 1 + count)) (ticked-idle cluster later (omega (arith, h)) now.due)
+    ap (λ (es : List Event). cluster_over cluster (events_then cluster es (λ after. run_events after (replicate count step)))) first
+    ∙ passed step ticked later count (omega (arith, h)) (λ some. idle-after step cluster later (omega (arith, h)) now)
+    ∙ ap (λ (c : Cluster). at_moment c (cluster.book.clock + 1 + count)) (ticked-idle cluster later (omega (arith, h)) (idle-ends step cluster later now))
     ∙ ap (at_moment cluster) moment
 
 -- which takes the room of so many
@@ -67,10 +67,10 @@ room-passed cluster count more has =
     }
 
 -- one tick more is noted
-pub tick-took : (cluster : Cluster) (had has : List Event) → has ≡ had ++ event_of cluster kinds.Tick → NothingIsDue (cluster.book.clock + 1) cluster
+pub tick-took : (cluster : Cluster) (had has : List Event) → has ≡ had ++ event_of cluster kinds.Tick → NothingEnds (cluster.book.clock + 1) cluster
     → Emits cluster (at_moment cluster (cluster.book.clock + 1)) had has (event_of cluster kinds.Tick) 1
-tick-took cluster had has is due =
-    let same = ticked-idle cluster (cluster.book.clock + 1) (omega arith) due in
+tick-took cluster had has is ends =
+    let same = ticked-idle cluster (cluster.book.clock + 1) (omega arith) ends in
     record {
       state = sym same;
       event = is;
@@ -78,23 +78,19 @@ tick-took cluster had has is due =
     }
 
 -- such a tick is all that the step brings
-pub step-took : (cluster after : Cluster) (had has : List Event) (step : Step) → IsTick step → IsIdle (cluster.book.clock + 1) cluster → Emits cluster after had has (event_of cluster kinds.Tick) 1
+pub step-took : (cluster after : Cluster) (had has : List Event) (step : Step) → IsIdleIn step (cluster.book.clock + 1) cluster → Emits cluster after had has (event_of cluster kinds.Tick) 1
     → Emits cluster after had has (next_events cluster step) step_cost
-step-took cluster after had has step is idle took =
+step-took cluster after had has step idle took =
     Emits-weaker cluster after had has (next_events cluster step) 1 step_cost
-    (subst (λ (es : List Event). Emits cluster after had has es 1) (sym (next-idle cluster (cluster.book.clock + 1) step (omega arith) idle is)) took) (omega arith)
+    (subst (λ (es : List Event). Emits cluster after had has es 1) (sym (next-idle step cluster (cluster.book.clock + 1) (omega arith) idle)) took) (omega arith)
 
 -- what is so before a moment is so whatever the clock says
-pub idle-before-at : (moment now : ℕ) (cluster : Cluster) → IsIdleBefore moment cluster → IsIdleBefore moment (at_moment cluster now)
-idle-before-at moment now cluster idle = λ later h. idle-at cluster later now (idle later h)
+pub idle-before-at : (step : Step) (moment now : ℕ) (cluster : Cluster) → IsIdleBefore step moment cluster → IsIdleBefore step moment (at_moment cluster now)
+idle-before-at step moment now cluster idle = λ later h. idle-at step cluster later now (idle later h)
 
 -- before no moment
-pub idle-before-none : (cluster : Cluster) → IsIdleBefore 0 cluster
-idle-before-none cluster = λ now h. absurd (omega (arith, h))
-
--- nothing is due before this moment, and nothing moves
-pub idle-before : (moment : ℕ) (cluster : Cluster) → ((now : ℕ) → now < moment → NothingIsDue now cluster) → NothingMoves cluster → IsIdleBefore moment cluster
-idle-before moment cluster due moves = λ now h. record { due = due now h; moves = moves }
+pub idle-before-none : (step : Step) (cluster : Cluster) → IsIdleBefore step 0 cluster
+idle-before-none step cluster = λ now h. absurd (omega (arith, h))
 
 -- some steps, and then others
 pub run_events-both : (start : Cluster) (first more : List Step) → run_events start (first ++ more) ≡ run_events start first ++ run_events (cluster_over start (run_events start first)) more
@@ -122,30 +118,34 @@ steps-stand start book world new more is stands =
     is-stands start (book ++ run_events (left_by start book) more) new
     (is ∙ ap (λ (w : Cluster). cluster_over w (run_events w more)) stands.world_is ∙ sym (cluster_over-append start book (run_events (left_by start book) more)))
 
--- of a stage as it is seen
-pub idle-seen : (moment now : ℕ) (stage seen : Cluster) → stage ≡ seen → IsIdleBefore moment stage → now < moment → IsIdle now seen
-idle-seen moment now stage seen same idle h = subst (IsIdle now) same (idle now h)
-
 -- so many ticks later
-pub idle-passed : (moment now : ℕ) (stage later : Cluster) → later ≡ at_moment stage now → IsIdleBefore moment stage → IsIdleBefore moment later
-idle-passed moment now stage later same idle = subst (IsIdleBefore moment) (sym same) (idle-before-at moment now stage idle)
+pub idle-passed : (step : Step) (moment now : ℕ) (stage later : Cluster) → later ≡ at_moment stage now → IsIdleBefore step moment stage → IsIdleBefore step moment later
+idle-passed step moment now stage later same idle = subst (IsIdleBefore step moment) (sym same) (idle-before-at step moment now stage idle)
 
 -- a step of the default schedule brought one event: the cluster is idle before the moment at which something is due
 pub idle-found : (before after : Cluster) (had has : List Event) (read : Step) (moment count : ℕ) → (0 < moment → read ≡ steps.Scheduled) → (0 < moment → count ≡ 1) → ((now : ℕ) → now < moment → NothingIsDue now after)
-    → had ≡ [] → length has ≡ count → Emits before after had has (next_events before read) step_cost → AreAcknowledged after.book.members after.book.servers → IsIdleBefore moment after
+    → had ≡ [] → length has ≡ count → Emits before after had has (next_events before read) step_cost → AreAcknowledged after.book.members after.book.servers → IsIdleBefore steps.Scheduled moment after
 idle-found before after had has read moment count scheduled one due none long took done = λ now h.
     let some : 0 < moment = omega (arith, h) in
     let as_scheduled = subst (λ (s : Step). Emits before after had has (next_events before s) step_cost) (scheduled some) took in
     record { due = due now h; moves = tick-alone before after had has step_cost none (long ∙ one some) as_scheduled done }
+
+-- plain ticks bring nothing before the moment at which something ends, since no commit is left that may be acknowledged
+pub ticks-idle-found : (after : Cluster) (moment : ℕ) → ((now : ℕ) → now < moment → NothingEnds now after) → AreAcknowledged after.book.members after.book.servers → IsIdleBefore steps.Tick moment after
+ticks-idle-found after moment ends done = λ now h. record { ends = ends now h; commits = done }
+
+-- where steps of the default schedule bring nothing before a moment, plain ticks don't either
+pub ticks-idle-before : (moment : ℕ) (cluster : Cluster) → IsIdleBefore steps.Scheduled moment cluster → IsIdleBefore steps.Tick moment cluster
+ticks-idle-before moment cluster idle = λ now h. idle-ticks cluster now (idle now h)
 
 abbrev tick_at : ℕ → Event
 tick_at n = record { tick = record { 0 = n }; kind = kinds.Tick }
 
 -- a tick is noted, and the clock stands at it
 pub tick-noted : (cluster after : Cluster) (had has : List Event) (step : Step) (tick : Ticks) → after ≡ at_moment cluster (cluster.book.clock + 1) → tick.0 ≡ after.book.clock → has ≡ had ++ record { tick = tick; kind = kinds.Tick } ∷ []
-    → IsTick step → IsIdle (cluster.book.clock + 1) cluster → Emits cluster after had has (next_events cluster step) step_cost
-tick-noted cluster after had has step tick is at noted ticks idle =
+    → IsIdleIn step (cluster.book.clock + 1) cluster → Emits cluster after had has (next_events cluster step) step_cost
+tick-noted cluster after had has step tick is at noted idle =
     let moment : tick.0 ≡ cluster.book.clock + 1 = at ∙ ap (λ (c : Cluster). c.book.clock) is in
     let event : has ≡ had ++ event_of cluster kinds.Tick = noted ∙ ap (λ (n : ℕ). had ++ tick_at n ∷ []) moment in
-    step-took cluster after had has step ticks idle
-    (subst (λ (c : Cluster). Emits cluster c had has (event_of cluster kinds.Tick) 1) (sym is) (tick-took cluster had has event idle.due))
+    step-took cluster after had has step idle
+    (subst (λ (c : Cluster). Emits cluster c had has (event_of cluster kinds.Tick) 1) (sym is) (tick-took cluster had has event (idle-ends step cluster (cluster.book.clock + 1) idle)))

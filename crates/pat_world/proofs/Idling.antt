@@ -38,7 +38,7 @@ use Rattle.cluster_script.specs.declared.line.Step.TheVariants as steps
 use Rattle.ha_loop.specs.Agents.{AgentFacts, Outcome}
 use Rattle.ha_loop.specs.Wake.{due_from}
 use Rattle.ha_loop.proofs.Waiting.{due-at}
-use Rattle.cluster_model.specs.Acknowledging.{IsDone, acknowledge_kinds, acknowledgements, confirmed_front}
+use Rattle.cluster_model.specs.Acknowledging.{AreAcknowledged, IsDone, acknowledge_kinds, acknowledgements, confirmed_front}
 use Rattle.cluster_model.specs.Cluster.{cluster_after, cluster_over}
 use Rattle.cluster_model.specs.declared.beginning.Completion.{Completion}
 use Rattle.cluster_model.specs.declared.beginning.Completion.TheVariants as completions
@@ -48,13 +48,13 @@ use Rattle.cluster_model.specs.Inputs.{agent_at, has_work, is_to_wake, may_act, 
 use Rattle.cluster_model.specs.Limits.{most_rounds}
 use Rattle.cluster_model.specs.Machines.{machine_from, watchdog_of}
 use Rattle.cluster_model.specs.Messages.{message_events, wake_events, wake_events_if, wake_events_of}
-use Rattle.cluster_model.specs.Next.{acknowledge_events, all_entries, next_events, receive_events, receive_events_at_most, receive_events_of, round_events, rounds_events, scheduled_events}
+use Rattle.cluster_model.specs.Next.{acknowledge_events, all_entries, next_events, step_events, receive_events, receive_events_at_most, receive_events_of, round_events, rounds_events, scheduled_events}
 use Rattle.cluster_model.specs.Orders.{declared_member}
 use Rattle.cluster_model.specs.Parts.{each, event_of, events_of, events_then, for_some}
 use Rattle.cluster_model.specs.State.{Cluster}
 use Rattle.cluster_model.specs.Streaming.{confirm_of, source_of, unconfirmed_end}
 use Rattle.cluster_model.specs.Ticking.{completion_events, expiries_of, next_expiries, reset_events, reset_of, tick_events}
-use Rattle.pat_world.specs.Idle.{HasNoNewsFrom, HasWorkFrom, IsAsleep, IsIdle, IsNoNews, IsTick, NoneResets, NothingIsDue, NothingMoves, ReceivesNone, SleepsAt, work_moment}
+use Rattle.pat_world.specs.Idle.{HasNoNewsFrom, HasWorkFrom, IsAsleep, IsIdle, IsIdleButForAgents, IsIdleIn, IsNoNews, NoneResets, NothingEnds, NothingMoves, ReceivesNone, SleepsAt, work_moment}
 use Rattle.pat_world.proofs.Rest.{rounds_events-still}
 use Rattle.pat_world.proofs.ServerRooms.{All-at, All-weaker}
 use Rattle.pat_world.proofs.Silence.{kept-still}
@@ -171,12 +171,12 @@ abbrev ticked_with : Cluster → Keys → List ServerFacts → Cluster
 ticked_with cluster known ss = record cluster { book = record cluster.book { clock = cluster.book.clock + 1; keys = known; servers = ss } }
 
 -- a tick changes nothing but the clock
-pub ticked-idle : (cluster : Cluster) (later : ℕ) → cluster.book.clock + 1 ≤ later → NothingIsDue later cluster → cluster_after cluster kinds.Tick ≡ at_moment cluster (cluster.book.clock + 1)
-ticked-idle cluster later h due =
+pub ticked-idle : (cluster : Cluster) (later : ℕ) → cluster.book.clock + 1 ≤ later → NothingEnds later cluster → cluster_after cluster kinds.Tick ≡ at_moment cluster (cluster.book.clock + 1)
+ticked-idle cluster later h ends =
     let now = cluster.book.clock + 1 in
-    let pairs = (all-present now later cluster.book.keys.pairs h due.keys).0 in
+    let pairs = (all-present now later cluster.book.keys.pairs h ends.keys).0 in
     ap (λ (ps : Pairs). let known : Keys = record cluster.book.keys { pairs = ps } in ticked_with cluster known (map (ticked_unless_live (record { 0 = now })) cluster.book.servers)) pairs
-    ∙ ap (λ (ss : List ServerFacts). ticked_with cluster cluster.book.keys ss) (same-servers now later cluster.book.servers h due.servers)
+    ∙ ap (λ (ss : List ServerFacts). ticked_with cluster cluster.book.keys ss) (same-servers now later cluster.book.servers h ends.servers)
 
 tick-rest : (cluster now : Cluster) (later : ℕ) → now.book.clock ≤ later → NoneResets later now.book.deadlines → next_expiries cluster ≡ [] → NoneComplete later now.book.servers
     → events_then now (each reset_events now now.book.members) (λ reset. events_then reset (events_of reset (next_expiries cluster)) (λ expired. each completion_events expired expired.book.members)) ≡ []
@@ -191,12 +191,12 @@ expiries-none cluster later h keys =
     ap (expiries_of (declared_member cluster.book.members (expired_holder cluster.book.keys (cluster.book.clock + 1)))) (all-present (cluster.book.clock + 1) later cluster.book.keys.pairs h keys).1
 
 -- a tick brings nothing but itself
-pub tick-idle : (cluster : Cluster) (later : ℕ) → cluster.book.clock + 1 ≤ later → NothingIsDue later cluster → tick_events cluster ≡ event_of cluster kinds.Tick
-tick-idle cluster later h due =
+pub tick-idle : (cluster : Cluster) (later : ℕ) → cluster.book.clock + 1 ≤ later → NothingEnds later cluster → tick_events cluster ≡ event_of cluster kinds.Tick
+tick-idle cluster later h ends =
     let ticked = cluster_after cluster kinds.Tick in
-    let same = ticked-idle cluster later h due in
+    let same = ticked-idle cluster later h ends in
     let rest = subst (λ (c : Cluster). events_then c (each reset_events c c.book.members) (λ reset. events_then reset (events_of reset (next_expiries cluster)) (λ expired. each completion_events expired expired.book.members)) ≡ []) (sym same)
-    (tick-rest cluster (at_moment cluster (cluster.book.clock + 1)) later h due.watchdogs (expiries-none cluster later h due.keys) due.servers) in
+    (tick-rest cluster (at_moment cluster (cluster.book.clock + 1)) later h ends.watchdogs (expiries-none cluster later h ends.keys) ends.servers) in
     ap (λ (es : List Event). event_of cluster kinds.Tick ++ es) rest ∙ append-nil (event_of cluster kinds.Tick)
 
 -- agents
@@ -256,11 +256,11 @@ acknowledges-none cluster member None done = refl
 acknowledges-none cluster member (Some s) done =
     ap (λ (commits : List ℕ). events_of cluster (acknowledgements cluster.book.servers cluster.book.members member commits)) (front-none (writes s.state) s.required s.confirmed s.waiting done)
 
-acknowledged-none : (cluster : Cluster) → NothingMoves cluster → each acknowledge_events cluster cluster.book.members ≡ []
-acknowledged-none cluster still =
+acknowledged-none : (cluster : Cluster) → AreAcknowledged cluster.book.members cluster.book.servers → each acknowledge_events cluster cluster.book.members ≡ []
+acknowledged-none cluster done =
     each-nothing Member acknowledge_events cluster cluster.book.members
     (All-weaker Member (λ (m : Member). IsDone (slice_get cluster.book.servers m.id.number)) (λ (m : Member). acknowledge_events cluster m ≡ []) cluster.book.members
-    (λ m done. acknowledges-none cluster m (slice_get cluster.book.servers m.id.number) done) still.commits)
+    (λ m is. acknowledges-none cluster m (slice_get cluster.book.servers m.id.number) is) done)
 
 received-none : (cluster : Cluster) → NothingMoves cluster → each receive_events_of cluster cluster.book.members ≡ []
 received-none cluster still =
@@ -280,30 +280,49 @@ scheduled-none cluster later h idle =
     ∙ rounds_events-still cluster (round-none cluster later h idle)
 
 -- what is so of an idle cluster doesn't depend on its clock
-pub idle-at : (cluster : Cluster) (later now : ℕ) → IsIdle later cluster → IsIdle later (at_moment cluster now)
-idle-at cluster later now idle = record {
-  due = record { watchdogs = idle.due.watchdogs; keys = idle.due.keys; servers = idle.due.servers; agents = idle.due.agents };
+ends-at : (cluster : Cluster) (later now : ℕ) → NothingEnds later cluster → NothingEnds later (at_moment cluster now)
+ends-at cluster later now ends = record { watchdogs = ends.watchdogs; keys = ends.keys; servers = ends.servers }
+
+pub idle-at : (step : Step) (cluster : Cluster) (later now : ℕ) → IsIdleIn step later cluster → IsIdleIn step later (at_moment cluster now)
+idle-at steps.Scheduled cluster later now idle = record {
+  due = record { ends = ends-at cluster later now idle.due.ends; agents = idle.due.agents };
   moves = record { messages = idle.moves.messages; replicas = idle.moves.replicas; commits = idle.moves.commits };
 }
+idle-at steps.Tick cluster later now idle = record { ends = ends-at cluster later now idle.ends; commits = idle.commits }
+idle-at (steps.Command command) cluster later now idle = absurd idle
+
+-- nothing ends in it, and no commit of it may be acknowledged
+pub idle-ends : (step : Step) (cluster : Cluster) (later : ℕ) → IsIdleIn step later cluster → NothingEnds later cluster
+idle-ends steps.Scheduled cluster later idle = idle.due.ends
+idle-ends steps.Tick cluster later idle = idle.ends
+idle-ends (steps.Command command) cluster later idle = absurd idle
+
+pub idle-commits : (step : Step) (cluster : Cluster) (later : ℕ) → IsIdleIn step later cluster → AreAcknowledged cluster.book.members cluster.book.servers
+idle-commits steps.Scheduled cluster later idle = idle.moves.commits
+idle-commits steps.Tick cluster later idle = idle.commits
+idle-commits (steps.Command command) cluster later idle = absurd idle
+
+-- where steps of the default schedule bring nothing but their ticks, plain ticks don't either
+pub idle-ticks : (cluster : Cluster) (later : ℕ) → IsIdle later cluster → IsIdleButForAgents later cluster
+idle-ticks cluster later idle = record { ends = idle.due.ends; commits = idle.moves.commits }
 
 -- what a tick leaves is idle as before
-pub idle-after : (cluster : Cluster) (later : ℕ) → cluster.book.clock + 1 ≤ later → IsIdle later cluster → IsIdle later (cluster_after cluster kinds.Tick)
-idle-after cluster later h idle = subst (IsIdle later) (sym (ticked-idle cluster later h idle.due)) (idle-at cluster later (cluster.book.clock + 1) idle)
+pub idle-after : (step : Step) (cluster : Cluster) (later : ℕ) → cluster.book.clock + 1 ≤ later → IsIdleIn step later cluster → IsIdleIn step later (cluster_after cluster kinds.Tick)
+idle-after step cluster later h idle = subst (IsIdleIn step later) (sym (ticked-idle cluster later h (idle-ends step cluster later idle))) (idle-at step cluster later (cluster.book.clock + 1) idle)
 
 -- a step of the default schedule, or a plain tick, brings exactly its tick
-pub next-idle : (cluster : Cluster) (later : ℕ) (step : Step) → cluster.book.clock + 1 ≤ later → IsIdle later cluster → IsTick step → next_events cluster step ≡ event_of cluster kinds.Tick
-next-idle cluster later steps.Scheduled h idle is =
+pub next-idle : (step : Step) (cluster : Cluster) (later : ℕ) → cluster.book.clock + 1 ≤ later → IsIdleIn step later cluster → next_events cluster step ≡ event_of cluster kinds.Tick
+next-idle step cluster later h idle =
     let ticked = cluster_after cluster kinds.Tick in
-    let after = idle-after cluster later h idle in
-    let scheduled : events_then cluster (tick_events cluster) scheduled_events ≡ event_of cluster kinds.Tick =
-    ap (λ (es : List Event). events_then cluster es scheduled_events) (tick-idle cluster later h idle.due)
-    ∙ ap (λ (es : List Event). event_of cluster kinds.Tick ++ es) (scheduled-none ticked later h after) ∙ append-nil (event_of cluster kinds.Tick) in
-    ap (λ (es : List Event). events_then cluster es (λ now. each acknowledge_events now now.book.members)) scheduled
-    ∙ ap (λ (es : List Event). event_of cluster kinds.Tick ++ es) (acknowledged-none ticked after.moves) ∙ append-nil (event_of cluster kinds.Tick)
-next-idle cluster later steps.Tick h idle is =
-    ap (λ (es : List Event). events_then cluster es (λ now. each acknowledge_events now now.book.members)) (tick-idle cluster later h idle.due)
-    ∙ ap (λ (es : List Event). event_of cluster kinds.Tick ++ es) (acknowledged-none (cluster_after cluster kinds.Tick) (idle-after cluster later h idle).moves) ∙ append-nil (event_of cluster kinds.Tick)
-next-idle cluster later (steps.Command command) h idle is = absurd is
+    ap (λ (es : List Event). events_then cluster es (λ now. each acknowledge_events now now.book.members)) (step-idle step cluster later h idle)
+    ∙ ap (λ (es : List Event). event_of cluster kinds.Tick ++ es) (acknowledged-none ticked (idle-commits step ticked later (idle-after step cluster later h idle))) ∙ append-nil (event_of cluster kinds.Tick)
+  where
+    step-idle : (step : Step) (cluster : Cluster) (later : ℕ) → cluster.book.clock + 1 ≤ later → IsIdleIn step later cluster → step_events cluster step ≡ event_of cluster kinds.Tick
+    step-idle steps.Scheduled cluster later h idle =
+        ap (λ (es : List Event). events_then cluster es scheduled_events) (tick-idle cluster later h idle.due.ends)
+        ∙ ap (λ (es : List Event). event_of cluster kinds.Tick ++ es) (scheduled-none (cluster_after cluster kinds.Tick) later h (idle-after steps.Scheduled cluster later h idle)) ∙ append-nil (event_of cluster kinds.Tick)
+    step-idle steps.Tick cluster later h idle = tick-idle cluster later h idle.ends
+    step-idle (steps.Command command) cluster later h idle = absurd idle
 
 -- an agent with no machine never has anything to do
 no-machine : (agent : Option AgentFacts) → HasWorkFrom (standing agent None) None

@@ -53,11 +53,15 @@ SleepsAt now cluster member = IsAsleep now (slice_get cluster.book.agents member
 abbrev pub NoneResets : ℕ → List (Option Ticks) → Type 0
 NoneResets now deadlines = All (λ deadline. is_due_at now deadline ≡ false) deadlines
 
--- up to this moment nothing is due by the clock: no watchdog, no expiry of a key, no start or stop of a server, and no agent has something to do
-pub record NothingIsDue (now : ℕ) (cluster : Cluster) : Type 0 where
+-- up to this moment nothing ends by the clock: no watchdog resets its machine, no key expires, and no start or stop of a server is complete
+pub record NothingEnds (now : ℕ) (cluster : Cluster) : Type 0 where
   pub watchdogs : NoneResets now cluster.book.deadlines
   pub keys : expired_keys cluster.book.keys now ≡ []
   pub servers : NoneComplete now cluster.book.servers
+
+-- up to this moment nothing is due by the clock: nothing ends, and no agent has something to do
+pub record NothingIsDue (now : ℕ) (cluster : Cluster) : Type 0 where
+  pub ends : NothingEnds now cluster
   pub agents : All (SleepsAt now cluster) cluster.book.members
 
 -- such news of a replica from its upstream bring nothing, with this end of its log where that isn't confirmed there
@@ -93,16 +97,27 @@ pub record IsIdle (now : ℕ) (cluster : Cluster) : Type 0 where
   pub due : NothingIsDue now cluster
   pub moves : NothingMoves cluster
 
+-- up to this moment nothing happens in plain ticks but themselves
+pub record IsIdleButForAgents (now : ℕ) (cluster : Cluster) : Type 0 where
+  pub ends : NothingEnds now cluster
+  pub commits : AreAcknowledged cluster.book.members cluster.book.servers
+
+-- up to this moment steps of this kind bring their ticks and nothing else
+abbrev pub IsIdleIn : Step → ℕ → Cluster → Type 0
+IsIdleIn steps.Scheduled now cluster = IsIdle now cluster
+IsIdleIn steps.Tick now cluster = IsIdleButForAgents now cluster
+IsIdleIn (steps.Command command) now cluster = ⊥
+
 -- so it is at each moment before this one
-abbrev pub IsIdleBefore : ℕ → Cluster → Type 0
-IsIdleBefore moment cluster = (now : ℕ) → now < moment → IsIdle now cluster
+abbrev pub IsIdleBefore : Step → ℕ → Cluster → Type 0
+IsIdleBefore step moment cluster = (now : ℕ) → now < moment → IsIdleIn step now cluster
 
 -- a tick, alone or of the default schedule
 abbrev pub IsTick : Step → Type 0
 IsTick (steps.Command command) = ⊥
 IsTick _ = Unit {0}
 
--- each of so many steps of the default schedule brings its tick and nothing else
-unfoldable pub BringsTicks : Cluster → ℕ → Type 0
-BringsTicks cluster zero = Unit {0}
-BringsTicks cluster (suc count) = (next_events cluster steps.Scheduled ≡ event_of cluster kinds.Tick) × BringsTicks (cluster_over cluster (next_events cluster steps.Scheduled)) count
+-- each of so many steps of one kind brings its tick and nothing else
+unfoldable pub BringsTicks : Cluster → Step → ℕ → Type 0
+BringsTicks cluster step zero = Unit {0}
+BringsTicks cluster step (suc count) = (next_events cluster step ≡ event_of cluster kinds.Tick) × BringsTicks (cluster_over cluster (next_events cluster step)) step count

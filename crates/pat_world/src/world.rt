@@ -1,5 +1,5 @@
 //! The world: it takes the steps of a script and hands out what happens.
-ghost use Rattle.std.specs.Prelude.{ℕ, List, ◌≡◌, ◌<◌, ◌≤◌, ◌+◌, ◌^◌, ◌++◌, [], IsTrue, OnOk, OnErr, IfOk, length, replicate, zero};
+ghost use Rattle.std.specs.Prelude.{ℕ, List, ◌≡◌, ◌<◌, ◌≤◌, ◌+◌, ◌^◌, ◌++◌, [], OnOk, OnErr, IfOk, length, replicate, zero};
 ghost use Rattle.cluster_script.specs.declared.line.Step.TheVariants as steps;
 ghost use Rattle.event_book.specs.declared.event.Event.{Event};
 ghost use Rattle.event_book.specs.declared.event.EventKind.TheVariants as kinds;
@@ -11,7 +11,7 @@ ghost use Rattle.cluster_model.specs.Starting.{cluster_of};
 ghost use Rattle.cluster_model.specs.State.{Cluster};
 ghost use Rattle.cluster_model.specs.Steps.{IsStep};
 ghost use Rattle.pat_world.specs.Book.{StandsFor, left_by, next_of};
-ghost use Rattle.pat_world.specs.Idle.{BringsTicks, IsIdle, IsTick, NothingIsDue};
+ghost use Rattle.pat_world.specs.Idle.{BringsTicks, IsIdleBefore, IsIdleIn, NothingEnds, NothingIsDue};
 ghost use Rattle.pat_world.specs.OneWriter.{KeepsOneWriter};
 ghost use Rattle.pat_world.specs.Emits.{Emits};
 ghost use Rattle.pat_world.specs.Room.{HasRoomFor, step_cost};
@@ -28,22 +28,26 @@ use std::marker::Model;
 /// one.
 ///
 /// Most ticks bring nothing but themselves. Up to when that is so is found once, where a step of the default schedule brought its
-/// tick alone; until then a tick costs the same little however many members there are, and many of them no more than one.
+/// tick alone, or behind a plain tick; until then a tick costs the same little however many members there are, and many of them no
+/// more than one.
 pub struct World {
     stage: Stage,
     /// Before this moment steps of the default schedule bring nothing but their ticks; 0 where nothing is known of that.
     idle_before: u64,
+    /// Before this moment plain ticks bring nothing but themselves, whatever agents have to do; 0 where nothing is known of that.
+    ticks_idle_before: u64,
 }
 
 impl Model for World {
     ghost use Rattle.cluster_model.specs.State.{Cluster};
+    ghost use Rattle.cluster_script.specs.declared.line.Step.TheVariants as steps;
     ghost use Rattle.pat_world.specs.Idle.{IsIdleBefore};
 
     ghost Value = { Cluster };
 
     ghost view = { λ w. w.stage };
 
-    ghost invariant = { λ w. IsIdleBefore w.idle_before w.stage };
+    ghost invariant = { λ w. IsIdleBefore steps.Scheduled w.idle_before w.stage × IsIdleBefore steps.Tick w.ticks_idle_before w.stage };
 }
 
 impl World {
@@ -57,6 +61,7 @@ impl World {
         Ok(World {
             stage,
             idle_before: 0,
+            ticks_idle_before: 0,
         })
     }
 
@@ -65,6 +70,7 @@ impl World {
         let World {
             stage,
             idle_before: _,
+            ticks_idle_before: _,
         } = self;
         stage.close();
     }
@@ -104,19 +110,19 @@ impl World {
         taken
     }
 
-    /// Takes so many steps of the default schedule at once as are known to bring nothing but their ticks, at most as many as
-    /// wanted, and answers how many. 0 where the next one may bring more. It costs the same however many they are.
-    pub fn idle_for(&mut self, most: u64) -> u64
+    /// Takes so many steps of one kind at once as are known to bring nothing but their ticks, at most as many as wanted, and
+    /// answers how many. 0 where the next one may bring more, and for a command. It costs the same however many they are.
+    pub fn idle_for(&mut self, step: &Step, most: u64) -> u64
         ensures most { result ≤ most }
-        ensures ticks { BringsTicks self.old result }
-        ensures world { self.new ≡ cluster_over self.old (run_events self.old (replicate result steps.Scheduled)) }
+        ensures ticks { BringsTicks self.old step.now result }
+        ensures world { self.new ≡ cluster_over self.old (run_events self.old (replicate result step.now)) }
         ensures room { (more : ℕ) → HasRoomFor self.old (result + more) → HasRoomFor self.new more }
         ensures book { (start : Cluster) (book : List Event) → StandsFor start book self.old
-            → StandsFor start (book ++ run_events (left_by start book) (replicate result steps.Scheduled)) self.new }
-        ensures one_writer { KeepsOneWriter self.old (run_events self.old (replicate result steps.Scheduled)) }
+            → StandsFor start (book ++ run_events (left_by start book) (replicate result step.now)) self.new }
+        ensures one_writer { KeepsOneWriter self.old (run_events self.old (replicate result step.now)) }
         ensures acknowledged { 0 < result → AreAcknowledged self.new.book.members self.new.book.servers }
     {
-        let ticks = self.idle_ticks(most);
+        let ticks = self.idle_ticks(step, most);
         self.stage.pass(ticks);
         ticks
     }
@@ -129,17 +135,16 @@ impl World {
         ensures emits { OnOk result (Emits self.old self.new events.old.items events.new.items (next_events self.old step.now) step_cost) }
         ensures acknowledged { OnOk result (AreAcknowledged self.new.book.members self.new.book.servers) }
     {
-        if self.brings_tick(step) {
-            return self.tick(step, events);
+        if self.idle_ticks(step, 1) == 0 {
+            return self.take(step, events);
         }
-        self.take(step, events)
+        self.tick(step, events)
     }
 
     /// A tick that is known to bring nothing else.
     fn tick(&mut self, step: &Step, events: &mut Vec<Event>) -> Result<(), AllocError>
         requires room { HasRoomFor self.old 1 }
-        requires tick { IsTick step.now }
-        requires idle { IsIdle (self.old.book.clock + 1) self.old }
+        requires idle { IsIdleIn step.now (self.old.book.clock + 1) self.old }
         ensures emits { OnOk result (Emits self.old self.new events.old.items events.new.items (next_events self.old step.now) step_cost) }
         ensures acknowledged { OnOk result (AreAcknowledged self.new.book.members self.new.book.servers) }
     {
@@ -147,7 +152,8 @@ impl World {
         note(events, self.stage.clock(), EventKind::Tick)
     }
 
-    /// Any step. Where it brought nothing but the tick of the default schedule, it is found up to when that stays so.
+    /// Any step. Behind one that brought nothing but the tick of the default schedule it is found up to when that stays so, and behind
+    /// a plain tick, up to when plain ticks bring nothing.
     fn take(&mut self, step: &Step, events: &mut Vec<Event>) -> Result<(), AllocError>
         requires room { HasRoomFor self.old 1 }
         requires declared { IsStep self.old.book.members step.now }
@@ -156,34 +162,39 @@ impl World {
         ensures acknowledged { OnOk result (AreAcknowledged self.new.book.members self.new.book.servers) }
     {
         self.idle_before = 0;
+        self.ticks_idle_before = 0;
         self.stage.play(step, events)?;
         self.idle_before = idle_before(&self.stage, step, events.len());
+        self.ticks_idle_before = ticks_idle_before(&self.stage, step);
         Ok(())
     }
 
-    /// Whether a step is a tick that is known to bring nothing else.
-    fn brings_tick(&self, step: &Step) -> bool
-        ensures tick { IsTrue result → IsTick step.now }
-        ensures idle { IsTrue result → IsIdle (self.now.book.clock + 1) self.now }
-    {
-        if self.idle_ticks(1) == 0 {
-            return false;
-        }
-        is_tick(step)
-    }
-
-    /// How many of the next ticks are known to bring nothing else, at most as many as wanted.
-    fn idle_ticks(&self, most: u64) -> u64
+    /// How many of the next steps of one kind are known to bring nothing but their ticks, at most as many as wanted.
+    fn idle_ticks(&self, step: &Step, most: u64) -> u64
         ensures most { result ≤ most }
         ensures fits { self.now.book.clock + result < 2 ^ 64 }
-        ensures idle { 0 < result → IsIdle (self.now.book.clock + result) self.now }
+        ensures idle { 0 < result → IsIdleIn step.now (self.now.book.clock + result) self.now }
     {
         let clock = self.stage.clock().0;
-        if self.idle_before <= clock {
+        let before = self.steps_idle_before(step);
+        if before <= clock {
             return 0;
         }
-        let left = self.idle_before - clock - 1;
+        let left = before - clock - 1;
         if left < most { left } else { most }
+    }
+
+    /// Before which moment steps of one kind are known to bring nothing but their ticks; 0 where nothing is known of that. Where those of
+    /// the default schedule bring nothing else, plain ticks don't either.
+    fn steps_idle_before(&self, step: &Step) -> u64
+        ensures { IsIdleBefore step.now result self.now }
+    {
+        match step {
+            Step::Scheduled => self.idle_before,
+            Step::Tick if self.ticks_idle_before < self.idle_before => self.idle_before,
+            Step::Tick => self.ticks_idle_before,
+            Step::Command(_) => 0,
+        }
     }
 }
 
@@ -203,12 +214,13 @@ fn idle_before(stage: &Stage, step: &Step, events: usize) -> u64
     }
 }
 
-/// Whether a step is a tick, alone or of the default schedule.
-fn is_tick(step: &Step) -> bool
-    ensures { IsTrue result → IsTick step.now }
+/// Before which moment plain ticks bring nothing but themselves to a stage after a step; 0 where that isn't looked for, since the step was
+/// none.
+fn ticks_idle_before(stage: &Stage, step: &Step) -> u64
+    ensures { (now : ℕ) → now < result → NothingEnds now stage.now }
 {
     match step {
-        Step::Scheduled | Step::Tick => true,
-        Step::Command(_) => false,
+        Step::Tick => stage.ends_from().0,
+        _ => 0,
     }
 }

@@ -8,6 +8,7 @@ use Rattle.pat_base.specs.Prints.{Prints}
 use Rattle.pat_base.proofs.Printing.{Prints-nothing}
 use Rattle.event_book.specs.declared.event.Event.{Event}
 use Rattle.event_book.specs.declared.event.EventKind.TheVariants as kinds
+use Rattle.event_book.specs.declared.member.Member.{Member}
 use Rattle.event_book.specs.Text.{lines_of}
 use Rattle.cluster_script.specs.declared.line.Step.{Step}
 use Rattle.cluster_script.specs.declared.line.Step.TheVariants as steps
@@ -15,47 +16,62 @@ use Rattle.cluster_model.specs.Cluster.{cluster_over}
 use Rattle.cluster_model.specs.Next.{next_events, run_events}
 use Rattle.cluster_model.specs.Parts.{event_of}
 use Rattle.cluster_model.specs.State.{Cluster}
+use Rattle.cluster_model.specs.Steps.{IsStep}
 use Rattle.summary.specs.Passing.{IsTickAlone}
 use Rattle.summary.specs.Sights.{SummaryFacts, noted_steps}
-use Rattle.pat_world.specs.Idle.{BringsTicks}
+use Rattle.pat_world.specs.Idle.{BringsTicks, IsTick}
 use Rattle.pat_world.specs.Room.{HasRoomFor}
 use Rattle.patroni_top.specs.declared.playing.Player.{Player}
 use Rattle.patroni_top.specs.declared.print_error.PrintError.{PrintError}
 use Rattle.patroni_top.specs.declared.print_error.PrintError.TheVariants.{Memory, Write}
 use Rattle.patroni_top.specs.Playing.{Idles, Plays}
-use Rattle.patroni_top.specs.Run.{events_by_step, noted_from, printed_from, traced_over}
+use Rattle.patroni_top.specs.Run.{events_by_step, noted_from, printed_from, traced_after, traced_over}
 use Rattle.patroni_top.proofs.Played.{memory-is-no-write}
 
-prints-nothing : (world : Cluster) (trace : Bool) (count : ℕ) → BringsTicks world count → printed_from world trace (replicate count steps.Scheduled) ≡ []
+-- a tick changes nothing of what is traced
+traced-once : (trace : Bool) (step : Step) → IsTick step → traced_after trace step ≡ trace
+traced-once trace steps.Scheduled is = refl
+traced-once trace steps.Tick is = refl
+traced-once trace (steps.Command command) is = absurd is
+
+-- ticks are steps that any script may have
+pub tick-declared : (members : List Member) (step : Step) → IsTick step → IsStep members step
+tick-declared members steps.Scheduled is = tt
+tick-declared members steps.Tick is = tt
+tick-declared members (steps.Command command) is = absurd is
+
+prints-nothing : (step : Step) (world : Cluster) (trace : Bool) (count : ℕ) → IsTick step → BringsTicks world step count → printed_from world trace (replicate count step) ≡ []
 unfolding BringsTicks
-prints-nothing world trace zero brings = refl
-prints-nothing world trace (suc count) brings =
-    ap (λ (events : List Event). lines_of trace events ++ printed_from (cluster_over world (next_events world steps.Scheduled)) trace (replicate count steps.Scheduled)) brings.0
-    ∙ prints-nothing (cluster_over world (next_events world steps.Scheduled)) trace count brings.1
+prints-nothing step world trace zero is brings = refl
+prints-nothing step world trace (suc count) is brings =
+    let after = cluster_over world (next_events world step) in
+    ap (λ (t : Bool). lines_of trace (next_events world step) ++ printed_from after t (replicate count step)) (traced-once trace step is)
+    ∙ ap (λ (events : List Event). lines_of trace events ++ printed_from after trace (replicate count step)) brings.0
+    ∙ prints-nothing step after trace count is brings.1
 
-traced-same : (trace : Bool) (count : ℕ) → traced_over trace (replicate count steps.Scheduled) ≡ trace
-traced-same trace zero = refl
-traced-same trace (suc count) = traced-same trace count
+traced-same : (step : Step) (trace : Bool) (count : ℕ) → IsTick step → traced_over trace (replicate count step) ≡ trace
+traced-same step trace zero is = refl
+traced-same step trace (suc count) is = ap (λ (t : Bool). traced_over t (replicate count step)) (traced-once trace step is) ∙ traced-same step trace count is
 
-pub ticks-alone : (world : Cluster) (count : ℕ) → BringsTicks world count → All IsTickAlone (events_by_step world (replicate count steps.Scheduled))
+pub ticks-alone : (step : Step) (world : Cluster) (count : ℕ) → BringsTicks world step count → All IsTickAlone (events_by_step world (replicate count step))
 unfolding BringsTicks
-ticks-alone world zero brings = All-nil IsTickAlone
-ticks-alone world (suc count) brings =
-    let events = next_events world steps.Scheduled in
-    All-cons IsTickAlone events (events_by_step (cluster_over world events) (replicate count steps.Scheduled)) (subst IsTickAlone (sym brings.0) refl) (ticks-alone (cluster_over world events) count brings.1)
+ticks-alone step world zero brings = All-nil IsTickAlone
+ticks-alone step world (suc count) brings =
+    let events = next_events world step in
+    All-cons IsTickAlone events (events_by_step (cluster_over world events) (replicate count step)) (subst IsTickAlone (sym brings.0) refl) (ticks-alone step (cluster_over world events) count brings.1)
 
-pub ticks-many : (world : Cluster) (count : ℕ) → length (events_by_step world (replicate count steps.Scheduled)) ≡ count
-ticks-many world zero = refl
-ticks-many world (suc count) = ap suc (ticks-many (cluster_over world (next_events world steps.Scheduled)) count)
+pub ticks-many : (step : Step) (world : Cluster) (count : ℕ) → length (events_by_step world (replicate count step)) ≡ count
+ticks-many step world zero = refl
+ticks-many step world (suc count) = ap suc (ticks-many step (cluster_over world (next_events world step)) count)
 
 -- so the player played these steps
-pub Plays-idle : {K : Type 0} {sink : Ghosts K} {before after : Player} {count left : ℕ} (out : K) → Idles before after count left → Plays {X = Unit {0}} sink before after out out (Ok tt) (replicate (count - left) steps.Scheduled)
-Plays-idle {sink = sink} {before = before} {after = after} {count = count} {left = left} out idles = record {
+pub Plays-idle : {K : Type 0} {sink : Ghosts K} {before after : Player} {step : Step} {count left : ℕ} (out : K) → IsTick step → Idles before after step count left → Plays {X = Unit {0}} sink before after out out (Ok tt) (replicate (count - left) step)
+Plays-idle {sink = sink} {before = before} {after = after} {step = step} {count = count} {left = left} out is idles = record {
   world = idles.world;
-  trace = idles.trace ∙ sym (traced-same before.trace (count - left));
+  trace = idles.trace ∙ sym (traced-same step before.trace (count - left) is);
   summary = idles.summary;
-  room = λ more room. idles.room more (subst (λ (n : ℕ). HasRoomFor before.world (n + more)) (length-replicate {A = Step} (count - left) steps.Scheduled) room);
-  printed = subst (λ (t : List ℕ). Prints {X = Unit {0}} sink out out Write (Ok tt) t) (sym (prints-nothing before.world before.trace (count - left) idles.ticks)) (Prints-nothing sink out Write tt);
+  room = λ more room. idles.room more (subst (λ (n : ℕ). HasRoomFor before.world (n + more)) (length-replicate {A = Step} (count - left) step) room);
+  printed = subst (λ (t : List ℕ). Prints {X = Unit {0}} sink out out Write (Ok tt) t) (sym (prints-nothing step before.world before.trace (count - left) is idles.ticks)) (Prints-nothing sink out Write tt);
 }
 
 -- some ticks of one kind, and then the others
@@ -75,18 +91,18 @@ ticks-first step left h =
     ap (λ (n : ℕ). replicate n step) next
 
 -- what is taken at once of some ticks
-pub idles : (before after : Player) (count ticks : ℕ) → ticks ≤ count → BringsTicks before.world ticks → after.world ≡ cluster_over before.world (run_events before.world (replicate ticks steps.Scheduled)) → after.trace ≡ before.trace
+pub idles : (before after : Player) (step : Step) (count ticks : ℕ) → ticks ≤ count → BringsTicks before.world step ticks → after.world ≡ cluster_over before.world (run_events before.world (replicate ticks step)) → after.trace ≡ before.trace
     → ((steps : List (List Event)) → length steps ≡ ticks → All IsTickAlone steps → after.summary ≡ noted_steps before.summary steps) → ((more : ℕ) → HasRoomFor before.world (ticks + more) → HasRoomFor after.world more)
-    → Idles before after count (count - ticks)
-idles before after count ticks within brings world trace summary room =
+    → Idles before after step count (count - ticks)
+idles before after step count ticks within brings world trace summary room =
     let e : ticks ≡ count - (count - ticks) = omega (arith, within) in
-    let noted = summary (events_by_step before.world (replicate ticks steps.Scheduled)) (ticks-many before.world ticks) (ticks-alone before.world ticks brings) in
+    let noted = summary (events_by_step before.world (replicate ticks step)) (ticks-many step before.world ticks) (ticks-alone step before.world ticks brings) in
     record {
       within = omega arith;
-      ticks = subst (BringsTicks before.world) e brings;
-      world = world ∙ ap (λ (n : ℕ). cluster_over before.world (run_events before.world (replicate n steps.Scheduled))) e;
+      ticks = subst (BringsTicks before.world step) e brings;
+      world = world ∙ ap (λ (n : ℕ). cluster_over before.world (run_events before.world (replicate n step))) e;
       trace = trace;
-      summary = noted ∙ ap (λ (n : ℕ). noted_from before.summary before.world (replicate n steps.Scheduled)) e;
+      summary = noted ∙ ap (λ (n : ℕ). noted_from before.summary before.world (replicate n step)) e;
       room = λ more has. room more (subst (λ (n : ℕ). HasRoomFor before.world (n + more)) (sym e) has);
     }
 

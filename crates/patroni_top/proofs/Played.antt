@@ -187,12 +187,6 @@ Playing-stop {before = before} {piece = piece} final rest p is q stops = rw stop
   printed = IsPrinting-stop _ _ p.text (ap (λ s. printed_from before.world before.trace s) is ∙ printed_from-append before.world before.trace piece rest) q.printed refl;
 })
 
--- steps of one kind that are left, one and then the others
-pub ticks-next : (step : Step) (i n : ℕ) → i < n → replicate (n - i) step ≡ (step ∷ []) ++ replicate (n - (i + 1)) step
-ticks-next step i n h =
-    let e : n - i ≡ suc (n - (i + 1)) = omega (arith, h) in
-    rw e refl
-
 -- lines that are left, one and then the others
 pub body-next : (body : List Line) (i : ℕ) (line : Line) → slice_get body i ≡ Some line → steps_of (drop i body) ≡ steps_of_line line ++ steps_of (drop (i + 1) body)
 body-next body i line found = ap steps_of (drop-get Line body i line found)

@@ -3,7 +3,6 @@ use Rattle.std.specs.Prelude.{ℕ, ◌≡◌, ◌+◌, ◌-◌, ◌≤◌, List,
 use Rattle.pat_base.specs.declared.outside.Sink.{Ghosts}
 use Rattle.pat_base.specs.Prints.{Prints}
 use Rattle.cluster_script.specs.declared.line.Step.{Step}
-use Rattle.cluster_script.specs.declared.line.Step.TheVariants as steps
 use Rattle.cluster_model.specs.Cluster.{cluster_over}
 use Rattle.cluster_model.specs.Next.{run_events}
 use Rattle.pat_world.specs.Idle.{BringsTicks}
@@ -22,12 +21,12 @@ pub record Plays {K X : Type 0} (sink : Ghosts K) (before after : Player) (out t
   pub room : OnOk result ((more : ℕ) → HasRoomFor before.world (length steps + more) → HasRoomFor after.world more)
   pub printed : Prints sink out then Write result (printed_from before.world before.trace steps)
 
--- of so many ticks of the default schedule the player took some at once, and these are left: the world and the summary are what
--- the steps leave, each of which brought its tick and nothing else
-pub record Idles (before after : Player) (count left : ℕ) : Type 0 where
+-- of so many ticks of one kind the player took some at once, and these are left: the world and the summary are what the steps
+-- leave, each of which brought its tick and nothing else
+pub record Idles (before after : Player) (step : Step) (count left : ℕ) : Type 0 where
   pub within : left ≤ count
-  pub ticks : BringsTicks before.world (count - left)
-  pub world : after.world ≡ cluster_over before.world (run_events before.world (replicate (count - left) steps.Scheduled))
+  pub ticks : BringsTicks before.world step (count - left)
+  pub world : after.world ≡ cluster_over before.world (run_events before.world (replicate (count - left) step))
   pub trace : after.trace ≡ before.trace
-  pub summary : after.summary ≡ noted_from before.summary before.world (replicate (count - left) steps.Scheduled)
+  pub summary : after.summary ≡ noted_from before.summary before.world (replicate (count - left) step)
   pub room : (more : ℕ) → HasRoomFor before.world (count - left + more) → HasRoomFor after.world more

@@ -1,7 +1,6 @@
 //! Steps, and what they print.
 ghost use Rattle.std.specs.Prelude.{◌≡◌, ◌<◌, ◌∷◌, ◌++◌, [], false, All, List, length, IfOk, OnOk, replicate, slice_get, Some};
 ghost use Rattle.pat_base.specs.Prints.{Prints};
-ghost use Rattle.cluster_script.specs.declared.line.Step.TheVariants as steps;
 ghost use Rattle.cluster_script.specs.Script.{IsLine, names_of};
 ghost use Rattle.cluster_script.specs.Steps.{steps_of_line, steps_of};
 ghost use Rattle.cluster_model.specs.Cluster.{cluster_over};
@@ -12,6 +11,7 @@ ghost use Rattle.event_book.specs.declared.event.Event.{Event};
 ghost use Rattle.summary.specs.Passing.{IsTickAlone};
 ghost use Rattle.summary.specs.Sights.{noted_step, noted_steps};
 ghost use Rattle.summary.specs.SummaryText.{closing_text};
+ghost use Rattle.pat_world.specs.Idle.{IsTick};
 ghost use Rattle.pat_world.specs.Room.{HasRoomFor};
 ghost use Rattle.patroni_top.specs.Ended.{IsLeftBy};
 ghost use Rattle.patroni_top.specs.Playing.{Idles, Plays};
@@ -122,37 +122,13 @@ impl Player {
         ensures { Plays K.Sink self.old self.new out.old out.new result (steps_of_line line.now) }
     {
         match line {
-            Line::Run(count) => self.play_run(*count, out),
+            Line::Run(count) => self.play_ticks(*count, &Step::Scheduled, out),
             Line::Tick(count) => self.play_ticks(*count, &Step::Tick, out),
             Line::Command(command) => self.play_step(&Step::Command(*command), out),
         }
     }
 
-    /// So many ticks of the default schedule. Those that bring nothing else are taken at once, as far as that is known: they print
-    /// nothing.
-    fn play_run<K: Sink>(&mut self, count: u64, out: &mut K) -> Result<(), PrintError>
-        requires { HasRoomFor self.old.world count }
-        ensures { Plays K.Sink self.old self.new out.old out.new result (replicate count steps.Scheduled) }
-    {
-        let mut left = count;
-        while left > 0 {
-            self.play_step(&Step::Scheduled, out)?;
-            left = self.idle(left - 1)?;
-        }
-        Ok(())
-    }
-
-    /// Takes those of so many ticks of the default schedule at once that are known to bring nothing else, and answers how many
-    /// are left.
-    fn idle(&mut self, count: u64) -> Result<u64, AllocError>
-        ensures { IfOk result (Idles self.old self.new count) }
-    {
-        let ticks = self.world.idle_for(count);
-        note_ticks(&mut self.summary, ticks)?;
-        Ok(count - ticks)
-    }
-
-    /// So many ticks of one kind.
+    /// So many ticks of one kind. Those that bring nothing else are taken at once, as far as that is known: they print nothing.
     fn play_ticks<K: Sink>(
         &mut self,
         count: u64,
@@ -160,13 +136,25 @@ impl Player {
         out: &mut K,
     ) -> Result<(), PrintError>
         requires room { HasRoomFor self.old.world count }
-        requires declared { IsStep self.old.world.book.members step.now }
+        requires tick { IsTick step.now }
         ensures { Plays K.Sink self.old self.new out.old out.new result (replicate count step.now) }
     {
-        for done in 0..count {
+        let mut left = count;
+        while left > 0 {
             self.play_step(step, out)?;
+            left = self.idle(step, left - 1)?;
         }
         Ok(())
+    }
+
+    /// Takes those of so many ticks of one kind at once that are known to bring nothing else, and answers how many are left.
+    fn idle(&mut self, step: &Step, count: u64) -> Result<u64, AllocError>
+        requires { IsTick step.now }
+        ensures { IfOk result (Idles self.old self.new step.now count) }
+    {
+        let ticks = self.world.idle_for(step, count);
+        note_ticks(&mut self.summary, ticks)?;
+        Ok(count - ticks)
     }
 
     fn play_step<K: Sink>(&mut self, step: &Step, out: &mut K) -> Result<(), PrintError>

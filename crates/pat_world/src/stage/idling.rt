@@ -3,7 +3,7 @@ ghost use Rattle.std.specs.Prelude.{ℕ, ◌≡◌, ◌<◌, ◌≤◌, ◌+◌,
 ghost use Rattle.pat_base.specs.declared.ticks.Ticks.{Ticks};
 ghost use Rattle.ha_loop.specs.Agents.{Outcome};
 ghost use Rattle.cluster_model.specs.Inputs.{agent_at, is_to_wake, standing_of};
-ghost use Rattle.pat_world.specs.Idle.{HasWorkFrom, NothingIsDue, SleepsAt, work_moment};
+ghost use Rattle.pat_world.specs.Idle.{HasWorkFrom, NothingEnds, NothingIsDue, SleepsAt, work_moment};
 
 use super::Stage;
 use crate::machines::item_at;
@@ -14,15 +14,22 @@ use event_book::{AgentProcess, Member};
 use pat_base::Ticks;
 
 impl Stage {
-    /// From when on something is due by the clock, as long as nothing else happens: before it no watchdog resets its machine, no
-    /// key expires, no start or stop of a server is complete, and no agent has something to do.
+    /// From when on something is due by the clock, as long as nothing else happens: something ends, or an agent has something to
+    /// do.
     pub fn due_from(&self) -> Ticks
         ensures { (now : ℕ) → now < result.0 → NothingIsDue now self.now }
     {
+        self.wakes_from(self.ends_from())
+    }
+
+    /// From when on something ends by the clock, as long as nothing else happens: before it no watchdog resets its machine, no key
+    /// expires, and no start or stop of a server is complete.
+    pub fn ends_from(&self) -> Ticks
+        ensures { (now : ℕ) → now < result.0 → NothingEnds now self.now }
+    {
         let keys = self.store.next_expiry(Ticks(u64::MAX));
         let completions = self.servers.next_completion(keys);
-        let deadlines = first_deadline(&self.deadlines, completions);
-        self.wakes_from(deadlines)
+        first_deadline(&self.deadlines, completions)
     }
 
     /// A moment, or the first at which an agent is to be woken where that comes sooner.

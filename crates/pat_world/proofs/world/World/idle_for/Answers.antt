@@ -3,7 +3,7 @@ use Rattle.cluster_script.specs.declared.line.Step.TheVariants as steps
 use Rattle.cluster_model.specs.Acknowledging.{AreAcknowledged}
 use Rattle.cluster_model.specs.State.{Cluster}
 use Rattle.pat_world.specs.Room.{HasRoomFor}
-use Rattle.pat_world.proofs.Idling.{at_moment}
+use Rattle.pat_world.proofs.Idling.{at_moment, idle-commits}
 use Rattle.pat_world.proofs.IdleTicks.{brings-ticks, idle-passed, passed, room-passed, steps-keep, steps-stand}
 use Rattle.pat_world.proofs.world.World.idle_for.Goals as goal
 
@@ -11,21 +11,26 @@ pub pass-requires : goal.pass-requires
 pass-requires c = omega (arith, c.idle_ticks-ticks.ensures.fits, ap (λ (s : Cluster). s.book.clock) c.self.view_is)
 
 pub invariant_of-self : goal.invariant_of-self
-invariant_of-self c = idle-passed c.self.inside.idle_before (c.self.inside.stage.book.clock + c.idle_ticks-ticks.result) c.self.inside.stage c.pass.new.self c.pass.ensures c.self.invariant
+invariant_of-self c =
+    let later = c.self.inside.stage.book.clock + c.idle_ticks-ticks.result in (
+      idle-passed steps.Scheduled c.self.inside.idle_before later c.self.inside.stage c.pass.new.self c.pass.ensures c.self.invariant.0,
+      idle-passed steps.Tick c.self.inside.ticks_idle_before later c.self.inside.stage c.pass.new.self c.pass.ensures c.self.invariant.1,
+    )
 
 pub returns : goal.returns
 returns c =
     let old = c.args.self.now in
+    let step = c.args.step.now in
     let n = c.idle_ticks-ticks.result in
     let new : c.pass.new.self ≡ at_moment old (old.book.clock + n) = c.pass.ensures ∙ ap (λ (s : Cluster). at_moment s (s.book.clock + n)) c.self.view_is in
     let idle = c.idle_ticks-ticks.ensures.idle in
-    let left = new ∙ sym (passed old (old.book.clock + n) n (omega arith) idle) in
+    let left = new ∙ sym (passed step old (old.book.clock + n) n (omega arith) idle) in
     record {
       most = c.idle_ticks-ticks.ensures.most;
-      ticks = brings-ticks old (old.book.clock + n) n (omega arith) idle;
+      ticks = brings-ticks step old (old.book.clock + n) n (omega arith) idle;
       world = left;
       room = λ more has. subst (λ (s : Cluster). HasRoomFor s more) (sym new) (room-passed old n more has);
-      book = λ start book stands. steps-stand start book old c.pass.new.self (replicate n steps.Scheduled) left stands;
-      one_writer = steps-keep old (replicate n steps.Scheduled);
-      acknowledged = λ some. subst (λ (s : Cluster). AreAcknowledged s.book.members s.book.servers) (sym new) ((idle some).moves.commits);
+      book = λ start book stands. steps-stand start book old c.pass.new.self (replicate n step) left stands;
+      one_writer = steps-keep old (replicate n step);
+      acknowledged = λ some. subst (λ (s : Cluster). AreAcknowledged s.book.members s.book.servers) (sym new) (idle-commits step old (old.book.clock + n) (idle some));
     }

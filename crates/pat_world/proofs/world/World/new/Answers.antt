@@ -1,11 +1,12 @@
 use Rattle.std.proofs.Common.{[]}
+use Rattle.cluster_script.specs.declared.line.Step.TheVariants as steps
 use Rattle.cluster_model.specs.Starting.{cluster_of}
 use Rattle.pat_world.proofs.IdleTicks.{idle-before-none}
 use Rattle.pat_world.proofs.Standing.{is-stands}
 use Rattle.pat_world.proofs.world.World.new.Goals as goal
 
 pub invariant_of-result : goal.invariant_of-result
-invariant_of-result c = idle-before-none c.in_ok-stage.stage
+invariant_of-result c = (idle-before-none steps.Scheduled c.in_ok-stage.stage, idle-before-none steps.Tick c.in_ok-stage.stage)
 
 pub returns-clause-book : goal.returns-clause-book
 returns-clause-book c = is-stands (cluster_of c.args.head.now) [] c.in_ok-stage.stage c.in_ok-stage.ensures

@@ -1,5 +1,6 @@
 use Rattle.std.proofs.Common.{◌+◌, ap, arith, ◌∙◌}
 use Rattle.std.proofs.lemmas.Result.{on_ok_weaker}
+use Rattle.cluster_script.specs.declared.line.Step.TheVariants as steps
 use Rattle.cluster_model.specs.State.{Cluster}
 use Rattle.pat_world.proofs.Idling.{at_moment}
 use Rattle.pat_world.proofs.IdleTicks.{idle-passed, tick-noted}
@@ -10,11 +11,14 @@ returns-clause-emits c =
     let old = c.args.self.now in
     let new = c.pass.ensures ∙ ap (λ (s : Cluster). at_moment s (s.book.clock + 1)) c.self.view_is in
     on_ok_weaker c.note.result
-    (λ noted. tick-noted old c.pass.new.self c.args.events.now.items c.note.new.events.items c.args.step.now c.clock.result new c.clock.ensures noted c.requires.tick c.requires.idle)
+    (λ noted. tick-noted old c.pass.new.self c.args.events.now.items c.note.new.events.items c.args.step.now c.clock.result new c.clock.ensures noted c.requires.idle)
     c.note.ensures
 
 pub pass-requires : goal.pass-requires
 pass-requires c = omega (arith, c.requires.room.room.clock, ap (λ (s : Cluster). s.book.clock) c.self.view_is)
 
 pub invariant_of-self : goal.invariant_of-self
-invariant_of-self c = idle-passed c.self.inside.idle_before (c.self.inside.stage.book.clock + 1) c.self.inside.stage c.pass.new.self c.pass.ensures c.self.invariant
+invariant_of-self c = (
+  idle-passed steps.Scheduled c.self.inside.idle_before (c.self.inside.stage.book.clock + 1) c.self.inside.stage c.pass.new.self c.pass.ensures c.self.invariant.0,
+  idle-passed steps.Tick c.self.inside.ticks_idle_before (c.self.inside.stage.book.clock + 1) c.self.inside.stage c.pass.new.self c.pass.ensures c.self.invariant.1,
+)

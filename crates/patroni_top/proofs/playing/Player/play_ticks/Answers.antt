@@ -1,31 +1,37 @@
-use Rattle.std.proofs.Common.{◌≡◌, ◌-◌, ℕ, List, [], ◌∷◌, replicate, ap, ◌∙◌, Err, sym, subst, arith}
+use Rattle.std.proofs.Common.{◌≡◌, ◌-◌, ℕ, List, [], ◌∷◌, ◌++◌, replicate, ap, append-nil, ◌∙◌, Err, Ok, refl, sym, subst, arith}
 use Rattle.std.proofs.lemmas.List.{length-replicate}
 use Rattle.std.proofs.lemmas.Result.{err_from_is_err_and}
 use Rattle.cluster_script.specs.declared.line.Step.{Step}
-use Rattle.event_book.specs.declared.member.Member.{Member}
 use Rattle.pat_world.specs.Room.{HasRoomFor}
-use Rattle.cluster_model.specs.Steps.{IsStep}
-use Rattle.patroni_top.proofs.Played.{Playing-members, Playing-room, Playing-more, Playing-stop, Playing-end, ticks-next}
+use Rattle.patroni_top.specs.declared.print_error.PrintError.TheVariants.{Memory}
+use Rattle.patroni_top.proofs.Idling.{Plays-idle, none-left, tick-declared, ticks-first, ticks-split}
+use Rattle.patroni_top.proofs.Played.{Playing-end, Playing-more, Playing-room, Playing-stop, Plays-none}
 use Rattle.patroni_top.proofs.playing.Player.play_ticks.Goals as goal
 
-no-ticks-left : (step : Step) (i n : ℕ) → n - i ≡ 0 → replicate (n - i) step ≡ []
-no-ticks-left step i n e = ap (λ k. replicate k step) e
-
-pub play_step-requires-clause-declared : goal.play_step-requires-clause-declared
-play_step-requires-clause-declared g c =
-    subst (λ (ms : List Member). IsStep ms c.args.step.now) (sym (Playing-members c.loop-done.invariant)) c.requires.declared
-
 pub play_step-requires-clause-room : goal.play_step-requires-clause-room
-play_step-requires-clause-room g c = Playing-room (c.args.step.now ∷ []) _ c.loop-done.invariant (ticks-next c.args.step.now c.loop-done.done c.args.count c.loop-done-test.true)
+play_step-requires-clause-room g c = Playing-room (c.args.step.now ∷ []) _ c.loop-left.invariant (ticks-first c.args.step.now c.loop-left.left (omega (arith, c.loop-left-test.true)))
     (subst (λ (k : ℕ). HasRoomFor c.args.self.now.world k) (sym (length-replicate {A = Step} c.args.count c.args.step.now)) c.requires.room)
 
-pub loop-done-preserved : goal.loop-done-preserved
-loop-done-preserved g c = Playing-more _ c.loop-done.invariant (ticks-next c.args.step.now c.loop-done.done c.args.count c.loop-done-test.true) c.in_ok-play_step.ensures
+pub play_step-requires-clause-declared : goal.play_step-requires-clause-declared
+play_step-requires-clause-declared g c = tick-declared c.loop-left.self.world.book.members c.args.step.now c.requires.tick
+
+pub loop-left-preserved : goal.loop-left-preserved
+loop-left-preserved g c =
+    let stepped = Playing-more (replicate (c.loop-left.left - 1) c.args.step.now) c.loop-left.invariant (ticks-first c.args.step.now c.loop-left.left (omega (arith, c.loop-left-test.true))) c.in_ok-play_step.ensures in
+    Playing-more _ stepped (ticks-split c.args.step.now (c.loop-left.left - 1) c.in_ok-left.left c.in_ok-left.ensures.within) (Plays-idle c.play_step.new.out c.requires.tick c.in_ok-left.ensures)
 
 pub returns-in_err-play_step : goal.returns-in_err-play_step
 returns-in_err-play_step g c =
     let p = err_from_is_err_and c.from_residual.result c.from_residual.ensures.1 in
-    Playing-stop c.from_residual.result _ c.loop-done.invariant (ticks-next c.args.step.now c.loop-done.done c.args.count c.loop-done-test.true) c.in_err-play_step.ensures (p.1 ∙ ap Err p.2)
+    Playing-stop c.from_residual.result _ c.loop-left.invariant (ticks-first c.args.step.now c.loop-left.left (omega (arith, c.loop-left-test.true))) c.in_err-play_step.ensures (p.1 ∙ ap Err p.2)
+
+pub returns-in_err-left : goal.returns-in_err-left
+returns-in_err-left g c =
+    let final = c.from_residual-in_err-left.result in
+    let p = err_from_is_err_and final c.from_residual-in_err-left.ensures.1 in
+    let left = replicate (c.loop-left.left - 1) c.args.step.now in
+    let stepped = Playing-more left c.loop-left.invariant (ticks-first c.args.step.now c.loop-left.left (omega (arith, c.loop-left-test.true))) c.in_ok-play_step.ensures in
+    Playing-stop final [] stepped (sym (append-nil left)) (Plays-none {X = Unit {0}} (Err Memory) left refl) (p.1 ∙ ap Err p.2)
 
 pub returns : goal.returns
-returns g c = Playing-end c.loop-done.invariant (no-ticks-left c.args.step.now c.loop-done.done c.args.count (omega arith))
+returns g c = Playing-end c.loop-left.invariant (none-left c.args.step.now c.loop-left.left (omega (arith, c.loop-left-test.false)))
