@@ -1,6 +1,6 @@
 //! Configurations as text, worked by hand: what is read, what a patch leaves, and why one is refused.
 
-use crate::store::{create, member, renew};
+use crate::store::{ask, create, member, renew};
 use cluster_config::{ConfigFault, ConfigText, LeaderEntry, Snapshot};
 use lease_store::{Config, ConfigValue, Store};
 use pat_base::{Host, Name, Ticks};
@@ -227,8 +227,8 @@ fn changes_not_built(rt: HostRuntime) -> Result<(), Fail> {
 fn a_snapshot_of_one_member(rt: HostRuntime) -> Result<(), Fail> {
     let a = member(&rt, 0);
     let mut store = Store::new(rt.alloc(), ConfigValue::defaults(rt.alloc())?)?;
-    store.apply(Ticks(1), a, create(&rt, None))?;
-    store.apply(Ticks(5), a, renew(&rt, 2))?;
+    ask(&rt, &mut store, Ticks(1), a, create(&rt, None))?;
+    ask(&rt, &mut store, Ticks(5), a, renew(&rt, 2))?;
     let scope = Name::read(b"demo").expect(&rt, "a name");
     let name = Name::read(b"a").expect(&rt, "a name");
     let host = Host::read(b"h1").expect(&rt, "a host");
