@@ -3,6 +3,7 @@ use Rattle.std.specs.Prelude.{ℕ, ◌+◌, List, [], ◌∷◌, Option, Some, N
 use Rattle.pat_base.specs.declared.name.Name.{Name}
 use Rattle.pat_base.specs.declared.ticks.Ticks.{Ticks}
 use Rattle.pat_base.specs.Changes.{with_changed}
+use Rattle.cluster_script.specs.declared.head.MemberOptions.{MemberOptions}
 use Rattle.event_book.specs.declared.event.AgentEvent.{AgentEvent}
 use Rattle.event_book.specs.declared.event.AgentEvent.TheVariants as agents
 use Rattle.event_book.specs.declared.event.Event.{Event}
@@ -37,16 +38,16 @@ agent_facts_with agents member outcome = with_changed agents member.id.number (a
 abbrev pub agent_facts_without : List (Option AgentFacts) → Member → List (Option AgentFacts)
 agent_facts_without agents member = with_changed agents member.id.number (λ agent. None)
 
--- the agents of a cluster of this name with these members, at this moment, after one ended or started
-abbrev pub agent_facts_moved : Name → List Member → ℕ → List (Option AgentFacts) → AgentEvent → List (Option AgentFacts)
-agent_facts_moved scope members now known (agents.Killed member) = agent_facts_without known member
-agent_facts_moved scope members now known (agents.Started member run) = with_changed known member.id.number (λ agent. Some (starting_agent (who_of scope members member) now run))
-agent_facts_moved scope members now known _ = known
+-- the agents of a cluster of this name with these members, of whom these options are declared, at this moment, after one ended or started
+abbrev pub agent_facts_moved : Name → List MemberOptions → List Member → ℕ → List (Option AgentFacts) → AgentEvent → List (Option AgentFacts)
+agent_facts_moved scope options members now known (agents.Killed member) = agent_facts_without known member
+agent_facts_moved scope options members now known (agents.Started member run) = with_changed known member.id.number (λ agent. Some (starting_agent (who_of scope options members member) now run))
+agent_facts_moved scope options members now known _ = known
 
 -- the agents after one was woken, ended or started
 abbrev pub agent_facts_by : Cluster → AgentEvent → List (Option AgentFacts)
 agent_facts_by cluster (agents.Woken member) = agent_facts_with cluster.agents member (outcome_of cluster member Wake)
-agent_facts_by cluster happening = agent_facts_moved cluster.scope cluster.book.members cluster.book.clock cluster.agents happening
+agent_facts_by cluster happening = agent_facts_moved cluster.scope cluster.options cluster.book.members cluster.book.clock cluster.agents happening
 
 -- the agents after this message came to this receiver: the agent of a member acts on it, and none does at the key store
 abbrev pub agent_facts_reached_at : Cluster → InFlightFacts → LinkEnd → List (Option AgentFacts)

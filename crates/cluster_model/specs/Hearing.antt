@@ -12,7 +12,7 @@ use Rattle.cluster_model.specs.State.{Cluster}
 
 -- the snapshot that a message carries
 abbrev pub snapshot_in : Cluster → InFlightFacts → SnapshotFacts
-snapshot_in cluster message = record { scope = cluster.scope; members = hosts_of cluster.book.members; entries = message.snapshot }
+snapshot_in cluster message = record { scope = cluster.scope; members = hosts_of cluster.options cluster.book.members; entries = message.snapshot }
 
 -- what a message with these words says to an agent: the key store's answers. Nothing else is said to agents yet
 abbrev pub heard_in : Cluster → InFlightFacts → Body → Option Heard

@@ -17,6 +17,5 @@ pub mod Starting
 pub mod State
 pub mod Steps
 pub mod Streaming
-pub mod Tags
 pub mod Beginnings
 pub mod Ticking

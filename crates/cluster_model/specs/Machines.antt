@@ -3,7 +3,7 @@ use Rattle.std.specs.Prelude.{ℕ, ◌*◌, Bool, is_some, List, [], Option, Som
 use Rattle.pat_base.specs.declared.host.Host.{Host}
 use Rattle.pat_base.specs.declared.name.Name.{Name}
 use Rattle.pat_base.specs.declared.ticks.Ticks.{Ticks}
-use Rattle.pat_base.specs.Host.{local_host}
+use Rattle.cluster_script.specs.Options.{unsaid_options}
 use Rattle.cluster_script.specs.declared.head.MemberOptions.{MemberOptions}
 use Rattle.wal_model.specs.declared.entry.HistoryPoint.{HistoryPoint}
 use Rattle.pg_model.specs.Facts.{ServerFacts}
@@ -14,7 +14,6 @@ use Rattle.ha_loop.specs.declared.machine.Machine.{Machine}
 use Rattle.ha_loop.specs.declared.who.Who.{Who}
 use Rattle.cluster_model.specs.State.{Cluster}
 use Rattle.cluster_model.specs.Streaming.{source_of}
-use Rattle.cluster_model.specs.Tags.{no_tags}
 
 -- ticks of 100 ms in a second
 abbrev pub ticks_of_second : ℕ
@@ -45,10 +44,26 @@ points_from (Some s) = s.history
 abbrev pub points_of : Cluster → Member → List HistoryPoint
 points_of cluster member = points_from (slice_get cluster.book.servers member.id.number)
 
--- whose agent that of this member is, in a cluster of this name with these members; hosts and tags can't be declared yet
-abbrev pub who_of : Name → List Member → Member → Who
-who_of scope members member = record { me = member.id; members = length members; scope = scope; name = member.name; host = local_host; tags = no_tags }
+-- these options, or those of a line without any
+abbrev pub options_or_unsaid : Option MemberOptions → MemberOptions
+options_or_unsaid None = unsaid_options
+options_or_unsaid (Some options) = options
+
+-- what is declared of a member beside its name
+abbrev pub declared_options : List MemberOptions → Member → MemberOptions
+declared_options options member = options_or_unsaid (slice_get options member.id.number)
+
+-- whose agent that of this member is, in a cluster of this name with these members, of whom these options are declared
+abbrev pub who_of : Name → List MemberOptions → List Member → Member → Who
+who_of scope options members member = record {
+  me = member.id;
+  members = length members;
+  scope = scope;
+  name = member.name;
+  host = (declared_options options member).host;
+  tags = (declared_options options member).tags;
+}
 
 -- where members are reached, as snapshots tell agents
-abbrev pub hosts_of : List Member → List (Name × Host)
-hosts_of members = map (λ (member : Member). (member.name, local_host)) members
+abbrev pub hosts_of : List MemberOptions → List Member → List (Name × Host)
+hosts_of options members = map (λ (member : Member). (member.name, (declared_options options member).host)) members

@@ -19,11 +19,11 @@ abbrev pub cluster_without_agents : HeadText → Cluster
 cluster_without_agents head = record { scope = head.cluster; options = options_of head; book = start_of (names_of head) head.base; agents = [] }
 
 -- the agent of a member at the beginning, in its first run: that of member number i has its first turn at tick i + 1
-abbrev pub first_agent : Name → List Member → Member → Option AgentFacts
-first_agent scope members member = Some (starting_agent (who_of scope members member) member.id.number 1)
+abbrev pub first_agent : Name → List MemberOptions → List Member → Member → Option AgentFacts
+first_agent scope options members member = Some (starting_agent (who_of scope options members member) member.id.number 1)
 
 -- the cluster of a head, before the first event
 abbrev pub cluster_of : HeadText → Cluster
 cluster_of head =
     let cluster = cluster_without_agents head in
-    record cluster { agents = map (first_agent head.cluster cluster.book.members) cluster.book.members }
+    record cluster { agents = map (first_agent head.cluster cluster.options cluster.book.members) cluster.book.members }

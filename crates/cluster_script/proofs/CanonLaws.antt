@@ -1,14 +1,16 @@
 -- The lines of a script and nothing else spell it.
-use Rattle.std.proofs.Common.{◌≡◌, ℕ, ◌+◌, ◌*◌, ◌^◌, ◌≤◌, ◌<◌, ◌&&◌, ◌==◌, nat_lt, not, Bool, true, false, cond, List, [], ◌∷◌, ◌++◌, length, map, slice_get, codes, Option, Some, None, Ok, ◌%◌, refl, ◌∙◌, ap, sym, subst, arith, length-append}
-use Rattle.std.specs.Fmt.{decimal}
+use Rattle.std.proofs.Common.{◌≡◌, ℕ, ◌+◌, ◌*◌, ◌^◌, ◌≤◌, ◌<◌, ℤ, pos, negsuc, ◌≤ℤ◌, suc, ◌&&◌, ◌==◌, nat_lt, not, Bool, true, false, cond, List, [], ◌∷◌, ◌++◌, length, map, slice_get, codes, Option, Some, None, Ok, ◌%◌, refl, ◌∙◌, ap, sym, subst, arith, length-append}
+use Rattle.std.specs.Fmt.{decimal, signed_decimal}
 use Rattle.std.specs.List.{list_all}
-use Rattle.std.specs.Str.{is_utf8}
+use Rattle.std.specs.Str.{is_utf8, bytes_eq}
 use Rattle.std.proofs.lemmas.Bool.{and_parts, and_from, eqb-true}
 use Rattle.std.proofs.lemmas.Bool.Decides.{nat_tests}
 use Rattle.std.proofs.lemmas.Fmt.{decimal_by_steps, length-decimal-le}
 use Rattle.std.proofs.lemmas.List.Folds.{list_all-append}
 use Rattle.std.proofs.lemmas.Str.{IsUtf8-from_ascii, is_utf8-from_IsUtf8}
 use Rattle.pat_base.specs.Bounded.{list_all-ascii, is_text-bytes, is_text-fits}
+use Rattle.pat_base.specs.Host.{host_bytes, local_host}
+use Rattle.pat_base.specs.HostText.{is_host, is_host_byte}
 use Rattle.pat_base.specs.Name.{name_bytes}
 use Rattle.pat_base.specs.NameText.{is_name, is_name_byte}
 use Rattle.pat_base.specs.declared.name.Name.{Name}
@@ -17,7 +19,7 @@ use Rattle.leader_key.specs.declared.watchdog.Mode.{Mode}
 use Rattle.leader_key.specs.declared.watchdog.Mode.TheVariants as modes
 use Rattle.cluster_script.specs.Lines.{ended, lines_in, is_skipped, counted_lines}
 use Rattle.cluster_script.specs.Margins.{unsaid_margin}
-use Rattle.cluster_script.specs.Options.{option_text, behind_blanks, mode_to_say, device_to_say, margin_to_say, options_to_say}
+use Rattle.cluster_script.specs.Options.{option_text, behind_blanks, host_to_say, flag_to_say, is_default_priority, priority_of, priority_to_say, mode_to_say, device_to_say, options_to_say}
 use Rattle.cluster_script.specs.Reading.{script_of}
 use Rattle.cluster_script.specs.Script.{MemberText, MemberLine, ScriptText, names_of, members_of_lines, shortest_line, IsScript, IsCommand, IsLine, AllAreLines, text_of_name, member_text, end_word, switch_text, slowed_call_text, two_texts, command_text, line_text, member_lines, default_base, base_or_default, base_lines, base_to_say, head_with_base, head_lines, body_lines, script_lines, spelling_of, AllInForm, Spells}
 use Rattle.cluster_script.specs.Words.{spelled, word_of}
@@ -35,6 +37,7 @@ use Rattle.cluster_script.specs.declared.line.SlowedCall.TheVariants as slowed_c
 use Rattle.cluster_script.specs.declared.member_option.MemberOption.{MemberOption}
 use Rattle.cluster_script.specs.declared.member_option.MemberOption.TheVariants as options
 use Rattle.cluster_script.proofs.OptionLaws.{margin-fits, options-enough}
+use Rattle.cluster_script.proofs.PriorityLaws.{fits-from-zero, fits-below-zero}
 use Rattle.cluster_script.proofs.SpellLaws.{size-fits, delay-fits, base-fits, spelled-is-read}
 use Rattle.cluster_script.proofs.WordLaws.{spelled-counts}
 
@@ -124,43 +127,43 @@ record IsLineText (line : List ℕ) : Type 0 where
   pub short : length line ≤ 8192
   pub counts : is_skipped line ≡ false
 
-spelled-IsLineText : (keyword : Keyword) (rest : List ℕ) → IsPlain rest 100 → IsLineText (spelled keyword rest)
+spelled-IsLineText : (keyword : Keyword) (rest : List ℕ) → IsPlain rest 500 → IsLineText (spelled keyword rest)
 spelled-IsLineText keyword rest h =
-    let p : IsPlain (spelled keyword rest) (7 + (100 + 1)) = IsPlain-append (word_of keyword) (32 ∷ rest) 7 (100 + 1) (word-IsPlain keyword) (blank-IsPlain rest 100 h) in
+    let p : IsPlain (spelled keyword rest) (7 + (500 + 1)) = IsPlain-append (word_of keyword) (32 ∷ rest) 7 (500 + 1) (word-IsPlain keyword) (blank-IsPlain rest 500 h) in
     record { plain = p.plain; short = omega (arith, p.short); counts = spelled-counts keyword rest }
 
-link-IsPlain : (members : List Name) (x y : End) → IsPlain (two_texts (end_word members x) (end_word members y)) 100
+link-IsPlain : (members : List Name) (x y : End) → IsPlain (two_texts (end_word members x) (end_word members y)) 500
 link-IsPlain members x y =
-    IsPlain-most (two_texts (end_word members x) (end_word members y)) (32 + (32 + 1)) 100 (omega arith)
+    IsPlain-most (two_texts (end_word members x) (end_word members y)) (32 + (32 + 1)) 500 (omega arith)
     (IsPlain-append (end_word members x) (32 ∷ end_word members y) 32 (32 + 1) (end-IsPlain members x) (blank-IsPlain (end_word members y) 32 (end-IsPlain members y)))
 
-switch-IsPlain : (on : Bool) → IsPlain (switch_text on) 100
+switch-IsPlain : (on : Bool) → IsPlain (switch_text on) 500
 switch-IsPlain true = record { plain = refl; short = omega arith }
 switch-IsPlain false = record { plain = refl; short = omega arith }
 
-number-IsPlain : (n : ℕ) → n < 2 ^ 64 → IsPlain (decimal n) 100
-number-IsPlain n fits = IsPlain-most (decimal n) 20 100 (omega arith) (decimal-IsPlain n fits)
+number-IsPlain : (n : ℕ) → n < 2 ^ 64 → IsPlain (decimal n) 500
+number-IsPlain n fits = IsPlain-most (decimal n) 20 500 (omega arith) (decimal-IsPlain n fits)
 
-member-IsPlain : (members : List Name) (m : MemberId) → IsPlain (member_text members m) 100
-member-IsPlain members m = IsPlain-most (member_text members m) 32 100 (omega arith) (some_name-IsPlain (slice_get members m.number))
+member-IsPlain : (members : List Name) (m : MemberId) → IsPlain (member_text members m) 500
+member-IsPlain members m = IsPlain-most (member_text members m) 32 500 (omega arith) (some_name-IsPlain (slice_get members m.number))
 
 slowed-IsPlain : (slowed : SlowedCall) → IsPlain (slowed_call_text slowed) 5
 slowed-IsPlain slowed_calls.Stop = record { plain = refl; short = omega arith }
 slowed-IsPlain slowed_calls.Start = record { plain = refl; short = omega arith }
 
 -- a member's name and a number
-member_number-IsPlain : (members : List Name) (m : MemberId) (n : ℕ) → n < 2 ^ 64 → IsPlain (two_texts (member_text members m) (decimal n)) 100
+member_number-IsPlain : (members : List Name) (m : MemberId) (n : ℕ) → n < 2 ^ 64 → IsPlain (two_texts (member_text members m) (decimal n)) 500
 member_number-IsPlain members m n fits =
-    IsPlain-most (two_texts (member_text members m) (decimal n)) (32 + (20 + 1)) 100 (omega arith)
+    IsPlain-most (two_texts (member_text members m) (decimal n)) (32 + (20 + 1)) 500 (omega arith)
     (IsPlain-append (member_text members m) (32 ∷ decimal n) 32 (20 + 1) (some_name-IsPlain (slice_get members m.number)) (blank-IsPlain (decimal n) 20 (decimal-IsPlain n fits)))
 
 -- a member's name, what is delayed and a number
-delay-IsPlain : (members : List Name) (m : MemberId) (slowed : SlowedCall) (n : ℕ) → n < 2 ^ 64 → IsPlain (two_texts (member_text members m) (two_texts (slowed_call_text slowed) (decimal n))) 100
+delay-IsPlain : (members : List Name) (m : MemberId) (slowed : SlowedCall) (n : ℕ) → n < 2 ^ 64 → IsPlain (two_texts (member_text members m) (two_texts (slowed_call_text slowed) (decimal n))) 500
 delay-IsPlain members m slowed n fits =
     let behind : IsPlain (two_texts (slowed_call_text slowed) (decimal n)) (5 + (20 + 1)) =
     IsPlain-append (slowed_call_text slowed) (32 ∷ decimal n) 5 (20 + 1) (slowed-IsPlain slowed) (blank-IsPlain (decimal n) 20 (decimal-IsPlain n fits))
     in
-    IsPlain-most (two_texts (member_text members m) (two_texts (slowed_call_text slowed) (decimal n))) (32 + ((5 + (20 + 1)) + 1)) 100 (omega arith)
+    IsPlain-most (two_texts (member_text members m) (two_texts (slowed_call_text slowed) (decimal n))) (32 + ((5 + (20 + 1)) + 1)) 500 (omega arith)
     (IsPlain-append (member_text members m) (32 ∷ two_texts (slowed_call_text slowed) (decimal n)) 32 ((5 + (20 + 1)) + 1) (some_name-IsPlain (slice_get members m.number)) (blank-IsPlain (two_texts (slowed_call_text slowed) (decimal n)) (5 + (20 + 1)) behind))
 
 command-IsLineText : (members : List Name) (c : Command) → IsCommand members c → IsLineText (command_text members c)
@@ -188,26 +191,51 @@ line-IsLineText members (lines.Tick n) is = spelled-IsLineText words.Tick (decim
 line-IsLineText members (lines.Command c) is = command-IsLineText members c is
 
 name-line : (keyword : Keyword) (name : Name) → IsLineText (spelled keyword (name_bytes name))
-name-line keyword name = spelled-IsLineText keyword (name_bytes name) (IsPlain-most (name_bytes name) 32 100 (omega arith) (name-IsPlain name))
+name-line keyword name = spelled-IsLineText keyword (name_bytes name) (IsPlain-most (name_bytes name) 32 500 (omega arith) (name-IsPlain name))
 
 -- the line of a member with its options
-option-IsPlain : (o : MemberOption) → IsPlain (option_text o) 18
+host-byte : (b : ℕ) → is_host_byte b ≡ true → is_plain b ≡ true
+host-byte b h = grind (arith, nat_tests)
+
+host-bytes : (v : List ℕ) → list_all is_host_byte v ≡ true → list_all is_plain v ≡ true
+host-bytes [] h = refl
+host-bytes (b ∷ bs) h =
+    let both = and_parts (is_host_byte b) (list_all is_host_byte bs) h in
+    and_from (is_plain b) (list_all is_plain bs) (host-byte b both.0) (host-bytes bs both.1)
+
+host-text-IsPlain : (v : List ℕ) → is_host v ≡ true → IsPlain v 40
+host-text-IsPlain v h = record { plain = host-bytes v (is_text-bytes 40 is_host_byte v h); short = is_text-fits 40 is_host_byte v h }
+
+whole_number-IsPlain : (z : ℤ) → negsuc 999 ≤ℤ z → z ≤ℤ pos 1000 → IsPlain (signed_decimal z) 21
+whole_number-IsPlain (pos n) low high = IsPlain-most (decimal n) 20 21 (omega arith) (decimal-IsPlain n (fits-from-zero n high))
+whole_number-IsPlain (negsuc less) low high = IsPlain-append (45 ∷ []) (decimal (suc less)) 1 20 (record { plain = refl; short = omega arith }) (decimal-IsPlain (suc less) (fits-below-zero less low))
+
+option-IsPlain : (o : MemberOption) → IsPlain (option_text o) 45
+option-IsPlain (options.Host host) = IsPlain-append (codes "host=") (host_bytes host) 5 40 (record { plain = refl; short = omega arith }) (host-text-IsPlain (host_bytes host) host.legal)
+option-IsPlain options.NoFailover = record { plain = refl; short = omega arith }
+option-IsPlain options.NoSync = record { plain = refl; short = omega arith }
+option-IsPlain options.NoLoadBalance = record { plain = refl; short = omega arith }
+option-IsPlain (options.Priority priority) =
+    IsPlain-append (codes "priority=") (signed_decimal priority.number) 9 36 (record { plain = refl; short = omega arith })
+    (IsPlain-most (signed_decimal priority.number) 21 36 (omega arith) (whole_number-IsPlain priority.number priority.lowest priority.highest))
 option-IsPlain (options.Watchdog modes.Off) = record { plain = refl; short = omega arith }
 option-IsPlain (options.Watchdog modes.Automatic) = record { plain = refl; short = omega arith }
 option-IsPlain (options.Watchdog modes.Required) = record { plain = refl; short = omega arith }
 option-IsPlain (options.Device true) = record { plain = refl; short = omega arith }
 option-IsPlain (options.Device false) = record { plain = refl; short = omega arith }
 option-IsPlain (options.Margin margin) =
-    IsPlain-append (codes "margin=") (decimal margin.seconds) 7 11 (record { plain = refl; short = omega arith }) (record {
-      plain = (decimal-IsPlain margin.seconds (margin-fits margin)).plain;
-      short = length-decimal-le 11 margin.seconds (omega arith) (omega (arith, margin.most)) (margin-fits margin);
-    })
+    IsPlain-append (codes "margin=") (decimal margin.seconds) 7 38 (record { plain = refl; short = omega arith })
+    (IsPlain-most (decimal margin.seconds) 20 38 (omega arith) (decimal-IsPlain margin.seconds (margin-fits margin)))
 
-options-IsPlain : (os : List MemberOption) → IsPlain (behind_blanks (map option_text os)) (length os * 19)
+options-IsPlain : (os : List MemberOption) → IsPlain (behind_blanks (map option_text os)) (length os * 46)
 options-IsPlain [] = record { plain = refl; short = omega arith }
 options-IsPlain (o ∷ os) =
-    let whole : IsPlain (option_text o ++ behind_blanks (map option_text os)) (18 + length os * 19) = IsPlain-append (option_text o) (behind_blanks (map option_text os)) 18 (length os * 19) (option-IsPlain o) (options-IsPlain os) in
-    IsPlain-most (32 ∷ (option_text o ++ behind_blanks (map option_text os))) ((18 + length os * 19) + 1) (length (o ∷ os) * 19) (omega arith) (blank-IsPlain (option_text o ++ behind_blanks (map option_text os)) (18 + length os * 19) whole)
+    let whole : IsPlain (option_text o ++ behind_blanks (map option_text os)) (45 + length os * 46) = IsPlain-append (option_text o) (behind_blanks (map option_text os)) 45 (length os * 46) (option-IsPlain o) (options-IsPlain os) in
+    IsPlain-most (32 ∷ (option_text o ++ behind_blanks (map option_text os))) ((45 + length os * 46) + 1) (length (o ∷ os) * 46) (omega arith) (blank-IsPlain (option_text o ++ behind_blanks (map option_text os)) (45 + length os * 46) whole)
+
+-- at most so many options in front of at most so many others
+few-more : (front others : List MemberOption) (n : ℕ) → length front ≤ 1 → length others ≤ n → length (front ++ others) ≤ n + 1
+few-more front others n one few = omega (arith, length-append front others, one, few)
 
 one-mode : (mode : Mode) → length (mode_to_say mode) ≤ 1
 one-mode modes.Off = omega arith
@@ -218,27 +246,32 @@ one-device : (works : Bool) → length (device_to_say works) ≤ 1
 one-device true = omega arith
 one-device false = omega arith
 
+one-flag : (o : MemberOption) (set : Bool) → length (flag_to_say o set) ≤ 1
+one-flag o true = omega arith
+one-flag o false = omega arith
+
 one-of : (t : Bool) (o : MemberOption) → length (cond t [] (o ∷ [])) ≤ 1
 one-of true o = omega arith
 one-of false o = omega arith
 
-few-options : (declared : MemberOptions) → length (options_to_say declared) ≤ 3
+few-options : (declared : MemberOptions) → length (options_to_say declared) ≤ 8
 few-options declared =
-    omega (
-      arith,
-      one-mode declared.watchdog,
-      one-device declared.device_works,
-      one-of (declared.margin.seconds == unsaid_margin) (options.Margin declared.margin),
-      length-append (mode_to_say declared.watchdog) (device_to_say declared.device_works ++ margin_to_say declared.margin),
-      length-append (device_to_say declared.device_works) (margin_to_say declared.margin),
-    )
+    let tags = declared.tags in
+    few-more (host_to_say declared.host) _ 7 (one-of (bytes_eq (host_bytes declared.host) (host_bytes local_host)) (options.Host declared.host))
+    (few-more (flag_to_say options.NoFailover tags.nofailover) _ 6 (one-flag options.NoFailover tags.nofailover)
+    (few-more (flag_to_say options.NoSync tags.nosync) _ 5 (one-flag options.NoSync tags.nosync)
+    (few-more (flag_to_say options.NoLoadBalance tags.noloadbalance) _ 4 (one-flag options.NoLoadBalance tags.noloadbalance)
+    (few-more (priority_to_say (priority_of tags)) _ 3 (one-of (is_default_priority tags.failover_priority) (options.Priority (priority_of tags)))
+    (few-more (mode_to_say declared.watchdog) _ 2 (one-mode declared.watchdog)
+    (few-more (device_to_say declared.device_works) _ 1 (one-device declared.device_works)
+    (one-of (declared.margin.seconds == unsaid_margin) (options.Margin declared.margin))))))))
 
 member-line : (m : MemberText) → IsLineText (shortest_line m)
 member-line m =
     let os : List MemberOption = options_to_say m.options in
     spelled-IsLineText words.Member (name_bytes m.name ++ behind_blanks (map option_text os))
-    (IsPlain-most (name_bytes m.name ++ behind_blanks (map option_text os)) (32 + length os * 19) 100 (omega (arith, few-options m.options))
-    (IsPlain-append (name_bytes m.name) (behind_blanks (map option_text os)) 32 (length os * 19) (name-IsPlain m.name) (options-IsPlain os)))
+    (IsPlain-most (name_bytes m.name ++ behind_blanks (map option_text os)) (32 + length os * 46) 500 (omega (arith, few-options m.options))
+    (IsPlain-append (name_bytes m.name) (behind_blanks (map option_text os)) 32 (length os * 46) (name-IsPlain m.name) (options-IsPlain os)))
 
 -- a member's line with the options that have to be said
 canonical_line : MemberText → MemberLine

@@ -3,6 +3,7 @@ pub mod Behind
 pub mod CanonLaws
 pub mod Cutting
 pub mod Finishing
+pub mod HostLaws
 pub mod LimitLaws
 pub mod MemberLaws
 pub mod NameLaws
@@ -10,6 +11,7 @@ pub mod NumberLaws
 pub mod OptionLaws
 pub mod Outcomes
 pub mod Places
+pub mod PriorityLaws
 pub mod RangeLaws
 pub mod ReadLaws
 pub mod SpellLaws

@@ -10,7 +10,7 @@ use Rattle.cluster_script.specs.declared.ranges.Delay.{Delay}
 use Rattle.cluster_script.specs.declared.ranges.Margin.{Margin}
 use Rattle.cluster_script.proofs.Outcomes.{some_is, none_is}
 
-not_within : (a b : ℕ) → nat_le a b ≡ false → a ≤ b → ⊥
+pub not_within : (a b : ℕ) → nat_le a b ≡ false → a ≤ b → ⊥
 not_within a b is within = grind (arith, nat_tests)
 
 -- the length of a commit is its number

@@ -1,6 +1,7 @@
 pub mod Arguments
 pub mod Draft
 pub mod Faults
+pub mod Hosts
 pub mod Limits
 pub mod Lines
 pub mod Margins
@@ -8,6 +9,7 @@ pub mod Members
 pub mod Numbers
 pub mod OptionReading
 pub mod Options
+pub mod Priorities
 pub mod Ranges
 pub mod Reading
 pub mod Script

@@ -2,15 +2,17 @@
 use Rattle.std.specs.Prelude.{ℕ, ◌==◌, nat_lt, ◌&&◌, not, Bool, true, false, if◌then◌else◌, List, [], ◌∷◌, Option, Some, None, Result, Ok, Err, codes, length}
 use Rattle.std.specs.Char.{is_ascii_digit}
 use Rattle.std.specs.List.{find, list_all}
-use Rattle.std.specs.Option.{ok_or}
+use Rattle.std.specs.Option.{ok_or, option_and_then}
 use Rattle.std.specs.Str.{bytes_eq}
+use Rattle.pat_base.specs.declared.host.Host.{Host}
 use Rattle.leader_key.specs.declared.watchdog.Mode.{Mode}
 use Rattle.leader_key.specs.declared.watchdog.Mode.TheVariants as modes
 use Rattle.cluster_script.specs.Faults.{on_ok, both}
+use Rattle.cluster_script.specs.Hosts.{host_of}
 use Rattle.cluster_script.specs.Lines.{push_byte, first_at}
 use Rattle.cluster_script.specs.Numbers.{number}
-use Rattle.cluster_script.specs.Options.{option_name_text, options_or_default}
-use Rattle.cluster_script.specs.Ranges.{margin_of}
+use Rattle.cluster_script.specs.Options.{option_name_text, nothing_said, options_or_default}
+use Rattle.cluster_script.specs.Ranges.{margin_of, priority_from_zero, priority_below_zero}
 use Rattle.cluster_script.specs.Words.{cut_at}
 use Rattle.cluster_script.specs.declared.fault.Fault.{Fault}
 use Rattle.cluster_script.specs.declared.fault.Fault.TheVariants as faults
@@ -21,6 +23,7 @@ use Rattle.cluster_script.specs.declared.member_option.SaidOptions.{SaidOptions}
 use Rattle.cluster_script.specs.declared.option_name.OptionName.{OptionName}
 use Rattle.cluster_script.specs.declared.option_name.OptionName.TheVariants as names
 use Rattle.cluster_script.specs.declared.ranges.Margin.{Margin}
+use Rattle.cluster_script.specs.declared.ranges.Priority.{Priority}
 
 -- the words between blanks, of which there is always one
 abbrev pub words_in : List ℕ → List (List ℕ)
@@ -43,6 +46,14 @@ option_name_of word = find (λ name. bytes_eq word (option_name_text name)) opti
 -- the bytes before the first '=', and what stands behind it, if there is one
 abbrev pub cut_name : List ℕ → List ℕ × Option (List ℕ)
 cut_name word = cut_at word (first_at 61 word)
+
+-- a host
+abbrev pub host_in : List ℕ → Result Host Fault
+host_in value = ok_or (host_of value) faults.BadOption
+
+-- an option whose one value is 'true'
+abbrev pub flag_in : MemberOption → List ℕ → Result MemberOption Fault
+flag_in option value = if bytes_eq value (codes "true") then Ok option else Err faults.BadOption
 
 -- 'off', 'automatic' or 'required'
 abbrev pub mode_in : List ℕ → Result Mode Fault
@@ -70,6 +81,19 @@ abbrev pub is_whole : List ℕ → Bool
 is_whole [] = false
 is_whole (b ∷ bs) = if b == 45 then is_decimal bs && not (bytes_eq bs (codes "0")) else is_decimal (b ∷ bs)
 
+-- why a value is no priority: whole numbers are out of range
+abbrev pub no_priority : List ℕ → Fault
+no_priority value = if is_whole value then faults.BadNumber else faults.BadOption
+
+-- the priority that a value is, if it is one: a number, or a minus sign and one above 0
+abbrev pub priority_found : List ℕ → Option Priority
+priority_found [] = None
+priority_found (b ∷ bs) = if b == 45 then option_and_then priority_below_zero (number bs) else option_and_then priority_from_zero (number (b ∷ bs))
+
+-- a number in the range of priorities
+abbrev pub priority_in : List ℕ → Result Priority Fault
+priority_in value = ok_or (priority_found value) (no_priority value)
+
 -- why a value is no margin: '-1' is to come, other whole numbers are out of range
 abbrev pub no_margin : List ℕ → Fault
 no_margin value = if bytes_eq value (codes "-1") then faults.NotBuilt else if is_whole value then faults.BadNumber else faults.BadOption
@@ -83,12 +107,16 @@ margin_by_number value (Some n) = ok_or (margin_of n) faults.BadNumber
 abbrev pub margin_in : List ℕ → Result Margin Fault
 margin_in value = margin_by_number value (number value)
 
--- the option of this name and this value; the others are to come
+-- the option of this name and this value
 abbrev pub option_of : OptionName → List ℕ → Result MemberOption Fault
+option_of names.Host value = on_ok (host_in value) (λ host. Ok (options.Host host))
+option_of names.NoFailover value = flag_in options.NoFailover value
+option_of names.NoSync value = flag_in options.NoSync value
+option_of names.NoLoadBalance value = flag_in options.NoLoadBalance value
+option_of names.Priority value = on_ok (priority_in value) (λ priority. Ok (options.Priority priority))
 option_of names.Watchdog value = on_ok (mode_in value) (λ mode. Ok (options.Watchdog mode))
 option_of names.Device value = on_ok (device_in value) (λ works. Ok (options.Device works))
 option_of names.Margin value = on_ok (margin_in value) (λ margin. Ok (options.Margin margin))
-option_of _ value = Err faults.NotBuilt
 
 -- an option, if its name is known and '=' stands behind it
 abbrev pub known_option : Option OptionName → Option (List ℕ) → Result MemberOption Fault
@@ -105,8 +133,18 @@ abbrev pub said_first : {A : Type 0} → Option A → A → Result (Option A) Fa
 said_first None x = Ok (Some x)
 said_first (Some before) x = Err faults.Duplicate
 
+-- a flag that is said for the first time
+abbrev pub said_once : Bool → Result Bool Fault
+said_once false = Ok true
+said_once true = Err faults.Duplicate
+
 -- one more option behind what is said
 abbrev pub with_option : SaidOptions → MemberOption → Result SaidOptions Fault
+with_option said (options.Host host) = on_ok (said_first said.host host) (λ o. Ok (record said { host = o }))
+with_option said options.NoFailover = on_ok (said_once said.nofailover) (λ o. Ok (record said { nofailover = o }))
+with_option said options.NoSync = on_ok (said_once said.nosync) (λ o. Ok (record said { nosync = o }))
+with_option said options.NoLoadBalance = on_ok (said_once said.noloadbalance) (λ o. Ok (record said { noloadbalance = o }))
+with_option said (options.Priority priority) = on_ok (said_first said.priority priority) (λ o. Ok (record said { priority = o }))
 with_option said (options.Watchdog mode) = on_ok (said_first said.watchdog mode) (λ o. Ok (record said { watchdog = o }))
 with_option said (options.Device works) = on_ok (said_first said.device_works works) (λ o. Ok (record said { device_works = o }))
 with_option said (options.Margin margin) = on_ok (said_first said.margin margin) (λ o. Ok (record said { margin = o }))
@@ -119,10 +157,6 @@ with_word outcome word = on_ok (both outcome (option_in word)) (λ p. with_optio
 abbrev pub with_words : Result SaidOptions Fault → List (List ℕ) → Result SaidOptions Fault
 with_words outcome [] = outcome
 with_words outcome (word ∷ words) = with_words (with_word outcome word) words
-
--- no option says anything
-abbrev pub nothing_said : SaidOptions
-nothing_said = record { watchdog = None; device_works = None; margin = None }
 
 -- what the words behind a name say
 abbrev pub said_in : Option (List ℕ) → Result SaidOptions Fault

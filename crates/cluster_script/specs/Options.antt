@@ -1,10 +1,16 @@
 -- What the options of a member's line say, and how they are spelled.
-use Rattle.std.specs.Prelude.{ℕ, ◌≡◌, ◌==◌, Bool, true, false, if◌then◌else◌, List, [], ◌∷◌, ◌++◌, Option, Some, None, codes}
-use Rattle.std.specs.Fmt.{decimal}
+use Rattle.std.specs.Prelude.{ℕ, ℤ, pos, negsuc, ◌≡◌, ◌==◌, Bool, true, false, if◌then◌else◌, List, [], ◌∷◌, ◌++◌, Option, Some, None, codes}
+use Rattle.std.specs.Fmt.{decimal, signed_decimal}
+use Rattle.std.specs.List.{count_by}
+use Rattle.std.specs.Str.{bytes_eq}
+use Rattle.pat_base.specs.Host.{host_bytes, local_host}
+use Rattle.pat_base.specs.declared.host.Host.{Host}
+use Rattle.pat_base.specs.declared.tags.Tags.{Tags}
 use Rattle.leader_key.specs.declared.watchdog.Mode.{Mode}
 use Rattle.leader_key.specs.declared.watchdog.Mode.TheVariants as modes
 use Rattle.cluster_script.specs.Margins.{unsaid_margin}
-use Rattle.cluster_script.specs.Ranges.{default_margin}
+use Rattle.cluster_script.specs.Priorities.{unsaid_priority}
+use Rattle.cluster_script.specs.Ranges.{default_priority, default_margin}
 use Rattle.cluster_script.specs.declared.head.MemberOptions.{MemberOptions}
 use Rattle.cluster_script.specs.declared.member_option.MemberOption.{MemberOption}
 use Rattle.cluster_script.specs.declared.member_option.MemberOption.TheVariants as options
@@ -12,6 +18,7 @@ use Rattle.cluster_script.specs.declared.member_option.SaidOptions.{SaidOptions}
 use Rattle.cluster_script.specs.declared.option_name.OptionName.{OptionName}
 use Rattle.cluster_script.specs.declared.option_name.OptionName.TheVariants as names
 use Rattle.cluster_script.specs.declared.ranges.Margin.{Margin}
+use Rattle.cluster_script.specs.declared.ranges.Priority.{Priority}
 
 -- the name of an option
 abbrev pub option_name_text : OptionName → List ℕ
@@ -41,6 +48,11 @@ name_and_value name value = option_name_text name ++ (61 ∷ value)
 
 -- the word of an option
 abbrev pub option_text : MemberOption → List ℕ
+option_text (options.Host host) = name_and_value names.Host (host_bytes host)
+option_text options.NoFailover = name_and_value names.NoFailover (codes "true")
+option_text options.NoSync = name_and_value names.NoSync (codes "true")
+option_text options.NoLoadBalance = name_and_value names.NoLoadBalance (codes "true")
+option_text (options.Priority priority) = name_and_value names.Priority (signed_decimal priority.number)
 option_text (options.Watchdog mode) = name_and_value names.Watchdog (mode_text mode)
 option_text (options.Device works) = name_and_value names.Device (device_text works)
 option_text (options.Margin margin) = name_and_value names.Margin (decimal margin.seconds)
@@ -50,37 +62,100 @@ abbrev pub behind_blanks : List (List ℕ) → List ℕ
 behind_blanks [] = []
 behind_blanks (word ∷ words) = 32 ∷ (word ++ behind_blanks words)
 
--- the modes that options say, in order
-abbrev pub modes_in : List MemberOption → List Mode
-modes_in [] = []
-modes_in (options.Watchdog mode ∷ said) = mode ∷ modes_in said
-modes_in (options.Device works ∷ said) = modes_in said
-modes_in (options.Margin margin ∷ said) = modes_in said
-
--- what options say of devices, in order
-abbrev pub devices_in : List MemberOption → List Bool
-devices_in [] = []
-devices_in (options.Watchdog mode ∷ said) = devices_in said
-devices_in (options.Device works ∷ said) = works ∷ devices_in said
-devices_in (options.Margin margin ∷ said) = devices_in said
-
--- the margins that options say, in order
-abbrev pub margins_in : List MemberOption → List Margin
-margins_in [] = []
-margins_in (options.Watchdog mode ∷ said) = margins_in said
-margins_in (options.Device works ∷ said) = margins_in said
-margins_in (options.Margin margin ∷ said) = margin ∷ margins_in said
-
 -- what is said once, or not at all
 abbrev pub once_or_never : {A : Type 0} → Option A → List A
 once_or_never None = []
 once_or_never (Some x) = x ∷ []
 
+-- what options say by this, in order
+abbrev pub all_said : {A : Type 0} → (MemberOption → Option A) → List MemberOption → List A
+all_said say [] = []
+all_said say (o ∷ os) = once_or_never (say o) ++ all_said say os
+
+-- the host that an option says
+abbrev pub host_said : MemberOption → Option Host
+host_said (options.Host host) = Some host
+host_said _ = None
+
+-- the priority that an option says
+abbrev pub priority_said : MemberOption → Option Priority
+priority_said (options.Priority priority) = Some priority
+priority_said _ = None
+
+-- the mode that an option says
+abbrev pub mode_said : MemberOption → Option Mode
+mode_said (options.Watchdog mode) = Some mode
+mode_said _ = None
+
+-- what an option says of the device
+abbrev pub device_said : MemberOption → Option Bool
+device_said (options.Device works) = Some works
+device_said _ = None
+
+-- the margin that an option says
+abbrev pub margin_said : MemberOption → Option Margin
+margin_said (options.Margin margin) = Some margin
+margin_said _ = None
+
+-- an option is 'nofailover=true'
+abbrev pub is_no_failover : MemberOption → Bool
+is_no_failover options.NoFailover = true
+is_no_failover _ = false
+
+-- an option is 'nosync=true'
+abbrev pub is_no_sync : MemberOption → Bool
+is_no_sync options.NoSync = true
+is_no_sync _ = false
+
+-- an option is 'noloadbalance=true'
+abbrev pub is_no_load_balance : MemberOption → Bool
+is_no_load_balance options.NoLoadBalance = true
+is_no_load_balance _ = false
+
+-- how often a flag is said that is said once, or not at all
+abbrev pub once_if : Bool → ℕ
+once_if true = 1
+once_if false = 0
+
 -- options in any order that say this, each at most once
 pub record SayOnce (words : List MemberOption) (said : SaidOptions) : Type 0 where
-  pub watchdog : modes_in words ≡ once_or_never said.watchdog
-  pub device : devices_in words ≡ once_or_never said.device_works
-  pub margin : margins_in words ≡ once_or_never said.margin
+  pub host : all_said host_said words ≡ once_or_never said.host
+  pub nofailover : count_by is_no_failover words ≡ once_if said.nofailover
+  pub nosync : count_by is_no_sync words ≡ once_if said.nosync
+  pub noloadbalance : count_by is_no_load_balance words ≡ once_if said.noloadbalance
+  pub priority : all_said priority_said words ≡ once_or_never said.priority
+  pub watchdog : all_said mode_said words ≡ once_or_never said.watchdog
+  pub device : all_said device_said words ≡ once_or_never said.device_works
+  pub margin : all_said margin_said words ≡ once_or_never said.margin
+
+-- no option says anything
+abbrev pub nothing_said : SaidOptions
+nothing_said = record { host = None; nofailover = false; nosync = false; noloadbalance = false; priority = None; watchdog = None; device_works = None; margin = None }
+
+-- the host that is said, or the default
+abbrev pub host_or_default : Option Host → Host
+host_or_default None = local_host
+host_or_default (Some host) = host
+
+-- the priority that is said, or the default
+abbrev pub priority_or_default : Option Priority → Priority
+priority_or_default None = default_priority
+priority_or_default (Some priority) = priority
+
+-- tags with this priority
+abbrev pub tags_with : SaidOptions → Priority → Tags
+tags_with said priority = record {
+  nofailover = said.nofailover;
+  nosync = said.nosync;
+  noloadbalance = said.noloadbalance;
+  failover_priority = priority.number;
+  lowest = priority.lowest;
+  highest = priority.highest;
+}
+
+-- the tags that are said: no flag and priority 1 where nothing is said of them
+abbrev pub tags_or_default : SaidOptions → Tags
+tags_or_default said = tags_with said (priority_or_default said.priority)
 
 -- the mode that is said, or the default
 abbrev pub mode_or_default : Option Mode → Mode
@@ -99,7 +174,33 @@ margin_or_default (Some margin) = margin
 
 -- what a line declares whose options say this
 abbrev pub options_or_default : SaidOptions → MemberOptions
-options_or_default said = record { watchdog = mode_or_default said.watchdog; device_works = works_or_default said.device_works; margin = margin_or_default said.margin }
+options_or_default said = record { host = host_or_default said.host; tags = tags_or_default said; watchdog = mode_or_default said.watchdog; device_works = works_or_default said.device_works; margin = margin_or_default said.margin }
+
+-- what a line declares without options
+abbrev pub unsaid_options : MemberOptions
+unsaid_options = options_or_default nothing_said
+
+-- the option of a host that has to be said: of any but the default
+abbrev pub host_to_say : Host → List MemberOption
+host_to_say host = if bytes_eq (host_bytes host) (host_bytes local_host) then [] else options.Host host ∷ []
+
+-- the option of a flag, where it is set
+abbrev pub flag_to_say : MemberOption → Bool → List MemberOption
+flag_to_say option true = option ∷ []
+flag_to_say option false = []
+
+-- a priority is the default
+abbrev pub is_default_priority : ℤ → Bool
+is_default_priority (pos number) = number == unsaid_priority
+is_default_priority (negsuc less) = false
+
+-- the priority of tags
+abbrev pub priority_of : Tags → Priority
+priority_of tags = record { number = tags.failover_priority; lowest = tags.lowest; highest = tags.highest }
+
+-- the option of a priority that has to be said: of any but the default
+abbrev pub priority_to_say : Priority → List MemberOption
+priority_to_say priority = if is_default_priority priority.number then [] else options.Priority priority ∷ []
 
 -- the option of a mode that has to be said: of any but the default
 abbrev pub mode_to_say : Mode → List MemberOption
@@ -116,6 +217,14 @@ device_to_say false = options.Device false ∷ []
 abbrev pub margin_to_say : Margin → List MemberOption
 margin_to_say margin = if margin.seconds == unsaid_margin then [] else options.Margin margin ∷ []
 
+-- the options of a watchdog that have to be said, in order
+abbrev pub watchdog_to_say : MemberOptions → List MemberOption
+watchdog_to_say declared = mode_to_say declared.watchdog ++ (device_to_say declared.device_works ++ margin_to_say declared.margin)
+
+-- the options of tags that have to be said, in order, in front of others
+abbrev pub tags_to_say : Tags → List MemberOption → List MemberOption
+tags_to_say tags others = flag_to_say options.NoFailover tags.nofailover ++ (flag_to_say options.NoSync tags.nosync ++ (flag_to_say options.NoLoadBalance tags.noloadbalance ++ (priority_to_say (priority_of tags) ++ others)))
+
 -- the options that have to be said, in order
 abbrev pub options_to_say : MemberOptions → List MemberOption
-options_to_say declared = mode_to_say declared.watchdog ++ (device_to_say declared.device_works ++ margin_to_say declared.margin)
+options_to_say declared = host_to_say declared.host ++ tags_to_say declared.tags (watchdog_to_say declared)

@@ -4,12 +4,17 @@ ghost use Rattle.std.specs.Prelude.{ℕ, ◌≡◌, ◌≤◌, ◌<◌, ◌^◌,
 use crate::Margin;
 use indexmap::IndexMap;
 use leader_key::Mode;
-use pat_base::Name;
+use pat_base::{Host, Name, Tags};
 use std::marker::Model;
 
-/// What a script declares of a member beside its name: of its watchdog (Patroni documentation, "Watchdog support").
+/// What a script declares of a member beside its name: where it is reached, its tags (Patroni documentation, "YAML
+/// Configuration Settings", under "Tags"), and its watchdog ("Watchdog support").
 #[derive(Clone, Copy, Debug, PartialEq, Eq)]
 pub struct MemberOptions {
+    /// Where the others reach the member: `127.0.0.1` where no option says it.
+    pub host: Host,
+    /// Its tags. Where no option says anything of them no flag is set, and the priority is 1.
+    pub tags: Tags,
     /// Whether the member uses a watchdog: `Automatic` where no option says it.
     pub watchdog: Mode,
     /// Whether the device of its watchdog works, as it does where no option says it.

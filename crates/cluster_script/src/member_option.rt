@@ -1,10 +1,22 @@
 //! What the options of a member's line say.
 use crate::Margin;
+use crate::ranges::Priority;
 use leader_key::Mode;
+use pat_base::Host;
 
 /// One option of a member's line.
 #[derive(Clone, Copy, Debug, PartialEq, Eq)]
 pub enum MemberOption {
+    /// `host=HOST`: where the others reach the member.
+    Host(Host),
+    /// `nofailover=true`.
+    NoFailover,
+    /// `nosync=true`.
+    NoSync,
+    /// `noloadbalance=true`.
+    NoLoadBalance,
+    /// `priority=N`.
+    Priority(Priority),
     /// `watchdog=off`, `watchdog=automatic`, `watchdog=required`.
     Watchdog(Mode),
     /// `device=ok`, `device=broken`: whether the watchdog's device works.
@@ -13,9 +25,19 @@ pub enum MemberOption {
     Margin(Margin),
 }
 
-/// What the options of a member's line say, and `None` for what none of them says.
+/// What the options of a member's line say, with `None` or `false` for what none of them says.
 #[derive(Clone, Copy, Debug, PartialEq, Eq)]
 pub struct SaidOptions {
+    /// Where the others reach the member.
+    pub host: Option<Host>,
+    /// Whether the member never becomes the leader.
+    pub nofailover: bool,
+    /// Whether the member is never a synchronous standby.
+    pub nosync: bool,
+    /// Whether the member doesn't answer that it serves reads as a replica.
+    pub noloadbalance: bool,
+    /// The member's failover priority.
+    pub priority: Option<Priority>,
     /// Whether the member uses a watchdog.
     pub watchdog: Option<Mode>,
     /// Whether the watchdog's device works.

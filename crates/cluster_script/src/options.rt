@@ -1,17 +1,19 @@
 //! The options of a member's line.
 ghost use Rattle.std.specs.Prelude.{◌≡◌, ◌<◌, Option, None, Some, Ok, IfSome};
 ghost use Rattle.std.specs.Option.{option_copied};
-ghost use Rattle.cluster_script.specs.Options.{option_name_text, mode_or_default, works_or_default, margin_or_default, options_or_default};
-ghost use Rattle.cluster_script.specs.OptionReading.{option_name_of, cut_name, mode_in, device_in, has_leading_zero, are_digits, is_decimal, is_whole, no_margin, margin_in, option_of, known_option, option_in, said_first, with_option, with_word, nothing_said, said_in, options_in};
+ghost use Rattle.cluster_script.specs.Options.{option_name_text, host_or_default, priority_or_default, tags_or_default, mode_or_default, works_or_default, margin_or_default, nothing_said, options_or_default};
+ghost use Rattle.cluster_script.specs.OptionReading.{option_name_of, cut_name, host_in, flag_in, mode_in, device_in, has_leading_zero, are_digits, is_decimal, is_whole, no_priority, priority_found, priority_in, no_margin, margin_in, option_of, known_option, option_in, said_first, said_once, with_option, with_word, said_in, options_in};
 
 use crate::arguments::both;
 use crate::lines::first_at;
 use crate::member_option::{MemberOption, SaidOptions};
 use crate::numbers::number;
 use crate::option_name::OptionName;
+use crate::ranges::Priority;
 use crate::words::cut_word;
 use crate::{Fault, Margin, MemberOptions};
 use leader_key::Mode;
+use pat_base::{Host, Tags};
 
 const OPTION_NAMES: [OptionName; 8] = [
     OptionName::Host,
@@ -56,6 +58,26 @@ fn cut_name(word: &[u8]) -> (&[u8], Option<&[u8]>)
     match first_at(b'=', word) {
         None => (word, None),
         Some(end) => (&word[..end], Some(&word[end + 1..])),
+    }
+}
+
+fn host_in(value: &[u8]) -> Result<Host, Fault>
+    ensures { result ≡ host_in value.now }
+{
+    match Host::read(value) {
+        None => Err(Fault::BadOption),
+        Some(host) => Ok(host),
+    }
+}
+
+/// An option whose one value is `true`.
+fn flag_in(option: MemberOption, value: &[u8]) -> Result<MemberOption, Fault>
+    ensures { result ≡ flag_in option value.now }
+{
+    if value == b"true".as_slice() {
+        Ok(option)
+    } else {
+        Err(Fault::BadOption)
     }
 }
 
@@ -118,6 +140,35 @@ fn is_whole(word: &[u8]) -> bool
     }
 }
 
+/// Why a value is no priority: whole numbers are out of range.
+fn no_priority(value: &[u8]) -> Fault
+    ensures { result ≡ no_priority value.now }
+{
+    if is_whole(value) {
+        Fault::BadNumber
+    } else {
+        Fault::BadOption
+    }
+}
+
+fn priority_found(value: &[u8]) -> Option<Priority>
+    ensures { result ≡ priority_found value.now }
+{
+    match value {
+        [b'-', digits @ ..] => Priority::below_zero(number(digits)?),
+        _ => Priority::from_zero(number(value)?),
+    }
+}
+
+fn priority_in(value: &[u8]) -> Result<Priority, Fault>
+    ensures { result ≡ priority_in value.now }
+{
+    match priority_found(value) {
+        None => Err(no_priority(value)),
+        Some(priority) => Ok(priority),
+    }
+}
+
 /// Why a value is no margin: `-1` is still to be built, and other whole numbers are out of range.
 fn no_margin(value: &[u8]) -> Fault
     ensures { result ≡ no_margin value.now }
@@ -148,10 +199,14 @@ fn option_of(name: OptionName, value: &[u8]) -> Result<MemberOption, Fault>
     ensures { result ≡ option_of name value.now }
 {
     match name {
+        OptionName::Host => Ok(MemberOption::Host(host_in(value)?)),
+        OptionName::NoFailover => flag_in(MemberOption::NoFailover, value),
+        OptionName::NoSync => flag_in(MemberOption::NoSync, value),
+        OptionName::NoLoadBalance => flag_in(MemberOption::NoLoadBalance, value),
+        OptionName::Priority => Ok(MemberOption::Priority(priority_in(value)?)),
         OptionName::Watchdog => Ok(MemberOption::Watchdog(mode_in(value)?)),
         OptionName::Device => Ok(MemberOption::Device(device_in(value)?)),
         OptionName::Margin => Ok(MemberOption::Margin(margin_in(value)?)),
-        _ => Err(Fault::NotBuilt),
     }
 }
 
@@ -184,11 +239,41 @@ fn said_first<A: Drop>(before: Option<A>, said: A) -> Result<Option<A>, Fault>
     }
 }
 
+fn said_once(before: bool) -> Result<bool, Fault>
+    ensures { result ≡ said_once before }
+{
+    if before {
+        Err(Fault::Duplicate)
+    } else {
+        Ok(true)
+    }
+}
+
 /// What is said with one more option.
 fn with_option(said: SaidOptions, option: MemberOption) -> Result<SaidOptions, Fault>
     ensures { result ≡ with_option said option }
 {
     match option {
+        MemberOption::Host(host) => Ok(SaidOptions {
+            host: said_first(said.host, host)?,
+            ..said
+        }),
+        MemberOption::NoFailover => Ok(SaidOptions {
+            nofailover: said_once(said.nofailover)?,
+            ..said
+        }),
+        MemberOption::NoSync => Ok(SaidOptions {
+            nosync: said_once(said.nosync)?,
+            ..said
+        }),
+        MemberOption::NoLoadBalance => Ok(SaidOptions {
+            noloadbalance: said_once(said.noloadbalance)?,
+            ..said
+        }),
+        MemberOption::Priority(priority) => Ok(SaidOptions {
+            priority: said_first(said.priority, priority)?,
+            ..said
+        }),
         MemberOption::Watchdog(mode) => Ok(SaidOptions {
             watchdog: said_first(said.watchdog, mode)?,
             ..said
@@ -216,6 +301,11 @@ fn nothing_said() -> SaidOptions
     ensures { result ≡ nothing_said }
 {
     SaidOptions {
+        host: None,
+        nofailover: false,
+        nosync: false,
+        noloadbalance: false,
+        priority: None,
         watchdog: None,
         device_works: None,
         margin: None,
@@ -234,6 +324,36 @@ fn said_in(rest: Option<&[u8]>) -> Result<SaidOptions, Fault>
         left = behind;
     }
     outcome
+}
+
+fn host_or_default(said: Option<Host>) -> Host
+    ensures { result ≡ host_or_default said }
+{
+    match said {
+        None => Host::local(),
+        Some(host) => host,
+    }
+}
+
+fn priority_or_default(said: Option<Priority>) -> Priority
+    ensures { result ≡ priority_or_default said }
+{
+    match said {
+        None => Priority::unsaid(),
+        Some(priority) => priority,
+    }
+}
+
+fn tags_or_default(said: &SaidOptions) -> Tags
+    ensures { result ≡ tags_or_default said.now }
+{
+    let priority = priority_or_default(said.priority);
+    Tags {
+        nofailover: said.nofailover,
+        nosync: said.nosync,
+        noloadbalance: said.noloadbalance,
+        failover_priority: priority.number,
+    }
 }
 
 fn mode_or_default(said: Option<Mode>) -> Mode
@@ -263,14 +383,34 @@ fn margin_or_default(said: Option<Margin>) -> Margin
     }
 }
 
+fn options_or_default(said: &SaidOptions) -> MemberOptions
+    ensures { result ≡ options_or_default said.now }
+{
+    MemberOptions {
+        host: host_or_default(said.host),
+        tags: tags_or_default(said),
+        watchdog: mode_or_default(said.watchdog),
+        device_works: works_or_default(said.device_works),
+        margin: margin_or_default(said.margin),
+    }
+}
+
 /// What the words behind a member's name declare, or the first of their faults in the order of faults.
 pub fn options_in(rest: Option<&[u8]>) -> Result<MemberOptions, Fault>
     ensures { result ≡ options_in (option_copied rest.entry) }
 {
     let said = said_in(rest)?;
-    Ok(MemberOptions {
-        watchdog: mode_or_default(said.watchdog),
-        device_works: works_or_default(said.device_works),
-        margin: margin_or_default(said.margin),
-    })
+    Ok(options_or_default(&said))
+}
+
+impl MemberOptions {
+    ghost use Rattle.std.specs.Prelude.{◌≡◌};
+    ghost use Rattle.cluster_script.specs.Options.{unsaid_options};
+
+    /// What a member's line declares that has no options.
+    pub fn unsaid() -> MemberOptions
+        ensures { result ≡ unsaid_options }
+    {
+        options_or_default(&nothing_said())
+    }
 }

@@ -1,5 +1,5 @@
 //! Numbers with a range.
-ghost use Rattle.std.specs.Prelude.{◌≤◌, ◌^◌};
+ghost use Rattle.std.specs.Prelude.{◌≤◌, ◌^◌, ◌≤ℤ◌, pos, negsuc};
 ghost use Rattle.cluster_script.specs.Margins.{longest_margin};
 
 /// The shortest commit, in bytes.
@@ -13,6 +13,12 @@ const LONGEST_DELAY: u64 = 100_000;
 
 /// The longest margin, in seconds.
 const LONGEST_MARGIN: u64 = 15;
+
+/// The greatest priority, and the lowest one without its sign.
+const GREATEST_PRIORITY: u64 = 1_000;
+
+/// The priority that no option says.
+const UNSAID_PRIORITY: i64 = 1;
 
 /// The margin that no option says, in seconds.
 const UNSAID_MARGIN: u64 = 5;
@@ -103,6 +109,55 @@ impl Margin {
     {
         Margin {
             seconds: UNSAID_MARGIN,
+        }
+    }
+}
+
+/// The failover priority of a member: -1000 to 1000 (Patroni documentation, "YAML Configuration Settings", under "Tags").
+#[derive(Clone, Copy, Debug, PartialEq, Eq)]
+pub struct Priority {
+    /// From -1000 to 1000.
+    pub number: i64,
+    ghost lowest: { negsuc 999 ≤ℤ number },
+    ghost highest: { number ≤ℤ pos 1000 },
+}
+
+impl Priority {
+    ghost use Rattle.std.specs.Prelude.{◌≡◌};
+    ghost use Rattle.cluster_script.specs.Ranges.{priority_from_zero, priority_below_zero, default_priority};
+
+    /// The priority of this number. `None` exactly where it is more than 1000.
+    pub fn from_zero(number: u64) -> Option<Self>
+        ensures { result ≡ priority_from_zero number }
+    {
+        if number > GREATEST_PRIORITY {
+            None
+        } else {
+            Some(Priority {
+                number: number as i64,
+            })
+        }
+    }
+
+    /// The priority of this number with a minus sign. `None` exactly where it is 0 or more than 1000.
+    pub fn below_zero(number: u64) -> Option<Self>
+        ensures { result ≡ priority_below_zero number }
+    {
+        if number == 0 || number > GREATEST_PRIORITY {
+            None
+        } else {
+            Some(Priority {
+                number: -(number as i64),
+            })
+        }
+    }
+
+    /// The priority of a member whose line says none: 1.
+    pub fn unsaid() -> Self
+        ensures { result ≡ default_priority }
+    {
+        Priority {
+            number: UNSAID_PRIORITY,
         }
     }
 }

@@ -32,6 +32,7 @@ use Rattle.ha_loop.specs.Agents.{AgentFacts, made, most_messages}
 use Rattle.ha_loop.specs.Outputs.{most_outputs}
 use Rattle.ha_loop.specs.Table.{step}
 use Rattle.wal_model.specs.declared.entry.HistoryPoint.{HistoryPoint}
+use Rattle.cluster_script.specs.declared.head.MemberOptions.{MemberOptions}
 use Rattle.cluster_model.specs.Cluster.{agent_after, agent_facts_after, agent_facts_by, agent_facts_by_message, agent_facts_by_watchdog, agent_facts_moved, agent_facts_reached, agent_facts_reached_at, agent_facts_with, cluster_after}
 use Rattle.cluster_model.specs.Hearing.{heard_from}
 use Rattle.cluster_model.specs.Inputs.{agent_at, moment_of, outcome_at, outcome_of, outcome_of_heard}
@@ -138,16 +139,16 @@ input-numbers-if cluster member None events all =
     (λ found is has. numbers-fewer (1 + events) events (omega arith) found has)
 input-numbers-if cluster member (Some heard) events all = input-numbers cluster member heard events all
 
-moved-numbers : (scope : Name) (members : List Member) (now events : ℕ) (known : List (Option AgentFacts)) (happening : AgentEvent) → most_outputs * (1 + events) ≤ most_messages → Numbered (1 + events) known → Numbered events (agent_facts_moved scope members now known happening)
-moved-numbers scope members now events known (agents.Killed member) enough all =
+moved-numbers : (scope : Name) (options : List MemberOptions) (members : List Member) (now events : ℕ) (known : List (Option AgentFacts)) (happening : AgentEvent) → most_outputs * (1 + events) ≤ most_messages → Numbered (1 + events) known → Numbered events (agent_facts_moved scope options members now known happening)
+moved-numbers scope options members now events known (agents.Killed member) enough all =
     with_member_changed-all (Option AgentFacts) (HasNumbers (1 + events)) (HasNumbers events) known member _ all (numbers-fewer (1 + events) events (omega arith)) (λ found is has. tt)
-moved-numbers scope members now events known (agents.Started member run) enough all =
+moved-numbers scope options members now events known (agents.Started member run) enough all =
     with_member_changed-all (Option AgentFacts) (HasNumbers (1 + events)) (HasNumbers events) known member _ all (numbers-fewer (1 + events) events (omega arith)) (λ found is has. omega (arith, enough))
-moved-numbers scope members now events known _ enough all = numbered-fewer events known all
+moved-numbers scope options members now events known _ enough all = numbered-fewer events known all
 
 agent-numbers : (cluster : Cluster) (events : ℕ) (happening : AgentEvent) → most_outputs * (1 + events) ≤ most_messages → Numbered (1 + events) cluster.agents → Numbered events (agent_facts_by cluster happening)
 agent-numbers cluster events (agents.Woken member) enough all = input-numbers cluster member Wake events all
-agent-numbers cluster events happening enough all = moved-numbers cluster.scope cluster.book.members cluster.book.clock events cluster.agents happening enough all
+agent-numbers cluster events happening enough all = moved-numbers cluster.scope cluster.options cluster.book.members cluster.book.clock events cluster.agents happening enough all
 
 reached-numbers_at : (cluster : Cluster) (events : ℕ) (message : InFlightFacts) (to : LinkEnd) → Numbered (1 + events) cluster.agents → Numbered events (agent_facts_reached_at cluster message to)
 reached-numbers_at cluster events message link_ends.Store all = numbered-fewer events cluster.agents all

@@ -8,6 +8,7 @@ use Rattle.pat_base.specs.declared.member_id.MemberId.{MemberId}
 use Rattle.pat_base.specs.declared.name.Name.{Name}
 use Rattle.pat_base.specs.MemberId.{member_of}
 use Rattle.pg_model.specs.Facts.{fresh}
+use Rattle.cluster_script.specs.declared.head.MemberOptions.{MemberOptions}
 use Rattle.cluster_script.specs.Script.{HeadText, names_of}
 use Rattle.event_book.specs.declared.member.Member.{Member}
 use Rattle.event_book.specs.declared.agent_process.AgentProcess.{AgentProcess}
@@ -74,9 +75,9 @@ first-run : (count : ℕ) → All (λ (state : AgentProcess). state.run + ample 
 first-run zero = All-nil (λ (state : AgentProcess). state.run + ample < 2 ^ 60)
 first-run (suc count) = All-cons (λ (state : AgentProcess). state.run + ample < 2 ^ 60) (running_in 1) (first_agents count) (omega arith) (first-run count)
 
-first-numbers : (scope : Name) (members all : List Member) → All (HasNumbers ample) (map (first_agent scope members) all)
-first-numbers scope members [] = All-nil (HasNumbers ample)
-first-numbers scope members (member ∷ more) = All-cons (HasNumbers ample) (first_agent scope members member) (map (first_agent scope members) more) (omega arith) (first-numbers scope members more)
+first-numbers : (scope : Name) (options : List MemberOptions) (members all : List Member) → All (HasNumbers ample) (map (first_agent scope options members) all)
+first-numbers scope options members [] = All-nil (HasNumbers ample)
+first-numbers scope options members (member ∷ more) = All-cons (HasNumbers ample) (first_agent scope options members member) (map (first_agent scope options members) more) (omega arith) (first-numbers scope options members more)
 
 first-timeline : (base count : ℕ) → All (HasTimeline (ample)) (replicate count (fresh base))
 first-timeline base zero = All-nil (HasTimeline (ample))
@@ -90,7 +91,7 @@ start-room head = record {
   sent = omega arith;
   runs = first-run (length (names_of head));
   numbers = omega arith;
-  agents = first-numbers head.cluster (cluster_of head).book.members (cluster_of head).book.members;
+  agents = first-numbers head.cluster (cluster_of head).options (cluster_of head).book.members (cluster_of head).book.members;
   timelines = first-timeline head.base (length (names_of head));
   commits = omega arith;
 }

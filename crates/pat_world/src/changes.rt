@@ -20,6 +20,7 @@ use crate::links::CutLinks;
 use crate::places::{change_agents_by, reset_agent};
 use crate::processes::{change_process, reset_process};
 use crate::watchdogs::{change_deadline, change_hold};
+use cluster_script::MemberOptions;
 use event_book::{
     AgentProcess, EventKind, LogEvent, Member, MessageEvent, ReplicationEvent, ServerEvent,
     ServerOf,
@@ -61,20 +62,23 @@ pub fn change_processes(processes: &mut Vec<AgentProcess>, kind: &EventKind)
     }
 }
 
-/// The agents of a cluster of this name with these members, after a happening of this moment that is no input of one.
+/// The agents of a cluster of this name with these members, of whom these options are declared, after a happening of this moment that is no input of one.
 pub fn change_agents(
     agents: &mut Vec<Option<Agent>>,
     scope: Name,
+    options: &[MemberOptions],
     members: &[Member],
     now: Ticks,
     kind: &EventKind,
 )
     requires few { length members.now ≤ most_members }
     requires moment { now.0 ≤ latest }
-    ensures { agents.new.items ≡ agents_apart scope members.now now.0 agents.old.items kind.now }
+    ensures { agents.new.items ≡ agents_apart scope options.now members.now now.0 agents.old.items kind.now }
 {
     match kind {
-        EventKind::Agent(happening) => change_agents_by(agents, scope, members, now, happening),
+        EventKind::Agent(happening) => {
+            change_agents_by(agents, scope, options, members, now, happening)
+        }
         EventKind::Watchdog(happening) => reset_agent(agents, happening),
         _ => {}
     }

@@ -8,6 +8,7 @@ ghost use Rattle.cluster_model.specs.Limits.{most_members};
 ghost use Rattle.cluster_model.specs.Machines.{hosts_of};
 ghost use Rattle.cluster_model.specs.Starting.{options_of};
 
+use crate::machines::declared_options;
 use cluster_script::{Head, MemberOptions};
 use event_book::{AgentProcess, Member};
 use pat_base::{Host, MemberId, Name};
@@ -61,12 +62,16 @@ fn options_at(head: &Head, place: usize) -> MemberOptions
 }
 
 /// Where members are reached, as snapshots tell agents.
-pub fn hosts_of(alloc: Global, members: &[Member]) -> Result<Vec<(Name, Host)>, AllocError>
-    ensures { IfOk result (λ hosts. hosts.items ≡ hosts_of members.now) }
+pub fn hosts_of(
+    alloc: Global,
+    options: &[MemberOptions],
+    members: &[Member],
+) -> Result<Vec<(Name, Host)>, AllocError>
+    ensures { IfOk result (λ hosts. hosts.items ≡ hosts_of options.now members.now) }
 {
     let mut hosts = Vec::new(alloc);
     for member in members {
-        hosts.push((member.name, Host::local()))?;
+        hosts.push((member.name, declared_options(options, *member).host))?;
     }
     Ok(hosts)
 }

@@ -3,14 +3,13 @@ ghost use Rattle.std.specs.Prelude.{◌≡◌, ◌≤◌, ◌<◌, ◌^◌, IfSo
 ghost use Rattle.pg_model.specs.Servers.{without_spare};
 ghost use Rattle.ha_loop.specs.Agents.{IsWithin};
 ghost use Rattle.cluster_model.specs.Limits.{most_members};
-ghost use Rattle.cluster_model.specs.Machines.{watchdog_of, machine_from, who_of};
-ghost use Rattle.cluster_model.specs.Tags.{no_tags};
+ghost use Rattle.cluster_model.specs.Machines.{watchdog_of, machine_from, declared_options, who_of};
 
 use cluster_script::MemberOptions;
 use event_book::Member;
 use ha_loop::{Machine, Who};
 use leader_key::Watchdog;
-use pat_base::{Host, Name, Tags, Ticks};
+use pat_base::{Name, Ticks};
 use pg_model::{Server, ServerStatus};
 
 /// Ticks of 100 ms in a second.
@@ -51,30 +50,29 @@ fn watchdog_of(options: MemberOptions, deadline: Option<Ticks>) -> Watchdog
     )
 }
 
-/// Whose agent that of this member is, in a cluster of this name with these members.
-pub fn who_of(scope: Name, members: &[Member], member: Member) -> Who
-    requires { length members.now ≤ most_members }
-    ensures { result ≡ who_of scope members.now member }
+/// What is declared of a member beside its name.
+pub fn declared_options(options: &[MemberOptions], member: Member) -> MemberOptions
+    ensures { result ≡ declared_options options.now member }
 {
+    match options.get(member.id.number as usize) {
+        None => MemberOptions::unsaid(),
+        Some(options) => *options,
+    }
+}
+
+/// Whose agent that of this member is, in a cluster of this name with these members, of whom these options are declared.
+pub fn who_of(scope: Name, options: &[MemberOptions], members: &[Member], member: Member) -> Who
+    requires { length members.now ≤ most_members }
+    ensures { result ≡ who_of scope options.now members.now member }
+{
+    let declared = declared_options(options, member);
     Who {
         me: member.id,
         members: members.len() as u8,
         scope,
         name: member.name,
-        host: Host::local(),
-        tags: no_tags(),
-    }
-}
-
-/// The tags of a member that declares none.
-fn no_tags() -> Tags
-    ensures { result ≡ no_tags }
-{
-    Tags {
-        nofailover: false,
-        nosync: false,
-        noloadbalance: false,
-        failover_priority: 1,
+        host: declared.host,
+        tags: declared.tags,
     }
 }
 

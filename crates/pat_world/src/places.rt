@@ -10,25 +10,31 @@ ghost use Rattle.cluster_model.specs.Starting.{first_agent};
 ghost use Rattle.pat_world.specs.Room.{HasNumbers};
 
 use crate::machines::who_of;
+use cluster_script::MemberOptions;
 use event_book::{AgentEvent, Member, WatchdogEvent};
 use ha_loop::{Agent, Heard, Machine, Outputs, Who};
 use pat_base::{Name, Ticks};
 use std::alloc::{AllocError, Global};
 use wal_model::History;
 
-/// The agents of a cluster of this name with these members, each in its first run. It fails only for want of memory.
+/// The agents of a cluster of this name with these members, of whom these options are declared, each in its first run. It fails only for want of memory.
 pub fn first_agents(
     alloc: Global,
     scope: Name,
+    options: &[MemberOptions],
     members: &[Member],
 ) -> Result<Vec<Option<Agent>>, AllocError>
     requires { length members.now ≤ most_members }
-    ensures { IfOk result (λ agents. agents.items ≡ map (first_agent scope members.now) members.now) }
+    ensures { IfOk result (λ agents. agents.items ≡ map (first_agent scope options.now members.now) members.now) }
 {
     let mut agents = Vec::with_capacity(alloc, members.len())?;
     for member in members {
         let first = Ticks(member.id.number as u64);
-        agents.push_reserved(Some(Agent::begin(who_of(scope, members, *member), first, 1)));
+        agents.push_reserved(Some(Agent::begin(
+            who_of(scope, options, members, *member),
+            first,
+            1,
+        )));
     }
     Ok(agents)
 }
@@ -111,22 +117,29 @@ fn put(slot: &mut Option<Agent>, agent: Agent)
     }
 }
 
-/// The agents of a cluster of this name with these members, at this moment, after one ended or started.
+/// The agents of a cluster of this name with these members, of whom these options are declared, at this moment, after one ended or started.
 pub fn change_agents_by(
     agents: &mut Vec<Option<Agent>>,
     scope: Name,
+    options: &[MemberOptions],
     members: &[Member],
     now: Ticks,
     happening: &AgentEvent,
 )
     requires few { length members.now ≤ most_members }
     requires moment { now.0 ≤ latest }
-    ensures { agents.new.items ≡ agent_facts_moved scope members.now now.0 agents.old.items happening.now }
+    ensures { agents.new.items ≡ agent_facts_moved scope options.now members.now now.0 agents.old.items happening.now }
 {
     match happening {
         AgentEvent::Killed { agent } => end(agents, *agent),
         AgentEvent::Started { agent, run } => {
-            begin(agents, *agent, who_of(scope, members, *agent), now, *run)
+            begin(
+                agents,
+                *agent,
+                who_of(scope, options, members, *agent),
+                now,
+                *run,
+            )
         }
         _ => {}
     }

@@ -108,7 +108,7 @@ impl Model for Stage {
       agents = w.agents.items;
     } };
 
-    ghost invariant = { λ w. (length w.members.items ≤ most_members) × AreNumbered w.sent w.flight × AreTended w.index w.flight w.processes.items w.cuts × (w.hosts.items ≡ hosts_of w.members.items) × (w.outputs.outputs ≡ []) };
+    ghost invariant = { λ w. (length w.members.items ≤ most_members) × AreNumbered w.sent w.flight × AreTended w.index w.flight w.processes.items w.cuts × (w.hosts.items ≡ hosts_of w.options.items w.members.items) × (w.outputs.outputs ≡ []) };
 }
 
 impl Stage {
@@ -118,8 +118,8 @@ impl Stage {
     {
         let count = head.member_count();
         let members = members_of(alloc, head)?;
-        let hosts = hosts_of(alloc, &members)?;
         let options = options_of(alloc, head)?;
+        let hosts = hosts_of(alloc, &options, &members)?;
         let processes = processes_of(alloc, count)?;
         let deadlines = Vec::from_elem(alloc, None, count)?;
         let holds = Vec::from_elem(alloc, None, count)?;
@@ -131,7 +131,7 @@ impl Stage {
         let index = FlightIndex::new(alloc)?;
         let flight = Flight::new(alloc);
         // the agents come last, since nothing that fails may leave any of them behind
-        let agents = first_agents(alloc, scope, &members)?;
+        let agents = first_agents(alloc, scope, &options, &members)?;
         Ok(Stage {
             alloc,
             scope,

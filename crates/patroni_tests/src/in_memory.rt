@@ -1,5 +1,8 @@
 //! Runs over objects in memory, and what they are checked against.
-use pat_base::{MemberId, MemorySink, MemorySource, State};
+use cluster_config::Snapshot;
+use lease_store::{Key, MemberInfo, Value};
+use pat_base::{Host, MemberId, MemorySink, MemorySource, State};
+use pat_world::World;
 use patroni_top::{Ended, run};
 use std::alloc::{AllocError, Global};
 use std::process::Abort;
@@ -123,6 +126,14 @@ pub fn run_in_memory(
     })
 }
 
+/// The world at the end of a run of this script.
+fn world_after(rt: &impl Abort, alloc: Global, script: &str) -> Result<World, AllocError> {
+    let mut out = MemorySink::new(alloc, 65536, Vec::new(alloc))?;
+    let mut err = MemorySink::new(alloc, 4096, Vec::new(alloc))?;
+    let Ended { world, status: _ } = ran(alloc, "run", script, NO_FAULTS, &mut out, &mut err)?;
+    Ok(world.expect(rt, "a world"))
+}
+
 /// The state and the timeline of a member's server, as its agent shows them at the end of a run; nothing where no agent runs.
 pub fn shown(
     rt: &impl Abort,
@@ -130,13 +141,32 @@ pub fn shown(
     script: &str,
     member: MemberId,
 ) -> Result<Option<(State, u64)>, AllocError> {
-    let mut out = MemorySink::new(alloc, 65536, Vec::new(alloc))?;
-    let mut err = MemorySink::new(alloc, 4096, Vec::new(alloc))?;
-    let Ended { world, status: _ } = ran(alloc, "run", script, NO_FAULTS, &mut out, &mut err)?;
-    let world = world.expect(rt, "a world");
+    let world = world_after(rt, alloc, script)?;
     let seen = world.view(member).map(|view| (view.state, view.timeline));
     world.close();
     Ok(seen)
+}
+
+/// Where a member is reached, and what it told of itself, by the snapshot that another member's agent heard last in a run.
+pub fn told(
+    rt: &impl Abort,
+    alloc: Global,
+    script: &str,
+    of: MemberId,
+    to: MemberId,
+) -> Result<Option<(Host, MemberInfo)>, AllocError> {
+    let world = world_after(rt, alloc, script)?;
+    let told = world.view(to).and_then(|view| told_in(view.seen?, of));
+    world.close();
+    Ok(told)
+}
+
+fn told_in(seen: &Snapshot, of: MemberId) -> Option<(Host, MemberInfo)> {
+    let (_, host) = seen.members().get(of.number as usize)?;
+    match &seen.entry(Key::Member(of))?.value {
+        Value::Member(info) => Some((*host, *info)),
+        _ => None,
+    }
 }
 
 /// A text with another so many times behind it.

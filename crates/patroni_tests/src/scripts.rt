@@ -67,6 +67,103 @@ const OPTIONS: [(&[u8], Mode, bool, u64); 14] = [
     ),
 ];
 
+/// Lines of a third member, and what each says of it: its host, its flags (no failover, no synchronous standby, no load
+/// balancing) and its priority.
+const DECLARED: [(&[u8], &str, [bool; 3], i64); 17] = [
+    (b"member c", "127.0.0.1", [false, false, false], 1),
+    (
+        b"member c host=db-3.example",
+        "db-3.example",
+        [false, false, false],
+        1,
+    ),
+    (b"member c host=::1", "::1", [false, false, false], 1),
+    (
+        b"member c host=127.0.0.1",
+        "127.0.0.1",
+        [false, false, false],
+        1,
+    ),
+    (
+        b"member c host=ABCDEFGHIJabcdefghij0123456789.:-xyzXYZ1",
+        "ABCDEFGHIJabcdefghij0123456789.:-xyzXYZ1",
+        [false, false, false],
+        1,
+    ),
+    (
+        b"member c nofailover=true",
+        "127.0.0.1",
+        [true, false, false],
+        1,
+    ),
+    (
+        b"member c nosync=true",
+        "127.0.0.1",
+        [false, true, false],
+        1,
+    ),
+    (
+        b"member c noloadbalance=true",
+        "127.0.0.1",
+        [false, false, true],
+        1,
+    ),
+    (
+        b"member c priority=0",
+        "127.0.0.1",
+        [false, false, false],
+        0,
+    ),
+    (
+        b"member c priority=1",
+        "127.0.0.1",
+        [false, false, false],
+        1,
+    ),
+    (
+        b"member c priority=7",
+        "127.0.0.1",
+        [false, false, false],
+        7,
+    ),
+    (
+        b"member c priority=1000",
+        "127.0.0.1",
+        [false, false, false],
+        1_000,
+    ),
+    (
+        b"member c priority=-1",
+        "127.0.0.1",
+        [false, false, false],
+        -1,
+    ),
+    (
+        b"member c priority=-1000\n",
+        "127.0.0.1",
+        [false, false, false],
+        -1_000,
+    ),
+    (
+        b"member c host=h nofailover=true nosync=true noloadbalance=true priority=-20 watchdog=off device=broken margin=0",
+        "h",
+        [true, true, true],
+        -20,
+    ),
+    (
+        b"member c margin=0 priority=30 watchdog=off nosync=true host=h device=broken nofailover=true",
+        "h",
+        [true, true, false],
+        30,
+    ),
+    (
+        b"base 5\nmember c priority=2 noloadbalance=true\ntick 1",
+        "127.0.0.1",
+        [false, false, true],
+        2,
+    ),
+];
+
 /// Whole inputs, and the first line with a fault and its first fault.
 const FAULTY_INPUTS: [(&[u8], u64, Fault); 22] = [
     (b"", 1, Fault::NoCluster),
@@ -108,8 +205,8 @@ const FAULTY_LINES: [(&[u8], Fault); 37] = [
     (b"dance", Fault::BadWord),
     (b" tick 1", Fault::BadWord),
     (b"runs 1", Fault::BadWord),
-    (b"member c nosync=true", Fault::NotBuilt),
-    (b"member C x nosync=true", Fault::NotBuilt),
+    (b"ctl", Fault::NotBuilt),
+    (b"member C x nosync=true", Fault::BadName),
     (b"hold A b", Fault::BadName),
     (b"hold ", Fault::BadName),
     (b"cut c B", Fault::BadName),
@@ -214,8 +311,67 @@ const FAULTY_OPTIONS: [(&[u8], Fault); 63] = [
     (b"member a watchdog=maybe", Fault::BadOption),
     (b"member C margin=-1", Fault::NotBuilt),
     (b"member c margin=16 margin=-1", Fault::NotBuilt),
-    (b"member c watchdog=maybe host=h", Fault::NotBuilt),
-    (b"member a priority=1 priority=1", Fault::NotBuilt),
+    (b"member c watchdog=maybe margin=-1", Fault::NotBuilt),
+    (b"member a margin=-1 margin=-1", Fault::NotBuilt),
+];
+
+/// Lines of members with hosts and tags, and the first fault there.
+const FAULTY_TAGS: [(&[u8], Fault); 43] = [
+    (b"member c host=", Fault::BadOption),
+    (b"member c host=a_b", Fault::BadOption),
+    (b"member c host=a/b", Fault::BadOption),
+    (b"member c host=h=", Fault::BadOption),
+    (
+        b"member c host=ABCDEFGHIJabcdefghij0123456789.:-xyzXYZ12",
+        Fault::BadOption,
+    ),
+    (b"member c host=\xc3\xa4", Fault::BadOption),
+    (b"member c Host=h", Fault::BadOption),
+    (b"member c hosts=h", Fault::BadOption),
+    (b"member c host=h i", Fault::BadOption),
+    (b"member c nofailover", Fault::BadOption),
+    (b"member c nofailover=", Fault::BadOption),
+    (b"member c nofailover=false", Fault::BadOption),
+    (b"member c nofailover=True", Fault::BadOption),
+    (b"member c nofailover=true=", Fault::BadOption),
+    (b"member c nosync=1", Fault::BadOption),
+    (b"member c nosync=trues", Fault::BadOption),
+    (b"member c noloadbalance=yes", Fault::BadOption),
+    (b"member c noloadbalance=true,priority=1", Fault::BadOption),
+    (b"member c priority=", Fault::BadOption),
+    (b"member c priority=x", Fault::BadOption),
+    (b"member c priority=01", Fault::BadOption),
+    (b"member c priority=+1", Fault::BadOption),
+    (b"member c priority=-0", Fault::BadOption),
+    (b"member c priority=-01", Fault::BadOption),
+    (b"member c priority=--1", Fault::BadOption),
+    (b"member c priority=1.0", Fault::BadOption),
+    (b"member c priority=1001", Fault::BadNumber),
+    (b"member c priority=-1001", Fault::BadNumber),
+    (b"member c priority=18446744073709551617", Fault::BadNumber),
+    (b"member c priority=-18446744073709551617", Fault::BadNumber),
+    (b"member c host=h host=h", Fault::Duplicate),
+    (
+        b"member c nofailover=true nofailover=true",
+        Fault::Duplicate,
+    ),
+    (
+        b"member c nosync=true priority=1 nosync=true",
+        Fault::Duplicate,
+    ),
+    (
+        b"member c noloadbalance=true noloadbalance=true",
+        Fault::Duplicate,
+    ),
+    (b"member c priority=1 host=h priority=2", Fault::Duplicate),
+    (b"member a host=h", Fault::Duplicate),
+    (b"member C host=a_b", Fault::BadName),
+    (b"member C priority=1001", Fault::BadName),
+    (b"member c nosync=false priority=1001", Fault::BadNumber),
+    (b"member c priority=1 priority=1001", Fault::BadNumber),
+    (b"member c nosync=true nosync=false", Fault::BadOption),
+    (b"member a nofailover=false", Fault::BadOption),
+    (b"member c watchdog=maybe host=h", Fault::BadOption),
 ];
 
 /// Two lines behind the head, and the fault of the second.
@@ -278,18 +434,13 @@ const FAULTY_SERVER_LINES: [(&[u8], Fault); 35] = [
 ];
 
 /// Lines that are to come.
-const NOT_BUILT: [&[u8]; 11] = [
+const NOT_BUILT: [&[u8]; 6] = [
     b"config {}",
     b"rest a GET /",
     b"ctl list",
-    b"member c host=h",
-    b"member c nofailover=true",
-    b"member c nosync=true",
-    b"member c noloadbalance=true",
-    b"member c priority=1",
     b"member c margin=-1",
-    b"member c host=",
-    b"member c device=ok nosync=maybe",
+    b"member c device=ok margin=-1",
+    b"member c nosync=maybe margin=-1",
 ];
 
 /// Faults of line 7, and how they are printed.
@@ -451,6 +602,25 @@ fn options_say_what_they_say(rt: HostRuntime) -> Result<(), Fail> {
 }
 
 #[test]
+fn hosts_and_tags_are_as_declared(rt: HostRuntime) -> Result<(), Fail> {
+    let alloc = rt.alloc();
+    for (line, host, [nofailover, nosync, noloadbalance], priority) in DECLARED {
+        let script = read(alloc, &with_body(alloc, line, 1)?).map_err(|_| "none")?;
+        let declared = script.head().options(2).ok_or("none")?;
+        assert_eq!(rt; declared.host.as_str(), host);
+        assert_eq!(rt; declared.tags.nofailover, nofailover);
+        assert_eq!(rt; declared.tags.nosync, nosync);
+        assert_eq!(rt; declared.tags.noloadbalance, noloadbalance);
+        assert_eq!(rt; declared.tags.failover_priority, priority);
+        assert_eq!(rt;
+            script.head().options(0).ok_or("none")?.host.as_str(),
+            "127.0.0.1"
+        );
+    }
+    Ok(())
+}
+
+#[test]
 fn whole_inputs_with_a_fault(rt: HostRuntime) -> Result<(), Fail> {
     let alloc = rt.alloc();
     for (bytes, line, fault) in FAULTY_INPUTS {
@@ -481,6 +651,11 @@ fn lines_with_a_fault(rt: HostRuntime) -> Result<(), Fail> {
 #[test]
 fn options_with_a_fault(rt: HostRuntime) -> Result<(), Fail> {
     have_faults(&rt, rt.alloc(), 4, &FAULTY_OPTIONS)
+}
+
+#[test]
+fn hosts_and_tags_with_a_fault(rt: HostRuntime) -> Result<(), Fail> {
+    have_faults(&rt, rt.alloc(), 4, &FAULTY_TAGS)
 }
 
 #[test]

@@ -11,9 +11,10 @@ use Rattle.event_book.specs.declared.member.Member.{Member}
 use Rattle.event_book.specs.Agents.{first_agents, running_in}
 use Rattle.event_book.specs.Writers.{writes_now}
 use Rattle.ha_loop.specs.Agents.{AgentFacts}
+use Rattle.cluster_script.specs.declared.head.MemberOptions.{MemberOptions}
 use Rattle.cluster_script.specs.Script.{HeadText, names_of}
 use Rattle.cluster_model.specs.Machines.{who_of}
-use Rattle.cluster_model.specs.Starting.{cluster_of, first_agent}
+use Rattle.cluster_model.specs.Starting.{cluster_of, first_agent, options_of}
 use Rattle.lease_law.specs.Books.{first_volatile_states}
 use Rattle.lease_law.specs.Carried.{IsCarried}
 use Rattle.lease_law.specs.Past.{VolatileState, first_past, past_of, state_of}
@@ -65,9 +66,9 @@ first-machines head = record {
 }
 
 -- what is seen of an agent at the beginning
-agent-first : (scope : Name) (members : List Member) (found : Option Member) → agent_now (option_map (first_agent scope members) found) ≡ Some (fresh_agent 1)
-agent-first scope members None = refl
-agent-first scope members (Some member) = ap Some (fresh-seen (who_of scope members member) member.id.number 1)
+agent-first : (scope : Name) (options : List MemberOptions) (members : List Member) (found : Option Member) → agent_now (option_map (first_agent scope options members) found) ≡ Some (fresh_agent 1)
+agent-first scope options members None = refl
+agent-first scope options members (Some member) = ap Some (fresh-seen (who_of scope options members member) member.id.number 1)
 
 volatile-same : (a b : Bool) (x y : Option Agent) → a ≡ b → x ≡ y → ◌≡◌ {A = VolatileState} (record { live = a; agent = x }) (record { live = b; agent = y })
 volatile-same a b x y p q = cc
@@ -76,13 +77,13 @@ first-volatile : (head : HeadText) → volatile_of (cluster_of head) ≡ first_v
 first-volatile head =
     let members : List Member = declared_members head in
     fun_ext (λ m. volatile-same _ _ _ _ (seen-replicate (fresh head.base) live_now false refl refl (member_count head) m)
-    (ap agent_now (slice_get-map (first_agent head.cluster members) members m) ∙ agent-first head.cluster members (slice_get members m)))
+    (ap agent_now (slice_get-map (first_agent head.cluster (options_of head) members) members m) ∙ agent-first head.cluster (options_of head) members (slice_get members m)))
 
-knows-first : (scope : Name) (members : List Member) (count m : ℕ) (found : Option Member) (agent : AgentFacts) → slice_get members m ≡ found → m < count
+knows-first : (scope : Name) (options : List MemberOptions) (members : List Member) (count m : ℕ) (found : Option Member) (agent : AgentFacts) → slice_get members m ≡ found → m < count
     → ((member : Member) → slice_get members m ≡ Some member → member.id.number ≡ m)
-    → option_map (first_agent scope members) found ≡ Some (Some agent) → KnowsItself m (slice_get (first_agents count) m) agent
-knows-first scope members count m None agent is small number there = absurd (none-some (Some agent) there)
-knows-first scope members count m (Some member) agent is small number there =
+    → option_map (first_agent scope options members) found ≡ Some (Some agent) → KnowsItself m (slice_get (first_agents count) m) agent
+knows-first scope options members count m None agent is small number there = absurd (none-some (Some agent) there)
+knows-first scope options members count m (Some member) agent is small number there =
     let same = some-is _ agent (some-is _ (Some agent) there) in
     record {
       found = running_in 1;
@@ -95,9 +96,9 @@ knows-first scope members count m (Some member) agent is small number there =
 first-knows : (head : HeadText) → length (names_of head) ≤ 16 → KnowThemselves (first_agents (member_count head)) (cluster_of head).agents
 first-knows head few m agent is =
     let members : List Member = declared_members head in
-    let there : option_map (first_agent head.cluster members) (slice_get members m) ≡ Some (Some agent) = sym (slice_get-map (first_agent head.cluster members) members m) ∙ is in
-    let sized : length (cluster_of head).agents ≡ member_count head = length-map members (first_agent head.cluster members) ∙ counted head few in
-    knows-first head.cluster members (member_count head) m (slice_get members m) agent refl (subst (λ (n : ℕ). m < n) sized (slice_get_within (cluster_of head).agents m (Some agent) is)) (numbered head few m) there
+    let there : option_map (first_agent head.cluster (options_of head) members) (slice_get members m) ≡ Some (Some agent) = sym (slice_get-map (first_agent head.cluster (options_of head) members) members m) ∙ is in
+    let sized : length (cluster_of head).agents ≡ member_count head = length-map members (first_agent head.cluster (options_of head) members) ∙ counted head few in
+    knows-first head.cluster (options_of head) members (member_count head) m (slice_get members m) agent refl (subst (λ (n : ℕ). m < n) sized (slice_get_within (cluster_of head).agents m (Some agent) is)) (numbered head few m) there
 
 pub bridged-first : (head : HeadText) → length (names_of head) ≤ 16 → Bridged head [] (cluster_of head)
 bridged-first head few = record {
@@ -110,7 +111,7 @@ bridged-first head few = record {
       deadlines = length-replicate (member_count head) (let none : Option Ticks = None in none);
       holds = length-replicate (member_count head) (let none : Option Ticks = None in none);
     };
-    agents_sized = length-map (declared_members head) (first_agent head.cluster (declared_members head)) ∙ counted head few;
+    agents_sized = length-map (declared_members head) (first_agent head.cluster (options_of head) (declared_members head)) ∙ counted head few;
     store = same-first (names_of head) head.base;
     flight = flight-first (names_of head) head.base;
     machines = first-machines head;

@@ -68,7 +68,7 @@ started-machine cluster member None few small is =
     let k : ℕ = member.id.number in
     let run : ℕ = run_in cluster.book.agents k + 1 in
     machines-put (machine_in cluster) (machine_in (cluster_after cluster (kinds.Agent (agents.Started member run)))) k (start_machine (machine_in cluster k))
-    (machine-same _ _ _ _ _ _ _ _ _ _ _ _ refl (sym is) refl refl (ap agent_now (get-here cluster.agents k _) ∙ fresh-there cluster.agents k run _ few (ap Some (fresh-seen (who_of cluster.scope cluster.book.members member) cluster.book.clock run))) (ap run_now (get-here cluster.book.agents k _) ∙ started-run cluster.book.agents k run small))
+    (machine-same _ _ _ _ _ _ _ _ _ _ _ _ refl (sym is) refl refl (ap agent_now (get-here cluster.agents k _) ∙ fresh-there cluster.agents k run _ few (ap Some (fresh-seen (who_of cluster.scope cluster.options cluster.book.members member) cluster.book.clock run))) (ap run_now (get-here cluster.book.agents k _) ∙ started-run cluster.book.agents k run small))
     (λ m other. machine-same _ _ _ _ _ _ _ _ _ _ _ _ refl refl refl refl (ap agent_now (get-elsewhere cluster.agents k m _ other)) (ap run_now (get-elsewhere cluster.book.agents k m _ other)))
 started-machine cluster member (Some kind) few small is =
     let k : ℕ = member.id.number in
@@ -77,7 +77,7 @@ started-machine cluster member (Some kind) few small is =
     subst (λ (z : EventKind). (m : ℕ) → machine_in (cluster_after started z) m ≡ put_at (machine_in cluster) k (start_machine (machine_in cluster k)) m) (sym is.0)
     (machines-put (machine_in cluster) (machine_in (cluster_after started (kinds.Watchdog (watchdogs.Disarmed member)))) k (start_machine (machine_in cluster k))
     (machine-same _ _ _ _ _ _ _ _ _ _ _ _ refl (ap deadline_now (get-here cluster.book.deadlines k _) ∙ no-deadline (slice_get cluster.book.deadlines k) ∙ sym is.1) refl refl
-    (ap agent_now (get-here cluster.agents k _) ∙ fresh-there cluster.agents k run _ few (ap Some (fresh-seen (who_of cluster.scope cluster.book.members member) cluster.book.clock run))) (ap run_now (get-here cluster.book.agents k _) ∙ started-run cluster.book.agents k run small))
+    (ap agent_now (get-here cluster.agents k _) ∙ fresh-there cluster.agents k run _ few (ap Some (fresh-seen (who_of cluster.scope cluster.options cluster.book.members member) cluster.book.clock run))) (ap run_now (get-here cluster.book.agents k _) ∙ started-run cluster.book.agents k run small))
     (λ m other. machine-same _ _ _ _ _ _ _ _ _ _ _ _ refl (ap deadline_now (get-elsewhere cluster.book.deadlines k m _ other)) refl refl
     (ap agent_now (get-elsewhere cluster.agents k m _ other)) (ap run_now (get-elsewhere cluster.book.agents k m _ other))))
 

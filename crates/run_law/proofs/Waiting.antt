@@ -16,8 +16,9 @@ use Rattle.ha_loop.specs.Agents.{AgentFacts}
 use Rattle.cluster_model.specs.Cluster.{agent_facts_after, cluster_after}
 use Rattle.cluster_model.specs.Inputs.{starting_agent}
 use Rattle.cluster_model.specs.Machines.{who_of}
+use Rattle.cluster_script.specs.declared.head.MemberOptions.{MemberOptions}
 use Rattle.cluster_script.specs.Script.{HeadText}
-use Rattle.cluster_model.specs.Starting.{cluster_of, first_agent}
+use Rattle.cluster_model.specs.Starting.{cluster_of, first_agent, options_of}
 use Rattle.cluster_model.specs.State.{Cluster}
 use Rattle.lease_law.specs.Leases.{Question}
 use Rattle.lease_law.specs.Past.{Past, first_past, past_after, runs_after}
@@ -94,8 +95,8 @@ waiting-aside May head past cluster kind aside old =
     }
 
 -- ---- the start of an agent
-fresh-sound : (asked : ℕ → Option Question) (m runs run now : ℕ) (scope : Name) (members : List Member) (member : Member) → runs < run → IsLastRun asked m runs → IsAgentSound asked m (starting_agent (who_of scope members member) now run)
-fresh-sound asked m runs run now scope members member later last = record {
+fresh-sound : (asked : ℕ → Option Question) (m runs run now : ℕ) (scope : Name) (options : List MemberOptions) (members : List Member) (member : Member) → runs < run → IsLastRun asked m runs → IsAgentSound asked m (starting_agent (who_of scope options members member) now run)
+fresh-sound asked m runs run now scope options members member later last = record {
   last = run-new asked m runs run later last;
   waits = λ waited is. absurd (none-some waited is);
   ends = tt;
@@ -116,25 +117,25 @@ waiting-started head past cluster member run small later old =
     let kind : EventKind = kinds.Agent (agents.Started member run) in
     let k : ℕ = member.id.number in
     let runs : ℕ → ℕ = run_in cluster.book.agents in
-    let started : AgentFacts = starting_agent (who_of cluster.scope cluster.book.members member) cluster.book.clock run in
+    let started : AgentFacts = starting_agent (who_of cluster.scope cluster.options cluster.book.members member) cluster.book.clock run in
     record {
       carried = carried-by past cluster.book kind (record { store = old.store; flight = old.flight }) tt old.waiting.carried;
       runs = λ m. subst (λ (n : ℕ). IsLastRun past.asked m n) (runs-of runs cluster.book.agents kind (subst (λ (n : ℕ). k < n) (sym old.sized.agents) small) (λ n. refl) m)
           (put-all runs k run (λ n r. IsLastRun past.asked n r) (later-run past.asked k (runs k) run later (old.waiting.runs k)) (λ n other. old.waiting.runs n) m);
       agents = λ m agent e. started-by past.asked m k (slice_get cluster.agents m) (m == k) started agent refl
-          (λ here. fresh-sound past.asked m (runs k) run cluster.book.clock cluster.scope cluster.book.members member later (subst (λ (n : ℕ). IsLastRun past.asked n (runs k)) (sym here) (old.waiting.runs k)))
+          (λ here. fresh-sound past.asked m (runs k) run cluster.book.clock cluster.scope cluster.options cluster.book.members member later (subst (λ (n : ℕ). IsLastRun past.asked n (runs k)) (sym here) (old.waiting.runs k)))
           (old.waiting.agents m agent) (sym (get-changed cluster.agents k m (λ (agent : Option AgentFacts). Some started)) ∙ e);
     }
 
 -- ---- before the first event
-first-sound : (scope : Name) (members : List Member) (m : ℕ) (found : Option Member) (agent : AgentFacts) → option_map (first_agent scope members) found ≡ Some (Some agent) → IsAgentSound first_past.asked m agent
-first-sound scope members m None agent e = absurd (none-some (Some agent) e)
-first-sound scope members m (Some member) agent e =
-    subst (IsAgentSound first_past.asked m) (some-is _ agent (some-is _ (Some agent) e)) (fresh-sound first_past.asked m 0 1 member.id.number scope members member (omega arith) (λ i q is _. absurd (none-some q is)))
+first-sound : (scope : Name) (options : List MemberOptions) (members : List Member) (m : ℕ) (found : Option Member) (agent : AgentFacts) → option_map (first_agent scope options members) found ≡ Some (Some agent) → IsAgentSound first_past.asked m agent
+first-sound scope options members m None agent e = absurd (none-some (Some agent) e)
+first-sound scope options members m (Some member) agent e =
+    subst (IsAgentSound first_past.asked m) (some-is _ agent (some-is _ (Some agent) e)) (fresh-sound first_past.asked m 0 1 member.id.number scope options members member (omega arith) (λ i q is _. absurd (none-some q is)))
 
 pub waiting-first : (head : HeadText) → AgentsAreSound first_past (cluster_of head)
 waiting-first head = record {
   carried = λ i carried e. absurd (none-some carried e);
   runs = λ m i q e _. absurd (none-some q e);
-  agents = λ m agent e. first-sound head.cluster (declared_members head) m (slice_get (declared_members head) m) agent (sym (slice_get-map (first_agent head.cluster (declared_members head)) (declared_members head) m) ∙ e);
+  agents = λ m agent e. first-sound head.cluster (options_of head) (declared_members head) m (slice_get (declared_members head) m) agent (sym (slice_get-map (first_agent head.cluster (options_of head) (declared_members head)) (declared_members head) m) ∙ e);
 }

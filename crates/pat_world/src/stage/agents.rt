@@ -224,7 +224,7 @@ impl Stage {
     /// The snapshot of these entries. It fails only for want of memory.
     fn snapshot(&self, entries: Vec<(Key, KeyEntry)>) -> Result<Snapshot, AllocError>
         requires { IsRead entries.items }
-        ensures { IfOk result (λ snapshot. snapshot ≡ record { scope = self.now.scope; members = hosts_of self.now.book.members; entries = entries.items }) }
+        ensures { IfOk result (λ snapshot. snapshot ≡ record { scope = self.now.scope; members = hosts_of self.now.options self.now.book.members; entries = entries.items }) }
     {
         Snapshot::read(self.alloc, self.scope, &self.hosts, entries)
     }

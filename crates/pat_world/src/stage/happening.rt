@@ -45,7 +45,14 @@ impl Stage {
         change_links(&mut self.cuts, kind);
         change_keys(&mut self.store, now, kind);
         change_processes(&mut self.processes, kind);
-        change_agents(&mut self.agents, self.scope, &self.members, before, kind);
+        change_agents(
+            &mut self.agents,
+            self.scope,
+            &self.options,
+            &self.members,
+            before,
+            kind,
+        );
         change_deadlines(&mut self.deadlines, kind);
         change_holds(&mut self.holds, kind);
         change_flight(&mut self.flight, kind);
