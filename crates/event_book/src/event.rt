@@ -2,7 +2,7 @@
 
 use crate::{Basis, Bytes, Link, Member, Message, Names, Reason, ServerOf};
 use lease_store::{Bar, Expected, Key, OperatorAction, Txn, TxnKind};
-use pat_base::{Lsn, Name, Required, Ticks};
+use pat_base::{Lsn, Name, Required, Shared, Ticks};
 use wal_model::Entry;
 
 /// A happening, at a moment in ticks of 100 ms.
@@ -32,11 +32,18 @@ pub enum EventKind {
 #[derive(Debug, Drop)]
 pub enum MessageEvent {
     /// The message was sent.
-    Sent { number: u64, message: Message },
+    Sent {
+        number: u64,
+        message: Shared<Message>,
+    },
     /// The message came to its receiver.
-    Delivered { number: u64 },
+    Delivered {
+        number: u64,
+    },
     /// The message will never come.
-    Lost { number: u64 },
+    Lost {
+        number: u64,
+    },
 }
 
 /// What happens at the key store.
@@ -46,7 +53,7 @@ pub enum StoreEvent {
     Granted {
         number: u64,
         by: Member,
-        txn: Txn,
+        txn: Shared<Txn>,
         standbys: Names,
     },
     /// The request that this message carries was refused: this key isn't as the request expects.

@@ -1,10 +1,7 @@
 //! Messages.
-ghost use Rattle.std.specs.Prelude.{◌≡◌, IfOk};
-
 use crate::LinkEnd;
 use lease_store::{Expected, Key, Txn};
 use pat_base::{PeerAnswer, Ticks};
-use std::alloc::AllocError;
 use std::fmt;
 
 /// A message between an agent and the key store, or between two agents. `run` and `sequence` name the question by the
@@ -75,51 +72,5 @@ impl fmt::Display for Body {
             Body::FailsafeRequest { .. } => f.write_str("failsafe"),
             Body::FailsafeAnswer { .. } => f.write_str("failsafe answer"),
         }
-    }
-}
-
-impl Body {
-    /// Another alike. It fails only for want of memory.
-    pub fn try_clone(&self) -> Result<Body, AllocError>
-        ensures { IfOk result (λ body. body ≡ self.now) }
-    {
-        let copy = match self {
-            Body::Read => Body::Read,
-            Body::Request(txn) => Body::Request(txn.try_clone()?),
-            Body::Snapshot => Body::Snapshot,
-            Body::Granted { request, leased } => Body::Granted {
-                request: *request,
-                leased: *leased,
-            },
-            Body::Refused {
-                request,
-                key,
-                found,
-            } => Body::Refused {
-                request: *request,
-                key: *key,
-                found: *found,
-            },
-            Body::Ask => Body::Ask,
-            Body::Answer(answer) => Body::Answer(*answer),
-            Body::FailsafeRequest { ttl } => Body::FailsafeRequest { ttl: *ttl },
-            Body::FailsafeAnswer { yes } => Body::FailsafeAnswer { yes: *yes },
-        };
-        Ok(copy)
-    }
-}
-
-impl Message {
-    /// Another alike. It fails only for want of memory.
-    pub fn try_clone(&self) -> Result<Message, AllocError>
-        ensures { IfOk result (λ message. message ≡ self.now) }
-    {
-        Ok(Message {
-            from: self.from,
-            to: self.to,
-            run: self.run,
-            sequence: self.sequence,
-            body: self.body.try_clone()?,
-        })
     }
 }

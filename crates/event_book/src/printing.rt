@@ -41,6 +41,7 @@ fn message_line(
     }
     match event {
         MessageEvent::Sent { number, message } => {
+            let message = message.get();
             let (from, to, body) = (message.from, message.to, &message.body);
             Ok(Some(format!(in alloc; "{tick} message {number} from {from} to {to}: {body}\n")?))
         }

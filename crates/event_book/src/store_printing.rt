@@ -23,7 +23,7 @@ pub fn store_line(
             txn,
             standbys,
             ..
-        } => granted_line(alloc, tick, *by, txn, standbys),
+        } => granted_line(alloc, tick, *by, txn.get(), standbys),
         StoreEvent::Refused {
             by,
             request,

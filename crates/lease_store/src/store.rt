@@ -76,26 +76,25 @@ impl Store {
     ///
     /// So that no sum passes 2^64, it wants fewer than 2^60 grants before, a moment of at most 2^62 ticks, and leases of
     /// at most 2^40 ticks.
-    pub fn apply(&mut self, now: Ticks, by: MemberId, txn: Txn) -> Result<Granted, StoreRefusal>
+    pub fn apply(&mut self, now: Ticks, by: MemberId, txn: &Txn) -> Result<Granted, StoreRefusal>
         requires revision { self.old.revision < 2 ^ 60 }
         requires moment { now.0 ≤ 2 ^ 62 }
-        requires span { ttl_of txn ≤ 2 ^ 40 }
-        ensures granted { OnOk result (decision_on self.old now.0 txn ≡ Grant) }
-        ensures written { OnOk result (self.new ≡ keys_after_grant self.old now.0 by txn) }
-        ensures told { IfOk result (λ granted. granted ≡ record { revision = self.old.revision + 1; by = by; leased = is_lease txn }) }
-        ensures refused { (key : Key) (found : Expected) → (result ≡ Err (StoreRefusal.Mismatch key found)) ↔ (decision_on self.old now.0 txn ≡ Refusal key found) }
+        requires span { ttl_of txn.now ≤ 2 ^ 40 }
+        ensures granted { OnOk result (decision_on self.old now.0 txn.now ≡ Grant) }
+        ensures written { OnOk result (self.new ≡ keys_after_grant self.old now.0 by txn.now) }
+        ensures told { IfOk result (λ granted. granted ≡ record { revision = self.old.revision + 1; by = by; leased = is_lease txn.now }) }
+        ensures refused { (key : Key) (found : Expected) → (result ≡ Err (StoreRefusal.Mismatch key found)) ↔ (decision_on self.old now.0 txn.now ≡ Refusal key found) }
         ensures err { OnErr result (self.new ≡ self.old) }
     {
-        check(&self.pairs, now, &txn)?;
+        check(&self.pairs, now, txn)?;
         self.pairs.reserve(MOST)?;
-        self.revision += 1;
-        let leased = is_lease(&txn);
         let stamp = Stamp {
-            revision: self.revision,
+            revision: self.revision + 1,
             at: now,
         };
-        grant(&mut self.pairs, stamp, by, txn);
-        Ok(Granted::of(self.revision, by, leased))
+        grant(&mut self.pairs, stamp, by, txn)?;
+        self.revision += 1;
+        Ok(Granted::of(self.revision, by, is_lease(txn)))
     }
 
     /// The keys that have an entry and are absent at this moment, in the order of `Key`. It fails only for want of memory.

@@ -1,5 +1,5 @@
 //! What granted transactions write.
-ghost use Rattle.std.specs.Prelude.{◌≡◌, ◌≤◌, ◌<◌, ◌+◌, ◌++◌, ◌^◌, Some, None, IsTrue, vec_len, vec_capacity};
+ghost use Rattle.std.specs.Prelude.{◌≡◌, ◌≤◌, ◌<◌, ◌+◌, ◌++◌, ◌^◌, Some, None, IsTrue, vec_len, vec_capacity, OnOk, OnErr};
 ghost use Rattle.std.specs.FinMap.{put, is_sorted};
 ghost use Rattle.lease_store.specs.Kept.{IsKept};
 ghost use Rattle.lease_store.specs.KeyOrder.{key_cmp};
@@ -8,6 +8,7 @@ ghost use Rattle.lease_store.specs.Writes.{Leases, Extends, Sets, writes_of, pai
 use crate::pairs::{delete, extend, put};
 use crate::{HistoryRow, Key, KeyEntry, SyncKey, Txn, Value};
 use pat_base::{Lsn, MemberId, MemberSet, Ticks};
+use std::alloc::AllocError;
 
 /// The most keys that one transaction writes.
 pub const MOST: usize = 5;
@@ -27,30 +28,46 @@ pub fn is_lease(txn: &Txn) -> bool
 }
 
 /// Writes what a transaction of a member writes, and keeps what holds of the pairs of every store. There is room for it.
-pub fn grant(pairs: &mut Vec<(Key, KeyEntry)>, stamp: Stamp, by: MemberId, txn: Txn)
+/// It fails only for want of memory for the text of a configuration, and then changes nothing.
+pub fn grant(
+    pairs: &mut Vec<(Key, KeyEntry)>,
+    stamp: Stamp,
+    by: MemberId,
+    txn: &Txn,
+) -> Result<(), AllocError>
     requires room { vec_len pairs.old + 5 ≤ vec_capacity pairs.old }
     requires kept { IsKept pairs.old.items }
     requires moment { stamp.at.0 ≤ 2 ^ 62 }
-    requires span { ttl_of txn ≤ 2 ^ 40 }
-    ensures pairs { pairs.new.items ≡ pairs_over stamp.revision stamp.at.0 pairs.old.items (writes_of by txn) }
+    requires span { ttl_of txn.now ≤ 2 ^ 40 }
+    ensures pairs { OnOk result (pairs.new.items ≡ pairs_over stamp.revision stamp.at.0 pairs.old.items (writes_of by txn.now)) }
     ensures kept { IsKept pairs.new.items }
+    ensures err { OnErr result (pairs.new.items ≡ pairs.old.items) }
 {
-    write(pairs, stamp, by, txn);
+    write(pairs, stamp, by, txn)?;
+    Ok(())
 }
 
-/// Writes what a transaction of a member writes. There is room for it.
-fn write(pairs: &mut Vec<(Key, KeyEntry)>, stamp: Stamp, by: MemberId, txn: Txn)
+/// Writes what a transaction of a member writes. There is room for it. A failure changes nothing.
+fn write(
+    pairs: &mut Vec<(Key, KeyEntry)>,
+    stamp: Stamp,
+    by: MemberId,
+    txn: &Txn,
+) -> Result<(), AllocError>
     requires room { vec_len pairs.old + 5 ≤ vec_capacity pairs.old }
     requires order { IsTrue (is_sorted key_cmp pairs.old.items) }
     requires moment { stamp.at.0 ≤ 2 ^ 62 }
-    requires span { ttl_of txn ≤ 2 ^ 40 }
-    ensures { pairs.new.items ≡ pairs_over stamp.revision stamp.at.0 pairs.old.items (writes_of by txn) }
+    requires span { ttl_of txn.now ≤ 2 ^ 40 }
+    ensures pairs { OnOk result (pairs.new.items ≡ pairs_over stamp.revision stamp.at.0 pairs.old.items (writes_of by txn.now)) }
+    ensures err { OnErr result (pairs.new.items ≡ pairs.old.items) }
 {
     match txn {
-        Txn::Touch { info, ttl } => lease(pairs, stamp, Key::Member(by), Value::Member(info), ttl),
+        Txn::Touch { info, ttl } => {
+            lease(pairs, stamp, Key::Member(by), Value::Member(*info), *ttl);
+        }
         Txn::Create { info, ttl, .. } => {
-            lease(pairs, stamp, Key::Leader, Value::Leader(by), ttl);
-            lease(pairs, stamp, Key::Member(by), Value::Member(info), ttl);
+            lease(pairs, stamp, Key::Leader, Value::Leader(by), *ttl);
+            lease(pairs, stamp, Key::Member(by), Value::Member(*info), *ttl);
         }
         Txn::Renew {
             info,
@@ -60,22 +77,27 @@ fn write(pairs: &mut Vec<(Key, KeyEntry)>, stamp: Stamp, by: MemberId, txn: Txn)
             failsafe,
             ..
         } => {
-            renew(pairs, stamp, ttl);
-            lease(pairs, stamp, Key::Member(by), Value::Member(info), ttl);
-            set_status(pairs, stamp, status);
-            set_row(pairs, stamp, row);
-            set_failsafe(pairs, stamp, failsafe);
+            renew(pairs, stamp, *ttl);
+            lease(pairs, stamp, Key::Member(by), Value::Member(*info), *ttl);
+            set_status(pairs, stamp, *status);
+            set_row(pairs, stamp, *row);
+            set_failsafe(pairs, stamp, *failsafe);
         }
         Txn::Release { .. } => delete(pairs, Key::Leader),
         Txn::Claim { .. } => set_sync(pairs, stamp, by, MemberSet::empty()),
-        Txn::SetSync { standbys, .. } => set_sync(pairs, stamp, by, standbys),
+        Txn::SetSync { standbys, .. } => set_sync(pairs, stamp, by, *standbys),
         Txn::DropSync { .. } => delete(pairs, Key::Sync),
         Txn::SetFailover { failover, ttl } => {
-            lease(pairs, stamp, Key::Failover, Value::Failover(failover), ttl);
+            let value = Value::Failover(*failover);
+            lease(pairs, stamp, Key::Failover, value, *ttl);
         }
         Txn::DropFailover { .. } => delete(pairs, Key::Failover),
-        Txn::SetConfig { config, .. } => set(pairs, stamp, Key::Config, Value::Config(config)),
+        Txn::SetConfig { config, .. } => {
+            let config = config.try_clone()?;
+            set(pairs, stamp, Key::Config, Value::Config(config));
+        }
     }
+    Ok(())
 }
 
 /// Writes a key with a lease of this span.

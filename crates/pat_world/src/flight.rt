@@ -11,7 +11,7 @@ ghost use Rattle.pat_world.specs.Short.{IsSent};
 
 use event_book::Message;
 use lease_store::{Granted, Key, KeyEntry};
-use pat_base::Ticks;
+use pat_base::{Shared, Ticks};
 use std::alloc::{AllocError, Global};
 use std::collections::BTreeMap;
 use std::marker::Model;
@@ -23,7 +23,7 @@ const MOST: usize = 65_536;
 /// and the grant.
 #[derive(Drop)]
 pub struct InFlight {
-    pub message: Message,
+    pub message: Shared<Message>,
     /// The moment of its sending.
     pub sent: Ticks,
     pub snapshot: Vec<(Key, KeyEntry)>,

@@ -126,7 +126,7 @@ fn one_member(rt: HostRuntime) -> Result<(), Fail> {
         failsafe: None,
         sync: None,
     };
-    let granted = store.apply(Ticks(1), who(&rt).me, create)?;
+    let granted = store.apply(Ticks(1), who(&rt).me, &create)?;
     let held = snapshot(rt.alloc(), &rt, &store, Ticks(1))?;
     let read = snapshot(rt.alloc(), &rt, &store, Ticks(101))?;
     let mut machine = Machine {

@@ -66,7 +66,7 @@ pub(crate) fn ask(
     assert!(rt; store.revision() < 1000);
     assert!(rt; at <= Ticks(1_000_000));
     assert!(rt; span(&txn) <= TTL);
-    let granted = store.apply(at, by, txn)?;
+    let granted = store.apply(at, by, &txn)?;
     assert!(rt; granted.by() == by);
     Ok(granted.revision())
 }

@@ -104,7 +104,7 @@ fn breach_by_store(event: &StoreEvent) -> Option<Breach>
     ensures { result ≡ breach_by_store event.now }
 {
     match event {
-        StoreEvent::Granted { txn, .. } => breach_by_txn(txn),
+        StoreEvent::Granted { txn, .. } => breach_by_txn(txn.get()),
         _ => None,
     }
 }
@@ -175,7 +175,7 @@ fn keeps_mode_in_store(on: bool, event: &StoreEvent) -> bool
     ensures { result ≡ keeps_mode_in_store on event.now }
 {
     match event {
-        StoreEvent::Granted { txn, .. } => keeps_mode_in_txn(on, txn),
+        StoreEvent::Granted { txn, .. } => keeps_mode_in_txn(on, txn.get()),
         _ => true,
     }
 }

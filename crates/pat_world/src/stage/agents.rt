@@ -195,8 +195,9 @@ impl Stage {
             snapshot,
             grant,
         } = carried;
+        let message = message.get();
         let sequence = message.sequence;
-        match message.body {
+        match &message.body {
             Body::Snapshot => {
                 let snapshot = self.snapshot(snapshot)?;
                 Ok(Some(Heard::Got { sequence, snapshot }))
@@ -214,8 +215,8 @@ impl Stage {
             }
             Body::Refused { key, found, .. } => Ok(Some(Heard::Mismatch {
                 sequence,
-                key,
-                found,
+                key: *key,
+                found: *found,
             })),
             _ => Ok(None),
         }

@@ -25,7 +25,7 @@ use event_book::{
     Body, Event, EventKind, LinkEnd, Member, Message, MessageEvent, Names, Note, StoreEvent,
 };
 use lease_store::{Granted, Key, KeyEntry, StoreRefusal, Txn};
-use pat_base::Ticks;
+use pat_base::{Shared, Ticks};
 use std::alloc::AllocError;
 
 impl Stage {
@@ -95,7 +95,7 @@ impl Stage {
         let Some(carried) = self.flight.get(number) else {
             return Ok(());
         };
-        self.index.keep(message_way(&carried.message), number)?;
+        self.index.keep(message_way(carried.message.get()), number)?;
         Ok(())
     }
 
@@ -144,7 +144,7 @@ impl Stage {
         ensures { result ≡ option_map (λ m. delivery_of self.now.book.cuts self.now.book.agents m.message) (in_flight self.now.book.flight number) }
     {
         let carried = self.flight.get(number)?;
-        Some(delivery_of(&self.cuts, &self.processes, &carried.message))
+        Some(delivery_of(&self.cuts, &self.processes, carried.message.get()))
     }
 
     /// A message in flight is lost.
@@ -164,14 +164,14 @@ impl Stage {
             return Ok(());
         };
         self.index.remove(number);
-        match carried.message.to {
+        match carried.message.get().to {
             LinkEnd::Store => {
                 note(
                     events,
                     self.clock,
                     EventKind::Message(MessageEvent::Delivered { number }),
                 )?;
-                self.answer(number, &carried.message, events)
+                self.answer(number, carried.message.get(), events)
             }
             LinkEnd::Member(member) => self.deliver_to(number, carried, member, events),
         }
@@ -189,7 +189,7 @@ impl Stage {
         requires sent { IsSent carried }
         ensures { OnOk result (Emits (reached_by self.old member carried) self.new (events.old.items ++ record { tick = record { 0 = self.old.book.clock }; kind = EventKind.Message (MessageEvent.Delivered number) } ∷ []) events.new.items (input_events (reached_by self.old member carried) member (heard_message number carried) (outcome_of_heard self.old member (heard_from self.old carried))) outputs_cost) }
     {
-        let run = carried.message.run;
+        let run = carried.message.get().run;
         let sent = carried.sent;
         let heard = self.heard_from(carried)?;
         let mut outputs = self.take_outputs()?;
@@ -242,12 +242,12 @@ impl Stage {
         let LinkEnd::Member(by) = message.from else {
             return Ok(());
         };
-        match self.store.apply(self.clock, by.id, txn.try_clone()?) {
+        match self.store.apply(self.clock, by.id, txn) {
             Ok(grant) => {
                 let granted = StoreEvent::Granted {
                     number,
                     by,
-                    txn: txn.try_clone()?,
+                    txn: Shared::new(self.alloc, txn.try_clone()?)?,
                     standbys: Names::none(self.alloc),
                 };
                 note(events, self.clock, EventKind::Store(granted))?;
@@ -291,10 +291,11 @@ impl Stage {
         ensures { OnOk result (Emits self.old self.new events.old.items events.new.items (send_events self.old message) sending_cost) }
     {
         let number = self.sent + 1;
+        let message = Shared::new(self.alloc, message)?;
         let carried = InFlight {
             message: message.try_clone()?,
             sent: self.clock,
-            snapshot: self.snapshot_for(&message.body)?,
+            snapshot: self.snapshot_for(&message.get().body)?,
             grant,
         };
         self.index.insert(number)?;

@@ -72,14 +72,14 @@ returns-in_ok-note-in-Store c =
     let before = seen c.self.inside in
     let carried = c.in-Some.carried in
     let found : in_flight before.book.flight c.args.number ≡ Some carried = sym c.land.ensures.message ∙ c.in-Some.is in
-    let to : carried.message.to ≡ link_ends.Store = ap (λ m. m.message.to) (sym c.carried.view_is) ∙ c.in-Store.is in
+    let to : carried.message.to ≡ link_ends.Store = ap (λ m. m.message.to) (sym c.carried.view_is) ∙ ap (λ (m : Message). m.to) (sym c.get.ensures) ∙ c.in-Store.is in
     let state = hearing-is before c.args.number carried link_ends.Store c.land.new.self c.land.ensures.flight to found in
     on_ok_weaker c.answer.result
     (λ took. subst (λ (b : Cluster). Emits b c.answer.new.self c.args.events.now.items c.answer.new.events.items (for_some (in_flight b.book.flight c.args.number) (arrival_events b c.args.number)) message_cost) c.self.view_is
     (stored-took before (landing before c.land.new.self before.agents) c.answer.new.self c.args.number carried c.self.inside.clock c.args.events.now.items c.note.new.events.items c.answer.new.events.items
     found to refl state c.in_ok-note-in-Store.ensures
     (subst (λ (m : Message). Emits (landing before c.land.new.self before.agents) c.answer.new.self c.note.new.events.items c.answer.new.events.items (answer_events (landing before c.land.new.self before.agents) c.args.number m) 3)
-    (ap (λ (m : InFlightFacts). m.message) c.carried.view_is) took)))
+    (c.get-in-Store.ensures ∙ ap (λ (m : InFlightFacts). m.message) c.carried.view_is) took)))
     c.answer.ensures
 
 pub deliver_to-requires-clause-room : goal.deliver_to-requires-clause-room
@@ -93,7 +93,7 @@ returns-in-Member c =
     let carried = c.in-Some.carried in
     let member = c.in-Member.member in
     let found : in_flight before.book.flight c.args.number ≡ Some carried = sym c.land.ensures.message ∙ c.in-Some.is in
-    let to : carried.message.to ≡ link_ends.Member member = ap (λ m. m.message.to) (sym c.carried.view_is) ∙ c.in-Member.is in
+    let to : carried.message.to ≡ link_ends.Member member = ap (λ m. m.message.to) (sym c.carried.view_is) ∙ ap (λ (m : Message). m.to) (sym c.get.ensures) ∙ c.in-Member.is in
     let landed = landing before c.land.new.self before.agents in
     let hearing = reached_by landed member carried in
     let state = hearing-is before c.args.number carried (link_ends.Member member) c.land.new.self c.land.ensures.flight to found in

@@ -1,11 +1,10 @@
 use Rattle.std.proofs.Common.{◌≡◌, ◌∙◌, ◌++◌, [], ◌∷◌, Bool, Err, arith, refl, ap, sym, subst}
 use Rattle.std.proofs.lemmas.Result.{on_ok_weaker}
 use Rattle.lease_store.specs.declared.granted.Granted.{Granted}
-use Rattle.lease_store.specs.declared.txn.Txn.{Txn}
 use Rattle.lease_store.specs.Decision.{decision_on, Grant, Refusal}
 use Rattle.lease_store.specs.Keys.{Keys}
 use Rattle.lease_store.specs.declared.txn_kind.TxnKind.{TxnKind}
-use Rattle.lease_store.specs.Writes.{keys_after_grant, is_lease}
+use Rattle.lease_store.specs.Writes.{is_lease}
 use Rattle.event_book.specs.declared.event.Event.{Event}
 use Rattle.event_book.specs.declared.event.EventKind.TheVariants as kinds
 use Rattle.event_book.specs.declared.event.StoreEvent.TheVariants as stores
@@ -24,7 +23,7 @@ pub send-requires-clause-room : goal.send-requires-clause-room
 send-requires-clause-room c =
     let before = seen c.self.inside in
     let by = c.in-Member.by in
-    let written = c.in-Ok.ensures.written ∙ ap (λ (t : Txn). keys_after_grant before.book.keys before.book.clock by.id t) c.in_ok-try_clone.ensures in
+    let written = c.in-Ok.ensures.written in
     let state = ap (λ (keys : Keys). let g : Cluster = record before { book = record before.book { keys = keys } } in g) written in
     let room : HasRoom before 3 = subst (λ (b : Cluster). HasRoom b 3) (sym c.self.view_is) c.requires.room in
     subst (λ (b : Cluster). HasRoom b 2) (sym state) (HasRoom-cluster_after before (kinds.Store (stores.Granted c.args.number by c.args.txn.now [])) 2 tt room)
@@ -43,12 +42,12 @@ returns-in_ok-note-in-Ok c =
     let message = c.args.message.now in
     let by = c.in-Member.by in
     let granting : Cluster = record before { book = record before.book { keys = c.apply.new.self } } in
-    let decision : decision_on before.book.keys before.book.clock txn ≡ Grant = ap (decision_on before.book.keys before.book.clock) (sym c.in_ok-try_clone.ensures) ∙ c.in-Ok.ensures.granted in
-    let written = c.in-Ok.ensures.written ∙ ap (λ (t : Txn). keys_after_grant before.book.keys before.book.clock by.id t) c.in_ok-try_clone.ensures in
+    let decision : decision_on before.book.keys before.book.clock txn ≡ Grant = c.in-Ok.ensures.granted in
+    let written = c.in-Ok.ensures.written in
     let state = ap (λ (keys : Keys). let g : Cluster = record before { book = record before.book { keys = keys } } in g) written in
-    let leased : c.leased.result ≡ is_lease txn = c.leased.ensures ∙ ap (λ (g : Granted). g.leased) c.in-Ok.ensures.told ∙ ap is_lease c.in_ok-try_clone.ensures in
+    let leased : c.leased.result ≡ is_lease txn = c.leased.ensures ∙ ap (λ (g : Granted). g.leased) c.in-Ok.ensures.told in
     let answer = c.answer_message.ensures ∙ ap (λ (l : Bool). answer_message message (bodies.Granted c.args.number l)) leased in
-    let mid = c.in_ok-note-in-Ok.ensures ∙ ap (λ es. c.args.events.now.items ++ es) (granted-event c.self.inside.clock c.args.number by _ txn _ c.in_ok-try_clone-in-Ok.ensures c.none.ensures) in
+    let mid = c.in_ok-note-in-Ok.ensures ∙ ap (λ es. c.args.events.now.items ++ es) (granted-event c.self.inside.clock c.args.number by _ txn _ (c.in_ok-new-in-Ok.ensures ∙ c.in_ok-try_clone-in-Ok.ensures) c.none.ensures) in
     on_ok_weaker c.send.result
     (λ took. subst (λ (b : Cluster). Emits b c.send.new.self c.args.events.now.items c.send.new.events.items (decision_events b c.args.number message txn (decision_on b.book.keys b.book.clock txn) message.from) 3) c.self.view_is
     (granted-took before granting c.send.new.self c.args.number by message txn c.self.inside.clock c.args.events.now.items c.note.new.events.items c.send.new.events.items
@@ -66,7 +65,7 @@ returns-in_ok-note-in-Err-Mismatch c =
     let found = c.in-Err-Mismatch.found in
     let refusing : Cluster = record before { book = record before.book { keys = c.apply.new.self } } in
     let decision : decision_on before.book.keys before.book.clock txn ≡ Refusal key found =
-    ap (decision_on before.book.keys before.book.clock) (sym c.in_ok-try_clone.ensures) ∙ (c.in-Err-Mismatch.ensures.refused key found).0 (ap Err c.in-Err-Mismatch.field-0-is) in
+    (c.in-Err-Mismatch.ensures.refused key found).0 (ap Err c.in-Err-Mismatch.field-0-is) in
     let state : ◌≡◌ {A = Cluster} refusing before = ap (λ (keys : Keys). let g : Cluster = record before { book = record before.book { keys = keys } } in g) c.in-Err-Mismatch.ensures.err in
     let mid = c.in_ok-note-in-Err-Mismatch.ensures ∙ ap (λ (k : TxnKind). let event : Event = record { tick = c.self.inside.clock; kind = kinds.Store (stores.Refused c.args.number by k key found) } in c.args.events.now.items ++ event ∷ []) c.kind.ensures in
     on_ok_weaker c.send-in-Err-Mismatch.result

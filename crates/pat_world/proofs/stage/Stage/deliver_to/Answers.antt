@@ -1,4 +1,5 @@
 use Rattle.std.proofs.Common.{ℕ, ◌≤◌, ◌∙◌, List, All, length, ap, sym, subst}
+use Rattle.event_book.specs.declared.message.Message.{Message}
 use Rattle.event_book.specs.Flight.{InFlightFacts}
 use Rattle.ha_loop.specs.declared.output.Output.{Output}
 use Rattle.ha_loop.specs.Outputs.{most_outputs}
@@ -27,8 +28,9 @@ carry_out-requires-clause-short c = subst (λ (os : List Output). All AsksShortl
 pub returns : goal.returns
 returns c =
     let after = seen c.self-2.inside in
-    let told : HeardMessage = record { number = c.args.number; run = c.carried.inside.message.run; sent = c.carried.inside.sent } in
-    let told_is = ap (λ (m : InFlightFacts). let h : HeardMessage = record { number = c.args.number; run = m.message.run; sent = m.sent } in h) c.carried.view_is in
+    let told : HeardMessage = record { number = c.args.number; run = c.get.result.now.run; sent = c.carried.inside.sent } in
+    let read_is = ap (λ (m : Message). let h : HeardMessage = record { number = c.args.number; run = m.run; sent = c.carried.inside.sent } in h) c.get.ensures in
+    let told_is = read_is ∙ ap (λ (m : InFlightFacts). let h : HeardMessage = record { number = c.args.number; run = m.message.run; sent = m.sent } in h) c.carried.view_is in
     let moment : Cluster → ℕ = λ b. b.book.clock in
     let at = ap moment c.self.view_is ∙ ap moment c.hear_if.ensures.world ∙ ap moment c.take_outputs.ensures.world in
     let done = subst (λ (a : Cluster). Emits c.hear_if.new.self a c.note.new.events.items c.carry_out.new.events.items (each (output_events c.args.member told) c.hear_if.new.self c.hear_if.new.outputs.outputs) outputs_cost) (sym c.self-2.view_is) c.in_ok-carry_out.ensures.emits in

@@ -20,6 +20,6 @@ invariant_of-self-2 c =
     let found : in_flight w.flight c.args.number ≡ Some message = sym c.get.ensures ∙ ap option_copied c.in-Some.is in
     let seen_so = subst (λ (b : Cluster). IfSome (in_flight b.book.flight c.args.number) (λ m. delivery_of b.book.cuts b.book.agents m.message ≡ Suspended)) (sym c.self.view_is) c.requires in
     let suspended = subst (λ (o : Option InFlightFacts). IfSome o (λ m. delivery_of w.cuts w.processes.items m.message ≡ Suspended)) found seen_so in
-    let way = c.message_way.ensures.way ∙ ap (λ (m : InFlightFacts). message_way m.message) c.carried.view_is in
+    let way = c.message_way.ensures.way ∙ ap message_way c.get-2.ensures ∙ ap (λ (m : InFlightFacts). message_way m.message) c.carried.view_is in
     let listed = subst (λ (n : ℕ). is_kept c.keep.new.self n c.args.number ≡ true) way c.in_ok-keep.ensures.kept in
     (c.self.invariant.0, c.self.invariant.1, tended-kept w.index c.keep.new.self c.args.number message w.flight w.processes.items w.cuts found c.keep.ensures.others listed suspended c.self.invariant.2, c.self.invariant.3, c.self.invariant.4)

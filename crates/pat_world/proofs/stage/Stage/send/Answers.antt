@@ -1,6 +1,10 @@
-use Rattle.std.proofs.Common.{◌∙◌, ◌+◌, refl, ap, sym, subst}
+use Rattle.std.proofs.Common.{◌∙◌, ◌+◌, ◌++◌, [], ◌∷◌, refl, ap, sym, subst}
 use Rattle.std.proofs.lemmas.Result.{on_ok_weaker}
 use Rattle.lease_store.specs.Answers.{present_pairs}
+use Rattle.event_book.specs.declared.event.Event.{Event}
+use Rattle.event_book.specs.declared.event.EventKind.TheVariants as kinds
+use Rattle.event_book.specs.declared.event.MessageEvent.TheVariants.{Sent}
+use Rattle.event_book.specs.declared.message.Message.{Message}
 use Rattle.event_book.specs.Flight.{grant_for, snapshot_for}
 use Rattle.cluster_model.specs.State.{Cluster}
 use Rattle.pat_world.specs.Launches.{launched_into}
@@ -56,12 +60,16 @@ returns c =
     let before = seen c.self.inside in
     let message = c.args.message in
     let grant = c.requires.grant ∙ ap (λ (f : Cluster). grant_for message.body message.to f.book.keys.revision) (sym c.self.view_is) in
-    let told = c.in_ok-snapshot_for.ensures.entries ∙ ap (λ (f : Cluster). snapshot_for message.body (present_pairs f.book.clock f.book.keys.pairs)) (sym c.self.view_is) in
-    let loaded = loaded-is before message c.in_ok-try_clone.field-0 c.self.inside.clock c.in_ok-snapshot_for.field-0.items c.args.grant c.in_ok-try_clone.ensures refl told grant in
+    let shared = c.in_ok-message.ensures in
+    let known = c.args.self.now in
+    let told = c.in_ok-snapshot_for.ensures.entries ∙ ap (λ (m : Message). snapshot_for m.body (present_pairs known.book.clock known.book.keys.pairs)) (c.get.ensures ∙ shared) ∙ ap (λ (f : Cluster). snapshot_for message.body (present_pairs f.book.clock f.book.keys.pairs)) (sym c.self.view_is) in
+    let loaded = loaded-is before message c.in_ok-try_clone.field-0 c.self.inside.clock c.in_ok-snapshot_for.field-0.items c.args.grant (c.in_ok-try_clone.ensures ∙ shared) refl told grant in
+    let number = before.book.sent + 1 in
+    let mid = c.in_ok-note.ensures ∙ ap (λ (m : Message). let event : Event = record { tick = c.self.inside.clock; kind = kinds.Message (Sent number m) } in c.args.events.now.items ++ event ∷ []) shared in
     let after = with_flight before c.launch.new.self (before.book.sent + 1) in
     on_ok_weaker c.note_lost.result
     (λ has. subst (λ (b : Cluster). Emits b after c.args.events.now.items c.note_lost.new.events.items (send_events b message) 2) c.self.view_is
     (send-took before after message c.self.inside.clock c.launch.new.self c.in_ok-lost.lost c.args.events.now.items c.note.new.events.items c.note_lost.new.events.items refl
     (c.in_ok-lost.ensures.flight ∙ ap (λ m. launched_into before.book.flight (before.book.sent + 1) m) loaded)
-    c.in_ok-lost.ensures.lost refl c.in_ok-note.ensures has))
+    c.in_ok-lost.ensures.lost refl mid has))
     c.note_lost.ensures
