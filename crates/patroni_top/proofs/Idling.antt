@@ -1,5 +1,5 @@
 -- Ticks that bring nothing else print nothing, and are noted at once.
-use Rattle.std.proofs.Common.{◌≡◌, Bool, ℕ, ◌+◌, ◌-◌, ◌≤◌, ◌<◌, List, [], ◌∷◌, ◌++◌, length, Result, Ok, Err, arith, append-nil, refl, ◌∙◌, ap, sym, subst, suc, zero, replicate}
+use Rattle.std.proofs.Common.{◌≡◌, Bool, ℕ, ◌+◌, ◌-◌, ◌≤◌, ◌<◌, List, [], ◌∷◌, ◌++◌, length, Ok, arith, refl, ◌∙◌, ap, sym, subst, suc, zero, replicate}
 use Rattle.std.specs.Prelude.{All}
 use Rattle.std.proofs.lemmas.List.{length-replicate}
 use Rattle.std.proofs.lemmas.List.Elements.{All-nil, All-cons}
@@ -7,26 +7,22 @@ use Rattle.pat_base.specs.declared.outside.Sink.{Ghosts}
 use Rattle.pat_base.specs.Prints.{Prints}
 use Rattle.pat_base.proofs.Printing.{Prints-nothing}
 use Rattle.event_book.specs.declared.event.Event.{Event}
-use Rattle.event_book.specs.declared.event.EventKind.TheVariants as kinds
 use Rattle.event_book.specs.declared.member.Member.{Member}
 use Rattle.event_book.specs.Text.{lines_of}
 use Rattle.cluster_script.specs.declared.line.Step.{Step}
 use Rattle.cluster_script.specs.declared.line.Step.TheVariants as steps
 use Rattle.cluster_model.specs.Cluster.{cluster_over}
 use Rattle.cluster_model.specs.Next.{next_events, run_events}
-use Rattle.cluster_model.specs.Parts.{event_of}
 use Rattle.cluster_model.specs.State.{Cluster}
 use Rattle.cluster_model.specs.Steps.{IsStep}
 use Rattle.summary.specs.Passing.{IsTickAlone}
-use Rattle.summary.specs.Sights.{SummaryFacts, noted_steps}
+use Rattle.summary.specs.Sights.{noted_steps}
 use Rattle.pat_world.specs.Idle.{BringsTicks, IsTick}
 use Rattle.pat_world.specs.Room.{HasRoomFor}
 use Rattle.patroni_top.specs.declared.playing.Player.{Player}
-use Rattle.patroni_top.specs.declared.print_error.PrintError.{PrintError}
-use Rattle.patroni_top.specs.declared.print_error.PrintError.TheVariants.{Memory, Write}
+use Rattle.patroni_top.specs.declared.print_error.PrintError.TheVariants.{Write}
 use Rattle.patroni_top.specs.Playing.{Idles, Plays}
 use Rattle.patroni_top.specs.Run.{events_by_step, noted_from, printed_from, traced_after, traced_over}
-use Rattle.patroni_top.proofs.Played.{memory-is-no-write}
 
 -- a tick changes nothing of what is traced
 traced-once : (trace : Bool) (step : Step) → IsTick step → traced_after trace step ≡ trace
