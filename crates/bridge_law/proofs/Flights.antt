@@ -22,6 +22,7 @@ use Rattle.event_book.specs.declared.link.LinkEnd.TheVariants as ends
 use Rattle.event_book.specs.declared.member.Member.{Member}
 use Rattle.event_book.specs.declared.message.Body.{Body}
 use Rattle.event_book.specs.declared.message.Body.TheVariants as bodies
+use Rattle.lease_store.specs.Settings.{Settings}
 use Rattle.event_book.specs.declared.message.Message.{Message}
 use Rattle.event_book.specs.Flight.{InFlightFacts, Flight, in_flight, without_message, launched, snapshot_for, grant_for}
 use Rattle.event_book.specs.Facts.{Facts, facts_after, start_of}
@@ -35,8 +36,8 @@ use Rattle.lease_law.proofs.Tools.{some-is, none-some, put-all, put-here, put-th
 use Rattle.bridge_law.specs.Flights.{past_at_sending, flying_carried, flying_if, AnswersBody, Answers, IsSameFlight, IsCausal}
 use Rattle.bridge_law.proofs.Entries.{in-with, in-without, rises-with, rises-without}
 
-pub flight-first : (names : List Name) (base : ℕ) → IsSameFlight first_past (start_of names base)
-flight-first names base = record {
+pub flight-first : (first : Settings) (names : List Name) (base : ℕ) → IsSameFlight first_past (start_of first names base)
+flight-first first names base = record {
   same = λ i. refl;
   order = tt;
   flown = λ i carried e. absurd (none-some carried e);

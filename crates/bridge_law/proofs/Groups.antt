@@ -22,6 +22,7 @@ use Rattle.event_book.specs.Flight.{InFlightFacts, in_flight}
 use Rattle.event_book.specs.Facts.{Facts, facts_after, facts_over, start_of}
 use Rattle.lease_law.specs.Leases.{Question}
 use Rattle.lease_law.specs.Claims.{BeginsBehind}
+use Rattle.lease_store.specs.Settings.{Settings}
 use Rattle.lease_law.specs.Past.{Past, first_past, query_of, past_after, past_over}
 use Rattle.lease_law.specs.Premises.{AllAre}
 use Rattle.lease_law.specs.Stores.{IsSpannedTxn, IsSpanned}
@@ -32,8 +33,8 @@ use Rattle.bridge_law.specs.Groups.{IsMemberEnd, IsOfMembers, IsNumberedAbove, A
 use Rattle.bridge_law.proofs.Flights.{flight-first, flight-by}
 use Rattle.bridge_law.proofs.Hearing.{heard-request}
 
-pub book-first : (names : List Name) (base : ℕ) → IsSameBook first_past (start_of names base)
-book-first names base = record { store = same-first names base; flight = flight-first names base }
+pub book-first : (first : Settings) (names : List Name) (base : ℕ) → IsSameBook first_past (start_of first names base)
+book-first first names base = record { store = same-first first names base; flight = flight-first first names base }
 
 pub book-by : (past : Past) (facts : Facts) (kind : EventKind) → IsSpanned kind → IsCausal past facts kind → IsSameBook past facts → IsSameBook (past_after past kind) (facts_after facts kind)
 book-by past facts kind span causal old = record { store = same-by past facts kind span old.store; flight = flight-by past facts kind causal old.store old.flight }

@@ -8,6 +8,7 @@ use Rattle.pat_base.specs.declared.ticks.Ticks.{Ticks}
 use Rattle.pat_base.specs.Changes.{changed_at, with_changed}
 use Rattle.pg_model.specs.Facts.{ServerFacts, fresh}
 use Rattle.pg_model.proofs.Clusters.{got-set_same, got-set_other}
+use Rattle.lease_store.specs.Settings.{Settings}
 use Rattle.event_book.specs.declared.agent_process.AgentProcess.{AgentProcess}
 use Rattle.event_book.specs.declared.event.AgentEvent.{AgentEvent}
 use Rattle.event_book.specs.declared.event.AgentEvent.TheVariants as agents
@@ -219,8 +220,8 @@ none-writes base zero m = refl
 none-writes base (suc count) zero = refl
 none-writes base (suc count) (suc m) = none-writes base count m
 
-pub machines-first : (names : List Name) (base : ℕ) → IsSameMachines first_past (start_of names base)
-machines-first names base =
+pub machines-first : (first : Settings) (names : List Name) (base : ℕ) → IsSameMachines first_past (start_of first names base)
+machines-first first names base =
     let count : ℕ = length names in
     record {
       deadline_count = length-replicate count None ∙ sym (first-long count);
@@ -237,15 +238,15 @@ machines-over : (past : Past) (facts : Facts) (book : List Event) → IsSameMach
 machines-over past facts [] old = old
 machines-over past facts (event ∷ events) old = machines-over (past_after past event.kind) (facts_after facts event.kind) events (machines-by past facts event.kind old)
 
-pub machines-of : (names : List Name) (base : ℕ) (book : List Event) → IsSameMachines (past_of book) (facts_over (start_of names base) book)
-machines-of names base book = machines-over first_past (start_of names base) book (machines-first names base)
+pub machines-of : (first : Settings) (names : List Name) (base : ℕ) (book : List Event) → IsSameMachines (past_of book) (facts_over (start_of first names base) book)
+machines-of first names base book = machines-over first_past (start_of first names base) book (machines-first first names base)
 
 count-over : (facts : Facts) (book : List Event) → length (facts_over facts book).agents ≡ length facts.agents
 count-over facts [] = refl
 count-over facts (event ∷ events) = count-over (facts_after facts event.kind) events ∙ agents-long facts.agents event.kind
 
-pub count-in : (names : List Name) (base : ℕ) (book : List Event) → length (facts_over (start_of names base) book).agents ≡ length names
-count-in names base book = count-over (start_of names base) book ∙ first-long (length names)
+pub count-in : (first : Settings) (names : List Name) (base : ℕ) (book : List Event) → length (facts_over (start_of first names base) book).agents ≡ length names
+count-in first names base book = count-over (start_of first names base) book ∙ first-long (length names)
 
 writes-over : (past : Past) (book : List Event) → (past_over past book).writes ≡ writes_over past.writes book
 writes-over past [] = refl

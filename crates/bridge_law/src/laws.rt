@@ -5,6 +5,7 @@ ghost use Rattle.pat_base.specs.declared.name.Name.{Name};
 ghost use Rattle.pat_base.specs.declared.ticks.Ticks.{Ticks};
 ghost use Rattle.lease_store.specs.Decision.{decision_on, Refusal, Grant as Grants};
 ghost use Rattle.lease_store.specs.KeyOrder.{key_cmp};
+ghost use Rattle.lease_store.specs.Settings.{Settings};
 ghost use Rattle.lease_store.specs.declared.key.Key.{Key};
 ghost use Rattle.lease_store.specs.declared.key.Key.TheVariants.{Leader, Failsafe};
 ghost use Rattle.lease_store.specs.declared.txn.Expected.{Expected};
@@ -42,14 +43,14 @@ ghost use Rattle.bridge_law.specs.Waiting.{IsAskedOnce, IsLastAsked, IsLastRun, 
 /// A book leaves the same messages in flight by the law's definitions as by its own: each event keeps it, if a message is sent under a
 /// new number, and a grant of the key store answers a question that was asked.
 pub fn same_flight()
-    ensures first { (names : List Name) (base : ℕ) → IsSameFlight first_past (start_of names base) }
+    ensures first { (first : Settings) (names : List Name) (base : ℕ) → IsSameFlight first_past (start_of first names base) }
     ensures each { (past : Past) (facts : Facts) (kind : EventKind)
         → IsCausal past facts kind → IsSameStore past facts → IsSameFlight past facts → IsSameFlight (past_after past kind) (facts_after facts kind) }
 {}
 
 /// The same of keys and messages together, over a list of events.
 pub fn same_book()
-    ensures first { (names : List Name) (base : ℕ) → IsSameBook first_past (start_of names base) }
+    ensures first { (first : Settings) (names : List Name) (base : ℕ) → IsSameBook first_past (start_of first names base) }
     ensures over { (book : List Event) (facts : Facts) (events : List Event)
         → AreCausal (past_of book) facts events → IsSameBook (past_of book) facts → IsSameBook (past_of (book ++ events)) (facts_over facts events) }
     // So at each moment inside them.
@@ -152,11 +153,11 @@ pub fn inputs_send()
 
 /// A book leaves the same deadlines, holds, runs and writers of its members by the law's definitions as by its own.
 pub fn same_machines()
-    ensures first { (names : List Name) (base : ℕ) → IsSameMachines first_past (start_of names base) }
+    ensures first { (first : Settings) (names : List Name) (base : ℕ) → IsSameMachines first_past (start_of first names base) }
     ensures each { (past : Past) (facts : Facts) (kind : EventKind) → IsSameMachines past facts → IsSameMachines (past_after past kind) (facts_after facts kind) }
     // So each book does.
-    ensures book { (names : List Name) (base : ℕ) (book : List Event) → IsSameMachines (past_of book) (facts_over (start_of names base) book) }
-    ensures count { (names : List Name) (base : ℕ) (book : List Event) → length (facts_over (start_of names base) book).agents ≡ length names }
+    ensures book { (first : Settings) (names : List Name) (base : ℕ) (book : List Event) → IsSameMachines (past_of book) (facts_over (start_of first names base) book) }
+    ensures count { (first : Settings) (names : List Name) (base : ℕ) (book : List Event) → length (facts_over (start_of first names base) book).agents ≡ length names }
     // Writers by the law are those that the book's own definition gives, also of numbers that no member has.
     ensures writers { (book : List Event) → (past_of book).writes ≡ writes_over (λ n. false) book }
 {}
@@ -169,8 +170,8 @@ pub fn fed_by_grants()
 
 /// There are such books with a grant in flight.
 pub fn example()
-    ensures { (names : List Name) (base : ℕ) (by : Member) (info : MemberInfo)
-        → AreCausal first_past (start_of names base) (asked_and_granted by info) × ((past_of (asked_and_granted by info)).flight 2 ≡ Some (Answered (answer_flying by))) }
+    ensures { (first : Settings) (names : List Name) (base : ℕ) (by : Member) (info : MemberInfo)
+        → AreCausal first_past (start_of first names base) (asked_and_granted by info) × ((past_of (asked_and_granted by info)).flight 2 ≡ Some (Answered (answer_flying by))) }
 {}
 
 /// A front of events in which only who may begin begins is one.

@@ -2,8 +2,8 @@
 use Rattle.std.specs.Prelude.{ℕ, Bool, false, List, [], ◌∷◌, Option, None, length, replicate}
 use Rattle.pat_base.specs.declared.name.Name.{Name}
 use Rattle.pat_base.specs.declared.ticks.Ticks.{Ticks}
-use Rattle.lease_store.specs.Defaults.{default_settings}
 use Rattle.lease_store.specs.Keys.{Keys, first_keys}
+use Rattle.lease_store.specs.Settings.{Settings}
 use Rattle.pg_model.specs.Facts.{ServerFacts, fresh}
 use Rattle.event_book.specs.declared.event.Event.{Event}
 use Rattle.event_book.specs.declared.event.EventKind.{EventKind}
@@ -62,11 +62,12 @@ abbrev pub facts_over : Facts → List Event → Facts
 facts_over facts [] = facts
 facts_over facts (event ∷ events) = facts_over (facts_after facts event.kind) events
 
--- what there is before the first event, over members of these names, each with a server whose log has so many bytes of data
-abbrev pub start_of : List Name → ℕ → Facts
-start_of names base = record {
+-- what there is before the first event, where the key store holds this configuration, over members of these names, each with a server whose log
+-- has so many bytes of data
+abbrev pub start_of : Settings → List Name → ℕ → Facts
+start_of first names base = record {
   clock = 0;
-  keys = first_keys default_settings;
+  keys = first_keys first;
   members = members_from 0 names;
   agents = first_agents (length names);
   cuts = none_cut;

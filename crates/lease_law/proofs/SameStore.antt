@@ -15,7 +15,7 @@ use Rattle.lease_store.specs.declared.value.Value.TheVariants as values
 use Rattle.lease_store.specs.KeyOrder.{key_cmp}
 use Rattle.lease_store.specs.Keys.{is_present, present}
 use Rattle.lease_store.specs.Writes.{extended_expiry}
-use Rattle.lease_store.specs.Defaults.{default_settings}
+use Rattle.lease_store.specs.Settings.{Settings}
 use Rattle.lease_store.proofs.Keeping.{kept_after, kept_present, find_present}
 use Rattle.lease_store.proofs.Fences.{kept_first}
 use Rattle.lease_store.proofs.OneKey.{renewed as held_renewed, leader_after, find_leader_after, failsafe_written, failsafe_after, find_failsafe_after}
@@ -31,8 +31,8 @@ use Rattle.lease_law.specs.Past.{Past, members_if, query_of, extended_by, leader
 use Rattle.lease_law.proofs.Tools.{some-is, none-some, le-from, gt-from}
 use Rattle.lease_law.specs.Stores.{leader_value, leader_key_of, failsafe_key_of, IsLeased, IsEndless, IsSpannedTxn, IsSpanned, IsSameStore}
 
-pub same-first : (names : List Name) (base : ℕ) → IsSameStore first_past (start_of names base)
-same-first names base = record { clock = refl; revision = refl; leader = refl; failsafe = refl; kept = kept_first default_settings; leased = tt; endless = tt; present = λ key e. absurd (none-some key e) }
+pub same-first : (first : Settings) (names : List Name) (base : ℕ) → IsSameStore first_past (start_of first names base)
+same-first first names base = record { clock = refl; revision = refl; leader = refl; failsafe = refl; kept = kept_first first; leased = tt; endless = tt; present = λ key e. absurd (none-some key e) }
 
 lt-from : (m n : ℕ) → nat_lt m n ≡ true → m < n
 lt-from m n e = grind (arith, nat_tests)

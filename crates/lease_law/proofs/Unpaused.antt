@@ -21,7 +21,7 @@ use Rattle.lease_store.specs.Keys.{Keys, is_present, present}
 use Rattle.lease_store.specs.Kept.{IsKept}
 use Rattle.lease_store.specs.Answers.{present_pairs}
 use Rattle.lease_store.specs.Writes.{keys_after_grant, writes_of, status_writes, row_writes, failsafe_writes}
-use Rattle.lease_store.specs.Defaults.{default_settings}
+use Rattle.lease_store.specs.Settings.{Settings}
 use Rattle.lease_store.proofs.Keeping.{kept_after, kept_present, find_present}
 use Rattle.lease_store.proofs.Fences.{kept_first}
 use Rattle.lease_store.proofs.OneKey.{found_after_all, find_all_written}
@@ -37,8 +37,8 @@ use Rattle.event_book.specs.Facts.{Facts, facts_after, start_of}
 use Rattle.lease_law.specs.Premises.{IsUnpaused, IsHandsOffKind}
 use Rattle.lease_law.specs.Pauses.{IsUnpausedHeld, IsUnpausedIn, AreUnpaused, NobodyPauses}
 
-pub pauses-first : (names : List Name) (base : ℕ) → NobodyPauses (start_of names base)
-pauses-first names base = record { store = refl; flight = tt; kept = kept_first default_settings }
+pub pauses-first : (first : Settings) (names : List Name) (base : ℕ) → first.config.pause ≡ false → NobodyPauses (start_of first names base)
+pauses-first first names base unpaused = record { store = unpaused; flight = tt; kept = kept_first first }
 
 unpaused-if : (b : Bool) (o : Option KeyEntry) → IsUnpausedHeld o → IsUnpausedHeld (cond b o None)
 unpaused-if true o is = is

@@ -96,7 +96,7 @@ pub fn example()
 
 /// A book leaves the same leader key, failsafe key and last revision by the law's definitions as by the key store's.
 pub fn same_store()
-    ensures first { (names : List Name) (base : ℕ) → IsSameStore first_past (start_of names base) }
+    ensures first { (first : Settings) (names : List Name) (base : ℕ) → IsSameStore first_past (start_of first names base) }
     ensures each { (past : Past) (facts : Facts) (kind : EventKind) → IsSpanned kind → IsSameStore past facts → IsSameStore (past_after past kind) (facts_after facts kind) }
     // So the store's decision leaves what the law says.
     ensures decided { (past : Past) (facts : Facts) (by sent : ℕ) (txn : Txn) → IsSameStore past facts
@@ -130,7 +130,7 @@ pub fn delivery_is_shown()
 
 /// While hands are off no snapshot pauses: neither the configuration that the key store holds nor one in a snapshot in flight does.
 pub fn nobody_pauses()
-    ensures first { (names : List Name) (base : ℕ) → NobodyPauses (start_of names base) }
+    ensures first { (first : Settings) (names : List Name) (base : ℕ) → first.config.pause ≡ false → NobodyPauses (start_of first names base) }
     ensures each { (facts : Facts) (kind : EventKind) → IsHandsOffKind kind → NobodyPauses facts → NobodyPauses (facts_after facts kind) }
 {}
 

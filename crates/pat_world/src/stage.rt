@@ -35,7 +35,7 @@ use crate::server_commands::{commit_of, crash_of, freezing_of, slow_of};
 use cluster_script::{Command, End, Head, MemberOptions, Step};
 use event_book::{AgentProcess, Event, EventKind, Link, Member};
 use ha_loop::{Agent, Outputs};
-use lease_store::{ConfigValue, Store};
+use lease_store::Store;
 use pat_base::{Host, MemberId, Name, Ticks};
 use pg_model::Servers;
 use std::alloc::{AllocError, Global};
@@ -126,7 +126,7 @@ impl Stage {
         let cuts = CutLinks::none(alloc)?;
         let servers = Servers::new(alloc, count, head.base())?;
         let frozen = Vec::from_elem(alloc, false, count)?;
-        let store = Store::new(alloc, ConfigValue::defaults(alloc)?)?;
+        let store = Store::new(alloc, head.config().try_clone()?)?;
         let scope = head.cluster();
         let index = FlightIndex::new(alloc)?;
         let flight = Flight::new(alloc);

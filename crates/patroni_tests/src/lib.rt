@@ -1,19 +1,9 @@
-//! Worked cases of all the crates below, one file a layer: what no clause says. A crate with tests is proved twice, so they
-//! stand here and not in those crates.
+//! Worked runs of the whole program, in memory: what no clause says. A crate with tests is proved twice, so they stand here and
+//! not in `patroni_top`.
 #![tactic(auto)]
 
 #[cfg(test)]
-mod agents;
-#[cfg(test)]
-mod configurations;
-#[cfg(test)]
 mod in_memory;
-#[cfg(test)]
-mod limits;
-#[cfg(test)]
-mod logs;
-#[cfg(test)]
-mod races;
 #[cfg(test)]
 mod runs;
 #[cfg(test)]
@@ -24,11 +14,3 @@ mod runs_of_servers;
 mod runs_of_watchdogs;
 #[cfg(test)]
 mod runs_refused;
-#[cfg(test)]
-mod scripts;
-#[cfg(test)]
-mod servers;
-#[cfg(test)]
-mod store;
-#[cfg(test)]
-mod values;

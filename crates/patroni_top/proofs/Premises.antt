@@ -4,7 +4,6 @@ use Rattle.std.specs.Prelude.{not, ◌&&◌, slice_get}
 use Rattle.std.proofs.lemmas.List.{length-map}
 use mathlib.Core.Path.{fun_ext}
 use Rattle.lease_store.specs.Settings.{Settings}
-use Rattle.lease_store.specs.Defaults.{default_settings}
 use Rattle.leader_key.specs.declared.watchdog.Mode.{Mode}
 use Rattle.leader_key.specs.declared.watchdog.Mode.TheVariants as modes
 use Rattle.leader_key.specs.Watchdog.{is_armable}
@@ -51,7 +50,7 @@ hands-off head first front h = record { unpaused = h.unpaused; watched = λ m. s
 -- each front of a script's book that meets the premises has one writer
 pub one-writer : (bytes : List ℕ) (script : ScriptText) → script_of bytes ≡ Ok script → KeepsOneWriter script
 one-writer bytes script is front rest whole met =
-    runs-one script.head (read-is-spelled bytes script is).0.head (steps_of script.body) front rest whole (timely script.head front met.timely) (hands-off script.head default_settings front met.hands_off)
+    runs-one script.head (read-is-spelled bytes script is).0.head (steps_of script.body) front rest whole (timely script.head front met.timely) (hands-off script.head script.head.config front met.hands_off)
 
 -- so its closing summary is right of them
 pub guards : (bytes : List ℕ) (script : ScriptText) → script_of bytes ≡ Ok script → GuardsWriters script
@@ -59,6 +58,6 @@ guards bytes script is =
     let start = cluster_of script.head in
     let steps = steps_of script.body in
     let whole = book-by-step start steps in
-    steps-guarded (watches_of script.head) default_settings (events_by_step start steps) (rw length-map (read-is-spelled bytes script is).0.head.few)
+    steps-guarded (watches_of script.head) script.head.config (events_by_step start steps) (rw length-map (read-is-spelled bytes script is).0.head.few)
     (subst (λ (book : List Event). AreMeasured first_moments first_since book) (sym whole) (runs-measured script.head steps))
     (λ front rest parts met. one-writer bytes script is front rest (parts ∙ whole) met)

@@ -1,6 +1,5 @@
 -- What a head says of the watchdogs of its members, as the summary of a run reads it.
 use Rattle.std.specs.Prelude.{◌*◌, Bool, true, false, List, Some, map}
-use Rattle.lease_store.specs.Defaults.{default_config}
 use Rattle.leader_key.specs.declared.watchdog.Mode.{Mode}
 use Rattle.leader_key.specs.declared.watchdog.Mode.TheVariants as modes
 use Rattle.cluster_script.specs.Script.{HeadText, MemberText}
@@ -28,4 +27,4 @@ watches_of head = map declared_watch head.members
 
 -- what the summary keeps of a script of this head before the first event
 abbrev pub first_summary : HeadText → SummaryFacts
-first_summary head = summary_of (watches_of head) default_config
+first_summary head = summary_of (watches_of head) head.config.config

@@ -5,7 +5,6 @@ ghost use Rattle.patroni_top.specs.Watches.{is_off, first_summary, declared_watc
 
 use cluster_script::{Head, MemberOptions};
 use leader_key::Mode;
-use lease_store::Config;
 use pat_base::{Name, Ticks};
 use std::alloc::{AllocError, Global};
 use summary::{Summary, WatchOf};
@@ -18,7 +17,7 @@ pub fn first_summary(alloc: Global, head: &Head) -> Result<Summary, AllocError>
     ensures { IfOk result (λ summary. summary ≡ first_summary head.now) }
 {
     let watches = watches_of(alloc, head)?;
-    Ok(Summary::new(&watches, &Config::defaults()))
+    Ok(Summary::new(&watches, &head.config().config()))
 }
 
 /// The watchdogs of a head's members, in order.

@@ -1,6 +1,5 @@
 -- Parts of a step that keep the law keep it one after another.
 use Rattle.std.proofs.Common.{◌≡◌, ◌++◌, Bool, true, false, cond, List, [], ◌∷◌, Option, Some, None, refl, ◌∙◌, ap, sym, subst, inl, inr}
-use Rattle.lease_store.specs.Defaults.{default_settings}
 use Rattle.cluster_script.specs.Script.{HeadText}
 use Rattle.event_book.specs.declared.event.Event.{Event}
 use Rattle.event_book.specs.Writers.{HasOneWriter}
@@ -18,7 +17,7 @@ use Rattle.run_law.specs.Volatile.{volatile_of}
 pub premises-front : (head : HeadText) (front rest : List Event) → MeetsPremises head (front ++ rest) → MeetsPremises head front
 premises-front head front rest meets = record {
   timely = timely-front (declared_of head).margin front rest meets.timely;
-  hands_off = hands-off-front default_settings (works_of head) front rest meets.hands_off;
+  hands_off = hands-off-front head.config (works_of head) front rest meets.hands_off;
 }
 
 pub over-append : (cluster : Cluster) (xs ys : List Event) → cluster_over cluster (xs ++ ys) ≡ cluster_over (cluster_over cluster xs) ys

@@ -2,7 +2,6 @@
 use Rattle.std.proofs.Common.{ℕ, Bool, Option, subst, ◌≡◌, ◌≤◌, ◌++◌, List, [], length}
 use Rattle.std.proofs.Math.ListN.{length-map}
 use Rattle.std.proofs.Math.Path.{fun_ext}
-use Rattle.lease_store.specs.Defaults.{default_settings}
 use Rattle.cluster_script.specs.declared.line.Step.{Step}
 use Rattle.event_book.specs.declared.event.Event.{Event}
 use Rattle.event_book.specs.Writers.{HasOneWriter}
@@ -19,13 +18,13 @@ few-names : (head : HeadText) → IsHead head → length (names_of head) ≤ 16
 few-names head is = rw (length-map head.members _) is.few
 
 pub runs-one : (head : HeadText) → IsHead head → (steps : List Step) (front rest : List Event) → front ++ rest ≡ run_events (cluster_of head) steps
-    → IsTimely (declared_of head).margin front → IsHandsOff default_settings (works_of head) front → HasOneWriter front
+    → IsTimely (declared_of head).margin front → IsHandsOff head.config (works_of head) front → HasOneWriter front
 runs-one head is steps front rest whole timely hands_off =
     let few = few-names head is in
-    (keeps-run head few (inputs-keep head) steps [] (cluster_of head) (bridged-first head few)).sole front rest whole (record { timely = timely; hands_off = hands_off })
+    (keeps-run head few (inputs-keep head) steps [] (cluster_of head) (bridged-first head few hands_off.unpaused)).sole front rest whole (record { timely = timely; hands_off = hands_off })
 
 -- the premises by other functions that say the same of each member
 pub runs-one-by : (head : HeadText) → IsHead head → (steps : List Step) (front rest : List Event) (margin : ℕ → Option ℕ) (works : ℕ → Bool) → front ++ rest ≡ run_events (cluster_of head) steps
-    → ((m : ℕ) → margin m ≡ (declared_of head).margin m) → ((m : ℕ) → works m ≡ works_of head m) → IsTimely margin front → IsHandsOff default_settings works front → HasOneWriter front
+    → ((m : ℕ) → margin m ≡ (declared_of head).margin m) → ((m : ℕ) → works m ≡ works_of head m) → IsTimely margin front → IsHandsOff head.config works front → HasOneWriter front
 runs-one-by head is steps front rest margin works whole margins watched timely hands_off =
-    runs-one head is steps front rest whole (subst (λ (f : ℕ → Option ℕ). IsTimely f front) (fun_ext margins) timely) (subst (λ (f : ℕ → Bool). IsHandsOff default_settings f front) (fun_ext watched) hands_off)
+    runs-one head is steps front rest whole (subst (λ (f : ℕ → Option ℕ). IsTimely f front) (fun_ext margins) timely) (subst (λ (f : ℕ → Bool). IsHandsOff head.config f front) (fun_ext watched) hands_off)

@@ -100,8 +100,8 @@ first-knows head few m agent is =
     let sized : length (cluster_of head).agents ≡ member_count head = length-map members (first_agent head.cluster (options_of head) members) ∙ counted head few in
     knows-first head.cluster (options_of head) members (member_count head) m (slice_get members m) agent refl (subst (λ (n : ℕ). m < n) sized (slice_get_within (cluster_of head).agents m (Some agent) is)) (numbered head few m) there
 
-pub bridged-first : (head : HeadText) → length (names_of head) ≤ 16 → Bridged head [] (cluster_of head)
-bridged-first head few = record {
+pub bridged-first : (head : HeadText) → length (names_of head) ≤ 16 → head.config.config.pause ≡ false → Bridged head [] (cluster_of head)
+bridged-first head few unpaused = record {
   matched = record {
     members = refl;
     options = refl;
@@ -112,10 +112,10 @@ bridged-first head few = record {
       holds = length-replicate (member_count head) (let none : Option Ticks = None in none);
     };
     agents_sized = length-map (declared_members head) (first_agent head.cluster (options_of head) (declared_members head)) ∙ counted head few;
-    store = same-first (names_of head) head.base;
-    flight = flight-first (names_of head) head.base;
+    store = same-first head.config (names_of head) head.base;
+    flight = flight-first head.config (names_of head) head.base;
     machines = first-machines head;
-    unpaused = pauses-first (names_of head) head.base;
+    unpaused = pauses-first head.config (names_of head) head.base unpaused;
     agents = first-knows head few;
     waiting = waiting-first head;
   };

@@ -1,6 +1,5 @@
 -- Events that keep the law of one writer.
 use Rattle.std.specs.Prelude.{◌≡◌, ◌++◌, List}
-use Rattle.lease_store.specs.Defaults.{default_settings}
 use Rattle.cluster_script.specs.Script.{HeadText}
 use Rattle.event_book.specs.declared.event.Event.{Event}
 use Rattle.event_book.specs.Writers.{HasOneWriter}
@@ -18,7 +17,7 @@ use Rattle.run_law.specs.Declaring.{declared_of, works_of}
 -- the premises of the law: feeds keep the margin, and nobody pauses or promotes by hand
 pub record MeetsPremises (head : HeadText) (book : List Event) : Type 0 where
   pub timely : IsTimely (declared_of head).margin book
-  pub hands_off : IsHandsOff default_settings (works_of head) book
+  pub hands_off : IsHandsOff head.config (works_of head) book
 
 -- behind this book and cluster these events keep the law: at each moment inside them at most one server accepts writes, and behind them
 -- book and cluster are bridged again; each as long as the premises are met

@@ -1,6 +1,5 @@
 //! Laws of every run.
 ghost use Rattle.std.specs.Prelude.{ℕ, ◌≡◌, ◌++◌, Bool, List, Option};
-ghost use Rattle.lease_store.specs.Defaults.{default_settings};
 ghost use Rattle.cluster_script.specs.Script.{HeadText, IsHead};
 ghost use Rattle.cluster_script.specs.declared.line.Step.{Step};
 ghost use Rattle.event_book.specs.declared.event.Event.{Event};
@@ -17,12 +16,12 @@ ghost use Rattle.run_law.specs.Declaring.{declared_of, works_of};
 pub fn runs_have_one_writer()
     ensures declared { (head : HeadText) (steps : List Step) (front rest : List Event)
         → IsHead head → front ++ rest ≡ run_events (cluster_of head) steps
-        → IsTimely (declared_of head).margin front → IsHandsOff default_settings (works_of head) front → HasOneWriter front }
+        → IsTimely (declared_of head).margin front → IsHandsOff head.config (works_of head) front → HasOneWriter front }
     // The same where the premises are read with other functions, which say the same of each member.
     ensures alike { (head : HeadText) (steps : List Step) (front rest : List Event) (margin : ℕ → Option ℕ) (works : ℕ → Bool)
         → IsHead head → front ++ rest ≡ run_events (cluster_of head) steps
         → ((m : ℕ) → margin m ≡ (declared_of head).margin m) → ((m : ℕ) → works m ≡ works_of head m)
-        → IsTimely margin front → IsHandsOff default_settings works front → HasOneWriter front }
+        → IsTimely margin front → IsHandsOff head.config works front → HasOneWriter front }
 {}
 
 /// Each run tells before each feed of a watchdog from when that is measured: from the moment at which the answer was sent that tells the
