@@ -17,6 +17,7 @@ use Rattle.pat_base.specs.declared.name.Name.{Name}
 use Rattle.pat_base.specs.declared.member_id.MemberId.{MemberId}
 use Rattle.leader_key.specs.declared.watchdog.Mode.{Mode}
 use Rattle.leader_key.specs.declared.watchdog.Mode.TheVariants as modes
+use Rattle.lease_store.specs.Defaults.{default_settings}
 use Rattle.cluster_script.specs.Lines.{ended, lines_in, is_skipped, counted_lines}
 use Rattle.cluster_script.specs.Margins.{unsaid_margin}
 use Rattle.cluster_script.specs.Options.{option_text, behind_blanks, host_to_say, flag_to_say, is_default_priority, priority_of, priority_to_say, mode_to_say, device_to_say, options_to_say}
@@ -354,8 +355,8 @@ all-in-form : (lines : List (List ℕ)) → AllLineTexts lines → AllInForm lin
 all-in-form [] h = tt
 all-in-form (line ∷ lines) h = (record { text = plain-is_utf8 line h.0.plain; short = h.0.short }, all-in-form lines h.1)
 
-pub spelling-Spells : (s : ScriptText) → IsScript s → Spells (spelling_of s) s
-spelling-Spells s h =
+pub spelling-Spells : (s : ScriptText) → IsScript s → default_settings ≡ s.head.config → Spells (spelling_of s) s
+spelling-Spells s h config =
     let texts : AllLineTexts (script_lines s) = script-AllLineTexts s h in
     record {
       form = subst AllInForm (sym (lines-again (script_lines s) texts)) (all-in-form (script_lines s) texts);
@@ -365,11 +366,12 @@ spelling-Spells s h =
         said = base_to_say s.head.base;
         behind = map canonical_line s.head.members;
         members = canonical-members s.head.members;
+        config = config;
         base = base-is-said s.head.base;
         order = ap (head_with_base s.head.cluster [] (base_to_say s.head.base)) (sym (canonical-lines s.head.members));
       };
       lines = ap counted_lines (lines-again (script_lines s) texts) ∙ all-count (script_lines s) texts;
     }
 
-pub spelling-is-read : (s : ScriptText) → IsScript s → script_of (spelling_of s) ≡ Ok s
-spelling-is-read s h = spelled-is-read (spelling_of s) s h (spelling-Spells s h)
+pub spelling-is-read : (s : ScriptText) → IsScript s → default_settings ≡ s.head.config → script_of (spelling_of s) ≡ Ok s
+spelling-is-read s h config = spelled-is-read (spelling_of s) s h (spelling-Spells s h config)

@@ -1,14 +1,15 @@
 -- A draft that is whole.
 use Rattle.std.proofs.Common.{◌≡◌, ℕ, List, [], ◌∷◌, length, Option, Some, Ok, refl, ap}
 use Rattle.pat_base.specs.declared.name.Name.{Name}
+use Rattle.lease_store.specs.Settings.{Settings}
 use Rattle.cluster_script.specs.Draft.{draft_of}
 use Rattle.cluster_script.specs.Reading.{finished}
-use Rattle.cluster_script.specs.Script.{MemberText, ScriptText, IsScript, base_or_default}
+use Rattle.cluster_script.specs.Script.{MemberText, ScriptText, IsScript, config_or_default, base_or_default}
 use Rattle.cluster_script.specs.declared.line.Line.{Line}
 
-pub finished-IsScript : (o : Option Name) (cluster : Name) (base : Option ℕ) (members : List MemberText) (body : List Line) → o ≡ Some cluster → (length members ≡ 0 → ⊥)
-    → ((text : ScriptText) → finished (draft_of o base members body) ≡ Ok text → IsScript text)
-    → IsScript (record { head = record { cluster = cluster; base = base_or_default base; members = members }; body = body })
-finished-IsScript o cluster base [] body is some law = absurd (some refl)
-finished-IsScript o cluster base (m ∷ members) body is some law =
-    law (record { head = record { cluster = cluster; base = base_or_default base; members = m ∷ members }; body = body }) (ap (λ c. finished (draft_of c base (m ∷ members) body)) is)
+pub finished-IsScript : (o : Option Name) (cluster : Name) (config : Option Settings) (base : Option ℕ) (members : List MemberText) (body : List Line) → o ≡ Some cluster → (length members ≡ 0 → ⊥)
+    → ((text : ScriptText) → finished (draft_of o config base members body) ≡ Ok text → IsScript text)
+    → IsScript (record { head = record { cluster = cluster; config = config_or_default config; base = base_or_default base; members = members }; body = body })
+finished-IsScript o cluster config base [] body is some law = absurd (some refl)
+finished-IsScript o cluster config base (m ∷ members) body is some law =
+    law (record { head = record { cluster = cluster; config = config_or_default config; base = base_or_default base; members = m ∷ members }; body = body }) (ap (λ c. finished (draft_of c config base (m ∷ members) body)) is)

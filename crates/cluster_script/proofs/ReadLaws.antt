@@ -7,6 +7,7 @@ use Rattle.std.proofs.lemmas.List.{map-append, length-map}
 use Rattle.pat_base.specs.Name.{name_bytes, name_of}
 use Rattle.pat_base.specs.declared.name.Name.{Name}
 use Rattle.pat_base.proofs.Names.{name_of-text}
+use Rattle.lease_store.specs.Settings.{Settings}
 use Rattle.cluster_script.specs.Arguments.{number_in, line_of_words}
 use Rattle.cluster_script.specs.Draft.{DraftText, script_so_far}
 use Rattle.cluster_script.specs.Faults.{on_ok, both}
@@ -15,7 +16,7 @@ use Rattle.cluster_script.specs.Members.{place_of}
 use Rattle.cluster_script.specs.Options.{SayOnce, option_text, behind_blanks, options_or_default}
 use Rattle.cluster_script.specs.OptionReading.{options_in}
 use Rattle.cluster_script.specs.Reading.{name_in, declared_in_head, declared_once, named_member, new_member, next_member, ranged_base, base_in, head_end, base_end, next_base, addition_of, known_addition, addition_in, with_addition, with_line, alone, cluster_named, cluster_in, cluster_by_keyword, first_line, first_draft, after_counted, after_text, after_line, after_lines, at_line, with_some, finished, script_of}
-use Rattle.cluster_script.specs.Script.{AreDifferent, MemberText, MemberLine, ScriptText, member_names, names_of, member_of_entry, member_of_line, members_of_lines, IsScript, IsLine, AllAreLines, cluster_text, member_line_text, base_text, line_text, member_lines, base_or_default, head_with_base, IsHeadLines, body_lines, IsInForm, AllInForm, Spells}
+use Rattle.cluster_script.specs.Script.{AreDifferent, MemberText, MemberLine, ScriptText, member_names, names_of, member_of_entry, member_of_line, members_of_lines, IsScript, IsLine, AllAreLines, cluster_text, member_line_text, base_text, line_text, member_lines, config_or_default, base_or_default, head_with_base, IsHeadLines, body_lines, IsInForm, AllInForm, Spells}
 use Rattle.cluster_script.specs.Words.{spelled, keyword_of, cut_word}
 use Rattle.cluster_script.specs.declared.addition.Addition.{Addition}
 use Rattle.cluster_script.specs.declared.addition.Addition.TheVariants as additions
@@ -212,6 +213,7 @@ IsBaseIfSaid (Some n) = (1 ≤ n) × (n ≤ 2 ^ 40)
 
 -- what holds of the lines so far
 record IsBegun (d : DraftText) : Type 0 where
+  pub config : d.config ≡ None
   pub base : IsBaseIfSaid d.base
   pub few : length d.members ≤ 16
   pub different : AreDifferent (member_names d.members)
@@ -245,8 +247,8 @@ push-behind : {X : Type 0} (f g h : List X) (l : X) → ((f ++ (g ++ h)) ++ []) 
 push-behind f g h l = simp (append_assoc, append-nil)
 
 -- a head alone
-start : Name → Option ℕ → List MemberText → DraftText
-start cluster base members = record { cluster = cluster; base = base; members = members; body = [] }
+start : Name → Option Settings → Option ℕ → List MemberText → DraftText
+start cluster config base members = record { cluster = cluster; config = config; base = base; members = members; body = [] }
 
 -- as long as no base is said, all members stand before it
 record SayNoBase (cluster : Name) (members : List MemberText) (ls : List (List ℕ)) : Type 0 where
@@ -254,9 +256,9 @@ record SayNoBase (cluster : Name) (members : List MemberText) (ls : List (List �
   pub members_are : members_of_lines before ≡ members
   pub lines : ls ≡ head_with_base cluster (member_lines before) None [] ++ []
 
-no-base-lines : (cluster : Name) (members : List MemberText) (ls : List (List ℕ)) → SayDraft (start cluster None members) ls → SayNoBase cluster members ls
+no-base-lines : (cluster : Name) (config : Option Settings) (members : List MemberText) (ls : List (List ℕ)) → SayDraft (start cluster config None members) ls → SayNoBase cluster members ls
 unfolding start
-no-base-lines cluster members ls h =
+no-base-lines cluster config members ls h =
     let none : h.behind ≡ [] = h.no_base refl in
     record {
       before = h.before;
@@ -267,10 +269,10 @@ no-base-lines cluster members ls h =
 one-declared : (lines : List MemberLine) (line : MemberLine) (members : List MemberText) → members_of_lines lines ≡ members → members_of_lines (lines ++ line ∷ []) ≡ members ++ member_of_line line ∷ []
 one-declared lines line members are = map-append member_of_line lines (line ∷ []) ∙ ap (λ t. t ++ member_of_line line ∷ []) are
 
-member-lines : (cluster : Name) (line : MemberLine) (base : Option ℕ) (members : List MemberText) (ls : List (List ℕ)) → SayDraft (start cluster base members) ls → SayDraft (start cluster base (members ++ member_of_line line ∷ [])) (ls ++ member_line_text line ∷ [])
+member-lines : (cluster : Name) (line : MemberLine) (config : Option Settings) (base : Option ℕ) (members : List MemberText) (ls : List (List ℕ)) → SayDraft (start cluster config base members) ls → SayDraft (start cluster config base (members ++ member_of_line line ∷ [])) (ls ++ member_line_text line ∷ [])
 unfolding start
-member-lines cluster line None members ls h =
-    let n = no-base-lines cluster members ls h in
+member-lines cluster line config None members ls h =
+    let n = no-base-lines cluster config members ls h in
     record {
       before = n.before ++ line ∷ [];
       behind = [];
@@ -279,7 +281,7 @@ member-lines cluster line None members ls h =
       lines = ap (λ t. t ++ member_line_text line ∷ []) n.lines
           ∙ ap (λ t. cluster_text cluster ∷ t) (push-member (member_lines n.before) (member_line_text line) ∙ ap (λ t. (t ++ []) ++ []) (sym (map-append member_line_text n.before (line ∷ []))));
     }
-member-lines cluster line (Some n) members ls h = record {
+member-lines cluster line config (Some n) members ls h = record {
   before = h.before;
   behind = h.behind ++ line ∷ [];
   members = ap members_of_lines (sym (append_assoc h.before h.behind (line ∷ []))) ∙ one-declared (h.before ++ h.behind) line members h.members;
@@ -290,10 +292,10 @@ member-lines cluster line (Some n) members ls h = record {
       ∙ ap (λ t. (member_lines h.before ++ (base_text n ∷ t)) ++ []) (sym (map-append member_line_text h.behind (line ∷ []))));
 }
 
-base-lines : (cluster : Name) (n : ℕ) (members : List MemberText) (ls : List (List ℕ)) → SayDraft (start cluster None members) ls → SayDraft (start cluster (Some n) members) (ls ++ base_text n ∷ [])
+base-lines : (cluster : Name) (n : ℕ) (config : Option Settings) (members : List MemberText) (ls : List (List ℕ)) → SayDraft (start cluster config None members) ls → SayDraft (start cluster config (Some n) members) (ls ++ base_text n ∷ [])
 unfolding start
-base-lines cluster n members ls h =
-    let none = no-base-lines cluster members ls h in
+base-lines cluster n config members ls h =
+    let none = no-base-lines cluster config members ls h in
     record {
       before = none.before;
       behind = [];
@@ -313,31 +315,32 @@ body-lines d l ls h = record {
       ∙ ap (λ t. head_with_base d.cluster (member_lines h.before) d.base (member_lines h.behind) ++ t) (sym (map-append (line_text (member_names d.members)) d.body (l ∷ [])));
 }
 
-member-Adds : (cluster : Name) (line : MemberLine) (base : Option ℕ) (members : List MemberText) (body : List Line) (ls : List (List ℕ)) → body ≡ [] → length (member_names members) < 16 → place_of (member_names members) line.name ≡ None
-    → Adds (record { cluster = cluster; base = base; members = members; body = body }) ls
-    → Adds (record { cluster = cluster; base = base; members = members ++ member_of_line line ∷ []; body = body }) (ls ++ member_line_text line ∷ [])
+member-Adds : (cluster : Name) (line : MemberLine) (config : Option Settings) (base : Option ℕ) (members : List MemberText) (body : List Line) (ls : List (List ℕ)) → body ≡ [] → length (member_names members) < 16 → place_of (member_names members) line.name ≡ None
+    → Adds (record { cluster = cluster; config = config; base = base; members = members; body = body }) ls
+    → Adds (record { cluster = cluster; config = config; base = base; members = members ++ member_of_line line ∷ []; body = body }) (ls ++ member_line_text line ∷ [])
 unfolding start
-member-Adds cluster line base members [] ls is few absent h = record {
-  says = member-lines cluster line base members ls h.says;
+member-Adds cluster line config base members [] ls is few absent h = record {
+  says = member-lines cluster line config base members ls h.says;
   begun = record {
+    config = h.begun.config;
     base = h.begun.base;
     few = omega (arith, length-append members (member_of_line line ∷ []), length-map members (λ (m : MemberText). m.name));
     different = subst AreDifferent (sym (map-append (λ (m : MemberText). m.name) members (member_of_line line ∷ []))) (AreDifferent-push (member_names members) line.name h.begun.different absent);
     body = tt;
   };
 }
-member-Adds cluster line base members (l ∷ body) ls is few absent h = cc
+member-Adds cluster line config base members (l ∷ body) ls is few absent h = cc
 
-base-Adds : (cluster : Name) (n : ℕ) (base : Option ℕ) (members : List MemberText) (body : List Line) (ls : List (List ℕ)) → base ≡ None → body ≡ [] → 1 ≤ n → n ≤ 2 ^ 40
-    → Adds (record { cluster = cluster; base = base; members = members; body = body }) ls
-    → Adds (record { cluster = cluster; base = Some n; members = members; body = body }) (ls ++ base_text n ∷ [])
+base-Adds : (cluster : Name) (n : ℕ) (config : Option Settings) (base : Option ℕ) (members : List MemberText) (body : List Line) (ls : List (List ℕ)) → base ≡ None → body ≡ [] → 1 ≤ n → n ≤ 2 ^ 40
+    → Adds (record { cluster = cluster; config = config; base = base; members = members; body = body }) ls
+    → Adds (record { cluster = cluster; config = config; base = Some n; members = members; body = body }) (ls ++ base_text n ∷ [])
 unfolding start
-base-Adds cluster n None members [] ls first is least most h = record {
-  says = base-lines cluster n members ls h.says;
-  begun = record { base = (least, most); few = h.begun.few; different = h.begun.different; body = tt };
+base-Adds cluster n config None members [] ls first is least most h = record {
+  says = base-lines cluster n config members ls h.says;
+  begun = record { config = h.begun.config; base = (least, most); few = h.begun.few; different = h.begun.different; body = tt };
 }
-base-Adds cluster n None members (l ∷ body) ls first is least most h = cc
-base-Adds cluster n (Some k) members body ls first is least most h = absurd (none_is k (sym first))
+base-Adds cluster n config None members (l ∷ body) ls first is least most h = cc
+base-Adds cluster n config (Some k) members body ls first is least most h = absurd (none_is k (sym first))
 
 addition-Adds : (d : DraftText) (ls : List (List ℕ)) (line : List ℕ) (a : Addition) → Adds d ls → IsAddition d.base (member_names d.members) d.body line a → Adds (with_addition d a) (ls ++ line ∷ [])
 addition-Adds d ls line (additions.Member name declared) h is =
@@ -345,14 +348,14 @@ addition-Adds d ls line (additions.Member name declared) h is =
     let same : one.name ≡ name = ap (λ (m : MemberText). m.name) is.0.declares in
     let absent : place_of (member_names d.members) one.name ≡ None = ap (place_of (member_names d.members)) same ∙ is.2 in
     subst (λ (l : List ℕ). Adds (with_addition d (additions.Member name declared)) (ls ++ l ∷ [])) is.0.text
-    (subst (λ (m : MemberText). Adds (record { cluster = d.cluster; base = d.base; members = d.members ++ m ∷ []; body = d.body }) (ls ++ member_line_text one ∷ [])) is.0.declares
-    (member-Adds d.cluster one d.base d.members d.body ls is.3 is.1 absent h))
+    (subst (λ (m : MemberText). Adds (record { cluster = d.cluster; config = d.config; base = d.base; members = d.members ++ m ∷ []; body = d.body }) (ls ++ member_line_text one ∷ [])) is.0.declares
+    (member-Adds d.cluster one d.config d.base d.members d.body ls is.3 is.1 absent h))
 addition-Adds d ls line (additions.Base n) h is =
-    subst (λ (l : List ℕ). Adds (with_addition d (additions.Base n)) (ls ++ l ∷ [])) is.0 (base-Adds d.cluster n d.base d.members d.body ls is.3 is.4 is.1 is.2 h)
+    subst (λ (l : List ℕ). Adds (with_addition d (additions.Base n)) (ls ++ l ∷ [])) is.0 (base-Adds d.cluster n d.config d.base d.members d.body ls is.3 is.4 is.1 is.2 h)
 addition-Adds d ls line (additions.Body l) h is =
     subst (λ (t : List ℕ). Adds (with_addition d (additions.Body l)) (ls ++ t ∷ [])) is.0 (record {
       says = body-lines d l ls h.says;
-      begun = record { base = h.begun.base; few = h.begun.few; different = h.begun.different; body = AllAreLines-push (member_names d.members) d.body l h.begun.body is.1 };
+      begun = record { config = h.begun.config; base = h.begun.base; few = h.begun.few; different = h.begun.different; body = AllAreLines-push (member_names d.members) d.body l h.begun.body is.1 };
     })
 
 line-Adds : (d e : DraftText) (ls : List (List ℕ)) (line : List ℕ) → Adds d ls → with_line d line ≡ Ok e → Adds e (ls ++ line ∷ [])
@@ -390,7 +393,7 @@ nothing-AreDifferent i j name p q = cc
 first_draft-Adds : (name : Name) → Adds (first_draft name) (cluster_text name ∷ [])
 first_draft-Adds name = record {
   says = record { before = []; behind = []; members = refl; no_base = λ _. refl; lines = refl };
-  begun = record { base = tt; few = omega arith; different = nothing-AreDifferent; body = tt };
+  begun = record { config = refl; base = tt; few = omega arith; different = nothing-AreDifferent; body = tt };
 }
 
 -- the lines so far, which say a draft or are none
@@ -466,7 +469,7 @@ draft-AreScript d all h some =
         body = h.begun.body;
       };
       head = head_with_base d.cluster (member_lines h.says.before) d.base (member_lines h.says.behind);
-      says = record { before = h.says.before; said = d.base; behind = h.says.behind; members = h.says.members; base = refl; order = refl };
+      says = record { before = h.says.before; said = d.base; behind = h.says.behind; config = sym (ap config_or_default h.begun.config); members = h.says.members; base = refl; order = refl };
       counted = h.says.lines;
     }
 

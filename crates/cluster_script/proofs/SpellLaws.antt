@@ -15,6 +15,8 @@ use Rattle.pat_base.specs.NameText.{is_name, is_name_byte}
 use Rattle.pat_base.specs.declared.member_id.MemberId.{MemberId}
 use Rattle.pat_base.proofs.Members.{number-injective, member_of-number}
 use Rattle.pat_base.proofs.Names.{name_of-name_bytes}
+use Rattle.lease_store.specs.Defaults.{default_settings}
+use Rattle.lease_store.specs.Settings.{Settings}
 use Rattle.cluster_script.specs.Numbers.{number}
 use Rattle.cluster_script.specs.Lines.{first_at}
 use Rattle.cluster_script.specs.Ranges.{commit_size_of, delay_of}
@@ -301,7 +303,7 @@ next_base-again n least most =
 
 -- a head alone
 start : Name → Option ℕ → List MemberText → DraftText
-start cluster base members = record { cluster = cluster; base = base; members = members; body = [] }
+start cluster base members = record { cluster = cluster; config = None; base = base; members = members; body = [] }
 
 member_line-again : (cluster : Name) (line : MemberLine) (base : Option ℕ) (members : List MemberText) → length (member_names members) < 16 → place_of (member_names members) line.name ≡ None
     → with_line (start cluster base members) (member_line_text line) ≡ Ok (start cluster base (members ++ member_of_line line ∷ []))
@@ -415,7 +417,7 @@ head-again cluster before said behind h small least most =
 
 -- what the lines of a script say, where they say this base
 draft : ScriptText → Option ℕ → DraftText
-draft s said = record { cluster = s.head.cluster; base = said; members = s.head.members; body = s.body }
+draft s said = record { cluster = s.head.cluster; config = None; base = said; members = s.head.members; body = s.body }
 
 all-again : (s : ScriptText) (head : List (List ℕ)) (says : IsHeadLines s.head head) → IsScript s → Chain None (head ++ body_lines (names_of s.head) s.body) (Some (draft s says.said))
 unfolding start draft
@@ -457,15 +459,16 @@ with_some-again : (s : ScriptText) (members : List MemberText) → 0 < length me
 with_some-again s [] h = absurd (omega arith)
 with_some-again s (m ∷ members) h = refl
 
-finished-again : (s : ScriptText) (said : Option ℕ) → 0 < length s.head.members → base_or_default said ≡ s.head.base → finished (Some (draft s said)) ≡ Ok s
+finished-again : (s : ScriptText) (said : Option ℕ) → 0 < length s.head.members → default_settings ≡ s.head.config → base_or_default said ≡ s.head.base → finished (Some (draft s said)) ≡ Ok s
 unfolding draft
-finished-again s said some base =
+finished-again s said some config base =
     with_some-again (script_so_far (draft s said)) s.head.members some
-    ∙ ap (λ b. Ok (record { head = record { cluster = s.head.cluster; base = b; members = s.head.members }; body = s.body })) base
+    ∙ ap (λ (c : Settings). Ok (record { head = record { cluster = s.head.cluster; config = c; base = base_or_default said; members = s.head.members }; body = s.body })) config
+    ∙ ap (λ b. Ok (record { head = record { cluster = s.head.cluster; config = s.head.config; base = b; members = s.head.members }; body = s.body })) base
 
 pub spelled-is-read : (bytes : List ℕ) (text : ScriptText) → IsScript text → Spells bytes text → script_of bytes ≡ Ok text
 spelled-is-read bytes text h spells =
     let d : Option DraftText = Some (draft text spells.says.said) in
     ap (λ r. on_ok r (λ d. at_line (length (lines_in bytes) + 1) (finished d)))
     (lines-again 1 None d (lines_in bytes) spells.form (subst (λ (ls : List (List ℕ)). Chain None ls d) (sym spells.lines) (all-again text spells.head spells.says h)))
-    ∙ ap (at_line (length (lines_in bytes) + 1)) (finished-again text spells.says.said h.head.some spells.says.base)
+    ∙ ap (at_line (length (lines_in bytes) + 1)) (finished-again text spells.says.said h.head.some spells.says.config spells.says.base)

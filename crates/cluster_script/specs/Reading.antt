@@ -130,7 +130,7 @@ body_after body (additions.Body line) = body ++ line ∷ []
 
 -- what the lines say with one more
 abbrev pub with_addition : DraftText → Addition → DraftText
-with_addition d added = record { cluster = d.cluster; base = base_after d.base added; members = members_after d.members added; body = body_after d.body added }
+with_addition d added = record { cluster = d.cluster; config = d.config; base = base_after d.base added; members = members_after d.members added; body = body_after d.body added }
 
 -- what the lines say with one more of them
 abbrev pub with_line : DraftText → List ℕ → Result DraftText Fault
@@ -162,7 +162,7 @@ first_line line = cluster_by_keyword (keyword_of (cut_word line).0) (cut_word li
 
 -- what the first line alone says
 abbrev pub first_draft : Name → DraftText
-first_draft name = record { cluster = name; base = None; members = []; body = [] }
+first_draft name = record { cluster = name; config = None; base = None; members = []; body = [] }
 
 -- a line that counts, behind those before it
 abbrev pub after_counted : Option DraftText → List ℕ → Result (Option DraftText) Fault

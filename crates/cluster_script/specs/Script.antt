@@ -5,6 +5,8 @@ use Rattle.std.specs.Str.{is_utf8}
 use Rattle.pat_base.specs.Name.{name_bytes}
 use Rattle.pat_base.specs.declared.name.Name.{Name}
 use Rattle.pat_base.specs.declared.member_id.MemberId.{MemberId}
+use Rattle.lease_store.specs.Defaults.{default_settings}
+use Rattle.lease_store.specs.Settings.{Settings}
 use Rattle.cluster_script.specs.Lines.{ended, lines_in, counted_lines}
 use Rattle.cluster_script.specs.Options.{SayOnce, option_text, behind_blanks, options_or_default, options_to_say}
 use Rattle.cluster_script.specs.Words.{spelled}
@@ -26,9 +28,10 @@ pub record MemberText : Type 0 where
   pub name : Name
   pub options : MemberOptions
 
--- the head of a script: the cluster's name, the bytes of data that each server's log begins with, and the members in order
+-- the head of a script: the cluster's name, its configuration, the bytes of data that each server's log begins with, and the members in order
 pub record HeadText : Type 0 where
   pub cluster : Name
+  pub config : Settings
   pub base : ℕ
   pub members : List MemberText
 
@@ -150,6 +153,11 @@ member_lines lines = map member_line_text lines
 abbrev pub default_base : ℕ
 default_base = 83886080
 
+-- the configuration that is said, or the default
+abbrev pub config_or_default : Option Settings → Settings
+config_or_default None = default_settings
+config_or_default (Some config) = config
+
 -- the base that is said, or the default
 abbrev pub base_or_default : Option ℕ → ℕ
 base_or_default None = default_base
@@ -173,6 +181,7 @@ pub record IsHeadLines (head : HeadText) (lines : List (List ℕ)) : Type 0 wher
   pub before : List MemberLine
   pub said : Option ℕ
   pub behind : List MemberLine
+  pub config : default_settings ≡ head.config
   pub members : members_of_lines (before ++ behind) ≡ head.members
   pub base : base_or_default said ≡ head.base
   pub order : lines ≡ head_with_base head.cluster (member_lines before) said (member_lines behind)

@@ -2,7 +2,7 @@
 ghost use Rattle.std.specs.Prelude.{ℕ, ◌≡◌, ◌<◌, ◌≤◌, ◌+◌, ◌++◌, ◌∷◌, ◌^◌, List, [], length, map, Option, None, Some, Ok, IfOk, OnOk, OnErr, IfErr, IfSome};
 ghost use Rattle.std.specs.Option.{option_copied};
 ghost use Rattle.indexmap.specs.IndexMap.{keys};
-ghost use Rattle.cluster_script.specs.Script.{ScriptText, IsScript, base_or_default, member_names, members_in};
+ghost use Rattle.cluster_script.specs.Script.{ScriptText, IsScript, config_or_default, base_or_default, member_names, members_in};
 ghost use Rattle.cluster_script.specs.Reading.{Gives, IsNew, addition_of, addition_in, base_after, members_after, body_after, after_counted, after_line, after_lines, at_line, finished};
 
 use crate::addition::Addition;
@@ -15,8 +15,9 @@ use crate::members::Members;
 use crate::words::{cut_word, keyword_of};
 use crate::{Fault, Head, Line, Script, ScriptFault};
 use indexmap::IndexMap;
+use lease_store::ConfigValue;
 use pat_base::Name;
-use std::alloc::Global;
+use std::alloc::{AllocError, Global};
 use std::marker::Model;
 
 /// The longest line of a script, in bytes.
@@ -26,6 +27,7 @@ const LONGEST_LINE: usize = 8_192;
 #[derive(Drop)]
 pub struct Draft {
     cluster: Option<Name>,
+    config: Option<ConfigValue>,
     base: Option<u64>,
     members: Members,
     body: Vec<Line>,
@@ -38,9 +40,9 @@ impl Model for Draft {
 
     ghost Value = { Option DraftText };
 
-    ghost view = { λ d. draft_of d.cluster d.base (members_in d.members.entries) d.body.items };
+    ghost view = { λ d. draft_of d.cluster d.config d.base (members_in d.members.entries) d.body.items };
 
-    ghost invariant = { λ d. IsDraft d.cluster d.base (members_in d.members.entries) d.body.items };
+    ghost invariant = { λ d. IsDraft d.cluster d.config d.base (members_in d.members.entries) d.body.items };
 }
 
 /// What a line of this first word adds, from the words behind it. The one place where first words are told apart, but for
@@ -118,6 +120,16 @@ fn located<T: Drop>(line: u64, outcome: Result<T, Fault>) -> Result<T, ScriptFau
     }
 }
 
+/// The configuration that is said, or the default.
+fn config_or_default(alloc: Global, said: Option<ConfigValue>) -> Result<ConfigValue, AllocError>
+    ensures { IfOk result (λ config. config ≡ config_or_default said) }
+{
+    match said {
+        None => ConfigValue::defaults(alloc),
+        Some(config) => Ok(config),
+    }
+}
+
 /// The base that is said, or the default.
 fn base_or_default(said: Option<u64>) -> u64
     ensures { result ≡ base_or_default said }
@@ -135,6 +147,7 @@ impl Draft {
     {
         Draft {
             cluster: None,
+            config: None,
             base: None,
             members: IndexMap::new(alloc),
             body: Vec::new(alloc),
@@ -187,12 +200,13 @@ impl Draft {
     }
 
     /// The script, once all lines are read. A fault stands at the line of this number.
-    pub fn finish(self, end: u64) -> Result<Script, ScriptFault>
+    pub fn finish(self, alloc: Global, end: u64) -> Result<Script, ScriptFault>
         requires { (text : ScriptText) → finished self ≡ Ok text → IsScript text }
         ensures { Gives (λ script. script) result (at_line end (finished self)) }
     {
         let Draft {
             cluster,
+            config,
             base,
             members,
             body,
@@ -209,7 +223,8 @@ impl Draft {
                 fault: Fault::NoMember,
             });
         }
-        let head = Head::new(cluster, base_or_default(base), members);
+        let config = config_or_default(alloc, config)?;
+        let head = Head::new(cluster, config, base_or_default(base), members);
         Ok(Script::new(head, body))
     }
 }

@@ -4,6 +4,7 @@ ghost use Rattle.std.specs.Prelude.{ℕ, ◌≡◌, ◌≤◌, ◌<◌, ◌^◌,
 use crate::Margin;
 use indexmap::IndexMap;
 use leader_key::Mode;
+use lease_store::ConfigValue;
 use pat_base::{Host, Name, Tags};
 use std::marker::Model;
 
@@ -26,10 +27,11 @@ pub struct MemberOptions {
 /// The base of a script that says none: five files of 16 MiB.
 pub(crate) const DEFAULT_BASE: u64 = 83_886_080;
 
-/// The head of a script: the name of its cluster, its base, and its 1 to 16 members, in the order of their lines.
+/// The head of a script: the name of its cluster, its configuration, its base, and its 1 to 16 members, in the order of their lines.
 #[derive(Drop)]
 pub struct Head {
     cluster: Name,
+    config: ConfigValue,
     base: u64,
     members: IndexMap<Name, MemberOptions>,
 }
@@ -39,22 +41,28 @@ impl Model for Head {
 
     ghost Value = { HeadText };
 
-    ghost view = { λ h. record { cluster = h.cluster; base = h.base; members = members_in h.members.entries } };
+    ghost view = { λ h. record { cluster = h.cluster; config = h.config; base = h.base; members = members_in h.members.entries } };
 
-    ghost invariant = { λ h. IsHead (record { cluster = h.cluster; base = h.base; members = members_in h.members.entries }) };
+    ghost invariant = { λ h. IsHead (record { cluster = h.cluster; config = h.config; base = h.base; members = members_in h.members.entries }) };
 }
 
 impl Head {
     ghost use Rattle.std.specs.Prelude.{ℕ, ◌≡◌, ◌≤◌, ◌<◌, ◌^◌, ◌↔◌, length, option_map, slice_get, IsNone};
     ghost use Rattle.cluster_script.specs.Script.{HeadText, IsHead, members_in, names_of};
 
-    /// The head of this cluster with this base and these members.
-    pub(crate) fn new(cluster: Name, base: u64, members: IndexMap<Name, MemberOptions>) -> Head
-        requires { IsHead (record { cluster = cluster; base = base; members = members_in members.entries }) }
-        ensures { result ≡ record { cluster = cluster; base = base; members = members_in members.entries } }
+    /// The head of this cluster with this configuration, this base and these members.
+    pub(crate) fn new(
+        cluster: Name,
+        config: ConfigValue,
+        base: u64,
+        members: IndexMap<Name, MemberOptions>,
+    ) -> Head
+        requires { IsHead (record { cluster = cluster; config = config; base = base; members = members_in members.entries }) }
+        ensures { result ≡ record { cluster = cluster; config = config; base = base; members = members_in members.entries } }
     {
         Head {
             cluster,
+            config,
             base,
             members,
         }
@@ -65,6 +73,13 @@ impl Head {
         ensures { result ≡ self.now.cluster }
     {
         self.cluster
+    }
+
+    /// The configuration that the cluster begins with. Where no line says it, nothing is set.
+    pub fn config(&self) -> &ConfigValue
+        ensures { result.now ≡ self.now.config }
+    {
+        &self.config
     }
 
     /// The base: how many bytes of data each server's log begins with, 1 to 2^40. Where no line says it, 83,886,080.

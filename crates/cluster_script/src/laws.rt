@@ -1,5 +1,6 @@
 //! What ties the reading of scripts to their spelling, in both directions.
 ghost use Rattle.std.specs.Prelude.{ℕ, ◌≡◌, List, Ok};
+ghost use Rattle.lease_store.specs.Defaults.{default_settings};
 ghost use Rattle.cluster_script.specs.Reading.{script_of};
 ghost use Rattle.cluster_script.specs.Script.{ScriptText, IsScript, Spells, spelling_of};
 
@@ -13,7 +14,7 @@ pub fn spelled_is_read()
     ensures { (bytes : List ℕ) (text : ScriptText) → IsScript text → Spells bytes text → script_of bytes ≡ Ok text }
 {}
 
-/// The bytes of a script's lines and nothing else are read as it.
+/// The bytes of a script's lines and nothing else are read as it, where it has no configuration.
 pub fn canonical_spelling_is_read()
-    ensures { (text : ScriptText) → IsScript text → Spells (spelling_of text) text × (script_of (spelling_of text) ≡ Ok text) }
+    ensures { (text : ScriptText) → IsScript text → default_settings ≡ text.head.config → Spells (spelling_of text) text × (script_of (spelling_of text) ≡ Ok text) }
 {}

@@ -18,5 +18,5 @@ pub fn read(alloc: Global, bytes: &[u8]) -> Result<Script, ScriptFault>
     let lines = lines_in(alloc, bytes)?;
     let mut draft = Draft::new(alloc);
     draft.add_lines(&lines)?;
-    draft.finish(lines.len() as u64 + 1)
+    draft.finish(alloc, lines.len() as u64 + 1)
 }
