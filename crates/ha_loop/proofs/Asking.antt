@@ -19,13 +19,14 @@ use Rattle.ha_loop.specs.declared.machine.Machine.{Machine}
 use Rattle.ha_loop.specs.declared.output.Output.{Output}
 use Rattle.ha_loop.specs.declared.output.Output.TheVariants as outputs
 use Rattle.ha_loop.specs.declared.output.Target.TheVariants as targets
-use Rattle.ha_loop.specs.Acting.{touching, starting_replica, following_server, arming, feeding, ending_server, is_refusing, waiting_no_more}
+use Rattle.ha_loop.specs.Acting.{touching, starting_replica, arming, feeding, ending_server, is_refusing, waiting_no_more}
 use Rattle.ha_loop.specs.Agents.{RoleFacts, Follower, Leader, Ending, IsSoundAgent, Outcome, made}
 use Rattle.ha_loop.specs.Asking.{IsNumbered, IsAskedNow, AsksAsWaited}
 use Rattle.ha_loop.specs.Before.{before}
 use Rattle.ha_loop.specs.Decisions.{asks_lease, is_start_too_long, leader_renewed, takes_over, stray_renewed, may_take, gives_back, begins, arms, takes_key, granted, refused}
 use Rattle.ha_loop.specs.Outputs.{listed}
-use Rattle.ha_loop.specs.Snapshots.{renewing, follows, creating, finds_free, leader_loses_key, stray_loses_key, read_noted, got}
+use Rattle.ha_loop.specs.Repairs.{repair_of}
+use Rattle.ha_loop.specs.Snapshots.{renewing, follow_row, follows, creating, finds_free, leader_loses_key, stray_loses_key, read_noted, got}
 use Rattle.ha_loop.specs.Table.{step, act}
 use Rattle.ha_loop.specs.Wake.{reading, turn_noted, leader_out_of_reach, stray_out_of_reach, overdue, turned, woken}
 use Rattle.ha_loop.specs.declared.role.Why.TheVariants.{HandOver}
@@ -33,7 +34,7 @@ use Rattle.ha_loop.proofs.Granting.{Told}
 use Rattle.ha_loop.proofs.Knowing.{IsAlone, alone-of, before-onward}
 use Rattle.ha_loop.proofs.LawfulSteps.{before-waits}
 use Rattle.ha_loop.proofs.Living.{no-way}
-use Rattle.ha_loop.proofs.Rows.{if-cases, overdue-by, turn-by, wake-by, got-by, refused-by, follow-by, free-by, granted-by}
+use Rattle.ha_loop.proofs.Rows.{if-cases, overdue-by, turn-by, wake-by, got-by, refused-by, follow-by, repaired-by, free-by, granted-by}
 use Rattle.ha_loop.proofs.Sending.{IsSilent, MayPut, AllMay, Fronts, before-fronts, got-none, before-may, wake-may, got-may, refused-may, granted-may}
 use Rattle.ha_loop.proofs.Sending.Fronts.{Silent, Released}
 use Rattle.ha_loop.proofs.Fitting.{before-fits}
@@ -113,10 +114,16 @@ free-holds now o b later none silent = let x : Outcome = record b { role = Follo
     (nothing now o (touching x) none) (nothing now o (touching (starting_replica now None x)) none)
     (asked-now now o (creating now x) b.outputs _ _ silent refl refl refl refl (more-than o.knows.sequence b.knows.sequence later))
 
+abbrev WaitsNot : Outcome → Type 0
+WaitsNot o = o.knows.waited ≡ None
+
+follow-waits : (now : Ticks) (leader : MemberId) (o : Outcome) → WaitsNot o → WaitsNot (follows now leader o)
+follow-waits now leader o none = let x : Outcome = record o { role = Follower } in
+    let row : WaitsNot (follow_row now leader o.machine.server.state x) = follow-by WaitsNot now leader o.machine.server.state x none none none none in
+    repaired-by WaitsNot leader (repair_of o.knows.settings leader o.machine.server) (touching (follow_row now leader o.machine.server.state x)) row (λ r. row)
+
 follow-holds : (now : Ticks) (leader : MemberId) (o b : Outcome) → b.knows.waited ≡ None → Holds now o (follows now leader b)
-follow-holds now leader o b none = let x : Outcome = record b { role = Follower } in
-    follow-by (λ (y : Outcome). Holds now o (touching y)) now leader b.machine.server.state x
-    (nothing now o (touching x) none) (nothing now o (touching (starting_replica now (Some leader) x)) none) (nothing now o (touching (following_server leader x)) none)
+follow-holds now leader o b none = nothing now o (follows now leader b) (follow-waits now leader b none)
 
 got-silent : (now : Ticks) (points : List HistoryPoint) (sequence : ℕ) (snapshot : SnapshotFacts) (o b : Outcome) → o.knows.sequence ≤ b.knows.sequence → b.knows.waited ≡ o.knows.waited → All IsSilent b.outputs → Holds now o (got now points sequence snapshot b)
 got-silent now points sequence snapshot o b later same silent = let read : Outcome = record b { knows = read_noted now snapshot b.knows } in

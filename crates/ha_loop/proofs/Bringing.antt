@@ -8,15 +8,16 @@ use Rattle.cluster_config.specs.Snapshots.{SnapshotFacts}
 use Rattle.event_book.specs.Members.{server_id_of}
 use Rattle.ha_loop.specs.declared.role.Why.{Why}
 use Rattle.ha_loop.specs.declared.role.Why.TheVariants.{HandOver, Lost}
-use Rattle.ha_loop.specs.Acting.{disarming, touching, starting_replica, following_server, upstream_of, waiting_no_more}
+use Rattle.ha_loop.specs.Acting.{disarming, touching, shutting_down, starting_replica, following_server, upstream_of, waiting_no_more}
 use Rattle.ha_loop.specs.Agents.{RoleFacts, Follower, Holder, Ready, Leader, Ending, Stray, Outcome}
 use Rattle.ha_loop.specs.Before.{leader_finds_ended, has_ended, finds_live, stray_finds_ended, before}
 use Rattle.ha_loop.specs.Decisions.{refused}
 use Rattle.ha_loop.specs.Powers.{BringsNothing, lease_of, leads, is_ready}
-use Rattle.ha_loop.specs.Snapshots.{leader_loses_key, stray_loses_key, renewing, follows, finds_free, creating, read_noted, got}
+use Rattle.ha_loop.specs.Repairs.{repair_of}
+use Rattle.ha_loop.specs.Snapshots.{leader_loses_key, stray_loses_key, renewing, follow_row, follows, finds_free, creating, read_noted, got}
 use Rattle.ha_loop.specs.Wake.{leader_out_of_reach, stray_out_of_reach, reading, turn_noted, overdue, turned, woken}
 use Rattle.ha_loop.proofs.Living.{no-way, stop-live, start-live, follow-live}
-use Rattle.ha_loop.proofs.Rows.{before-by, overdue-by, turn-by, wake-by, got-by, refused-by, follow-by, free-by}
+use Rattle.ha_loop.proofs.Rows.{before-by, overdue-by, turn-by, wake-by, got-by, refused-by, follow-by, repaired-by, free-by}
 
 none-some : {revision : ℕ} → ◌≡◌ {A = Option ℕ} None (Some revision) → ⊥
 none-some e = cc
@@ -105,10 +106,15 @@ wake-brings now o = wake-by (BringsNothing o) now o (before-brings now o)
 
 -- a follower tells of itself, after what its server does
 follow-brings : (now : Ticks) (leader : MemberId) (o : Outcome) → BringsNothing o (follows now leader o)
-follow-brings now leader o = follow-by (λ (x : Outcome). BringsNothing o (touching x)) now leader o.machine.server.state (record o { role = Follower })
-    (no-lease o (touching (record o { role = Follower })) refl refl (λ e. e))
-    (no-lease o (touching (starting_replica now (Some leader) (record o { role = Follower }))) refl refl (start-live now (upstream_of (Some leader)) o.machine.server))
-    (no-lease o (touching (following_server leader (record o { role = Follower }))) refl refl (follow-live (server_id_of leader) o.machine.server))
+follow-brings now leader o = let x : Outcome = record o { role = Follower } in
+    let row = follow-by (λ (y : Outcome). BringsNothing o y) now leader o.machine.server.state x
+    (no-lease o x refl refl (λ e. e))
+    (no-lease o (starting_replica now (Some leader) x) refl refl (start-live now (upstream_of (Some leader)) o.machine.server))
+    (no-lease o (following_server leader x) refl refl (follow-live (server_id_of leader) o.machine.server))
+    (no-lease o (shutting_down now x) refl refl (stop-live now o.machine.server)) in
+    let told : BringsNothing o (touching (follow_row now leader o.machine.server.state x)) = record { live = row.live; leads = row.leads; ready = row.ready; lease = row.lease } in
+    repaired-by (BringsNothing o) leader (repair_of o.knows.settings leader o.machine.server) (touching (follow_row now leader o.machine.server.state x)) told
+    (λ r. record { live = told.live; leads = told.leads; ready = told.ready; lease = told.lease })
 
 free-brings : (now : Ticks) (o : Outcome) → BringsNothing o (finds_free now o)
 free-brings now o = free-by (BringsNothing o) now o.machine.server.state (record o { role = Follower })

@@ -22,18 +22,19 @@ use Rattle.ha_loop.specs.declared.knowledge.Waited.{Waited}
 use Rattle.ha_loop.specs.declared.output.Output.TheVariants as outputs
 use Rattle.ha_loop.specs.declared.role.Why.{Why}
 use Rattle.ha_loop.specs.declared.role.Why.TheVariants.{HandOver, Lost}
-use Rattle.ha_loop.specs.Acting.{disarming, arming, feeding, ending_server, touching, starting_replica, following_server, is_refusing, waiting_no_more}
+use Rattle.ha_loop.specs.Acting.{disarming, arming, feeding, ending_server, shutting_down, touching, starting_replica, following_server, is_refusing, waiting_no_more}
 use Rattle.ha_loop.specs.Agents.{EndsAlone, HasCounted, RoleFacts, Follower, Holder, Ready, Leader, Ending, Stray, Outcome}
 use Rattle.ha_loop.specs.Before.{leader_finds_ended, has_ended, finds_live, stray_finds_ended, before}
 use Rattle.ha_loop.specs.Decisions.{is_start_too_long, leader_renewed, takes_over, stray_renewed, may_take, gives_back, begins, arms, takes_key, granted, refused}
 use Rattle.ha_loop.specs.Outputs.{listed}
 use Rattle.ha_loop.specs.Seen.{lease_asked, leader_seen_if, failsafe_listed, failsafe_entry_seen, failsafe_seen_if}
-use Rattle.ha_loop.specs.Snapshots.{known_with, informed, is_active, renewing, follows, creating, finds_free, leader_loses_key, stray_loses_key, read_noted, got}
+use Rattle.ha_loop.specs.Repairs.{repair_of, repairing}
+use Rattle.ha_loop.specs.Snapshots.{known_with, informed, is_active, renewing, follow_row, follows, creating, finds_free, leader_loses_key, stray_loses_key, read_noted, got}
 use Rattle.ha_loop.specs.Table.{step}
 use Rattle.ha_loop.specs.Wake.{reading, turn_noted, leader_out_of_reach, stray_out_of_reach, overdue, turned, woken}
 use Rattle.ha_loop.proofs.Granting.{Told}
 use Rattle.ha_loop.proofs.Living.{no-way}
-use Rattle.ha_loop.proofs.Rows.{if-cases, before-by, overdue-by, turn-by, wake-by, got-by, refused-by, follow-by, free-by, granted-by}
+use Rattle.ha_loop.proofs.Rows.{if-cases, before-by, overdue-by, turn-by, wake-by, got-by, refused-by, follow-by, repaired-by, free-by, granted-by}
 
 -- who ends its server waits for nothing
 abbrev pub IsAlone : Outcome → Type 0
@@ -241,10 +242,18 @@ asks-told snapshot o after who run seen known inform last waited hold active ask
 
 follow-onward : (now : Ticks) (snapshot : SnapshotFacts) (leader : MemberId) (o : Outcome) → Onward (Some snapshot) o (follows now leader (record o { knows = read_noted now snapshot o.knows }))
 follow-onward now snapshot leader o = let x : Outcome = record o { role = Follower; knows = read_noted now snapshot o.knows } in
-    follow-by (λ (y : Outcome). Onward (Some snapshot) o (touching y)) now leader o.machine.server.state x
+    let row : Outcome = touching (follow_row now leader o.machine.server.state x) in
+    repaired-by (Onward (Some snapshot) o) leader (repair_of x.knows.settings leader o.machine.server) row
+    (follow-by (λ (y : Outcome). Onward (Some snapshot) o (touching y)) now leader o.machine.server.state x
     (quiet-told snapshot o (touching x) refl refl refl refl refl (omega arith) refl refl)
     (quiet-told snapshot o (touching (starting_replica now (Some leader) x)) refl refl refl refl refl (omega arith) refl refl)
     (quiet-told snapshot o (touching (following_server leader x)) refl refl refl refl refl (omega arith) refl refl)
+    (quiet-told snapshot o (touching (shutting_down now x)) refl refl refl refl refl (omega arith) refl refl))
+    (λ r. follow-by (λ (y : Outcome). Onward (Some snapshot) o (repairing leader r (touching y))) now leader o.machine.server.state x
+    (quiet-told snapshot o (repairing leader r (touching x)) refl refl refl refl refl (omega arith) refl refl)
+    (quiet-told snapshot o (repairing leader r (touching (starting_replica now (Some leader) x))) refl refl refl refl refl (omega arith) refl refl)
+    (quiet-told snapshot o (repairing leader r (touching (following_server leader x))) refl refl refl refl refl (omega arith) refl refl)
+    (quiet-told snapshot o (repairing leader r (touching (shutting_down now x))) refl refl refl refl refl (omega arith) refl refl))
 
 free-onward : (now : Ticks) (snapshot : SnapshotFacts) (o : Outcome) → Onward (Some snapshot) o (finds_free now (record o { knows = read_noted now snapshot o.knows }))
 free-onward now snapshot o = let x : Outcome = record o { role = Follower; knows = read_noted now snapshot o.knows } in

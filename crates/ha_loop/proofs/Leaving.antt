@@ -5,6 +5,7 @@ use Rattle.pat_base.specs.declared.ticks.Ticks.{Ticks}
 use Rattle.pat_base.specs.ServerState.{live}
 use Rattle.wal_model.specs.declared.entry.HistoryPoint.{HistoryPoint}
 use Rattle.cluster_config.specs.Snapshots.{SnapshotFacts}
+use Rattle.ha_loop.specs.Repairs.{repair_of}
 use Rattle.ha_loop.specs.declared.role.Why.{Why}
 use Rattle.ha_loop.specs.declared.role.Why.TheVariants.{HandOver, Lost}
 use Rattle.ha_loop.specs.Acting.{touching}
@@ -13,11 +14,11 @@ use Rattle.ha_loop.specs.Before.{leader_finds_ended, has_ended, stray_finds_ende
 use Rattle.ha_loop.specs.Decisions.{refused}
 use Rattle.ha_loop.specs.Powers.{BringsNothing, LeavesMachine, Acts, is_ready}
 use Rattle.ha_loop.specs.Powers.DeadlineMay.{Kept, Removed, Undone}
-use Rattle.ha_loop.specs.Snapshots.{follows, finds_free, read_noted, got}
+use Rattle.ha_loop.specs.Snapshots.{follows, finds_free, read_noted, got, follow_row}
 use Rattle.ha_loop.specs.Wake.{overdue, turned, woken}
 use Rattle.ha_loop.proofs.Bringing.{overdue-brings, turn-brings, got-brings, refused-brings}
 use Rattle.ha_loop.proofs.Living.{no-way}
-use Rattle.ha_loop.proofs.Rows.{before-by, overdue-by, turn-by, wake-by, got-by, refused-by, follow-by, free-by}
+use Rattle.ha_loop.proofs.Rows.{before-by, overdue-by, turn-by, wake-by, got-by, refused-by, follow-by, free-by, repaired-by}
 
 -- neither changes
 pub record Stays (o after : Outcome) : Type 0 where
@@ -78,7 +79,10 @@ wake-leaves now o = wake-by (LeavesMachine o) now o (before-leaves now o)
     (turn-stays now (overdue now (before now o))) (turn-brings now (overdue now (before now o))))
 
 follow-stays : (now : Ticks) (leader : MemberId) (o : Outcome) → Stays o (follows now leader o)
-follow-stays now leader o = follow-by (λ (x : Outcome). Stays o (touching x)) now leader o.machine.server.state (record o { role = Follower }) (record { watchdog = refl; hold = refl }) (record { watchdog = refl; hold = refl }) (record { watchdog = refl; hold = refl })
+follow-stays now leader o = let x : Outcome = record o { role = Follower } in
+    let row = follow-by (Stays o) now leader o.machine.server.state x (record { watchdog = refl; hold = refl }) (record { watchdog = refl; hold = refl }) (record { watchdog = refl; hold = refl }) (record { watchdog = refl; hold = refl }) in
+    let told : Stays o (touching (follow_row now leader o.machine.server.state x)) = record { watchdog = row.watchdog; hold = row.hold } in
+    repaired-by (Stays o) leader (repair_of o.knows.settings leader o.machine.server) (touching (follow_row now leader o.machine.server.state x)) told (λ r. record { watchdog = told.watchdog; hold = told.hold })
 
 free-stays : (now : Ticks) (o : Outcome) → Stays o (finds_free now o)
 free-stays now o = free-by (Stays o) now o.machine.server.state (record o { role = Follower }) (record { watchdog = refl; hold = refl }) (record { watchdog = refl; hold = refl }) (record { watchdog = refl; hold = refl })

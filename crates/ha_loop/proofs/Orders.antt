@@ -1,6 +1,6 @@
 -- The machine that an input leaves is what its outputs make of the machine before.
 use Rattle.std.proofs.Common.{◌≡◌, ◌+◌, ◌++◌, ℕ, Bool, true, false, if◌then◌else◌, List, [], ◌∷◌, Option, Some, None, All, refl, sym, subst, ap, ◌∙◌}
-use Rattle.std.proofs.lemmas.List.Elements.{All-push, All-nil}
+use Rattle.std.proofs.lemmas.List.Elements.{All-push, All-nil, All-weaker, All-head, All-tail}
 use Rattle.pat_base.specs.declared.member_id.MemberId.{MemberId}
 use Rattle.pat_base.specs.declared.ticks.Ticks.{Ticks}
 use Rattle.lease_store.specs.declared.granted.Granted.{Granted}
@@ -12,6 +12,8 @@ use Rattle.event_book.specs.declared.message.Body.TheVariants as bodies
 use Rattle.event_book.specs.declared.reason.Reason.{Reason}
 use Rattle.event_book.specs.declared.reason.Reason.TheVariants.{StoreOutOfReach, LeaderKeyLost, StartTooLong, WatchdogNotArmed}
 use Rattle.leader_key.specs.Watchdog.{is_armable, timeout_of}
+use Rattle.ha_loop.specs.declared.output.Repair.{Repair}
+use Rattle.ha_loop.specs.Repairs.{repair_of, repairing}
 use Rattle.ha_loop.specs.declared.heard.Heard.{Heard}
 use Rattle.ha_loop.specs.declared.heard.Heard.TheVariants.{Wake, Got, Granted as HeardGranted, Mismatch}
 use Rattle.ha_loop.specs.declared.knowledge.Knowledge.{Knowledge}
@@ -21,30 +23,67 @@ use Rattle.ha_loop.specs.declared.output.Output.TheVariants as outputs
 use Rattle.ha_loop.specs.declared.output.Target.TheVariants as targets
 use Rattle.ha_loop.specs.declared.role.Why.{Why}
 use Rattle.ha_loop.specs.declared.role.Why.TheVariants.{HandOver, Lost}
-use Rattle.ha_loop.specs.Acting.{arming, feeding, armed, fed_until, disarmed, without_deadline, disarming, sending, touching, ending_server, starting_replica, following_server, is_refusing}
+use Rattle.ha_loop.specs.Acting.{arming, feeding, armed, fed_until, disarmed, without_deadline, disarming, sending, touching, ending_server, starting_replica, following_server, is_refusing, shutting_down, waiting_no_more}
 use Rattle.ha_loop.specs.Agents.{RoleFacts, Follower, Leader, Outcome, made}
 use Rattle.ha_loop.specs.Before.{has_ended, before}
 use Rattle.ha_loop.specs.Decisions.{is_start_too_long, leader_renewed, takes_over, stray_renewed, may_take, gives_back, begins, arms, takes_key, granted, refused}
-use Rattle.ha_loop.specs.Orders.{machine_after_output, machine_after_outputs, IsOfTable, IsCarriedOut}
+use Rattle.ha_loop.specs.Orders.{machine_after_output, machine_after_outputs, IsOfTable, IsCarriedOut, EndsRepairing, RepairsLast}
 use Rattle.ha_loop.specs.Outputs.{listed}
-use Rattle.ha_loop.specs.Snapshots.{informed, follows, finds_free, read_noted, got}
+use Rattle.ha_loop.specs.Snapshots.{informed, follows, finds_free, read_noted, got, follow_row, leader_loses_key, stray_loses_key, renewing}
 use Rattle.ha_loop.specs.Table.{step, act}
 use Rattle.ha_loop.specs.Wake.{overdue, turned, woken}
-use Rattle.ha_loop.proofs.Rows.{if-cases, before-by, overdue-by, turn-by, wake-by, got-by, refused-by, follow-by, free-by, granted-by}
+use Rattle.ha_loop.proofs.Rows.{if-cases, before-by, overdue-by, turn-by, wake-by, got-by, refused-by, follow-by, free-by, granted-by, repaired-by}
 
 after-push : (now : Ticks) (machine : Machine) (outs : List Output) (output : Output) → machine_after_outputs now machine (outs ++ output ∷ []) ≡ machine_after_output now (machine_after_outputs now machine outs) output
 after-push now machine [] output = refl
 after-push now machine (one ∷ outs) output = after-push now (machine_after_output now machine one) outs output
 
--- the same of a machine and the outputs so far
+-- an output that the table makes so far, and that repairs no log
+abbrev IsPlain : Output → Type 0
+IsPlain (outputs.HoldTaken until from sequence) = ⊥
+IsPlain (outputs.Send (targets.Member member) sequence body) = ⊥
+IsPlain (outputs.Repair leader repair) = ⊥
+IsPlain _ = Unit {0}
+
+-- a machine and the outputs so far: it is what they make of the machine before, and none of them repairs a log
 record Reached (now : Ticks) (start machine : Machine) (outs : List Output) : Type 0 where
   machine_is : machine ≡ machine_after_outputs now start outs
-  kinds : All IsOfTable outs
+  kinds : All IsPlain outs
 
-one-more : (now : Ticks) (start machine : Machine) (outs : List Output) (output : Output) → IsOfTable output → Reached now start machine outs → Reached now start (machine_after_output now machine output) (outs ++ output ∷ [])
-one-more now start machine outs output of-table r = record {
+one-more : (now : Ticks) (start machine : Machine) (outs : List Output) (output : Output) → IsPlain output → Reached now start machine outs → Reached now start (machine_after_output now machine output) (outs ++ output ∷ [])
+one-more now start machine outs output plain r = record {
   machine_is = ap (λ (x : Machine). machine_after_output now x output) r.machine_is ∙ sym (after-push now start outs output);
-  kinds = All-push IsOfTable outs output r.kinds of-table;
+  kinds = All-push IsPlain outs output r.kinds plain;
+}
+
+plain-table : (output : Output) → IsPlain output → IsOfTable output
+plain-table (outputs.HoldTaken until from sequence) plain = plain
+plain-table (outputs.Send (targets.Member member) sequence body) plain = plain
+plain-table (outputs.Repair leader repair) plain = tt
+plain-table _ plain = tt
+
+plain-ends : (output : Output) (later : List Output) → IsPlain output → EndsRepairing output later
+plain-ends (outputs.Repair leader repair) later plain = absurd plain
+plain-ends _ later plain = tt
+
+plain-last : (outs : List Output) → All IsPlain outs → RepairsLast outs
+plain-last [] plain = tt
+plain-last (output ∷ later) plain = (plain-ends output later (All-head IsPlain output later plain), plain-last later (All-tail IsPlain output later plain))
+
+repair-last : (leader : MemberId) (r : Repair) (outs : List Output) → All IsPlain outs → RepairsLast (outs ++ outputs.Repair leader r ∷ [])
+repair-last leader r [] plain = (refl, tt)
+repair-last leader r (output ∷ later) plain =
+    (plain-ends output (later ++ outputs.Repair leader r ∷ []) (All-head IsPlain output later plain), repair-last leader r later (All-tail IsPlain output later plain))
+
+-- behind plain outputs the log may be repaired
+carried-out : (now : Ticks) (start : Machine) (o : Outcome) → Reached now start o.machine o.outputs → IsCarriedOut now start o
+carried-out now start o r = record { machine_is = r.machine_is; kinds = All-weaker IsPlain IsOfTable plain-table o.outputs r.kinds; last = plain-last o.outputs r.kinds }
+
+repaired-out : (now : Ticks) (start : Machine) (leader : MemberId) (repair : Repair) (o : Outcome) → Reached now start o.machine o.outputs → IsCarriedOut now start (repairing leader repair o)
+repaired-out now start leader repair o r = record {
+  machine_is = r.machine_is ∙ sym (after-push now start o.outputs (outputs.Repair leader repair));
+  kinds = All-push IsOfTable o.outputs (outputs.Repair leader repair) (All-weaker IsPlain IsOfTable plain-table o.outputs r.kinds) tt;
+  last = repair-last leader repair o.outputs r.kinds;
 }
 
 disarms : (now : Ticks) (start machine : Machine) (outs : List Output) (deadline : Option Ticks) → machine.watchdog.deadline ≡ deadline → Reached now start machine outs → Reached now start (without_deadline machine) (disarmed deadline outs)
@@ -118,12 +157,15 @@ wake-reaches : (now : Ticks) (start : Machine) (o : Outcome) → Reaches now sta
 wake-reaches now start o r = let first = before-reaches now start o r in
     wake-by (Reaches now start) now o first (turn-reaches now start (overdue now (before now o)) (overdue-reaches now start (before now o) first))
 
-follow-reaches : (now : Ticks) (start : Machine) (leader : MemberId) (o : Outcome) → Reaches now start o → Reaches now start (follows now leader o)
-follow-reaches now start leader o r = let x : Outcome = record o { role = Follower } in
-    follow-by (λ (y : Outcome). Reaches now start (touching y)) now leader o.machine.server.state x
-    (touch-reaches now start x r)
-    (touch-reaches now start (starting_replica now (Some leader) x) (start-reaches now start (Some leader) x r))
-    (touch-reaches now start (following_server leader x) (follow-one-reaches now start leader x r))
+shut-reaches : (now : Ticks) (start : Machine) (o : Outcome) → Reaches now start o → Reaches now start (shutting_down now o)
+shut-reaches now start o r = one-more now start o.machine o.outputs outputs.ShutDown tt r
+
+follow-carries : (now : Ticks) (start : Machine) (leader : MemberId) (o : Outcome) → Reaches now start o → IsCarriedOut now start (follows now leader o)
+follow-carries now start leader o r = let x : Outcome = record o { role = Follower } in
+    let row : Outcome = follow_row now leader o.machine.server.state x in
+    let told : Reaches now start (touching row) = touch-reaches now start row
+    (follow-by (Reaches now start) now leader o.machine.server.state x r (start-reaches now start (Some leader) x r) (follow-one-reaches now start leader x r) (shut-reaches now start x r)) in
+    repaired-by (IsCarriedOut now start) leader (repair_of o.knows.settings leader o.machine.server) (touching row) (carried-out now start (touching row) told) (λ repair. repaired-out now start leader repair (touching row) told)
 
 free-reaches : (now : Ticks) (start : Machine) (o : Outcome) → Reaches now start o → Reaches now start (finds_free now o)
 free-reaches now start o r = let x : Outcome = record o { role = Follower } in
@@ -132,18 +174,18 @@ free-reaches now start o r = let x : Outcome = record o { role = Follower } in
     (touch-reaches now start (starting_replica now None x) (start-reaches now start None x r))
     (one-more now start o.machine o.outputs _ tt r)
 
-got-reaches : (now : Ticks) (points : List HistoryPoint) (start : Machine) (sequence : ℕ) (snapshot : SnapshotFacts) (o : Outcome) → Reaches now start o → Reaches now start (got now points sequence snapshot o)
-got-reaches now points start sequence snapshot o r = let read : Outcome = record o { knows = read_noted now snapshot o.knows } in
-    got-by (Reaches now start) now points sequence snapshot o (record {
-      kept = r;
-      quiet = r;
-      other = r;
-      leader = λ held _. end-reaches now start LeaderKeyLost read r;
-      stray = λ _. end-reaches now start LeaderKeyLost read r;
-      renews = λ _ leader _ _. one-more now start o.machine o.outputs _ tt r;
-      touches = touch-reaches now start read r;
-      follows = λ leader _ _. follow-reaches now start leader.holder read r;
-      free = λ _ _. free-reaches now start read r;
+got-carries : (now : Ticks) (points : List HistoryPoint) (start : Machine) (sequence : ℕ) (snapshot : SnapshotFacts) (o : Outcome) → Reaches now start o → IsCarriedOut now start (got now points sequence snapshot o)
+got-carries now points start sequence snapshot o r = let read : Outcome = record o { knows = read_noted now snapshot o.knows } in
+    got-by (IsCarriedOut now start) now points sequence snapshot o (record {
+      kept = carried-out now start o r;
+      quiet = carried-out now start (waiting_no_more o) r;
+      other = carried-out now start read r;
+      leader = λ held _. carried-out now start (leader_loses_key now held read) (end-reaches now start LeaderKeyLost read r);
+      stray = λ _. carried-out now start (stray_loses_key now read) (end-reaches now start LeaderKeyLost read r);
+      renews = λ _ leader _ _. carried-out now start (renewing now points leader.revision read) (one-more now start o.machine o.outputs _ tt r);
+      touches = carried-out now start (touching read) (touch-reaches now start read r);
+      follows = λ leader _ _. follow-carries now start leader.holder read r;
+      free = λ _ _. carried-out now start (finds_free now read) (free-reaches now start read r);
     })
 
 refused-reaches : (now : Ticks) (start : Machine) (sequence : ℕ) (o : Outcome) → Reaches now start o → Reaches now start (refused now sequence o)
@@ -189,17 +231,18 @@ granted-reaches now start sequence grant snapshot o r = let told : Outcome = rec
       takes = λ _. takes-reaches now waited.ttl start grant.revision told r;
     })
 
-step-reaches : (now : Ticks) (points : List HistoryPoint) (heard : Heard) (start : Machine) (o : Outcome) → Reaches now start o → Reaches now start (step now points heard o)
-step-reaches now points Wake start o r = wake-reaches now start o r
-step-reaches now points (Got sequence snapshot) start o r = got-reaches now points start sequence snapshot (before now o) (before-reaches now start o r)
-step-reaches now points (HeardGranted sequence grant snapshot) start o r = granted-reaches now start sequence grant snapshot (before now o) (before-reaches now start o r)
-step-reaches now points (Mismatch sequence key found) start o r = refused-reaches now start sequence (before now o) (before-reaches now start o r)
+step-carries : (now : Ticks) (points : List HistoryPoint) (heard : Heard) (start : Machine) (o : Outcome) → Reaches now start o → IsCarriedOut now start (step now points heard o)
+step-carries now points Wake start o r = carried-out now start (woken now o) (wake-reaches now start o r)
+step-carries now points (Got sequence snapshot) start o r = got-carries now points start sequence snapshot (before now o) (before-reaches now start o r)
+step-carries now points (HeardGranted sequence grant snapshot) start o r =
+    carried-out now start (granted now sequence grant snapshot (before now o)) (granted-reaches now start sequence grant snapshot (before now o) (before-reaches now start o r))
+step-carries now points (Mismatch sequence key found) start o r = carried-out now start (refused now sequence (before now o)) (refused-reaches now start sequence (before now o) (before-reaches now start o r))
 
 nothing : (now : Ticks) (machine : Machine) → Reached now machine machine []
-nothing now machine = record { machine_is = refl; kinds = All-nil IsOfTable }
+nothing now machine = record { machine_is = refl; kinds = All-nil IsPlain }
 
 pub step-carried-out : (now : Ticks) (points : List HistoryPoint) (heard : Heard) (role : RoleFacts) (knows : Knowledge) (machine : Machine) → IsCarriedOut now machine (step now points heard (made role knows machine []))
-step-carried-out now points heard role knows machine = let r = step-reaches now points heard machine (made role knows machine []) (nothing now machine) in record { machine_is = r.machine_is; kinds = r.kinds }
+step-carried-out now points heard role knows machine = step-carries now points heard machine (made role knows machine []) (nothing now machine)
 
 pub act-carried-out : (now : Ticks) (role : RoleFacts) (knows : Knowledge) (machine : Machine) → IsCarriedOut now machine (act now (made role knows machine []))
-act-carried-out now role knows machine = let r = before-reaches now machine (made role knows machine []) (nothing now machine) in record { machine_is = r.machine_is; kinds = r.kinds }
+act-carried-out now role knows machine = carried-out now machine (before now (made role knows machine [])) (before-reaches now machine (made role knows machine []) (nothing now machine))

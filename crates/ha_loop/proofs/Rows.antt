@@ -1,5 +1,5 @@
 -- The rows of the decision table, one by one: what holds of each row that applies holds of the whole.
-use Rattle.std.proofs.Common.{◌≡◌, ℕ, ◌==◌, ◌&&◌, nat_le, Bool, true, false, if◌then◌else◌, Option, Some, None, List, refl, subst}
+use Rattle.std.proofs.Common.{◌≡◌, ℕ, ◌==◌, ◌&&◌, nat_le, Bool, true, false, if◌then◌else◌, Option, Some, None, List, refl, subst, not}
 use Rattle.lease_store.specs.declared.granted.Granted.{Granted}
 use Rattle.wal_model.specs.declared.entry.HistoryPoint.{HistoryPoint}
 use Rattle.cluster_config.specs.declared.snapshot.LeaderEntry.{LeaderEntry}
@@ -9,16 +9,18 @@ use Rattle.pat_base.specs.declared.ticks.Ticks.{Ticks}
 use Rattle.pat_base.specs.declared.server_state.State.{State}
 use Rattle.pat_base.specs.declared.server_state.State.TheVariants as states
 use Rattle.pat_base.specs.ServerState.{live}
+use Rattle.ha_loop.specs.declared.output.Repair.{Repair}
+use Rattle.ha_loop.specs.Repairs.{is_upstream, repairing, repaired_if}
 use Rattle.ha_loop.specs.declared.knowledge.Question.{Question}
 use Rattle.ha_loop.specs.declared.knowledge.Question.TheVariants.{Reading, Creating, Renewing}
 use Rattle.ha_loop.specs.declared.knowledge.Waited.{Waited}
 use Rattle.ha_loop.specs.declared.role.Why.{Why}
-use Rattle.ha_loop.specs.Acting.{disarming, waiting_no_more, touching, starting_replica, following_server, is_hold_active}
+use Rattle.ha_loop.specs.Acting.{disarming, waiting_no_more, touching, starting_replica, following_server, is_hold_active, shutting_down}
 use Rattle.ha_loop.specs.Agents.{RoleFacts, Follower, Holder, Ready, Leader, Ending, Stray, Outcome}
 use Rattle.ha_loop.specs.Before.{leader_finds_ended, has_ended, finds_live, stray_finds_ended, before_as, before}
 use Rattle.ha_loop.specs.Decisions.{may_create, leader_renewed, stray_renewed, takes_key, lease_granted, belongs, accepted_grant, is_lease_of, granted_for, granted, is_decision, follower_for, renewal_refused, refused_as, refused_for, refused}
 use Rattle.ha_loop.specs.Fits.{Fits}
-use Rattle.ha_loop.specs.Snapshots.{leader_loses_key, stray_loses_key, renewing, finds_own_key, own_key, starts_behind, is_upstream, follow_row, follows, others_key, creating, free_in, finds_free, no_key, led, is_active, awaits_read, read_noted, informed, accepted, got}
+use Rattle.ha_loop.specs.Snapshots.{leader_loses_key, stray_loses_key, renewing, finds_own_key, own_key, starts_behind, follow_row, follows, others_key, creating, free_in, finds_free, no_key, led, is_active, awaits_read, read_noted, informed, accepted, got, ends_fork}
 use Rattle.ha_loop.specs.Wake.{is_due, has_turn, leader_out_of_reach, stray_out_of_reach, out_of_reach_as, unanswered, overdue_for, overdue, is_stopping, reading, turn_noted, turn_as, turn_begins, turned, woken}
 
 pub if-cases : {A : Type 0} (P : A → Type 0) (test : Bool) (x y : A) → (test ≡ true → P x) → (test ≡ false → P y) → P (if test then x else y)
@@ -188,14 +190,23 @@ refused-by P now sequence o rows = refused-for P now sequence o.knows.waited o r
 starts-by : (P : Outcome → Type 0) (now : Ticks) (leader : Option MemberId) (o : Outcome) → P o → P (starting_replica now leader o) → P (starts_behind now leader o)
 starts-by P now leader o kept starts = if-cases P o.machine.server.diverged o (starting_replica now leader o) (λ _. kept) (λ _. starts)
 
-pub follow-by : (P : Outcome → Type 0) (now : Ticks) (leader : MemberId) (state : State) (o : Outcome) → P o → P (starting_replica now (Some leader) o) → P (following_server leader o) → P (follow_row now leader state o)
-follow-by P now leader states.Stopped o kept starts follows-it = starts-by P now (Some leader) o kept starts
-follow-by P now leader states.Crashed o kept starts follows-it = starts-by P now (Some leader) o kept starts
-follow-by P now leader states.Replica o kept starts follows-it = if-cases P (is_upstream leader o.machine.server.upstream) o (following_server leader o) (λ _. kept) (λ _. follows-it)
-follow-by P now leader states.Creating o kept starts follows-it = kept
-follow-by P now leader (states.Starting as_primary at) o kept starts follows-it = kept
-follow-by P now leader states.Primary o kept starts follows-it = kept
-follow-by P now leader (states.Stopping was_primary at) o kept starts follows-it = kept
+ends-by : (P : Outcome → Type 0) (now : Ticks) (o : Outcome) → P o → P (shutting_down now o) → P (ends_fork now o)
+ends-by P now o kept shuts = if-cases P (o.machine.server.diverged && not o.knows.settings.use_pg_rewind) (shutting_down now o) o (λ _. shuts) (λ _. kept)
+
+pub follow-by : (P : Outcome → Type 0) (now : Ticks) (leader : MemberId) (state : State) (o : Outcome) → P o → P (starting_replica now (Some leader) o) → P (following_server leader o) → P (shutting_down now o) → P (follow_row now leader state o)
+follow-by P now leader states.Stopped o kept starts follows-it shuts = starts-by P now (Some leader) o kept starts
+follow-by P now leader states.Crashed o kept starts follows-it shuts = starts-by P now (Some leader) o kept starts
+follow-by P now leader states.Replica o kept starts follows-it shuts =
+    if-cases P (is_upstream leader o.machine.server.upstream) (ends_fork now o) (following_server leader o) (λ _. ends-by P now o kept shuts) (λ _. follows-it)
+follow-by P now leader states.Creating o kept starts follows-it shuts = kept
+follow-by P now leader (states.Starting as_primary at) o kept starts follows-it shuts = kept
+follow-by P now leader states.Primary o kept starts follows-it shuts = kept
+follow-by P now leader (states.Stopping was_primary at) o kept starts follows-it shuts = kept
+
+-- and behind it the log may be repaired
+pub repaired-by : (P : Outcome → Type 0) (leader : MemberId) (repair : Option Repair) (o : Outcome) → P o → ((r : Repair) → P (repairing leader r o)) → P (repaired_if leader repair o)
+repaired-by P leader None o kept repaired = kept
+repaired-by P leader (Some r) o kept repaired = repaired r
 
 pub free-by : (P : Outcome → Type 0) (now : Ticks) (state : State) (o : Outcome) → P (touching o) → P (touching (starting_replica now None o)) → P (creating now o) → P (free_in now state o)
 free-by P now states.Stopped o kept starts creates = starts-by (λ (x : Outcome). P (touching x)) now None o kept starts

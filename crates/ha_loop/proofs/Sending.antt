@@ -18,13 +18,15 @@ use Rattle.event_book.specs.declared.message.Body.TheVariants as bodies
 use Rattle.event_book.specs.declared.reason.Reason.TheVariants.{StoreOutOfReach, LeaderKeyLost, StartTooLong, WatchdogNotArmed}
 use Rattle.leader_key.specs.Watchdog.{is_armable}
 use Rattle.lease_law.specs.Leases.{LeaderSeen}
+use Rattle.ha_loop.specs.declared.output.Repair.{Repair}
+use Rattle.ha_loop.specs.Repairs.{repair_of, repairing}
 use Rattle.ha_loop.specs.declared.knowledge.Waited.{Waited}
 use Rattle.ha_loop.specs.declared.output.Output.{Output}
 use Rattle.ha_loop.specs.declared.output.Output.TheVariants as outputs
 use Rattle.ha_loop.specs.declared.output.Target.TheVariants as targets
 use Rattle.ha_loop.specs.declared.role.Why.{Why}
 use Rattle.ha_loop.specs.declared.role.Why.TheVariants.{HandOver, Lost}
-use Rattle.ha_loop.specs.Acting.{armed, fed_until, disarmed, deadline_after, arming, feeding, ending_server, touching, starting_replica, following_server, is_hold_active, is_refusing, waiting_no_more}
+use Rattle.ha_loop.specs.Acting.{armed, fed_until, disarmed, deadline_after, arming, feeding, ending_server, touching, starting_replica, following_server, is_hold_active, is_refusing, waiting_no_more, shutting_down}
 use Rattle.ha_loop.specs.Agents.{RoleFacts, Follower, Holder, Ready, Leader, Ending, Stray, Outcome}
 use Rattle.ha_loop.specs.Before.{has_ended, before}
 use Rattle.ha_loop.specs.Decisions.{is_decision, is_lease_of, may_create, is_start_too_long, leader_renewed, takes_over, stray_renewed, can_begin, may_take, gives_back, begins, arms, takes_key, granted, refused}
@@ -32,13 +34,13 @@ use Rattle.ha_loop.specs.Fits.{Fits}
 use Rattle.ha_loop.specs.Outputs.{listed, is_arming, has_one, BeginsOnly, OutputsBeginBehind}
 use Rattle.ha_loop.specs.Powers.{Acts, lease_of}
 use Rattle.ha_loop.specs.Seen.{lease_asked, leader_entry_seen, leader_seen_if}
-use Rattle.ha_loop.specs.Snapshots.{renewing, follows, creating, finds_free, leader_loses_key, stray_loses_key, read_noted, got}
+use Rattle.ha_loop.specs.Snapshots.{renewing, follows, creating, finds_free, leader_loses_key, stray_loses_key, read_noted, got, follow_row}
 use Rattle.ha_loop.specs.Wake.{reading, turn_noted, overdue, turned, woken}
 use Rattle.ha_loop.proofs.Granting.{take-free, Told, one-last, one-before}
 use Rattle.ha_loop.proofs.Knowing.{IsAlone}
 use Rattle.ha_loop.proofs.Leaving.{rests-by}
 use Rattle.ha_loop.proofs.Living.{no-way}
-use Rattle.ha_loop.proofs.Rows.{if-cases, before-by, overdue-by, turn-by, wake-by, got-by, refused-by, follow-by, free-by, granted-by}
+use Rattle.ha_loop.proofs.Rows.{if-cases, before-by, overdue-by, turn-by, wake-by, got-by, refused-by, follow-by, repaired-by, free-by, granted-by}
 
 -- an output that sends nothing, takes no hold, and by which no server comes to accept writes
 abbrev pub IsSilent : Output → Type 0
@@ -214,12 +216,25 @@ leader-shown entry leader me some mine = let is : leader.holder.number ≡ me = 
 touches : (G : ℕ → Type 0) (o x : Outcome) (outs : List Output) → o.knows.sequence ≤ x.knows.sequence → All IsSilent x.outputs → AllMay G o (touching x)
 touches G o x outs later silent = push G o (touching x) x.outputs _ (front G o (touching x) x.outputs silent) (sends G o (touching x) x.knows.sequence _ later refl tt)
 
+-- and has the log of its server repaired
+touches-repairing : (G : ℕ → Type 0) (leader : MemberId) (r : Repair) (o x : Outcome) → o.knows.sequence ≤ x.knows.sequence → All IsSilent x.outputs → AllMay G o (repairing leader r (touching x))
+touches-repairing G leader r o x later silent = let y : Outcome = repairing leader r (touching x) in
+    push G o y (touching x).outputs (outputs.Repair leader r) (push G o y x.outputs _ (front G o y x.outputs silent) (sends G o y x.knows.sequence _ later refl tt)) tt
+
 follow-may : (G : ℕ → Type 0) (now : Ticks) (leader : MemberId) (o b : Outcome) → o.knows.sequence ≤ b.knows.sequence → All IsSilent b.outputs → AllMay G o (follows now leader b)
 follow-may G now leader o b later silent = let x : Outcome = record b { role = Follower } in
-    follow-by (λ (y : Outcome). AllMay G o (touching y)) now leader b.machine.server.state x
+    let row : Outcome = touching (follow_row now leader b.machine.server.state x) in
+    repaired-by (AllMay G o) leader (repair_of b.knows.settings leader b.machine.server) row
+    (follow-by (λ (y : Outcome). AllMay G o (touching y)) now leader b.machine.server.state x
     (touches G o x x.outputs later silent)
     (touches G o (starting_replica now (Some leader) x) x.outputs later (silently b.outputs (outputs.StartReplica (Some leader)) silent tt))
     (touches G o (following_server leader x) x.outputs later (silently b.outputs (outputs.Follow leader) silent tt))
+    (touches G o (shutting_down now x) x.outputs later (silently b.outputs outputs.ShutDown silent tt)))
+    (λ r. follow-by (λ (y : Outcome). AllMay G o (repairing leader r (touching y))) now leader b.machine.server.state x
+    (touches-repairing G leader r o x later silent)
+    (touches-repairing G leader r o (starting_replica now (Some leader) x) later (silently b.outputs (outputs.StartReplica (Some leader)) silent tt))
+    (touches-repairing G leader r o (following_server leader x) later (silently b.outputs (outputs.Follow leader) silent tt))
+    (touches-repairing G leader r o (shutting_down now x) later (silently b.outputs outputs.ShutDown silent tt)))
 
 free-may : (G : ℕ → Type 0) (now : Ticks) (o b : Outcome) → o.knows.sequence ≤ b.knows.sequence → All IsSilent b.outputs → AllMay G o (finds_free now b)
 free-may G now o b later silent = let x : Outcome = record b { role = Follower } in

@@ -65,6 +65,10 @@ releasing revision o = sending (bodies.Request (txns.Release revision)) o
 abbrev pub ending_server : Ticks → Reason → Outcome → Outcome
 ending_server now reason o = record o { machine = record o.machine { server = status_stopping now o.machine.server }; outputs = listed (outputs.Stop reason) o.outputs }
 
+-- the server shuts down
+abbrev pub shutting_down : Ticks → Outcome → Outcome
+shutting_down now o = record o { machine = record o.machine { server = status_stopping now o.machine.server }; outputs = listed outputs.ShutDown o.outputs }
+
 -- the server of this member, if one is named
 abbrev pub upstream_of : Option MemberId → Option ServerId
 upstream_of None = None

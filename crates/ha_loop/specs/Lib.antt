@@ -9,6 +9,7 @@ pub mod Lawful
 pub mod Orders
 pub mod Outputs
 pub mod Powers
+pub mod Repairs
 pub mod Seen
 pub mod Snapshots
 pub mod Start

@@ -29,6 +29,7 @@ abbrev pub machine_after_output : Ticks → Machine → Output → Machine
 machine_after_output now machine outputs.Begin = with_server (status_begun now machine.server) machine
 machine_after_output now machine (outputs.StartReplica leader) = with_server (status_replica_started now (upstream_of leader) machine.server) machine
 machine_after_output now machine (outputs.Stop reason) = with_server (status_stopping now machine.server) machine
+machine_after_output now machine outputs.ShutDown = with_server (status_stopping now machine.server) machine
 machine_after_output now machine (outputs.Follow leader) = with_server (status_following (server_id_of leader) machine.server) machine
 machine_after_output now machine (outputs.Armed until) = with_deadline until machine
 machine_after_output now machine (outputs.Fed until) = with_deadline until machine
@@ -47,8 +48,19 @@ IsOfTable (outputs.HoldTaken until from sequence) = ⊥
 IsOfTable (outputs.Send (targets.Member member) sequence body) = ⊥
 IsOfTable _ = Unit {0}
 
--- the machine that an input leaves is what its outputs, carried out in their order, make of the machine before, and the table
--- makes each of them
+-- nothing comes behind this output, where a log is repaired by it
+abbrev pub EndsRepairing : Output → List Output → Type 0
+EndsRepairing (outputs.Repair leader repair) later = later ≡ []
+EndsRepairing _ later = Unit {0}
+
+-- where a log is repaired by one of these outputs, that is the last one
+abbrev pub RepairsLast : List Output → Type 0
+RepairsLast [] = Unit {0}
+RepairsLast (output ∷ later) = EndsRepairing output later × RepairsLast later
+
+-- the machine that an input leaves is what its outputs, carried out in their order, make of the machine before, but for a repair of
+-- its server's log, which comes last; and the table makes each of them
 pub record IsCarriedOut (now : Ticks) (machine : Machine) (after : Outcome) : Type 0 where
   pub machine_is : after.machine ≡ machine_after_outputs now machine after.outputs
   pub kinds : All IsOfTable after.outputs
+  pub last : RepairsLast after.outputs

@@ -5,7 +5,6 @@ use Rattle.std.specs.Option.{option_map}
 use Rattle.pat_base.specs.declared.lsn.Lsn.{Lsn}
 use Rattle.pat_base.specs.declared.member_id.MemberId.{MemberId}
 use Rattle.pat_base.specs.declared.member_set.MemberSet.{MemberSet}
-use Rattle.pat_base.specs.declared.server_id.ServerId.{ServerId}
 use Rattle.pat_base.specs.declared.server_state.State.{State}
 use Rattle.pat_base.specs.declared.server_state.State.TheVariants as states
 use Rattle.pat_base.specs.declared.ticks.Ticks.{Ticks}
@@ -24,9 +23,10 @@ use Rattle.ha_loop.specs.declared.knowledge.Question.{Question}
 use Rattle.ha_loop.specs.declared.knowledge.Question.TheVariants.{Reading, Creating, Renewing}
 use Rattle.ha_loop.specs.declared.knowledge.Waited.{Waited}
 use Rattle.ha_loop.specs.declared.role.Why.TheVariants.{Lost}
-use Rattle.ha_loop.specs.Acting.{seconds_after, lease_span, asking, touching, waiting_no_more, ending_server, starting_replica, following_server, is_hold_active}
+use Rattle.ha_loop.specs.Acting.{seconds_after, lease_span, asking, touching, waiting_no_more, ending_server, shutting_down, starting_replica, following_server, is_hold_active}
 use Rattle.ha_loop.specs.Agents.{RoleFacts, Follower, Holder, Leader, Ending, Stray, Outcome}
 use Rattle.ha_loop.specs.Info.{info_of}
+use Rattle.ha_loop.specs.Repairs.{is_upstream, repair_of, repaired_if}
 
 -- the members that are known, with those that a failsafe key lists
 abbrev pub known_with : MemberSet → Option MemberSet → MemberSet
@@ -101,25 +101,25 @@ own_key now points revision _ o = o
 abbrev pub starts_behind : Ticks → Option MemberId → Outcome → Outcome
 starts_behind now leader o = if o.machine.server.diverged then o else starting_replica now leader o
 
--- the server follows this member's already
-abbrev pub is_upstream : MemberId → Option ServerId → Bool
-is_upstream leader None = false
-is_upstream leader (Some upstream) = upstream.number == leader.number
+-- a replica whose log diverged shuts down, where it may not be rewound
+abbrev pub ends_fork : Ticks → Outcome → Outcome
+ends_fork now o = if o.machine.server.diverged && not o.knows.settings.use_pg_rewind then shutting_down now o else o
 
 -- a replica of another server, or of none, follows this member's
-abbrev pub follows_anew : MemberId → Outcome → Outcome
-follows_anew leader o = if is_upstream leader o.machine.server.upstream then o else following_server leader o
+abbrev pub follows_anew : Ticks → MemberId → Outcome → Outcome
+follows_anew now leader o = if is_upstream leader o.machine.server.upstream then ends_fork now o else following_server leader o
 
 -- what a server does under another leader
 abbrev pub follow_row : Ticks → MemberId → State → Outcome → Outcome
 follow_row now leader states.Stopped o = starts_behind now (Some leader) o
 follow_row now leader states.Crashed o = starts_behind now (Some leader) o
-follow_row now leader states.Replica o = follows_anew leader o
+follow_row now leader states.Replica o = follows_anew now leader o
 follow_row now leader _ o = o
 
--- another member leads: the server follows that one's, and the agent tells of itself
+-- another member leads: the server follows that one's, and the agent tells of itself; a log that has to be is repaired behind that
 abbrev pub follows : Ticks → MemberId → Outcome → Outcome
-follows now leader o = touching (follow_row now leader o.machine.server.state (record o { role = Follower }))
+follows now leader o =
+    repaired_if leader (repair_of o.knows.settings leader o.machine.server) (touching (follow_row now leader o.machine.server.state (record o { role = Follower })))
 
 -- the leader key is another's
 abbrev pub others_key : Ticks → MemberId → RoleFacts → Outcome → Outcome

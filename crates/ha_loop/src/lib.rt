@@ -25,7 +25,7 @@ pub use laws::{
     outputs_make_the_machine, role_fits_server, what_is_asked_is_waited_for,
 };
 pub use machine::Machine;
-pub use output::{Output, Target};
+pub use output::{Output, Repair, Target};
 pub use outputs::Outputs;
 pub use role::Why;
 pub use who::Who;

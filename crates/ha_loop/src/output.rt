@@ -10,6 +10,15 @@ pub enum Target {
     Member(MemberId),
 }
 
+/// How the log of a server is repaired by that of another (Patroni documentation, "Replica imaging and bootstrap").
+#[derive(Clone, Copy, Debug, PartialEq, Eq)]
+pub enum Repair {
+    /// It keeps what both have in common (`pg_rewind`, where `use_pg_rewind` is set).
+    Rewind,
+    /// It becomes a copy (`pg_basebackup`).
+    Clone,
+}
+
 /// What an agent does in an input: messages, orders to the own server, what it did to its watchdog and its hold, and notes.
 #[derive(Debug, Drop)]
 pub enum Output {
@@ -29,9 +38,16 @@ pub enum Output {
     Stop {
         reason: Reason,
     },
+    /// The server shuts down: its log diverged, and may not be rewound.
+    ShutDown,
     /// The server follows this member's from now on.
     Follow {
         leader: MemberId,
+    },
+    /// The log of the server is repaired by that of this member's, where that accepts writes and the link to it is joined.
+    Repair {
+        leader: MemberId,
+        repair: Repair,
     },
     /// The server's commits wait for these from now on.
     Require {

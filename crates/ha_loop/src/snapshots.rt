@@ -10,10 +10,11 @@ ghost use Rattle.ha_loop.specs.Acting.{seconds_after, lease_span, counted, waiti
 ghost use Rattle.ha_loop.specs.Agents.{IsSound, IsWithin, Follower, role_of, made, latest};
 ghost use Rattle.ha_loop.specs.Info.{info_of};
 ghost use Rattle.ha_loop.specs.Outputs.{listed};
-ghost use Rattle.ha_loop.specs.Snapshots.{known_with, informed, status_told, row_at, missing_point, missing_row, row_told, renewal, turn_start, renewing, finds_own_key, own_key, starts_behind, is_upstream, follows_anew, follow_row, follows, others_key, creating, free_in, finds_free, no_key, led_by, led, is_active, is_read, awaits_read, read_noted, accepted, got};
+ghost use Rattle.ha_loop.specs.Snapshots.{known_with, informed, status_told, row_at, missing_point, missing_row, row_told, renewal, turn_start, renewing, finds_own_key, own_key, starts_behind, ends_fork, follows_anew, follow_row, follows, others_key, creating, free_in, finds_free, no_key, led_by, led, is_active, is_read, awaits_read, read_noted, accepted, got};
 
 mod following;
 mod renewing;
+mod repairing;
 
 use crate::acting::{ask, end_server, is_hold_active, lose, touch};
 use crate::info::info_of;
@@ -25,6 +26,7 @@ use following::{follow_row, start_behind};
 use lease_store::Txn;
 use pat_base::{MemberId, MemberSet, State, Ticks};
 use renewing::renew;
+use repairing::{put_repair, repair_of};
 use wal_model::History;
 
 /// The answer to a read: what is waited for is used, and any other dropped.
@@ -42,11 +44,11 @@ pub(crate) fn got(
     requires sound { IsSound knows.old }
     requires server { IsWithin machine.old.server }
     requires numbers { knows.old.sequence < 2 ^ 60 }
-    requires room { 2 ≤ out.old.spare }
+    requires room { 3 ≤ out.old.spare }
     ensures outcome { made (role_of result) knows.new machine.new out.new.outputs ≡ got now history.now.points sequence snapshot (made (role_of role) knows.old machine.old out.old.outputs) }
     ensures sound { IsSound knows.new }
     ensures numbers { knows.new.sequence ≤ knows.old.sequence + 1 }
-    ensures room { out.old.spare ≤ out.new.spare + 2 }
+    ensures room { out.old.spare ≤ out.new.spare + 3 }
 {
     if !awaits_read(knows.waited, sequence) {
         return role;
@@ -125,11 +127,11 @@ fn led(
     requires sound { IsSound knows.old }
     requires server { IsWithin machine.old.server }
     requires numbers { knows.old.sequence < 2 ^ 60 }
-    requires room { 2 ≤ out.old.spare }
+    requires room { 3 ≤ out.old.spare }
     ensures outcome { made (role_of result) knows.new machine.new out.new.outputs ≡ led now history.now.points leader (made (role_of role) knows.old machine.old out.old.outputs) }
     ensures sound { IsSound knows.new }
     ensures numbers { knows.new.sequence ≤ knows.old.sequence + 1 }
-    ensures room { out.old.spare ≤ out.new.spare + 2 }
+    ensures room { out.old.spare ≤ out.new.spare + 3 }
 {
     match leader {
         None => no_key(role, knows, machine, out, now),
@@ -207,11 +209,11 @@ fn others_key(
     requires sound { IsSound knows.old }
     requires server { IsWithin machine.old.server }
     requires numbers { knows.old.sequence < 2 ^ 60 }
-    requires room { 2 ≤ out.old.spare }
+    requires room { 3 ≤ out.old.spare }
     ensures outcome { made (role_of result) knows.new machine.new out.new.outputs ≡ others_key now leader (role_of role) (made (role_of role) knows.old machine.old out.old.outputs) }
     ensures sound { IsSound knows.new }
     ensures numbers { knows.new.sequence ≤ knows.old.sequence + 1 }
-    ensures room { out.old.spare ≤ out.new.spare + 2 }
+    ensures room { out.old.spare ≤ out.new.spare + 3 }
 {
     match role {
         Role::Leader(writer) => lose(writer, machine, out, now, Reason::LeaderKeyLost),
@@ -228,7 +230,7 @@ fn others_key(
     }
 }
 
-/// Another member leads: the server follows that one's, and the agent tells of itself.
+/// Another member leads: the server follows that one's, and the agent tells of itself; a log that has to be is repaired behind that.
 fn follows(
     knows: &mut Knowledge,
     machine: &mut Machine,
@@ -240,14 +242,16 @@ fn follows(
     requires sound { IsSound knows.old }
     requires server { IsWithin machine.old.server }
     requires numbers { knows.old.sequence < 2 ^ 60 }
-    requires room { 2 ≤ out.old.spare }
+    requires room { 3 ≤ out.old.spare }
     ensures outcome { made (role_of result) knows.new machine.new out.new.outputs ≡ follows now leader (made Follower knows.old machine.old out.old.outputs) }
     ensures sound { IsSound knows.new }
     ensures numbers { knows.new.sequence ≤ knows.old.sequence + 1 }
-    ensures room { out.old.spare ≤ out.new.spare + 2 }
+    ensures room { out.old.spare ≤ out.new.spare + 3 }
 {
-    follow_row(machine, out, now, leader);
+    let repair = repair_of(&knows.settings, leader, &machine.server);
+    follow_row(knows, machine, out, now, leader);
     touch(knows, machine, out);
+    put_repair(out, leader, repair);
     Role::Follower
 }
 

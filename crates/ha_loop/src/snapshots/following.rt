@@ -7,22 +7,29 @@ ghost use Rattle.ha_loop.specs.declared.output.Output.TheVariants as outputs;
 ghost use Rattle.ha_loop.specs.Acting.{upstream_of};
 ghost use Rattle.ha_loop.specs.Agents.{IsWithin, Follower, made, latest};
 ghost use Rattle.ha_loop.specs.Outputs.{listed};
-ghost use Rattle.ha_loop.specs.Snapshots.{starts_behind, is_upstream, follows_anew, follow_row};
+ghost use Rattle.ha_loop.specs.Snapshots.{starts_behind, ends_fork, follows_anew, follow_row};
 
-use crate::{Machine, Output, Outputs};
+use super::repairing::is_upstream;
+use crate::{Knowledge, Machine, Output, Outputs};
 use pat_base::{MemberId, ServerId, State, Ticks};
 
 /// What a server does under another leader.
-pub(super) fn follow_row(machine: &mut Machine, out: &mut Outputs, now: Ticks, leader: MemberId)
+pub(super) fn follow_row(
+    knows: &Knowledge,
+    machine: &mut Machine,
+    out: &mut Outputs,
+    now: Ticks,
+    leader: MemberId,
+)
     requires moment { now.0 ≤ latest }
     requires server { IsWithin machine.old.server }
     requires room { 1 ≤ out.old.spare }
-    ensures outcome { (knows : Knowledge) → made Follower knows machine.new out.new.outputs ≡ follow_row now leader machine.old.server.state (made Follower knows machine.old out.old.outputs) }
+    ensures outcome { made Follower knows.now machine.new out.new.outputs ≡ follow_row now leader machine.old.server.state (made Follower knows.now machine.old out.old.outputs) }
     ensures room { out.old.spare ≤ out.new.spare + 1 }
 {
     match machine.server.state {
         State::Stopped | State::Crashed => start_behind(machine, out, now, Some(leader)),
-        State::Replica => follow_anew(machine, out, leader),
+        State::Replica => follow_anew(knows, machine, out, now, leader),
         _ => {}
     }
 }
@@ -62,22 +69,37 @@ fn server_of(member: MemberId) -> ServerId
 }
 
 /// A replica of another server, or of none, follows this member's.
-fn follow_anew(machine: &mut Machine, out: &mut Outputs, leader: MemberId)
-    requires { 1 ≤ out.old.spare }
-    ensures outcome { (knows : Knowledge) → made Follower knows machine.new out.new.outputs ≡ follows_anew leader (made Follower knows machine.old out.old.outputs) }
+fn follow_anew(
+    knows: &Knowledge,
+    machine: &mut Machine,
+    out: &mut Outputs,
+    now: Ticks,
+    leader: MemberId,
+)
+    requires moment { now.0 ≤ latest }
+    requires server { IsWithin machine.old.server }
+    requires room { 1 ≤ out.old.spare }
+    ensures outcome { made Follower knows.now machine.new out.new.outputs ≡ follows_anew now leader (made Follower knows.now machine.old out.old.outputs) }
     ensures room { out.old.spare ≤ out.new.spare + 1 }
 {
-    if !is_upstream(leader, machine.server.upstream) {
+    if is_upstream(leader, machine.server.upstream) {
+        end_fork(knows, machine, out, now);
+    } else {
         machine.server.follow(server_of(leader));
         out.put(Output::Follow { leader });
     }
 }
 
-fn is_upstream(leader: MemberId, upstream: Option<ServerId>) -> bool
-    ensures { result ≡ is_upstream leader upstream }
+/// A replica whose log diverged shuts down, where it may not be rewound.
+fn end_fork(knows: &Knowledge, machine: &mut Machine, out: &mut Outputs, now: Ticks)
+    requires moment { now.0 ≤ latest }
+    requires server { IsWithin machine.old.server }
+    requires room { 1 ≤ out.old.spare }
+    ensures outcome { made Follower knows.now machine.new out.new.outputs ≡ ends_fork now (made Follower knows.now machine.old out.old.outputs) }
+    ensures room { out.old.spare ≤ out.new.spare + 1 }
 {
-    match upstream {
-        None => false,
-        Some(upstream) => upstream.number == leader.number,
+    if machine.server.diverged && !knows.settings.use_pg_rewind {
+        machine.server.stop(now);
+        out.put(Output::ShutDown);
     }
 }

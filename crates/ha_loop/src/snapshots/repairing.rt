@@ -1,0 +1,69 @@
+//! How the log of a server is repaired by that of the leader's.
+ghost use Rattle.std.specs.Prelude.{◌≡◌, ◌≤◌, ◌+◌};
+ghost use Rattle.ha_loop.specs.declared.knowledge.Knowledge.{Knowledge};
+ghost use Rattle.ha_loop.specs.Agents.{RoleFacts, made};
+ghost use Rattle.ha_loop.specs.Repairs.{is_upstream, rewind_if, repair_in, repair_of, repaired_if};
+
+use crate::{Machine, Output, Outputs, Repair};
+use lease_store::Config;
+use pat_base::{MemberId, ServerId, State};
+use pg_model::ServerStatus;
+
+/// How the log of a server is repaired by this leader's, if it has to be and may be.
+pub(super) fn repair_of(
+    settings: &Config,
+    leader: MemberId,
+    server: &ServerStatus,
+) -> Option<Repair>
+    ensures { result ≡ repair_of settings.now leader server.now }
+{
+    repair_in(
+        settings.use_pg_rewind,
+        is_upstream(leader, server.upstream),
+        server.diverged,
+        server.state,
+    )
+}
+
+/// How the log of a server in this state is repaired, which may have diverged.
+fn repair_in(lets: bool, follows: bool, diverged: bool, state: State) -> Option<Repair>
+    ensures { result ≡ repair_in lets follows diverged state }
+{
+    match state {
+        State::Replica => rewind_if(lets && follows, diverged),
+        State::Stopped => rewind_if(lets, diverged),
+        State::Creating => Some(Repair::Clone),
+        _ => None,
+    }
+}
+
+fn rewind_if(lets: bool, diverged: bool) -> Option<Repair>
+    ensures { result ≡ rewind_if lets diverged }
+{
+    if lets && diverged {
+        Some(Repair::Rewind)
+    } else {
+        None
+    }
+}
+
+/// The server follows this member's already.
+pub(super) fn is_upstream(leader: MemberId, upstream: Option<ServerId>) -> bool
+    ensures { result ≡ is_upstream leader upstream }
+{
+    match upstream {
+        None => false,
+        Some(upstream) => upstream.number == leader.number,
+    }
+}
+
+/// Has the log of the server repaired, if it has to be.
+pub(super) fn put_repair(out: &mut Outputs, leader: MemberId, repair: Option<Repair>)
+    requires { 1 ≤ out.old.spare }
+    ensures outcome { (role : RoleFacts) (knows : Knowledge) (machine : Machine) → made role knows machine out.new.outputs ≡ repaired_if leader repair (made role knows machine out.old.outputs) }
+    ensures room { out.old.spare ≤ out.new.spare + 1 }
+{
+    if let Some(repair) = repair {
+        out.put(Output::Repair { leader, repair });
+    }
+}
