@@ -13,7 +13,8 @@ use Rattle.ha_loop.specs.Agents.{RoleFacts, Follower, Holder, Ready, Leader, End
 use Rattle.ha_loop.specs.Before.{leader_finds_ended, has_ended, finds_live, stray_finds_ended, before}
 use Rattle.ha_loop.specs.Decisions.{refused}
 use Rattle.ha_loop.specs.Powers.{BringsNothing, lease_of, leads, is_ready}
-use Rattle.ha_loop.specs.Snapshots.{leader_loses_key, stray_loses_key, renewing, follows, finds_free, creating, read_noted, got}
+use Rattle.ha_loop.specs.Racing.{creating, barred, finds_free}
+use Rattle.ha_loop.specs.Snapshots.{leader_loses_key, stray_loses_key, renewing, follows, read_noted, got}
 use Rattle.ha_loop.specs.Wake.{leader_out_of_reach, stray_out_of_reach, reading, turn_noted, overdue, turned, woken}
 use Rattle.ha_loop.proofs.Living.{no-way, stop-live, start-live, follow-live}
 use Rattle.ha_loop.proofs.Rows.{before-by, overdue-by, turn-by, wake-by, got-by, refused-by, follow-by, free-by}
@@ -111,9 +112,9 @@ follow-brings now leader o = follow-by (λ (x : Outcome). BringsNothing o (touch
     (no-lease o (touching (following_server leader (record o { role = Follower }))) refl refl (follow-live (server_id_of leader) o.machine.server))
 
 free-brings : (now : Ticks) (o : Outcome) → BringsNothing o (finds_free now o)
-free-brings now o = free-by (BringsNothing o) now o.machine.server.state (record o { role = Follower })
-    (no-lease o (touching (record o { role = Follower })) refl refl (λ e. e))
+free-brings now o = free-by (BringsNothing o) now (record o { role = Follower })
     (no-lease o (touching (starting_replica now None (record o { role = Follower }))) refl refl (start-live now None o.machine.server))
+    (λ bar. no-lease o (barred bar (record o { role = Follower })) refl refl (λ e. e))
     (no-lease o (creating now (record o { role = Follower })) refl refl (λ e. e))
 
 read-then : (now : Ticks) (snapshot : SnapshotFacts) (o after : Outcome) → BringsNothing (record o { knows = read_noted now snapshot o.knows }) after → BringsNothing o after
