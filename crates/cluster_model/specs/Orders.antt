@@ -7,6 +7,8 @@ use Rattle.pat_base.specs.declared.server_state.Required.{Required}
 use Rattle.pat_base.specs.declared.server_state.Required.TheVariants as requireds
 use Rattle.pat_base.specs.declared.server_state.State.{State}
 use Rattle.pat_base.specs.declared.ticks.Ticks.{Ticks}
+use Rattle.lease_store.specs.declared.action.Bar.{Bar}
+use Rattle.lease_store.specs.declared.action.Bar.TheVariants as bars
 use Rattle.pg_model.specs.Facts.{ServerFacts, is_down, is_replica, is_up}
 use Rattle.pg_model.specs.Running.{is_primary}
 use Rattle.event_book.specs.declared.event.EventKind.{EventKind}
@@ -93,6 +95,22 @@ require_of members member required s =
 abbrev pub hold_taken : Member → Ticks → ℕ → ℕ → Member → EventKind
 hold_taken member until run sequence from = kinds.Watchdog (watchdogs.HoldTaken member until from run sequence)
 
+-- the member that bars another one from racing, if one does
+abbrev pub barring : Bar → Option MemberId
+barring (bars.Candidate member) = Some member
+barring (bars.OtherWrites member) = Some member
+barring (bars.Ahead member) = Some member
+barring (bars.Priority member) = Some member
+barring _ = None
+
+-- the name of the declared member of this number, if there is a number
+abbrev pub declared_name : List Member → Option MemberId → Option Name
+declared_name members id = option_map (λ member. member.name) (declared_member members id)
+
+-- a member doesn't race for the free leader key, with the name of the member that bars it, if one does
+abbrev pub not_racing : List Member → Member → Bar → EventKind
+not_racing members member bar = kinds.Note (notes.DoesNotRace member bar (declared_name members (barring bar)))
+
 -- what an agent tells of its watchdog, but for its feeds
 abbrev pub told_of : Member → Output → Option EventKind
 told_of member outputs.Disarmed = Some (kinds.Watchdog (watchdogs.Disarmed member))
@@ -104,4 +122,5 @@ abbrev pub order_kind : Cluster → Member → HeardMessage → Output → Optio
 order_kind cluster member heard (outputs.Follow leader) = option_and_then (upstream_of member (slice_get cluster.book.members leader.number)) (server_at cluster member)
 order_kind cluster member heard (outputs.Require required) = option_and_then (require_of cluster.book.members member required) (server_at cluster member)
 order_kind cluster member heard (outputs.HoldTaken until from sequence) = option_map (hold_taken member until heard.run sequence) (slice_get cluster.book.members from.number)
+order_kind cluster member heard (outputs.DoesNotRace bar) = Some (not_racing cluster.book.members member bar)
 order_kind cluster member heard output = told_of member output

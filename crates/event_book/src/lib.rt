@@ -28,5 +28,5 @@ pub use member::{Member, ServerOf};
 pub use message::{Body, Message};
 pub use name_order::put_name;
 pub use names::{Bytes, Names};
-pub use printing::text;
+pub use printing::write_line;
 pub use reason::{Basis, Reason};

@@ -26,7 +26,8 @@ use Rattle.ha_loop.specs.Before.{before}
 use Rattle.ha_loop.specs.Decisions.{asks_lease, is_start_too_long, leader_renewed, takes_over, stray_renewed, may_take, gives_back, begins, arms, takes_key, granted, refused}
 use Rattle.ha_loop.specs.Outputs.{listed}
 use Rattle.ha_loop.specs.Repairs.{repair_of}
-use Rattle.ha_loop.specs.Snapshots.{renewing, follow_row, follows, creating, finds_free, leader_loses_key, stray_loses_key, read_noted, got}
+use Rattle.ha_loop.specs.Snapshots.{renewing, follow_row, follows, leader_loses_key, stray_loses_key, read_noted, got}
+use Rattle.ha_loop.specs.Racing.{creating, barred, finds_free}
 use Rattle.ha_loop.specs.Table.{step, act}
 use Rattle.ha_loop.specs.Wake.{reading, turn_noted, leader_out_of_reach, stray_out_of_reach, overdue, turned, woken}
 use Rattle.ha_loop.specs.declared.role.Why.TheVariants.{HandOver}
@@ -110,8 +111,8 @@ more-than a b less = omega (arith, less)
 
 free-holds : (now : Ticks) (o b : Outcome) → o.knows.sequence ≤ b.knows.sequence → b.knows.waited ≡ None → All IsSilent b.outputs → Holds now o (finds_free now b)
 free-holds now o b later none silent = let x : Outcome = record b { role = Follower } in
-    free-by (Holds now o) now b.machine.server.state x
-    (nothing now o (touching x) none) (nothing now o (touching (starting_replica now None x)) none)
+    free-by (Holds now o) now x
+    (nothing now o (touching (starting_replica now None x)) none) (λ bar. nothing now o (barred bar x) none)
     (asked-now now o (creating now x) b.outputs _ _ silent refl refl refl refl (more-than o.knows.sequence b.knows.sequence later))
 
 abbrev WaitsNot : Outcome → Type 0

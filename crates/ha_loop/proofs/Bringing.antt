@@ -14,7 +14,8 @@ use Rattle.ha_loop.specs.Before.{leader_finds_ended, has_ended, finds_live, stra
 use Rattle.ha_loop.specs.Decisions.{refused}
 use Rattle.ha_loop.specs.Powers.{BringsNothing, lease_of, leads, is_ready}
 use Rattle.ha_loop.specs.Repairs.{repair_of}
-use Rattle.ha_loop.specs.Snapshots.{leader_loses_key, stray_loses_key, renewing, follow_row, follows, finds_free, creating, read_noted, got}
+use Rattle.ha_loop.specs.Snapshots.{leader_loses_key, stray_loses_key, renewing, follow_row, follows, read_noted, got}
+use Rattle.ha_loop.specs.Racing.{creating, barred, finds_free}
 use Rattle.ha_loop.specs.Wake.{leader_out_of_reach, stray_out_of_reach, reading, turn_noted, overdue, turned, woken}
 use Rattle.ha_loop.proofs.Living.{no-way, stop-live, start-live, follow-live}
 use Rattle.ha_loop.proofs.Rows.{before-by, overdue-by, turn-by, wake-by, got-by, refused-by, follow-by, repaired-by, free-by}
@@ -117,9 +118,9 @@ follow-brings now leader o = let x : Outcome = record o { role = Follower } in
     (λ r. record { live = told.live; leads = told.leads; ready = told.ready; lease = told.lease })
 
 free-brings : (now : Ticks) (o : Outcome) → BringsNothing o (finds_free now o)
-free-brings now o = free-by (BringsNothing o) now o.machine.server.state (record o { role = Follower })
-    (no-lease o (touching (record o { role = Follower })) refl refl (λ e. e))
+free-brings now o = free-by (BringsNothing o) now (record o { role = Follower })
     (no-lease o (touching (starting_replica now None (record o { role = Follower }))) refl refl (start-live now None o.machine.server))
+    (λ bar. no-lease o (barred bar (record o { role = Follower })) refl refl (λ e. e))
     (no-lease o (creating now (record o { role = Follower })) refl refl (λ e. e))
 
 read-then : (now : Ticks) (snapshot : SnapshotFacts) (o after : Outcome) → BringsNothing (record o { knows = read_noted now snapshot o.knows }) after → BringsNothing o after

@@ -29,7 +29,8 @@ use Rattle.ha_loop.specs.Decisions.{is_start_too_long, leader_renewed, takes_ove
 use Rattle.ha_loop.specs.Outputs.{listed}
 use Rattle.ha_loop.specs.Seen.{lease_asked, leader_seen_if, failsafe_listed, failsafe_entry_seen, failsafe_seen_if}
 use Rattle.ha_loop.specs.Repairs.{repair_of, repairing}
-use Rattle.ha_loop.specs.Snapshots.{known_with, informed, is_active, renewing, follow_row, follows, creating, finds_free, leader_loses_key, stray_loses_key, read_noted, got}
+use Rattle.ha_loop.specs.Snapshots.{known_with, informed, is_active, renewing, follow_row, follows, leader_loses_key, stray_loses_key, read_noted, got}
+use Rattle.ha_loop.specs.Racing.{creating, barred, finds_free}
 use Rattle.ha_loop.specs.Table.{step}
 use Rattle.ha_loop.specs.Wake.{reading, turn_noted, leader_out_of_reach, stray_out_of_reach, overdue, turned, woken}
 use Rattle.ha_loop.proofs.Granting.{Told}
@@ -257,9 +258,9 @@ follow-onward now snapshot leader o = let x : Outcome = record o { role = Follow
 
 free-onward : (now : Ticks) (snapshot : SnapshotFacts) (o : Outcome) → Onward (Some snapshot) o (finds_free now (record o { knows = read_noted now snapshot o.knows }))
 free-onward now snapshot o = let x : Outcome = record o { role = Follower; knows = read_noted now snapshot o.knows } in
-    free-by (Onward (Some snapshot) o) now o.machine.server.state x
-    (quiet-told snapshot o (touching x) refl refl refl refl refl (omega arith) refl refl)
+    free-by (Onward (Some snapshot) o) now x
     (quiet-told snapshot o (touching (starting_replica now None x)) refl refl refl refl refl (omega arith) refl refl)
+    (λ bar. quiet-told snapshot o (barred bar x) refl refl refl refl refl (omega arith) refl refl)
     (asks-told snapshot o (creating now x) refl refl refl refl refl (omega arith) refl refl refl _ refl refl)
 
 pub got-onward : (now : Ticks) (points : List HistoryPoint) (sequence : ℕ) (snapshot : SnapshotFacts) (o : Outcome) → Onward (Some snapshot) o (got now points sequence snapshot o)

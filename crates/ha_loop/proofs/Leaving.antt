@@ -14,7 +14,8 @@ use Rattle.ha_loop.specs.Before.{leader_finds_ended, has_ended, stray_finds_ende
 use Rattle.ha_loop.specs.Decisions.{refused}
 use Rattle.ha_loop.specs.Powers.{BringsNothing, LeavesMachine, Acts, is_ready}
 use Rattle.ha_loop.specs.Powers.DeadlineMay.{Kept, Removed, Undone}
-use Rattle.ha_loop.specs.Snapshots.{follows, finds_free, read_noted, got, follow_row}
+use Rattle.ha_loop.specs.Snapshots.{follows, read_noted, got, follow_row}
+use Rattle.ha_loop.specs.Racing.{finds_free}
 use Rattle.ha_loop.specs.Wake.{overdue, turned, woken}
 use Rattle.ha_loop.proofs.Bringing.{overdue-brings, turn-brings, got-brings, refused-brings}
 use Rattle.ha_loop.proofs.Living.{no-way}
@@ -85,7 +86,7 @@ follow-stays now leader o = let x : Outcome = record o { role = Follower } in
     repaired-by (Stays o) leader (repair_of o.knows.settings leader o.machine.server) (touching (follow_row now leader o.machine.server.state x)) told (λ r. record { watchdog = told.watchdog; hold = told.hold })
 
 free-stays : (now : Ticks) (o : Outcome) → Stays o (finds_free now o)
-free-stays now o = free-by (Stays o) now o.machine.server.state (record o { role = Follower }) (record { watchdog = refl; hold = refl }) (record { watchdog = refl; hold = refl }) (record { watchdog = refl; hold = refl })
+free-stays now o = free-by (Stays o) now (record o { role = Follower }) (record { watchdog = refl; hold = refl }) (λ bar. record { watchdog = refl; hold = refl }) (record { watchdog = refl; hold = refl })
 
 stays-read : (now : Ticks) (snapshot : SnapshotFacts) (o after : Outcome) → Stays (record o { knows = read_noted now snapshot o.knows }) after → Stays o after
 stays-read now snapshot o after stay = record { watchdog = stay.watchdog; hold = stay.hold }

@@ -13,3 +13,4 @@ pub mod LawfulGrants
 pub mod LawfulSteps
 pub mod Asking
 pub mod Waiting
+pub mod FreeKey

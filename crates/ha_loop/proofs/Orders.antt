@@ -29,7 +29,8 @@ use Rattle.ha_loop.specs.Before.{has_ended, before}
 use Rattle.ha_loop.specs.Decisions.{is_start_too_long, leader_renewed, takes_over, stray_renewed, may_take, gives_back, begins, arms, takes_key, granted, refused}
 use Rattle.ha_loop.specs.Orders.{machine_after_output, machine_after_outputs, IsOfTable, IsCarriedOut, EndsRepairing, RepairsLast}
 use Rattle.ha_loop.specs.Outputs.{listed}
-use Rattle.ha_loop.specs.Snapshots.{informed, follows, finds_free, read_noted, got, follow_row, leader_loses_key, stray_loses_key, renewing}
+use Rattle.ha_loop.specs.Snapshots.{informed, follows, read_noted, got, follow_row, leader_loses_key, stray_loses_key, renewing}
+use Rattle.ha_loop.specs.Racing.{finds_free}
 use Rattle.ha_loop.specs.Table.{step, act}
 use Rattle.ha_loop.specs.Wake.{overdue, turned, woken}
 use Rattle.ha_loop.proofs.Rows.{if-cases, before-by, overdue-by, turn-by, wake-by, got-by, refused-by, follow-by, free-by, granted-by, repaired-by}
@@ -169,9 +170,9 @@ follow-carries now start leader o r = let x : Outcome = record o { role = Follow
 
 free-reaches : (now : Ticks) (start : Machine) (o : Outcome) → Reaches now start o → Reaches now start (finds_free now o)
 free-reaches now start o r = let x : Outcome = record o { role = Follower } in
-    free-by (Reaches now start) now o.machine.server.state x
-    (touch-reaches now start x r)
+    free-by (Reaches now start) now x
     (touch-reaches now start (starting_replica now None x) (start-reaches now start None x r))
+    (λ bar. touch-reaches now start (record x { outputs = listed (outputs.DoesNotRace bar) x.outputs }) (one-more now start o.machine o.outputs (outputs.DoesNotRace bar) tt r))
     (one-more now start o.machine o.outputs _ tt r)
 
 got-carries : (now : Ticks) (points : List HistoryPoint) (start : Machine) (sequence : ℕ) (snapshot : SnapshotFacts) (o : Outcome) → Reaches now start o → IsCarriedOut now start (got now points sequence snapshot o)

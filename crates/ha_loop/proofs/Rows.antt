@@ -1,5 +1,6 @@
 -- The rows of the decision table, one by one: what holds of each row that applies holds of the whole.
 use Rattle.std.proofs.Common.{◌≡◌, ℕ, ◌==◌, ◌&&◌, nat_le, Bool, true, false, if◌then◌else◌, Option, Some, None, List, refl, subst, not}
+use Rattle.lease_store.specs.declared.action.Bar.{Bar}
 use Rattle.lease_store.specs.declared.granted.Granted.{Granted}
 use Rattle.wal_model.specs.declared.entry.HistoryPoint.{HistoryPoint}
 use Rattle.cluster_config.specs.declared.snapshot.LeaderEntry.{LeaderEntry}
@@ -20,7 +21,8 @@ use Rattle.ha_loop.specs.Agents.{RoleFacts, Follower, Holder, Ready, Leader, End
 use Rattle.ha_loop.specs.Before.{leader_finds_ended, has_ended, finds_live, stray_finds_ended, before_as, before}
 use Rattle.ha_loop.specs.Decisions.{may_create, leader_renewed, stray_renewed, takes_key, lease_granted, belongs, accepted_grant, is_lease_of, granted_for, granted, is_decision, follower_for, renewal_refused, refused_as, refused_for, refused}
 use Rattle.ha_loop.specs.Fits.{Fits}
-use Rattle.ha_loop.specs.Snapshots.{leader_loses_key, stray_loses_key, renewing, finds_own_key, own_key, starts_behind, follow_row, follows, others_key, creating, free_in, finds_free, no_key, led, is_active, awaits_read, read_noted, informed, accepted, got, ends_fork}
+use Rattle.ha_loop.specs.Snapshots.{leader_loses_key, stray_loses_key, renewing, finds_own_key, own_key, starts_behind, follow_row, follows, others_key, no_key, led, is_active, awaits_read, read_noted, informed, accepted, got, ends_fork}
+use Rattle.ha_loop.specs.Racing.{can_start, bar_of, creating, barred, races_unless, free_key, finds_free}
 use Rattle.ha_loop.specs.Wake.{is_due, has_turn, leader_out_of_reach, stray_out_of_reach, out_of_reach_as, unanswered, overdue_for, overdue, is_stopping, reading, turn_noted, turn_as, turn_begins, turned, woken}
 
 pub if-cases : {A : Type 0} (P : A → Type 0) (test : Bool) (x y : A) → (test ≡ true → P x) → (test ≡ false → P y) → P (if test then x else y)
@@ -208,14 +210,15 @@ pub repaired-by : (P : Outcome → Type 0) (leader : MemberId) (repair : Option 
 repaired-by P leader None o kept repaired = kept
 repaired-by P leader (Some r) o kept repaired = repaired r
 
-pub free-by : (P : Outcome → Type 0) (now : Ticks) (state : State) (o : Outcome) → P (touching o) → P (touching (starting_replica now None o)) → P (creating now o) → P (free_in now state o)
-free-by P now states.Stopped o kept starts creates = starts-by (λ (x : Outcome). P (touching x)) now None o kept starts
-free-by P now states.Crashed o kept starts creates = starts-by (λ (x : Outcome). P (touching x)) now None o kept starts
-free-by P now states.Replica o kept starts creates = creates
-free-by P now states.Creating o kept starts creates = kept
-free-by P now (states.Starting as_primary at) o kept starts creates = kept
-free-by P now states.Primary o kept starts creates = kept
-free-by P now (states.Stopping was_primary at) o kept starts creates = kept
+-- what it does about a free leader key
+races-by : (P : Outcome → Type 0) (now : Ticks) (bar : Option Bar) (o : Outcome) → ((by : Bar) → P (barred by o)) → P (creating now o) → P (races_unless now bar o)
+races-by P now None o bars creates = creates
+races-by P now (Some by) o bars creates = bars by
+
+pub free-by : (P : Outcome → Type 0) (now : Ticks) (o : Outcome) → P (touching (starting_replica now None o)) → ((by : Bar) → P (barred by o)) → P (creating now o) → P (free_key now o)
+free-by P now o starts bars creates =
+    if-cases P (can_start o.machine.server) (touching (starting_replica now None o)) (races_unless now (bar_of now o.knows o.machine) o)
+    (λ _. starts) (λ _. races-by P now (bar_of now o.knows o.machine) o bars creates)
 
 -- the lease of a request that was granted
 pub record GrantRows (P : Outcome → Type 0) (now ttl : Ticks) (revision : ℕ) (o : Outcome) : Type 0 where

@@ -34,7 +34,8 @@ use Rattle.ha_loop.specs.Fits.{Fits}
 use Rattle.ha_loop.specs.Outputs.{listed, is_arming, has_one, BeginsOnly, OutputsBeginBehind}
 use Rattle.ha_loop.specs.Powers.{Acts, lease_of}
 use Rattle.ha_loop.specs.Seen.{lease_asked, leader_entry_seen, leader_seen_if}
-use Rattle.ha_loop.specs.Snapshots.{renewing, follows, creating, finds_free, leader_loses_key, stray_loses_key, read_noted, got, follow_row}
+use Rattle.ha_loop.specs.Snapshots.{renewing, follows, leader_loses_key, stray_loses_key, read_noted, got, follow_row}
+use Rattle.ha_loop.specs.Racing.{creating, finds_free}
 use Rattle.ha_loop.specs.Wake.{reading, turn_noted, overdue, turned, woken}
 use Rattle.ha_loop.proofs.Granting.{take-free, Told, one-last, one-before}
 use Rattle.ha_loop.proofs.Knowing.{IsAlone}
@@ -238,9 +239,9 @@ follow-may G now leader o b later silent = let x : Outcome = record b { role = F
 
 free-may : (G : ℕ → Type 0) (now : Ticks) (o b : Outcome) → o.knows.sequence ≤ b.knows.sequence → All IsSilent b.outputs → AllMay G o (finds_free now b)
 free-may G now o b later silent = let x : Outcome = record b { role = Follower } in
-    free-by (AllMay G o) now b.machine.server.state x
-    (touches G o x x.outputs later silent)
+    free-by (AllMay G o) now x
     (touches G o (starting_replica now None x) x.outputs later (silently b.outputs (outputs.StartReplica None) silent tt))
+    (λ bar. touches G o (record x { outputs = listed (outputs.DoesNotRace bar) x.outputs }) x.outputs later (silently b.outputs (outputs.DoesNotRace bar) silent tt))
     (push G o (creating now x) b.outputs _ (front G o (creating now x) b.outputs silent) (sends G o (creating now x) b.knows.sequence _ later refl refl))
 
 got-silent : (G : ℕ → Type 0) (now : Ticks) (points : List HistoryPoint) (sequence : ℕ) (snapshot : SnapshotFacts) (o b : Outcome) → o.knows.sequence ≤ b.knows.sequence → All IsSilent b.outputs → AllMay G o (got now points sequence snapshot b)

@@ -1,5 +1,5 @@
 -- From when on there is something to do for an agent.
-use Rattle.std.proofs.Common.{◌≡◌, ◌==◌, ◌&&◌, ◌||◌, nat_le, is_none, Bool, true, false, cond, Option, Some, None, arith, refl, ap, sym, ◌∙◌}
+use Rattle.std.proofs.Common.{◌≡◌, ◌&&◌, ◌||◌, nat_le, is_none, Bool, true, false, cond, Option, Some, None, arith, refl, ap, ◌∙◌}
 use Rattle.std.proofs.Math.Bool.{or-false}
 use Rattle.std.proofs.lemmas.Bool.Decides.{nat_tests}
 use Rattle.pat_base.specs.declared.server_state.State.{State}

@@ -4,14 +4,17 @@ pub mod Asking
 pub mod Before
 pub mod Decisions
 pub mod Fits
+pub mod FreeKey
 pub mod Info
 pub mod Lawful
 pub mod Orders
 pub mod Outputs
 pub mod Powers
+pub mod Racing
 pub mod Repairs
 pub mod Seen
 pub mod Snapshots
 pub mod Start
 pub mod Table
+pub mod Views
 pub mod Wake

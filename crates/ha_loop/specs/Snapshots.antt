@@ -20,13 +20,14 @@ use Rattle.cluster_config.specs.declared.snapshot.LeaderEntry.{LeaderEntry}
 use Rattle.cluster_config.specs.Snapshots.{SnapshotFacts, leader_in, settings_in, failsafe_in, has_row}
 use Rattle.ha_loop.specs.declared.knowledge.Knowledge.{Knowledge}
 use Rattle.ha_loop.specs.declared.knowledge.Question.{Question}
-use Rattle.ha_loop.specs.declared.knowledge.Question.TheVariants.{Reading, Creating, Renewing}
+use Rattle.ha_loop.specs.declared.knowledge.Question.TheVariants.{Reading, Renewing}
 use Rattle.ha_loop.specs.declared.knowledge.Waited.{Waited}
 use Rattle.ha_loop.specs.declared.role.Why.TheVariants.{Lost}
 use Rattle.ha_loop.specs.Acting.{seconds_after, lease_span, asking, touching, waiting_no_more, ending_server, shutting_down, starting_replica, following_server, is_hold_active}
 use Rattle.ha_loop.specs.Agents.{RoleFacts, Follower, Holder, Leader, Ending, Stray, Outcome}
 use Rattle.ha_loop.specs.Info.{info_of}
 use Rattle.ha_loop.specs.Repairs.{is_upstream, repair_of, repaired_if}
+use Rattle.ha_loop.specs.Racing.{finds_free}
 
 -- the members that are known, with those that a failsafe key lists
 abbrev pub known_with : MemberSet → Option MemberSet → MemberSet
@@ -128,21 +129,6 @@ others_key now leader Stray o = stray_loses_key now o
 others_key now leader Follower o = follows now leader o
 others_key now leader (Holder held) o = follows now leader o
 others_key now leader _ o = o
-
--- the agent asks for the leader key
-abbrev pub creating : Ticks → Outcome → Outcome
-creating now o = asking now Creating (seconds_after now o.knows.settings.retry_timeout) (bodies.Request (txns.Create (info_of o.knows.who o.machine.server) (lease_span o.knows.settings) None None)) o
-
--- what a member without a lease does while nobody leads, by the state of its server
-abbrev pub free_in : Ticks → State → Outcome → Outcome
-free_in now states.Stopped o = touching (starts_behind now None o)
-free_in now states.Crashed o = touching (starts_behind now None o)
-free_in now states.Replica o = creating now o
-free_in now _ o = touching o
-
--- nobody leads: who has a running replica asks for the leader key, and a server that is down starts as a replica of none
-abbrev pub finds_free : Ticks → Outcome → Outcome
-finds_free now o = free_in now o.machine.server.state (record o { role = Follower })
 
 -- the leader key is absent
 abbrev pub no_key : Ticks → RoleFacts → Outcome → Outcome

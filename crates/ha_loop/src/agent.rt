@@ -10,12 +10,14 @@ ghost use Rattle.ha_loop.specs.Outputs.{most_outputs};
 ghost use Rattle.ha_loop.specs.Seen.{machine_with, machine_seen};
 ghost use Rattle.ha_loop.specs.Start.{started_machine};
 ghost use Rattle.ha_loop.specs.Table.{step, act};
+ghost use Rattle.ha_loop.specs.Views.{view_of};
 ghost use Rattle.ha_loop.specs.Wake.{due_from, is_due};
 
 use crate::before::before;
 use crate::decisions::{granted, refused};
 use crate::role::Role;
 use crate::snapshots::got;
+use crate::view::view_of;
 use crate::wake::{due_from, is_due, wake};
 use crate::{Heard, Knowledge, Machine, Outputs, Who};
 use cluster_config::{AgentView, RoleWord};
@@ -139,37 +141,10 @@ impl Agent {
 
     /// What it shows of itself and of its server.
     pub fn view<'a>(&'a self, now: Ticks, machine: &Machine) -> AgentView<'a>
-        ensures moment { result.moment ≡ now }
-        ensures who { (result.scope ≡ self.now.knows.who.scope) × (result.me ≡ self.now.knows.who.me) × (result.name ≡ self.now.knows.who.name) × (result.tags ≡ self.now.knows.who.tags) }
-        ensures server { (result.state ≡ machine.now.server.state) × (result.timeline ≡ machine.now.server.timeline) × (result.end ≡ machine.now.server.end) }
-        ensures upstream { (result.receives ≡ machine.now.server.receives) × (result.diverged ≡ machine.now.server.diverged) × (result.was_primary ≡ machine.now.server.was_primary) }
-        ensures role { result.role ≡ word_of self.now.role }
+        ensures shown { record result { seen = None } ≡ view_of now (word_of self.now.role) self.now.knows machine.now }
         ensures seen { option_copied result.seen ≡ self.now.knows.seen }
-        ensures moments { (result.last_read ≡ self.now.knows.last_read) × (result.last_turn ≡ self.now.knows.last_turn) }
-        ensures hold { result.hold ≡ machine.now.hold }
-        ensures waits { result.waits ≡ false }
     {
-        let who = &self.knows.who;
-        let server = &machine.server;
-        AgentView {
-            moment: now,
-            scope: who.scope,
-            me: who.me,
-            name: who.name,
-            tags: who.tags,
-            state: server.state,
-            timeline: server.timeline,
-            end: server.end,
-            receives: server.receives,
-            diverged: server.diverged,
-            was_primary: server.was_primary,
-            role: word_of(&self.role),
-            seen: self.knows.seen.as_ref(),
-            last_read: self.knows.last_read,
-            last_turn: self.knows.last_turn,
-            hold: machine.hold,
-            waits: false,
-        }
+        view_of(now, word_of(&self.role), &self.knows, machine)
     }
 
     /// The agent ends, and with it what it holds. Its machine stays as it is.

@@ -1,12 +1,14 @@
 //! Laws of the decision table.
-ghost use Rattle.std.specs.Prelude.{ℕ, List, []};
+ghost use Rattle.std.specs.Prelude.{ℕ, ◌≡◌, List, [], Some, None, false};
 ghost use Rattle.pat_base.specs.declared.ticks.Ticks.{Ticks};
 ghost use Rattle.pat_base.specs.ServerState.{live};
+ghost use Rattle.lease_store.specs.declared.action.Bar.{Bar};
 ghost use Rattle.lease_store.specs.declared.granted.Granted.{Granted};
 ghost use Rattle.lease_store.specs.declared.key.Key.{Key};
 ghost use Rattle.lease_store.specs.declared.txn.Expected.{Expected};
 ghost use Rattle.wal_model.specs.declared.entry.HistoryPoint.{HistoryPoint};
 ghost use Rattle.cluster_config.specs.Snapshots.{SnapshotFacts};
+ghost use Rattle.leader_race.specs.Eligibility.{eligibility_of};
 ghost use Rattle.ha_loop.specs.declared.heard.Heard.{Heard};
 ghost use Rattle.ha_loop.specs.declared.heard.Heard.TheVariants as heard;
 ghost use Rattle.ha_loop.specs.declared.knowledge.Knowledge.{Knowledge};
@@ -15,9 +17,12 @@ ghost use Rattle.ha_loop.specs.Agents.{RoleFacts, IsSoundAgent, Outcome, made};
 ghost use Rattle.ha_loop.specs.Asking.{AsksAsWaited};
 ghost use Rattle.ha_loop.specs.Before.{before};
 ghost use Rattle.ha_loop.specs.Fits.{Fits};
+ghost use Rattle.ha_loop.specs.FreeKey.{HearsFree, StaysOut, AsksForKey};
 ghost use Rattle.ha_loop.specs.Orders.{IsCarriedOut};
 ghost use Rattle.ha_loop.specs.Powers.{BringsNothing, GrantMay, LeavesMachine};
+ghost use Rattle.ha_loop.specs.Racing.{can_start};
 ghost use Rattle.ha_loop.specs.Table.{step, act};
+ghost use Rattle.ha_loop.specs.Views.{shown};
 
 /// What comes before an input makes the role fit the server: nobody is about to lead, or follows, whose server is live, and
 /// nobody leads whose server has ended.
@@ -61,4 +66,16 @@ pub fn outputs_make_the_machine()
 pub fn what_is_asked_is_waited_for()
     ensures step { (now : Ticks) (points : List HistoryPoint) (heard : Heard) (role : RoleFacts) (knows : Knowledge) (machine : Machine) → IsSoundAgent role knows → AsksAsWaited now (made role knows machine []) (step now points heard (made role knows machine [])) }
     ensures action { (now : Ticks) (role : RoleFacts) (knows : Knowledge) (machine : Machine) → IsSoundAgent role knows → AsksAsWaited now (made role knows machine []) (act now (made role knows machine [])) }
+{}
+
+/// Who is barred doesn't ask for a free leader key: where the answer to its read tells that nobody leads, an agent without a
+/// server that can start tells what bars it, tells of itself, and does nothing else.
+pub fn who_is_barred_stays_out()
+    ensures { (now : Ticks) (points : List HistoryPoint) (sequence : ℕ) (snapshot : SnapshotFacts) (bar : Bar) (o : Outcome) → HearsFree sequence snapshot (before now o) → can_start (before now o).machine.server ≡ false → eligibility_of (shown now (before now o)) snapshot ≡ Some bar → StaysOut snapshot bar (before now o) (step now points (heard.Got sequence snapshot) o) }
+{}
+
+/// A free leader key is asked for: where the answer to its read tells that nobody leads, an agent that nothing bars asks for
+/// the key, and waits for the answer. Only a running replica is barred by nothing.
+pub fn a_free_key_is_asked_for()
+    ensures { (now : Ticks) (points : List HistoryPoint) (sequence : ℕ) (snapshot : SnapshotFacts) (o : Outcome) → HearsFree sequence snapshot (before now o) → eligibility_of (shown now (before now o)) snapshot ≡ None → AsksForKey (before now o) (step now points (heard.Got sequence snapshot) o) }
 {}

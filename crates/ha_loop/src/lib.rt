@@ -14,6 +14,7 @@ mod output;
 mod outputs;
 mod role;
 mod snapshots;
+mod view;
 mod wake;
 mod who;
 
@@ -21,8 +22,9 @@ pub use agent::Agent;
 pub use heard::Heard;
 pub use knowledge::{Knowledge, Question, Waited};
 pub use laws::{
-    a_grant_feeds_the_watchdog, only_a_grant_lets_lead, only_a_grant_sets_deadlines,
-    outputs_make_the_machine, role_fits_server, what_is_asked_is_waited_for,
+    a_free_key_is_asked_for, a_grant_feeds_the_watchdog, only_a_grant_lets_lead,
+    only_a_grant_sets_deadlines, outputs_make_the_machine, role_fits_server,
+    what_is_asked_is_waited_for, who_is_barred_stays_out,
 };
 pub use machine::Machine;
 pub use output::{Output, Repair, Target};

@@ -1,6 +1,7 @@
 //! What an agent does.
 
 use event_book::{Body, Reason};
+use lease_store::Bar;
 use pat_base::{MemberId, Required, Ticks};
 
 /// Whom an agent writes to.
@@ -65,6 +66,10 @@ pub enum Output {
     Disarmed,
     /// The member needs a watchdog, and its device doesn't work.
     CannotArm,
+    /// The member doesn't race for the free leader key, since this bars it.
+    DoesNotRace {
+        bar: Bar,
+    },
     /// The member promised not to take the leader key before this moment, on the failsafe request of this number of this member.
     HoldTaken {
         until: Ticks,

@@ -10,21 +10,22 @@ ghost use Rattle.ha_loop.specs.Acting.{seconds_after, lease_span, counted, waiti
 ghost use Rattle.ha_loop.specs.Agents.{IsSound, IsWithin, Follower, role_of, made, latest};
 ghost use Rattle.ha_loop.specs.Info.{info_of};
 ghost use Rattle.ha_loop.specs.Outputs.{listed};
-ghost use Rattle.ha_loop.specs.Snapshots.{known_with, informed, status_told, row_at, missing_point, missing_row, row_told, renewal, turn_start, renewing, finds_own_key, own_key, starts_behind, ends_fork, follows_anew, follow_row, follows, others_key, creating, free_in, finds_free, no_key, led_by, led, is_active, is_read, awaits_read, read_noted, accepted, got};
+ghost use Rattle.ha_loop.specs.Snapshots.{known_with, informed, status_told, row_at, missing_point, missing_row, row_told, renewal, turn_start, renewing, finds_own_key, own_key, starts_behind, ends_fork, follows_anew, follow_row, follows, others_key, no_key, led_by, led, is_active, is_read, awaits_read, read_noted, accepted, got};
+ghost use Rattle.ha_loop.specs.Racing.{finds_free};
 
 mod following;
+mod racing;
 mod renewing;
 mod repairing;
 
-use crate::acting::{ask, end_server, is_hold_active, lose, touch};
-use crate::info::info_of;
+use crate::acting::{end_server, is_hold_active, lose, touch};
 use crate::role::Role;
 use crate::{Knowledge, Machine, Outputs, Question, Waited};
 use cluster_config::{LeaderEntry, Snapshot};
-use event_book::{Body, Reason};
-use following::{follow_row, start_behind};
-use lease_store::Txn;
-use pat_base::{MemberId, MemberSet, State, Ticks};
+use event_book::Reason;
+use following::follow_row;
+use pat_base::{MemberId, MemberSet, Ticks};
+use racing::finds_free;
 use renewing::renew;
 use repairing::{put_repair, repair_of};
 use wal_model::History;
@@ -286,55 +287,4 @@ fn no_key(
         }
         role => role,
     }
-}
-
-/// Nobody leads: who has a running replica asks for the leader key, and a server that is down starts as a replica of none.
-fn finds_free(knows: &mut Knowledge, machine: &mut Machine, out: &mut Outputs, now: Ticks) -> Role
-    requires moment { now.0 ≤ latest }
-    requires sound { IsSound knows.old }
-    requires server { IsWithin machine.old.server }
-    requires numbers { knows.old.sequence < 2 ^ 60 }
-    requires room { 2 ≤ out.old.spare }
-    ensures outcome { made (role_of result) knows.new machine.new out.new.outputs ≡ finds_free now (made Follower knows.old machine.old out.old.outputs) }
-    ensures sound { IsSound knows.new }
-    ensures numbers { knows.new.sequence ≤ knows.old.sequence + 1 }
-    ensures room { out.old.spare ≤ out.new.spare + 2 }
-{
-    match machine.server.state {
-        State::Stopped | State::Crashed => {
-            start_behind(machine, out, now, None);
-            touch(knows, machine, out);
-        }
-        State::Replica => create(knows, machine, out, now),
-        _ => touch(knows, machine, out),
-    }
-    Role::Follower
-}
-
-/// Asks for the leader key.
-fn create(knows: &mut Knowledge, machine: &Machine, out: &mut Outputs, now: Ticks)
-    requires moment { now.0 ≤ latest }
-    requires sound { IsSound knows.old }
-    requires numbers { knows.old.sequence < 2 ^ 60 }
-    requires room { 1 ≤ out.old.spare }
-    ensures knows { knows.new ≡ waiting now questions.Creating (seconds_after now knows.old.settings.retry_timeout) (counted knows.old) }
-    ensures out { out.new.outputs ≡ listed (outputs.Send targets.Store (knows.old.sequence + 1) (bodies.Request (txns.Create (info_of knows.old.who machine.now.server) (lease_span knows.old.settings) None None))) out.old.outputs }
-    ensures sound { IsSound knows.new }
-    ensures room { out.old.spare ≤ out.new.spare + 1 }
-{
-    let create = Txn::Create {
-        info: info_of(&knows.who, &machine.server),
-        ttl: knows.settings.ttl_ticks(),
-        failsafe: None,
-        sync: None,
-    };
-    let until = now + knows.settings.retry_timeout_ticks();
-    ask(
-        knows,
-        out,
-        now,
-        Question::Creating,
-        until,
-        Body::Request(create),
-    );
 }

@@ -57,6 +57,8 @@ struct Player {
     summary: Summary,
     /// A buffer for the events of one step.
     events: Vec<Event>,
+    /// A buffer for the text of one line.
+    line: String,
 }
 
 impl Player {
@@ -74,6 +76,7 @@ impl Player {
             trace: false,
             summary,
             events: Vec::new(alloc),
+            line: String::new(alloc),
         })
     }
 
@@ -87,6 +90,7 @@ impl Player {
             trace: _,
             summary: _,
             events: _,
+            line: _,
         } = self;
         world
     }
@@ -165,7 +169,7 @@ impl Player {
         self.events.clear();
         self.world.step(step, &mut self.events)?;
         note(&mut self.summary, &self.events)?;
-        print_events(self.alloc, &self.events, self.trace, out)?;
+        print_events(&mut self.line, &self.events, self.trace, out)?;
         self.trace = traced_after(self.trace, step);
         Ok(())
     }

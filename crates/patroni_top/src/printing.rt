@@ -6,14 +6,15 @@ ghost use Rattle.summary.specs.SummaryText.{closing_text};
 ghost use Rattle.patroni_top.specs.LineParts.{line_length};
 
 use crate::print_error::PrintError;
-use event_book::{Event, text};
+use event_book::{Event, write_line};
 use pat_base::{Sink, write_all};
 use std::alloc::Global;
 use summary::Closing;
 
-/// Writes the lines of events, each in one piece. Those of messages are written only while messages are traced.
+/// Writes the lines of events, each in one piece, by way of the buffer `line`. Those of messages are written only while
+/// messages are traced.
 pub fn print_events<K: Sink>(
-    alloc: Global,
+    line: &mut String,
     events: &[Event],
     trace: bool,
     out: &mut K,
@@ -21,22 +22,23 @@ pub fn print_events<K: Sink>(
     ensures { Prints K.Sink out.old out.new PrintError.Write result (lines_of trace events.now) }
 {
     for event in events {
-        print_event(alloc, event, trace, out)?;
+        print_event(line, event, trace, out)?;
     }
     Ok(())
 }
 
+/// Nothing is written of an event without a line.
 fn print_event<K: Sink>(
-    alloc: Global,
+    line: &mut String,
     event: &Event,
     trace: bool,
     out: &mut K,
 ) -> Result<(), PrintError>
     ensures { Prints K.Sink out.old out.new PrintError.Write result (bytes_or_none (line_of trace event.now)) }
 {
-    if let Some(line) = text(alloc, event, trace)? {
-        write_all(out, line.as_bytes())?;
-    }
+    line.clear();
+    write_line(line, event, trace)?;
+    write_all(out, line.as_bytes())?;
     Ok(())
 }
 

@@ -48,9 +48,26 @@ pub(super) fn start_behind(
     ensures room { out.old.spare ≤ out.new.spare + 1 }
 {
     if !machine.server.diverged {
-        machine.server.start_replica(now, upstream_of(leader));
-        out.put(Output::StartReplica { leader });
+        start_replica(machine, out, now, leader);
     }
+}
+
+/// A server starts as a replica of this member's, or of none.
+pub(super) fn start_replica(
+    machine: &mut Machine,
+    out: &mut Outputs,
+    now: Ticks,
+    leader: Option<MemberId>,
+)
+    requires moment { now.0 ≤ latest }
+    requires server { IsWithin machine.old.server }
+    requires room { 1 ≤ out.old.spare }
+    ensures machine { machine.new ≡ record machine.old { server = status_replica_started now (upstream_of leader) machine.old.server } }
+    ensures out { out.new.outputs ≡ listed (outputs.StartReplica leader) out.old.outputs }
+    ensures room { out.old.spare ≤ out.new.spare + 1 }
+{
+    machine.server.start_replica(now, upstream_of(leader));
+    out.put(Output::StartReplica { leader });
 }
 
 fn upstream_of(leader: Option<MemberId>) -> Option<ServerId>

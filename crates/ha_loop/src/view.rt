@@ -1,0 +1,40 @@
+//! What an agent shows of itself and of its server.
+ghost use Rattle.std.specs.Prelude.{◌≡◌, None, option_copied};
+ghost use Rattle.ha_loop.specs.Views.{view_of};
+
+use crate::{Knowledge, Machine};
+use cluster_config::{AgentView, RoleWord};
+use pat_base::Ticks;
+
+/// What an agent in this role shows at a moment, with its newest snapshot.
+pub(crate) fn view_of<'a>(
+    now: Ticks,
+    role: RoleWord,
+    knows: &'a Knowledge,
+    machine: &Machine,
+) -> AgentView<'a>
+    ensures shown { record result { seen = None } ≡ view_of now role knows.now machine.now }
+    ensures seen { option_copied result.seen ≡ knows.now.seen }
+{
+    let who = &knows.who;
+    let server = &machine.server;
+    AgentView {
+        moment: now,
+        scope: who.scope,
+        me: who.me,
+        name: who.name,
+        tags: who.tags,
+        state: server.state,
+        timeline: server.timeline,
+        end: server.end,
+        receives: server.receives,
+        diverged: server.diverged,
+        was_primary: server.was_primary,
+        role,
+        seen: knows.seen.as_ref(),
+        last_read: knows.last_read,
+        last_turn: knows.last_turn,
+        hold: machine.hold,
+        waits: false,
+    }
+}
