@@ -3,6 +3,7 @@
 
 mod addition;
 mod arguments;
+mod config_line;
 mod draft;
 mod fault;
 mod head;

@@ -17,6 +17,6 @@ pub fn read(alloc: Global, bytes: &[u8]) -> Result<Script, ScriptFault>
 {
     let lines = lines_in(alloc, bytes)?;
     let mut draft = Draft::new(alloc);
-    draft.add_lines(&lines)?;
+    draft.add_lines(alloc, &lines)?;
     draft.finish(alloc, lines.len() as u64 + 1)
 }
