@@ -22,6 +22,7 @@ mod ranges;
 mod reader;
 mod script;
 mod script_fault;
+mod script_lines;
 mod words;
 
 pub use fault::{Fault, fault_text};
@@ -33,3 +34,4 @@ pub use ranges::{CommitSize, Delay, Margin};
 pub use reader::read;
 pub use script::Script;
 pub use script_fault::ScriptFault;
+pub use script_lines::ScriptLines;
