@@ -19,7 +19,7 @@ err-not-ok fault x e = cc
 same-ok : (r : Result Settings ConfigFault) (x y : Settings) → r ≡ Ok x → r ≡ Ok y → x ≡ y
 same-ok r x y e f = cc
 
-was-judged : (r : Result Data ConfigFault) (s : Settings) → on_ok r judged ≡ Ok s → (d : Data) × (judged d ≡ Ok s)
+pub was-judged : (r : Result Data ConfigFault) (s : Settings) → on_ok r judged ≡ Ok s → (d : Data) × (judged d ≡ Ok s)
 was-judged (Ok d) s e = (d, e)
 was-judged (Err fault) s e = absurd (err-not-ok fault s e)
 

@@ -59,7 +59,7 @@ empty-read : read (codes "{}") ≡ Some (object no_members)
 unfolding serde_json_on_literals
 empty-read = refl
 
-empty-object : object_of (codes "{}") ≡ Ok (object no_members)
+pub empty-object : object_of (codes "{}") ≡ Ok (object no_members)
 empty-object =
     ap (λ (t : Bool). object_if_json (cond t (read (codes "{}")) None)) empty-utf8
     ∙ ap object_if_json empty-read

@@ -1,6 +1,7 @@
 mod ConfigFacts
 mod DepthLaws
 mod EmptyPatch
+pub mod LineLaws
 mod MergeSteps
 mod PatchLaws
 mod ReadingLaws

@@ -1,5 +1,5 @@
 -- The lines of a script and nothing else spell it.
-use Rattle.std.proofs.Common.{◌≡◌, ℕ, ◌+◌, ◌*◌, ◌^◌, ◌≤◌, ◌<◌, ℤ, pos, negsuc, ◌≤ℤ◌, suc, ◌&&◌, ◌==◌, nat_lt, not, Bool, true, false, cond, List, [], ◌∷◌, ◌++◌, length, map, slice_get, codes, Option, Some, None, Ok, ◌%◌, refl, ◌∙◌, ap, sym, subst, arith, length-append}
+use Rattle.std.proofs.Common.{◌≡◌, ℕ, ◌+◌, ◌*◌, ◌^◌, ◌≤◌, ◌<◌, ℤ, pos, negsuc, ◌≤ℤ◌, suc, ◌&&◌, ◌==◌, nat_lt, not, Bool, true, false, cond, List, [], ◌∷◌, ◌++◌, length, map, slice_get, codes, Option, Some, None, Result, Ok, ◌%◌, append-nil, refl, ◌∙◌, ap, sym, subst, arith, length-append}
 use Rattle.std.specs.Fmt.{decimal, signed_decimal}
 use Rattle.std.specs.List.{list_all}
 use Rattle.std.specs.Str.{is_utf8, bytes_eq}
@@ -7,7 +7,10 @@ use Rattle.std.proofs.lemmas.Bool.{and_parts, and_from, eqb-true}
 use Rattle.std.proofs.lemmas.Bool.Decides.{nat_tests}
 use Rattle.std.proofs.lemmas.Fmt.{decimal_by_steps, length-decimal-le}
 use Rattle.std.proofs.lemmas.List.Folds.{list_all-append}
-use Rattle.std.proofs.lemmas.Str.{IsUtf8-from_ascii, is_utf8-from_IsUtf8}
+use Rattle.std.proofs.lemmas.Grind.{flat_map-append}
+use Rattle.std.proofs.lemmas.List.{map-append}
+use Rattle.std.proofs.lemmas.Slice.Eq.{bytes_eq-Decides}
+use Rattle.std.proofs.lemmas.Str.{IsUtf8-append, IsUtf8-from_ascii, IsUtf8-from_is_utf8, is_utf8-from_IsUtf8}
 use Rattle.pat_base.specs.Bounded.{list_all-ascii, is_text-bytes, is_text-fits}
 use Rattle.pat_base.specs.Host.{host_bytes, local_host}
 use Rattle.pat_base.specs.HostText.{is_host, is_host_byte}
@@ -18,11 +21,15 @@ use Rattle.pat_base.specs.declared.member_id.MemberId.{MemberId}
 use Rattle.leader_key.specs.declared.watchdog.Mode.{Mode}
 use Rattle.leader_key.specs.declared.watchdog.Mode.TheVariants as modes
 use Rattle.lease_store.specs.Defaults.{default_settings}
+use Rattle.lease_store.specs.Settings.{Settings}
+use Rattle.cluster_config.specs.ConfigReading.{config_read, IsConfiguration}
+use Rattle.cluster_config.specs.declared.config_fault.ConfigFault.{ConfigFault}
+use Rattle.cluster_config.proofs.LineLaws.{is_no_feed, config_read-line, config_read-utf8, config_read-empty}
 use Rattle.cluster_script.specs.Lines.{ended, lines_in, is_skipped, counted_lines}
 use Rattle.cluster_script.specs.Margins.{unsaid_margin}
 use Rattle.cluster_script.specs.Options.{option_text, behind_blanks, host_to_say, flag_to_say, is_default_priority, priority_of, priority_to_say, mode_to_say, device_to_say, options_to_say}
 use Rattle.cluster_script.specs.Reading.{script_of}
-use Rattle.cluster_script.specs.Script.{MemberText, MemberLine, ScriptText, names_of, members_of_lines, shortest_line, IsScript, IsCommand, IsLine, AllAreLines, text_of_name, member_text, end_word, switch_text, slowed_call_text, two_texts, command_text, line_text, member_lines, default_base, base_or_default, base_lines, base_to_say, head_with_base, head_lines, body_lines, script_lines, spelling_of, AllInForm, Spells}
+use Rattle.cluster_script.specs.Script.{MemberText, MemberLine, HeadText, ScriptText, names_of, cluster_text, shortest_line, IsScript, IsCommand, IsLine, AllAreLines, text_of_name, member_text, end_word, switch_text, slowed_call_text, two_texts, command_text, line_text, config_text, HeadLine, ConfigLine, BaseLine, MembersLine, head_line_text, config_said, base_said, member_said, configs_said, bases_said, members_said, at_most_one, read_at_most_once, config_or_default, default_base, base_or_default, base_lines, base_to_say, config_lines, config_to_say, IsHeadLines, head_lines, body_lines, script_lines, spelling_of, IsShort, AllInForm, Spells}
 use Rattle.cluster_script.specs.Words.{spelled, word_of}
 use Rattle.cluster_script.specs.declared.head.MemberOptions.{MemberOptions}
 use Rattle.cluster_script.specs.declared.keyword.Keyword.{Keyword}
@@ -124,14 +131,40 @@ word-IsPlain words.Trace = record { plain = refl; short = omega arith }
 
 -- a line that a script has
 record IsLineText (line : List ℕ) : Type 0 where
-  pub plain : list_all is_plain line ≡ true
+  pub text : is_utf8 line ≡ true
+  pub alone : list_all is_no_feed line ≡ true
   pub short : length line ≤ 8192
   pub counts : is_skipped line ≡ false
+
+-- words of plain bytes are text that ends no line
+ascii-byte : (b : ℕ) → is_plain b ≡ true → b < 128
+ascii-byte b h = grind (arith, nat_tests)
+
+plain-is_utf8 : (v : List ℕ) → list_all is_plain v ≡ true → is_utf8 v ≡ true
+plain-is_utf8 v h = is_utf8-from_IsUtf8 v (IsUtf8-from_ascii v (list_all-ascii is_plain ascii-byte v h))
+
+no-feed : (b : ℕ) → is_plain b ≡ true → is_no_feed b ≡ true
+no-feed b h = grind (arith, nat_tests)
+
+no-feeds : (v : List ℕ) → list_all is_plain v ≡ true → list_all is_no_feed v ≡ true
+no-feeds [] h = refl
+no-feeds (b ∷ bs) h =
+    let both = and_parts (is_plain b) (list_all is_plain bs) h in
+    and_from (is_no_feed b) (list_all is_no_feed bs) (no-feed b both.0) (no-feeds bs both.1)
 
 spelled-IsLineText : (keyword : Keyword) (rest : List ℕ) → IsPlain rest 500 → IsLineText (spelled keyword rest)
 spelled-IsLineText keyword rest h =
     let p : IsPlain (spelled keyword rest) (7 + (500 + 1)) = IsPlain-append (word_of keyword) (32 ∷ rest) 7 (500 + 1) (word-IsPlain keyword) (blank-IsPlain rest 500 h) in
-    record { plain = p.plain; short = omega (arith, p.short); counts = spelled-counts keyword rest }
+    record { text = plain-is_utf8 (spelled keyword rest) p.plain; alone = no-feeds (spelled keyword rest) p.plain; short = omega (arith, p.short); counts = spelled-counts keyword rest }
+
+-- the line of a configuration, whose text is as it was written
+config-IsLineText : (config : Settings) → IsConfiguration config → IsShort (config_text config.text) → IsLineText (config_text config.text)
+config-IsLineText config is short = record {
+  text = is_utf8-from_IsUtf8 (config_text config.text) (IsUtf8-append (codes "config ") config.text (IsUtf8-from_is_utf8 (codes "config ") (plain-is_utf8 (codes "config ") refl)) (IsUtf8-from_is_utf8 config.text (config_read-utf8 config.text config is.reads_back)));
+  alone = list_all-append is_no_feed (codes "config ") config.text ∙ config_read-line config.text config is.reads_back;
+  short = short;
+  counts = spelled-counts words.Config config.text;
+}
 
 link-IsPlain : (members : List Name) (x y : End) → IsPlain (two_texts (end_word members x) (end_word members y)) 500
 link-IsPlain members x y =
@@ -280,15 +313,28 @@ canonical_line m =
     let enough = options-enough m.options in
     record { name = m.name; words = options_to_say m.options; said = enough.said; once = enough.once }
 
-canonical-lines : (members : List MemberText) → member_lines (map canonical_line members) ≡ map shortest_line members
-unfolding canonical_line
-canonical-lines [] = refl
-canonical-lines (m ∷ members) = ap (λ t. shortest_line m ∷ t) (canonical-lines members)
+canonical_lines : List MemberText → List HeadLine
+canonical_lines members = map (λ m. MembersLine (canonical_line m)) members
 
-canonical-members : (members : List MemberText) → members_of_lines (map canonical_line members) ≡ members
-unfolding canonical_line
+canonical-texts : (members : List MemberText) → map head_line_text (canonical_lines members) ≡ map shortest_line members
+unfolding canonical_line canonical_lines
+canonical-texts [] = refl
+canonical-texts (m ∷ members) = ap (λ t. shortest_line m ∷ t) (canonical-texts members)
+
+canonical-members : (members : List MemberText) → members_said (canonical_lines members) ≡ members
+unfolding canonical_line canonical_lines
 canonical-members [] = refl
 canonical-members (m ∷ members) = λ i. record { name = m.name; options = (options-enough m.options).is i } ∷ canonical-members members i
+
+no-bases : (members : List MemberText) → bases_said (canonical_lines members) ≡ []
+unfolding canonical_lines
+no-bases [] = refl
+no-bases (m ∷ members) = no-bases members
+
+no-configs : (members : List MemberText) → configs_said (canonical_lines members) ≡ []
+unfolding canonical_lines
+no-configs [] = refl
+no-configs (m ∷ members) = no-configs members
 
 abbrev AllLineTexts : List (List ℕ) → Type 0
 AllLineTexts [] = Unit {0}
@@ -318,34 +364,34 @@ body-AllLineTexts : (members : List Name) (body : List Line) → AllAreLines mem
 body-AllLineTexts members [] is = tt
 body-AllLineTexts members (line ∷ body) is = (line-IsLineText members line is.0, body-AllLineTexts members body is.1)
 
-script-AllLineTexts : (s : ScriptText) → IsScript s → AllLineTexts (script_lines s)
-script-AllLineTexts s h =
+-- the line of a configuration, where it has to be said
+config-AllLineTexts : (config : Settings) (t : Bool) → IsConfiguration config → IsShort (config_text config.text) → AllLineTexts (config_lines (cond t None (Some config.text)))
+config-AllLineTexts config true is short = tt
+config-AllLineTexts config false is short = (config-IsLineText config is short, tt)
+
+script-AllLineTexts : (s : ScriptText) → IsScript s → IsConfiguration s.head.config → IsShort (config_text s.head.config.text) → AllLineTexts (script_lines s)
+script-AllLineTexts s h is short =
     let fits : base_or_default (base_to_say s.head.base) < 2 ^ 64 = subst (λ (n : ℕ). n < 2 ^ 64) (sym (base-is-said s.head.base)) (base-fits s.head.base h.head.base_most) in (
       name-line words.Cluster s.head.cluster,
-      AllLineTexts-append (base_lines (base_to_say s.head.base) ++ map shortest_line s.head.members) (body_lines (names_of s.head) s.body)
-          (AllLineTexts-append (base_lines (base_to_say s.head.base)) (map shortest_line s.head.members) (base-AllLineTexts (base_to_say s.head.base) fits) (members-AllLineTexts s.head.members))
+      AllLineTexts-append (config_lines (config_to_say s.head.config) ++ (base_lines (base_to_say s.head.base) ++ map shortest_line s.head.members)) (body_lines (names_of s.head) s.body)
+          (AllLineTexts-append (config_lines (config_to_say s.head.config)) (base_lines (base_to_say s.head.base) ++ map shortest_line s.head.members) (config-AllLineTexts s.head.config (bytes_eq s.head.config.text default_settings.text) is short)
+          (AllLineTexts-append (base_lines (base_to_say s.head.base)) (map shortest_line s.head.members) (base-AllLineTexts (base_to_say s.head.base) fits) (members-AllLineTexts s.head.members)))
           (body-AllLineTexts (names_of s.head) s.body h.body),
     )
 
--- such lines are text of few bytes, and are cut again
-ascii-byte : (b : ℕ) → is_plain b ≡ true → b < 128
-ascii-byte b h = grind (arith, nat_tests)
+-- such lines are cut again
+feeds-apart : (b : ℕ) → is_no_feed b ≡ true → (b == 10) ≡ false
+feeds-apart b h = grind (arith, nat_tests)
 
-no-feed : (b : ℕ) → is_plain b ≡ true → (b == 10) ≡ false
-no-feed b h = grind (arith, nat_tests)
-
-plain-is_utf8 : (v : List ℕ) → list_all is_plain v ≡ true → is_utf8 v ≡ true
-plain-is_utf8 v h = is_utf8-from_IsUtf8 v (IsUtf8-from_ascii v (list_all-ascii is_plain ascii-byte v h))
-
-line-again : (line rest : List ℕ) → list_all is_plain line ≡ true → lines_in (line ++ (10 ∷ rest)) ≡ line ∷ lines_in rest
+line-again : (line rest : List ℕ) → list_all is_no_feed line ≡ true → lines_in (line ++ (10 ∷ rest)) ≡ line ∷ lines_in rest
 line-again [] rest h = refl
 line-again (b ∷ bs) rest h =
-    let both = and_parts (is_plain b) (list_all is_plain bs) h in
-    rw (no-feed b both.0, line-again bs rest both.1) refl
+    let both = and_parts (is_no_feed b) (list_all is_no_feed bs) h in
+    rw (feeds-apart b both.0, line-again bs rest both.1) refl
 
 lines-again : (lines : List (List ℕ)) → AllLineTexts lines → lines_in (ended lines) ≡ lines
 lines-again [] h = refl
-lines-again (line ∷ lines) h = line-again line (ended lines) h.0.plain ∙ ap (λ ls. line ∷ ls) (lines-again lines h.1)
+lines-again (line ∷ lines) h = line-again line (ended lines) h.0.alone ∙ ap (λ ls. line ∷ ls) (lines-again lines h.1)
 
 all-count : (lines : List (List ℕ)) → AllLineTexts lines → counted_lines lines ≡ lines
 all-count [] h = refl
@@ -353,25 +399,95 @@ all-count (line ∷ lines) h = rw (h.0.counts, all-count lines h.1) refl
 
 all-in-form : (lines : List (List ℕ)) → AllLineTexts lines → AllInForm lines
 all-in-form [] h = tt
-all-in-form (line ∷ lines) h = (record { text = plain-is_utf8 line h.0.plain; short = h.0.short }, all-in-form lines h.1)
+all-in-form (line ∷ lines) h = (record { text = h.0.text; short = h.0.short }, all-in-form lines h.1)
 
-pub spelling-Spells : (s : ScriptText) → IsScript s → default_settings ≡ s.head.config → Spells (spelling_of s) s
-spelling-Spells s h config =
-    let texts : AllLineTexts (script_lines s) = script-AllLineTexts s h in
+-- the text that a configuration has to say says it
+record SaysConfig (config : Settings) (text : Option (List ℕ)) : Type 0 where
+  pub lines : List HeadLine
+  pub settings : Option Settings
+  pub texts : map head_line_text lines ≡ config_lines text
+  pub configs : configs_said lines ≡ read_at_most_once settings
+  pub bases : bases_said lines ≡ []
+  pub members : members_said lines ≡ []
+  pub is : config_or_default settings ≡ config
+
+same-settings : (r : Result Settings ConfigFault) (x y : Settings) → r ≡ Ok x → r ≡ Ok y → x ≡ y
+same-settings r x y e f = cc
+
+config-says : (config : Settings) (t : Bool) → bytes_eq config.text default_settings.text ≡ t → IsConfiguration config → SaysConfig config (cond t None (Some config.text))
+config-says config true same is =
+    let empty : config.text ≡ default_settings.text = (bytes_eq-Decides config.text default_settings.text).0 same in record {
+      lines = [];
+      settings = None;
+      texts = refl;
+      configs = refl;
+      bases = refl;
+      members = refl;
+      is = same-settings (config_read config.text) default_settings config (ap config_read empty ∙ config_read-empty) is.reads_back;
+    }
+config-says config false same is = record {
+  lines = ConfigLine config.text ∷ [];
+  settings = Some config;
+  texts = refl;
+  configs = ap (λ r. r ∷ []) is.reads_back;
+  bases = refl;
+  members = refl;
+  is = refl;
+}
+
+-- the same of a base
+base_line : Option ℕ → List HeadLine
+base_line None = []
+base_line (Some n) = BaseLine n ∷ []
+
+base-texts : (base : Option ℕ) (rest : List HeadLine) → map head_line_text (base_line base ++ rest) ≡ base_lines base ++ map head_line_text rest
+unfolding base_line
+base-texts None rest = refl
+base-texts (Some n) rest = refl
+
+base-bases : (base : Option ℕ) (members : List MemberText) → bases_said (base_line base ++ canonical_lines members) ≡ at_most_one base
+unfolding base_line
+base-bases None members = no-bases members
+base-bases (Some n) members = ap (λ ns. n ∷ ns) (no-bases members)
+
+base-configs : (base : Option ℕ) (members : List MemberText) → configs_said (base_line base ++ canonical_lines members) ≡ []
+unfolding base_line
+base-configs None members = no-configs members
+base-configs (Some n) members = no-configs members
+
+base-members : (base : Option ℕ) (members : List MemberText) → members_said (base_line base ++ canonical_lines members) ≡ members
+unfolding base_line
+base-members None members = canonical-members members
+base-members (Some n) members = canonical-members members
+
+head-IsHeadLines : (head : HeadText) → IsConfiguration head.config → IsHeadLines head (head_lines head)
+head-IsHeadLines head is =
+    let base : Option ℕ = base_to_say head.base in
+    let says = config-says head.config (bytes_eq head.config.text default_settings.text) refl is in
+    let rest : List HeadLine = base_line base ++ canonical_lines head.members in record {
+      said = says.lines ++ rest;
+      config = says.settings;
+      base = base;
+      configs = flat_map-append config_said says.lines rest ∙ ap (λ t. configs_said says.lines ++ t) (base-configs base head.members) ∙ append-nil (configs_said says.lines) ∙ says.configs;
+      bases = flat_map-append base_said says.lines rest ∙ ap (λ t. t ++ bases_said rest) says.bases ∙ base-bases base head.members;
+      members = flat_map-append member_said says.lines rest ∙ ap (λ t. t ++ members_said rest) says.members ∙ base-members base head.members;
+      config_is = says.is;
+      base_is = base-is-said head.base;
+      order = ap (λ t. cluster_text head.cluster ∷ t)
+          (sym (map-append head_line_text says.lines rest
+          ∙ ap (λ t. t ++ map head_line_text rest) says.texts
+          ∙ ap (λ t. config_lines (config_to_say head.config) ++ t) (base-texts base (canonical_lines head.members) ∙ ap (λ t. base_lines base ++ t) (canonical-texts head.members))));
+    }
+
+pub spelling-Spells : (s : ScriptText) → IsScript s → IsConfiguration s.head.config → IsShort (config_text s.head.config.text) → Spells (spelling_of s) s
+spelling-Spells s h is short =
+    let texts : AllLineTexts (script_lines s) = script-AllLineTexts s h is short in
     record {
       form = subst AllInForm (sym (lines-again (script_lines s) texts)) (all-in-form (script_lines s) texts);
       head = head_lines s.head;
-      says = record {
-        before = [];
-        said = base_to_say s.head.base;
-        behind = map canonical_line s.head.members;
-        members = canonical-members s.head.members;
-        config = config;
-        base = base-is-said s.head.base;
-        order = ap (head_with_base s.head.cluster [] (base_to_say s.head.base)) (sym (canonical-lines s.head.members));
-      };
+      says = head-IsHeadLines s.head is;
       lines = ap counted_lines (lines-again (script_lines s) texts) ∙ all-count (script_lines s) texts;
     }
 
-pub spelling-is-read : (s : ScriptText) → IsScript s → default_settings ≡ s.head.config → script_of (spelling_of s) ≡ Ok s
-spelling-is-read s h config = spelled-is-read (spelling_of s) s h (spelling-Spells s h config)
+pub spelling-is-read : (s : ScriptText) → IsScript s → IsConfiguration s.head.config → IsShort (config_text s.head.config.text) → script_of (spelling_of s) ≡ Ok s
+spelling-is-read s h is short = spelled-is-read (spelling_of s) s h (spelling-Spells s h is short)

@@ -13,3 +13,8 @@ pub finished-IsScript : (o : Option Name) (cluster : Name) (config : Option Sett
 finished-IsScript o cluster config base [] body is some law = absurd (some refl)
 finished-IsScript o cluster config base (m ∷ members) body is some law =
     law (record { head = record { cluster = cluster; config = config_or_default config; base = base_or_default base; members = m ∷ members }; body = body }) (ap (λ c. finished (draft_of c config base (m ∷ members) body)) is)
+
+pub finished-is : (o : Option Name) (cluster : Name) (config : Option Settings) (base : Option ℕ) (members : List MemberText) (body : List Line) → o ≡ Some cluster → (length members ≡ 0 → ⊥)
+    → finished (draft_of o config base members body) ≡ Ok (record { head = record { cluster = cluster; config = config_or_default config; base = base_or_default base; members = members }; body = body })
+finished-is o cluster config base [] body is some = absurd (some refl)
+finished-is o cluster config base (m ∷ members) body is some = ap (λ c. finished (draft_of c config base (m ∷ members) body)) is

@@ -1,6 +1,7 @@
 pub mod ArgumentLaws
 pub mod Behind
 pub mod CanonLaws
+pub mod Counting
 pub mod Cutting
 pub mod Finishing
 pub mod HostLaws

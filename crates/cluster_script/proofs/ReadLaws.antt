@@ -1,13 +1,17 @@
 -- What is read as a script is one, and is spelled so.
-use Rattle.std.proofs.Common.{◌≡◌, ℕ, ◌+◌, ◌^◌, ◌≤◌, ◌<◌, ◌&&◌, nat_le, Bool, true, false, cond, List, [], ◌∷◌, ◌++◌, length, map, Option, Some, None, Ok, Err, refl, ◌∙◌, ap, sym, subst, arith, append_assoc, append-nil, length-append}
+use Rattle.std.proofs.Common.{◌≡◌, ℕ, ◌+◌, ◌^◌, ◌≤◌, ◌<◌, ◌&&◌, nat_le, Bool, true, false, cond, List, [], ◌∷◌, ◌++◌, length, map, Option, Some, None, Result, Ok, Err, refl, ◌∙◌, ap, sym, subst, arith, append_assoc, append-nil, length-append}
 use Rattle.std.specs.Fmt.{decimal}
+use Rattle.std.specs.List.{flat_map}
 use Rattle.std.specs.Str.{is_utf8}
 use Rattle.std.proofs.lemmas.Bool.Decides.{nat_tests}
+use Rattle.std.proofs.lemmas.Grind.{flat_map-append}
 use Rattle.std.proofs.lemmas.List.{map-append, length-map}
 use Rattle.pat_base.specs.Name.{name_bytes, name_of}
 use Rattle.pat_base.specs.declared.name.Name.{Name}
 use Rattle.pat_base.proofs.Names.{name_of-text}
 use Rattle.lease_store.specs.Settings.{Settings}
+use Rattle.cluster_config.specs.ConfigReading.{config_read}
+use Rattle.cluster_config.specs.declared.config_fault.ConfigFault.{ConfigFault}
 use Rattle.cluster_script.specs.Arguments.{number_in, line_of_words}
 use Rattle.cluster_script.specs.Draft.{DraftText, script_so_far}
 use Rattle.cluster_script.specs.Faults.{on_ok, both}
@@ -15,8 +19,8 @@ use Rattle.cluster_script.specs.Lines.{lines_in, is_skipped, counted_lines}
 use Rattle.cluster_script.specs.Members.{place_of}
 use Rattle.cluster_script.specs.Options.{SayOnce, option_text, behind_blanks, options_or_default}
 use Rattle.cluster_script.specs.OptionReading.{options_in}
-use Rattle.cluster_script.specs.Reading.{name_in, declared_in_head, declared_once, named_member, new_member, next_member, ranged_base, base_in, head_end, base_end, next_base, addition_of, known_addition, addition_in, with_addition, with_line, alone, cluster_named, cluster_in, cluster_by_keyword, first_line, first_draft, after_counted, after_text, after_line, after_lines, at_line, with_some, finished, script_of}
-use Rattle.cluster_script.specs.Script.{AreDifferent, MemberText, MemberLine, ScriptText, member_names, names_of, member_of_entry, member_of_line, members_of_lines, IsScript, IsLine, AllAreLines, cluster_text, member_line_text, base_text, line_text, member_lines, config_or_default, base_or_default, head_with_base, IsHeadLines, body_lines, IsInForm, AllInForm, Spells}
+use Rattle.cluster_script.specs.Reading.{name_in, declared_in_head, declared_once, named_member, new_member, next_member, ranged_base, base_in, head_end, base_end, next_base, addition_of, with_addition, config_if_read, next_config, is_config, with_config, with_other, with_line, alone, cluster_named, cluster_in, cluster_by_keyword, first_line, first_draft, after_counted, after_text, after_line, after_lines, at_line, with_some, finished, script_of}
+use Rattle.cluster_script.specs.Script.{AreDifferent, MemberText, MemberLine, ScriptText, member_names, names_of, member_of_entry, member_of_line, IsScript, IsLine, AllAreLines, cluster_text, member_line_text, base_text, config_text, line_text, HeadLine, ConfigLine, BaseLine, MembersLine, head_line_text, config_said, base_said, member_said, configs_said, bases_said, members_said, at_most_one, read_at_most_once, base_or_default, head_with, IsHeadLines, body_lines, IsInForm, AllInForm, Spells}
 use Rattle.cluster_script.specs.Words.{spelled, keyword_of, cut_word}
 use Rattle.cluster_script.specs.declared.addition.Addition.{Addition}
 use Rattle.cluster_script.specs.declared.addition.Addition.TheVariants as additions
@@ -199,13 +203,6 @@ of-Ok base members body line words.Rest a k e = body-Ok base members body line w
 of-Ok base members body line words.Ctl a k e = body-Ok base members body line words.Ctl a k e
 of-Ok base members body line words.Trace a k e = body-Ok base members body line words.Trace a k e
 
-known-Ok : (base : Option ℕ) (members : List Name) (body : List Line) (line : List ℕ) (o : Option Keyword) (a : Addition) → keyword_of (cut_word line).0 ≡ o → known_addition base members body o (cut_word line).1 ≡ Ok a → IsAddition base members body line a
-known-Ok base members body line None a k e = absurd (err_is _ a e)
-known-Ok base members body line (Some keyword) a k e = of-Ok base members body line keyword a k e
-
-pub addition_in-Ok : (base : Option ℕ) (members : List Name) (body : List Line) (line : List ℕ) (a : Addition) → addition_in base members body line ≡ Ok a → IsAddition base members body line a
-addition_in-Ok base members body line a e = known-Ok base members body line (keyword_of (cut_word line).0) a refl e
-
 -- a base that is said is in its range
 abbrev IsBaseIfSaid : Option ℕ → Type 0
 IsBaseIfSaid None = Unit {0}
@@ -213,19 +210,18 @@ IsBaseIfSaid (Some n) = (1 ≤ n) × (n ≤ 2 ^ 40)
 
 -- what holds of the lines so far
 record IsBegun (d : DraftText) : Type 0 where
-  pub config : d.config ≡ None
   pub base : IsBaseIfSaid d.base
   pub few : length d.members ≤ 16
   pub different : AreDifferent (member_names d.members)
   pub body : AllAreLines (member_names d.members) d.body
 
--- the lines so far, which say a draft: those of its head with the base somewhere among its members, and those of its body
+-- the lines so far, which say a draft: those of its head, and those of its body
 record SayDraft (d : DraftText) (ls : List (List ℕ)) : Type 0 where
-  pub before : List MemberLine
-  pub behind : List MemberLine
-  pub members : members_of_lines (before ++ behind) ≡ d.members
-  pub no_base : d.base ≡ None → behind ≡ []
-  pub lines : ls ≡ head_with_base d.cluster (member_lines before) d.base (member_lines behind) ++ body_lines (member_names d.members) d.body
+  pub said : List HeadLine
+  pub configs : configs_said said ≡ read_at_most_once d.config
+  pub bases : bases_said said ≡ at_most_one d.base
+  pub members : members_said said ≡ d.members
+  pub lines : ls ≡ head_with d.cluster said ++ body_lines (member_names d.members) d.body
 
 -- lines that say a draft, and what holds of it
 record Adds (d : DraftText) (ls : List (List ℕ)) : Type 0 where
@@ -236,83 +232,41 @@ AllAreLines-push : (members : List Name) (body : List Line) (line : Line) → Al
 AllAreLines-push members [] line h k = (k, tt)
 AllAreLines-push members (l ∷ body) line h k = (h.0, AllAreLines-push members body line h.1 k)
 
+-- what a single line says
+flat_map-one : {X A : Type 0} (f : X → List A) (x : X) → flat_map f (x ∷ []) ≡ f x
+flat_map-one f x = append-nil (f x)
+
 -- where one more line goes
-push-member : {X : Type 0} (f : List X) (l : X) → ((f ++ []) ++ []) ++ l ∷ [] ≡ ((f ++ l ∷ []) ++ []) ++ []
-push-member f l = simp (append_assoc, append-nil)
-
-push-base : {X : Type 0} (f : List X) (l : X) → ((f ++ []) ++ []) ++ l ∷ [] ≡ (f ++ l ∷ []) ++ []
-push-base f l = simp (append_assoc, append-nil)
-
-push-behind : {X : Type 0} (f g h : List X) (l : X) → ((f ++ (g ++ h)) ++ []) ++ l ∷ [] ≡ (f ++ (g ++ (h ++ l ∷ []))) ++ []
-push-behind f g h l = simp (append_assoc, append-nil)
+push-line : {X : Type 0} (f : List X) (l : X) → (f ++ []) ++ l ∷ [] ≡ (f ++ l ∷ []) ++ []
+push-line f l = simp (append_assoc, append-nil)
 
 -- a head alone
 start : Name → Option Settings → Option ℕ → List MemberText → DraftText
 start cluster config base members = record { cluster = cluster; config = config; base = base; members = members; body = [] }
 
--- as long as no base is said, all members stand before it
-record SayNoBase (cluster : Name) (members : List MemberText) (ls : List (List ℕ)) : Type 0 where
-  pub before : List MemberLine
-  pub members_are : members_of_lines before ≡ members
-  pub lines : ls ≡ head_with_base cluster (member_lines before) None [] ++ []
-
-no-base-lines : (cluster : Name) (config : Option Settings) (members : List MemberText) (ls : List (List ℕ)) → SayDraft (start cluster config None members) ls → SayNoBase cluster members ls
+-- one more line of a head says what it says, behind what those before it say
+head-line : (cluster : Name) (line : HeadLine) (config config' : Option Settings) (base base' : Option ℕ) (members members' : List MemberText) (ls : List (List ℕ))
+    → read_at_most_once config ++ config_said line ≡ read_at_most_once config' → at_most_one base ++ base_said line ≡ at_most_one base' → members ++ member_said line ≡ members'
+    → SayDraft (start cluster config base members) ls → SayDraft (start cluster config' base' members') (ls ++ head_line_text line ∷ [])
 unfolding start
-no-base-lines cluster config members ls h =
-    let none : h.behind ≡ [] = h.no_base refl in
-    record {
-      before = h.before;
-      members_are = ap members_of_lines (sym (append-nil h.before)) ∙ ap (λ b. members_of_lines (h.before ++ b)) (sym none) ∙ h.members;
-      lines = h.lines ∙ ap (λ b. head_with_base cluster (member_lines h.before) None (member_lines b) ++ []) none;
-    }
-
-one-declared : (lines : List MemberLine) (line : MemberLine) (members : List MemberText) → members_of_lines lines ≡ members → members_of_lines (lines ++ line ∷ []) ≡ members ++ member_of_line line ∷ []
-one-declared lines line members are = map-append member_of_line lines (line ∷ []) ∙ ap (λ t. t ++ member_of_line line ∷ []) are
-
-member-lines : (cluster : Name) (line : MemberLine) (config : Option Settings) (base : Option ℕ) (members : List MemberText) (ls : List (List ℕ)) → SayDraft (start cluster config base members) ls → SayDraft (start cluster config base (members ++ member_of_line line ∷ [])) (ls ++ member_line_text line ∷ [])
-unfolding start
-member-lines cluster line config None members ls h =
-    let n = no-base-lines cluster config members ls h in
-    record {
-      before = n.before ++ line ∷ [];
-      behind = [];
-      members = ap members_of_lines (append-nil (n.before ++ line ∷ [])) ∙ one-declared n.before line members n.members_are;
-      no_base = λ _. refl;
-      lines = ap (λ t. t ++ member_line_text line ∷ []) n.lines
-          ∙ ap (λ t. cluster_text cluster ∷ t) (push-member (member_lines n.before) (member_line_text line) ∙ ap (λ t. (t ++ []) ++ []) (sym (map-append member_line_text n.before (line ∷ []))));
-    }
-member-lines cluster line config (Some n) members ls h = record {
-  before = h.before;
-  behind = h.behind ++ line ∷ [];
-  members = ap members_of_lines (sym (append_assoc h.before h.behind (line ∷ []))) ∙ one-declared (h.before ++ h.behind) line members h.members;
-  no_base = λ e. absurd (none_is n (sym e));
-  lines = ap (λ t. t ++ member_line_text line ∷ []) h.lines
-      ∙ ap (λ t. cluster_text cluster ∷ t)
-      (push-behind (member_lines h.before) (base_text n ∷ []) (member_lines h.behind) (member_line_text line)
-      ∙ ap (λ t. (member_lines h.before ++ (base_text n ∷ t)) ++ []) (sym (map-append member_line_text h.behind (line ∷ []))));
+head-line cluster line config config' base base' members members' ls configs bases declared h = record {
+  said = h.said ++ line ∷ [];
+  configs = flat_map-append config_said h.said (line ∷ []) ∙ ap (λ t. t ++ flat_map config_said (line ∷ [])) h.configs ∙ ap (λ t. read_at_most_once config ++ t) (flat_map-one config_said line) ∙ configs;
+  bases = flat_map-append base_said h.said (line ∷ []) ∙ ap (λ t. t ++ flat_map base_said (line ∷ [])) h.bases ∙ ap (λ t. at_most_one base ++ t) (flat_map-one base_said line) ∙ bases;
+  members = flat_map-append member_said h.said (line ∷ []) ∙ ap (λ t. t ++ flat_map member_said (line ∷ [])) h.members ∙ ap (λ t. members ++ t) (flat_map-one member_said line) ∙ declared;
+  lines = ap (λ t. t ++ head_line_text line ∷ []) h.lines
+      ∙ ap (λ t. cluster_text cluster ∷ t) (push-line (map head_line_text h.said) (head_line_text line) ∙ ap (λ t. t ++ []) (sym (map-append head_line_text h.said (line ∷ []))));
 }
-
-base-lines : (cluster : Name) (n : ℕ) (config : Option Settings) (members : List MemberText) (ls : List (List ℕ)) → SayDraft (start cluster config None members) ls → SayDraft (start cluster config (Some n) members) (ls ++ base_text n ∷ [])
-unfolding start
-base-lines cluster n config members ls h =
-    let none = no-base-lines cluster config members ls h in
-    record {
-      before = none.before;
-      behind = [];
-      members = ap members_of_lines (append-nil none.before) ∙ none.members_are;
-      no_base = λ e. absurd (none_is n (sym e));
-      lines = ap (λ t. t ++ base_text n ∷ []) none.lines ∙ ap (λ t. cluster_text cluster ∷ t) (push-base (member_lines none.before) (base_text n));
-    }
 
 body-lines : (d : DraftText) (l : Line) (ls : List (List ℕ)) → SayDraft d ls → SayDraft (record d { body = d.body ++ l ∷ [] }) (ls ++ line_text (member_names d.members) l ∷ [])
 body-lines d l ls h = record {
-  before = h.before;
-  behind = h.behind;
+  said = h.said;
+  configs = h.configs;
+  bases = h.bases;
   members = h.members;
-  no_base = h.no_base;
   lines = ap (λ t. t ++ line_text (member_names d.members) l ∷ []) h.lines
-      ∙ append_assoc (head_with_base d.cluster (member_lines h.before) d.base (member_lines h.behind)) (body_lines (member_names d.members) d.body) (line_text (member_names d.members) l ∷ [])
-      ∙ ap (λ t. head_with_base d.cluster (member_lines h.before) d.base (member_lines h.behind) ++ t) (sym (map-append (line_text (member_names d.members)) d.body (l ∷ [])));
+      ∙ append_assoc (head_with d.cluster h.said) (body_lines (member_names d.members) d.body) (line_text (member_names d.members) l ∷ [])
+      ∙ ap (λ t. head_with d.cluster h.said ++ t) (sym (map-append (line_text (member_names d.members)) d.body (l ∷ [])));
 }
 
 member-Adds : (cluster : Name) (line : MemberLine) (config : Option Settings) (base : Option ℕ) (members : List MemberText) (body : List Line) (ls : List (List ℕ)) → body ≡ [] → length (member_names members) < 16 → place_of (member_names members) line.name ≡ None
@@ -320,9 +274,8 @@ member-Adds : (cluster : Name) (line : MemberLine) (config : Option Settings) (b
     → Adds (record { cluster = cluster; config = config; base = base; members = members ++ member_of_line line ∷ []; body = body }) (ls ++ member_line_text line ∷ [])
 unfolding start
 member-Adds cluster line config base members [] ls is few absent h = record {
-  says = member-lines cluster line config base members ls h.says;
+  says = head-line cluster (MembersLine line) config config base base members (members ++ member_of_line line ∷ []) ls (append-nil (read_at_most_once config)) (append-nil (at_most_one base)) refl h.says;
   begun = record {
-    config = h.begun.config;
     base = h.begun.base;
     few = omega (arith, length-append members (member_of_line line ∷ []), length-map members (λ (m : MemberText). m.name));
     different = subst AreDifferent (sym (map-append (λ (m : MemberText). m.name) members (member_of_line line ∷ []))) (AreDifferent-push (member_names members) line.name h.begun.different absent);
@@ -336,8 +289,8 @@ base-Adds : (cluster : Name) (n : ℕ) (config : Option Settings) (base : Option
     → Adds (record { cluster = cluster; config = config; base = Some n; members = members; body = body }) (ls ++ base_text n ∷ [])
 unfolding start
 base-Adds cluster n config None members [] ls first is least most h = record {
-  says = base-lines cluster n config members ls h.says;
-  begun = record { config = h.begun.config; base = (least, most); few = h.begun.few; different = h.begun.different; body = tt };
+  says = head-line cluster (BaseLine n) config config None (Some n) members members ls (append-nil (read_at_most_once config)) refl (append-nil members) h.says;
+  begun = record { base = (least, most); few = h.begun.few; different = h.begun.different; body = tt };
 }
 base-Adds cluster n config None members (l ∷ body) ls first is least most h = cc
 base-Adds cluster n config (Some k) members body ls first is least most h = absurd (none_is k (sym first))
@@ -355,13 +308,65 @@ addition-Adds d ls line (additions.Base n) h is =
 addition-Adds d ls line (additions.Body l) h is =
     subst (λ (t : List ℕ). Adds (with_addition d (additions.Body l)) (ls ++ t ∷ [])) is.0 (record {
       says = body-lines d l ls h.says;
-      begun = record { config = h.begun.config; base = h.begun.base; few = h.begun.few; different = h.begun.different; body = AllAreLines-push (member_names d.members) d.body l h.begun.body is.1 };
+      begun = record { base = h.begun.base; few = h.begun.few; different = h.begun.different; body = AllAreLines-push (member_names d.members) d.body l h.begun.body is.1 };
     })
 
+-- a configuration that is said in front of the body, and nowhere before
+record DeclaresConfig (said : Option Settings) (body : List Line) (rest : Option (List ℕ)) (config : Settings) : Type 0 where
+  pub bytes : List ℕ
+  pub is : rest ≡ Some bytes
+  pub read : config_read bytes ≡ Ok config
+  pub first : said ≡ None
+  pub in_head : body ≡ []
+
+config_if_read-Ok : (r : Result Settings ConfigFault) (config : Settings) → config_if_read r ≡ Ok config → r ≡ Ok config
+config_if_read-Ok (Ok x) config e = let same : x ≡ config = ok_is x config e in rw same refl
+config_if_read-Ok (Err refusal) config e = absurd (err_is _ config e)
+
+next_config-Ok : (said : Option Settings) (body : List Line) (rest : Option (List ℕ)) (config : Settings) → next_config said body rest ≡ Ok config → DeclaresConfig said body rest config
+next_config-Ok (Some x) body rest config e = absurd (err_is _ config e)
+next_config-Ok None (l ∷ body) rest config e = absurd (err_is _ config e)
+next_config-Ok None [] None config e = absurd (err_is _ config e)
+next_config-Ok None [] (Some bytes) config e = record { bytes = bytes; is = refl; read = config_if_read-Ok (config_read bytes) config e; first = refl; in_head = refl }
+
+config-Adds : (cluster : Name) (bytes : List ℕ) (config : Option Settings) (read : Settings) (base : Option ℕ) (members : List MemberText) (body : List Line) (ls : List (List ℕ)) → config_read bytes ≡ Ok read → config ≡ None → body ≡ []
+    → Adds (record { cluster = cluster; config = config; base = base; members = members; body = body }) ls
+    → Adds (record { cluster = cluster; config = Some read; base = base; members = members; body = body }) (ls ++ config_text bytes ∷ [])
+unfolding start
+config-Adds cluster bytes None read base members [] ls is first in_head h = record {
+  says = head-line cluster (ConfigLine bytes) None (Some read) base base members members ls (ap (λ r. r ∷ []) is) (append-nil (at_most_one base)) (append-nil members) h.says;
+  begun = record { base = h.begun.base; few = h.begun.few; different = h.begun.different; body = tt };
+}
+config-Adds cluster bytes None read base members (l ∷ body) ls is first in_head h = cc
+config-Adds cluster bytes (Some x) read base members body ls is first in_head h = absurd (none_is x (sym first))
+
+-- a line of a known first word
+config-line-Adds : (d e : DraftText) (ls : List (List ℕ)) (line : List ℕ) → Adds d ls → keyword_of (cut_word line).0 ≡ Some words.Config → with_config d (cut_word line).1 ≡ Ok e → Adds e (ls ++ line ∷ [])
+config-line-Adds d e ls line h k is =
+    let p = on_ok-Ok (next_config d.config d.body (cut_word line).1) (λ config. Ok (record d { config = Some config })) e is in
+    let s = next_config-Ok d.config d.body (cut_word line).1 p.0 p.1 in
+    subst (λ (x : DraftText). Adds x (ls ++ line ∷ [])) (ok_is (record d { config = Some p.0 }) e p.2)
+    (subst (λ (l : List ℕ). Adds (record d { config = Some p.0 }) (ls ++ l ∷ [])) (line-is line words.Config s.bytes k s.is)
+    (config-Adds d.cluster s.bytes d.config p.0 d.base d.members d.body ls s.read s.first s.in_head h))
+
+known-Adds : (d e : DraftText) (ls : List (List ℕ)) (line : List ℕ) (o : Option Keyword) → Adds d ls → keyword_of (cut_word line).0 ≡ o → with_other d o (cut_word line).1 ≡ Ok e → Adds e (ls ++ line ∷ [])
+known-Adds d e ls line None h k is = absurd (err_is _ e is)
+known-Adds d e ls line (Some keyword) h k is =
+    let p = on_ok-Ok (addition_of d.base (member_names d.members) d.body keyword (cut_word line).1) (λ added. Ok (with_addition d added)) e is in
+    subst (λ (x : DraftText). Adds x (ls ++ line ∷ [])) (ok_is (with_addition d p.0) e p.2)
+    (addition-Adds d ls line p.0 h (of-Ok d.base (member_names d.members) d.body line keyword p.0 k p.1))
+
+config-is : (o : Option Keyword) → is_config o ≡ true → o ≡ Some words.Config
+config-is (Some words.Config) e = refl
+config-is _ e = cc
+
+keyword-Adds : (d e : DraftText) (ls : List (List ℕ)) (line : List ℕ) (t : Bool) → is_config (keyword_of (cut_word line).0) ≡ t → Adds d ls
+    → cond t (with_config d (cut_word line).1) (with_other d (keyword_of (cut_word line).0) (cut_word line).1) ≡ Ok e → Adds e (ls ++ line ∷ [])
+keyword-Adds d e ls line true k h is = config-line-Adds d e ls line h (config-is (keyword_of (cut_word line).0) k) is
+keyword-Adds d e ls line false k h is = known-Adds d e ls line (keyword_of (cut_word line).0) h refl is
+
 line-Adds : (d e : DraftText) (ls : List (List ℕ)) (line : List ℕ) → Adds d ls → with_line d line ≡ Ok e → Adds e (ls ++ line ∷ [])
-line-Adds d e ls line h is =
-    let p = on_ok-Ok (addition_in d.base (member_names d.members) d.body line) (λ added. Ok (with_addition d added)) e is in
-    subst (λ (x : DraftText). Adds x (ls ++ line ∷ [])) (ok_is (with_addition d p.0) e p.2) (addition-Adds d ls line p.0 h (addition_in-Ok d.base (member_names d.members) d.body line p.0 p.1))
+line-Adds d e ls line h is = keyword-Adds d e ls line (is_config (keyword_of (cut_word line).0)) refl h is
 
 -- the first line
 alone-Ok : (name x : Name) (rest : Option (List ℕ)) → alone name rest ≡ Ok x → (name ≡ x) × (rest ≡ None)
@@ -392,8 +397,8 @@ nothing-AreDifferent i j name p q = cc
 
 first_draft-Adds : (name : Name) → Adds (first_draft name) (cluster_text name ∷ [])
 first_draft-Adds name = record {
-  says = record { before = []; behind = []; members = refl; no_base = λ _. refl; lines = refl };
-  begun = record { config = refl; base = tt; few = omega arith; different = nothing-AreDifferent; body = tt };
+  says = record { said = []; configs = refl; bases = refl; members = refl; lines = refl };
+  begun = record { base = tt; few = omega arith; different = nothing-AreDifferent; body = tt };
 }
 
 -- the lines so far, which say a draft or are none
@@ -468,8 +473,18 @@ draft-AreScript d all h some =
         head = record { base_least = range.0; base_most = range.1; some = some; few = h.begun.few; different = h.begun.different };
         body = h.begun.body;
       };
-      head = head_with_base d.cluster (member_lines h.says.before) d.base (member_lines h.says.behind);
-      says = record { before = h.says.before; said = d.base; behind = h.says.behind; config = sym (ap config_or_default h.begun.config); members = h.says.members; base = refl; order = refl };
+      head = head_with d.cluster h.says.said;
+      says = record {
+        said = h.says.said;
+        config = d.config;
+        base = d.base;
+        configs = h.says.configs;
+        bases = h.says.bases;
+        members = h.says.members;
+        config_is = refl;
+        base_is = refl;
+        order = refl;
+      };
       counted = h.says.lines;
     }
 

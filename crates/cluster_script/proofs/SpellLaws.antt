@@ -15,24 +15,26 @@ use Rattle.pat_base.specs.NameText.{is_name, is_name_byte}
 use Rattle.pat_base.specs.declared.member_id.MemberId.{MemberId}
 use Rattle.pat_base.proofs.Members.{number-injective, member_of-number}
 use Rattle.pat_base.proofs.Names.{name_of-name_bytes}
-use Rattle.lease_store.specs.Defaults.{default_settings}
 use Rattle.lease_store.specs.Settings.{Settings}
+use Rattle.cluster_config.specs.ConfigReading.{config_read}
+use Rattle.cluster_config.specs.declared.config_fault.ConfigFault.{ConfigFault}
 use Rattle.cluster_script.specs.Numbers.{number}
 use Rattle.cluster_script.specs.Lines.{first_at}
 use Rattle.cluster_script.specs.Ranges.{commit_size_of, delay_of}
 use Rattle.cluster_script.specs.Arguments.{number_in, switch_in, slowed_call_in, commit_size_in, delay_in, known_member, member_in, end_in, line_end, last_word, one_word, word_behind, two_words, words_behind, same_end, apart, two_ends, commit_in, stream_in, slow_in, command}
 use Rattle.cluster_script.specs.Draft.{DraftText, script_so_far}
 use Rattle.cluster_script.specs.Faults.{both}
-use Rattle.cluster_script.specs.Script.{end_word, switch_text, slowed_call_text, two_texts, base_text, member_lines, base_or_default, base_lines, head_with_base, IsHeadLines}
+use Rattle.cluster_script.specs.Script.{end_word, switch_text, slowed_call_text, two_texts, base_text, config_text, HeadLine, ConfigLine, BaseLine, MembersLine, head_line_text, configs_said, bases_said, members_said, at_most_one, read_at_most_once, config_or_default, base_or_default, head_with, IsHeadLines}
 use Rattle.pat_base.specs.Name.{name_bytes, name_of}
 use Rattle.pat_base.specs.declared.name.Name.{Name}
 use Rattle.cluster_script.specs.Faults.{on_ok}
 use Rattle.cluster_script.specs.Lines.{lines_in, is_skipped, counted_lines}
 use Rattle.cluster_script.specs.Members.{place_of}
 use Rattle.cluster_script.specs.Options.{option_text, behind_blanks, options_or_default}
-use Rattle.cluster_script.specs.Reading.{name_in, declared_once, named_member, new_member, next_member, ranged_base, base_in, base_end, next_base, addition_of, known_addition, addition_in, with_addition, with_line, cluster_named, cluster_by_keyword, first_line, first_draft, after_counted, after_text, after_line, after_lines, at_line, with_some, finished, script_of}
-use Rattle.cluster_script.specs.Script.{AreDifferent, MemberText, MemberLine, ScriptText, member_names, names_of, member_of_line, members_of_lines, IsScript, IsMember, IsEnd, IsLink, IsCommand, IsLine, AllAreLines, cluster_text, member_line_text, line_text, body_lines, IsInForm, AllInForm, Spells, member_text, text_of_name}
+use Rattle.cluster_script.specs.Reading.{name_in, declared_once, named_member, new_member, next_member, ranged_base, base_in, base_end, next_base, addition_of, with_addition, config_if_read, with_keyword, with_line, cluster_named, cluster_by_keyword, first_line, first_draft, after_counted, after_text, after_line, after_lines, at_line, with_some, finished, script_of}
+use Rattle.cluster_script.specs.Script.{AreDifferent, MemberText, MemberLine, ScriptText, member_names, names_of, member_of_line, IsScript, IsMember, IsEnd, IsLink, IsCommand, IsLine, AllAreLines, cluster_text, member_line_text, line_text, body_lines, IsInForm, AllInForm, Spells, member_text, text_of_name}
 use Rattle.cluster_script.specs.Words.{spelled, keyword_of, cut_word}
+use Rattle.cluster_script.specs.declared.addition.Addition.{Addition}
 use Rattle.cluster_script.specs.declared.addition.Addition.TheVariants as additions
 use Rattle.cluster_script.specs.declared.fault.Fault.{Fault}
 use Rattle.cluster_script.specs.declared.fault.Fault.TheVariants as faults
@@ -49,6 +51,7 @@ use Rattle.cluster_script.specs.declared.line.SlowedCall.{SlowedCall}
 use Rattle.cluster_script.specs.declared.line.SlowedCall.TheVariants as slowed_calls
 use Rattle.cluster_script.specs.declared.ranges.CommitSize.{CommitSize}
 use Rattle.cluster_script.specs.declared.ranges.Delay.{Delay}
+use Rattle.cluster_script.proofs.Outcomes.{err_is}
 use Rattle.cluster_script.proofs.NameLaws.{place_of-Some, place_of-None}
 use Rattle.cluster_script.proofs.NumberLaws.{number-decimal, first_at-decimal}
 use Rattle.cluster_script.proofs.OptionLaws.{options-cut, options_in-again}
@@ -260,17 +263,46 @@ line-IsSaid members (lines.Run n) some h is = record { keyword = words.Run; word
 line-IsSaid members (lines.Tick n) some h is = record { keyword = words.Tick; words = decimal n; text = refl; in_body = λ base body. added _ _ (ap (λ r. on_ok r (λ n. Ok (lines.Tick n))) (number-again members n some is)) }
 line-IsSaid members (lines.Command c) some h is = command-IsSaid members c some h is
 
--- what a line of this first word and these words adds
-addition-again : (base : Option ℕ) (members : List Name) (body : List Line) (keyword : Keyword) (rest : List ℕ) → addition_in base members body (spelled keyword rest) ≡ addition_of base members body keyword (Some rest)
-addition-again base members body keyword rest =
-    ap (λ p. known_addition base members body (keyword_of p.0) p.1) (cut_word-spelled keyword rest)
-    ∙ ap (λ k. known_addition base members body k (Some rest)) (keyword_of-word_of keyword)
+-- what is added to a draft by a line of this first word and these words
+spelled-again : (d : DraftText) (keyword : Keyword) (rest : List ℕ) → with_line d (spelled keyword rest) ≡ with_keyword d (Some keyword) (Some rest)
+spelled-again d keyword rest =
+    ap (λ p. with_keyword d (keyword_of p.0) p.1) (cut_word-spelled keyword rest)
+    ∙ ap (λ k. with_keyword d k (Some rest)) (keyword_of-word_of keyword)
+
+keyword-again : (d : DraftText) (keyword : Keyword) (rest : Option (List ℕ)) (a : Addition) → addition_of d.base (member_names d.members) d.body keyword rest ≡ Ok a → with_keyword d (Some keyword) rest ≡ Ok (with_addition d a)
+keyword-again d words.Config rest a is = absurd (err_is _ a is)
+keyword-again d words.Cluster rest a is = ap (λ r. on_ok r (λ added. Ok (with_addition d added))) is
+keyword-again d words.Base rest a is = ap (λ r. on_ok r (λ added. Ok (with_addition d added))) is
+keyword-again d words.Member rest a is = ap (λ r. on_ok r (λ added. Ok (with_addition d added))) is
+keyword-again d words.Tick rest a is = ap (λ r. on_ok r (λ added. Ok (with_addition d added))) is
+keyword-again d words.Run rest a is = ap (λ r. on_ok r (λ added. Ok (with_addition d added))) is
+keyword-again d words.Turn rest a is = ap (λ r. on_ok r (λ added. Ok (with_addition d added))) is
+keyword-again d words.Deliver rest a is = ap (λ r. on_ok r (λ added. Ok (with_addition d added))) is
+keyword-again d words.Lose rest a is = ap (λ r. on_ok r (λ added. Ok (with_addition d added))) is
+keyword-again d words.Hold rest a is = ap (λ r. on_ok r (λ added. Ok (with_addition d added))) is
+keyword-again d words.Resume rest a is = ap (λ r. on_ok r (λ added. Ok (with_addition d added))) is
+keyword-again d words.Kill rest a is = ap (λ r. on_ok r (λ added. Ok (with_addition d added))) is
+keyword-again d words.Restart rest a is = ap (λ r. on_ok r (λ added. Ok (with_addition d added))) is
+keyword-again d words.Crash rest a is = ap (λ r. on_ok r (λ added. Ok (with_addition d added))) is
+keyword-again d words.Promote rest a is = ap (λ r. on_ok r (λ added. Ok (with_addition d added))) is
+keyword-again d words.Commit rest a is = ap (λ r. on_ok r (λ added. Ok (with_addition d added))) is
+keyword-again d words.Stream rest a is = ap (λ r. on_ok r (λ added. Ok (with_addition d added))) is
+keyword-again d words.Freeze rest a is = ap (λ r. on_ok r (λ added. Ok (with_addition d added))) is
+keyword-again d words.Thaw rest a is = ap (λ r. on_ok r (λ added. Ok (with_addition d added))) is
+keyword-again d words.Cut rest a is = ap (λ r. on_ok r (λ added. Ok (with_addition d added))) is
+keyword-again d words.Join rest a is = ap (λ r. on_ok r (λ added. Ok (with_addition d added))) is
+keyword-again d words.Slow rest a is = ap (λ r. on_ok r (λ added. Ok (with_addition d added))) is
+keyword-again d words.Rest rest a is = ap (λ r. on_ok r (λ added. Ok (with_addition d added))) is
+keyword-again d words.Ctl rest a is = ap (λ r. on_ok r (λ added. Ok (with_addition d added))) is
+keyword-again d words.Trace rest a is = ap (λ r. on_ok r (λ added. Ok (with_addition d added))) is
+
+addition-again : (d : DraftText) (keyword : Keyword) (rest : List ℕ) (a : Addition) → addition_of d.base (member_names d.members) d.body keyword (Some rest) ≡ Ok a → with_line d (spelled keyword rest) ≡ Ok (with_addition d a)
+addition-again d keyword rest a is = spelled-again d keyword rest ∙ keyword-again d keyword (Some rest) a is
 
 line-again : (d : DraftText) (line : Line) → 0 < length (member_names d.members) → AreDifferent (member_names d.members) → IsLine (member_names d.members) line → with_line d (line_text (member_names d.members) line) ≡ Ok (record d { body = d.body ++ line ∷ [] })
 line-again d line some h is =
     let said = line-IsSaid (member_names d.members) line some h is in
-    ap (with_line d) said.text
-    ∙ ap (λ r. on_ok r (λ added. Ok (with_addition d added))) (addition-again d.base (member_names d.members) d.body said.keyword said.words ∙ said.in_body d.base d.body)
+    ap (with_line d) said.text ∙ addition-again d said.keyword said.words (additions.Body line) (said.in_body d.base d.body)
 
 -- a member's line is read again
 few : (n : ℕ) → n < 16 → nat_le 16 n ≡ false
@@ -302,23 +334,27 @@ next_base-again n least most =
     ∙ ap (λ t. on_ok (cond t (Ok n) (Err faults.BadNumber)) (λ k. on_ok (base_end None [] None) (λ _. Ok k))) (in_range n least most)
 
 -- a head alone
-start : Name → Option ℕ → List MemberText → DraftText
-start cluster base members = record { cluster = cluster; config = None; base = base; members = members; body = [] }
+start : Name → Option Settings → Option ℕ → List MemberText → DraftText
+start cluster config base members = record { cluster = cluster; config = config; base = base; members = members; body = [] }
 
-member_line-again : (cluster : Name) (line : MemberLine) (base : Option ℕ) (members : List MemberText) → length (member_names members) < 16 → place_of (member_names members) line.name ≡ None
-    → with_line (start cluster base members) (member_line_text line) ≡ Ok (start cluster base (members ++ member_of_line line ∷ []))
+member_line-again : (cluster : Name) (line : MemberLine) (config : Option Settings) (base : Option ℕ) (members : List MemberText) → length (member_names members) < 16 → place_of (member_names members) line.name ≡ None
+    → with_line (start cluster config base members) (member_line_text line) ≡ Ok (start cluster config base (members ++ member_of_line line ∷ []))
 unfolding start
-member_line-again cluster line base members small absent =
-    ap (λ r. on_ok r (λ added. Ok (with_addition (start cluster base members) added)))
-    (addition-again base (member_names members) [] words.Member (name_bytes line.name ++ behind_blanks (map option_text line.words))
-    ∙ ap (λ r. on_ok r (λ member. Ok (additions.Member member.0 member.1))) (new-again (member_names members) line small absent))
+member_line-again cluster line config base members small absent =
+    addition-again (start cluster config base members) words.Member (name_bytes line.name ++ behind_blanks (map option_text line.words)) (additions.Member line.name (options_or_default line.said))
+    (ap (λ r. on_ok r (λ member. Ok (additions.Member member.0 member.1))) (new-again (member_names members) line small absent))
 
-base_line-again : (cluster : Name) (n : ℕ) (members : List MemberText) → 1 ≤ n → n ≤ 2 ^ 40 → with_line (start cluster None members) (base_text n) ≡ Ok (start cluster (Some n) members)
+base_line-again : (cluster : Name) (n : ℕ) (config : Option Settings) (members : List MemberText) → 1 ≤ n → n ≤ 2 ^ 40 → with_line (start cluster config None members) (base_text n) ≡ Ok (start cluster config (Some n) members)
 unfolding start
-base_line-again cluster n members least most =
-    ap (λ r. on_ok r (λ added. Ok (with_addition (start cluster None members) added)))
-    (addition-again None (member_names members) [] words.Base (decimal n)
-    ∙ ap (λ r. on_ok r (λ n. Ok (additions.Base n))) (next_base-again n least most))
+base_line-again cluster n config members least most =
+    addition-again (start cluster config None members) words.Base (decimal n) (additions.Base n)
+    (ap (λ r. on_ok r (λ n. Ok (additions.Base n))) (next_base-again n least most))
+
+config_line-again : (cluster : Name) (bytes : List ℕ) (config : Settings) (base : Option ℕ) (members : List MemberText) → config_read bytes ≡ Ok config → with_line (start cluster None base members) (config_text bytes) ≡ Ok (start cluster (Some config) base members)
+unfolding start
+config_line-again cluster bytes config base members is =
+    spelled-again (start cluster None base members) words.Config bytes
+    ∙ ap (λ r. on_ok (config_if_read r) (λ config. Ok (start cluster (Some config) base members))) is
 
 -- lines that are read one after the other
 Chain : Option DraftText → List (List ℕ) → Option DraftText → Type 0
@@ -353,29 +389,100 @@ member_names-append front back = map-append (λ (m : MemberText). m.name) front 
 count-names : (members : List MemberText) → length (member_names members) ≡ length members
 count-names members = length-map members (λ (m : MemberText). m.name)
 
-members-again : (cluster : Name) (base : Option ℕ) (front : List MemberText) (back : List MemberLine) → AreDifferent (member_names (front ++ members_of_lines back)) → length (front ++ members_of_lines back) ≤ 16
-    → Chain (Some (start cluster base front)) (member_lines back) (Some (start cluster base (front ++ members_of_lines back)))
-unfolding Chain
-members-again cluster base front [] h small = ap (λ m. Some (start cluster base m)) (sym (append-nil front))
-members-again cluster base front (line ∷ back) h small =
-    let next : (front ++ member_of_line line ∷ []) ++ members_of_lines back ≡ front ++ member_of_line line ∷ members_of_lines back = append_assoc front (member_of_line line ∷ []) (members_of_lines back) in
-    let fits : length (member_names front) < 16 = omega (arith, length-append front (member_of_line line ∷ members_of_lines back), count-names front) in
-    let apart : AreDifferent (member_names front ++ line.name ∷ member_names (members_of_lines back)) = subst AreDifferent (member_names-append front (member_of_line line ∷ members_of_lines back)) h in (
-      Some (start cluster base (front ++ member_of_line line ∷ [])),
-      ap (λ r. on_ok r (λ t. Ok (Some t))) (member_line-again cluster line base front fits (new_name (member_names front) line.name (member_names (members_of_lines back)) (place_of (member_names front) line.name) apart refl)),
-      subst (λ (m : List MemberText). Chain (Some (start cluster base (front ++ member_of_line line ∷ []))) (member_lines back) (Some (start cluster base m))) next
-          (members-again cluster base (front ++ member_of_line line ∷ []) back (rw next h) (rw next small)),
-    )
+-- what is said at most once, and is said already
+one-again : {A : Type 0} (x y : Option A) → at_most_one x ++ [] ≡ at_most_one y → x ≡ y
+one-again None None e = refl
+one-again None (Some y) e = cc
+one-again (Some x) None e = cc
+one-again (Some x) (Some y) e = cc
 
--- the base's line, where there is one
-base-again : (cluster : Name) (said : Option ℕ) (members : List MemberText) → 1 ≤ base_or_default said → base_or_default said ≤ 2 ^ 40 → Chain (Some (start cluster None members)) (base_lines said) (Some (start cluster said members))
-unfolding Chain
-base-again cluster None members least most = refl
-base-again cluster (Some n) members least most = (
-  Some (start cluster (Some n) members),
-  ap (λ r. on_ok r (λ t. Ok (Some t))) (base_line-again cluster n members least most),
-  refl,
-)
+configuration-again : (x y : Option Settings) → read_at_most_once x ++ [] ≡ read_at_most_once y → x ≡ y
+configuration-again None None e = refl
+configuration-again None (Some y) e = cc
+configuration-again (Some x) None e = cc
+configuration-again (Some x) (Some y) e = cc
+
+-- a base is said by one line, and no other before or behind
+record IsOnlyBase (before : Option ℕ) (n : ℕ) (behind : List ℕ) (base : Option ℕ) : Type 0 where
+  pub first : before ≡ None
+  pub is : Some n ≡ base
+  pub last : behind ≡ []
+
+only-base : (before : Option ℕ) (n : ℕ) (behind : List ℕ) (base : Option ℕ) → at_most_one before ++ n ∷ behind ≡ at_most_one base → IsOnlyBase before n behind base
+only-base None n behind None e = cc
+only-base None n behind (Some k) e = record { first = refl; is = cc; last = cc }
+only-base (Some m) n behind None e = cc
+only-base (Some m) n behind (Some k) e = cc
+
+-- so is a configuration
+record IsOnlyConfig (before : Option Settings) (r : Result Settings ConfigFault) (behind : List (Result Settings ConfigFault)) (config : Option Settings) : Type 0 where
+  pub settings : Settings
+  pub first : before ≡ None
+  pub is : Some settings ≡ config
+  pub read : r ≡ Ok settings
+  pub last : behind ≡ []
+
+only-config : (before : Option Settings) (r : Result Settings ConfigFault) (behind : List (Result Settings ConfigFault)) (config : Option Settings) → read_at_most_once before ++ r ∷ behind ≡ read_at_most_once config → IsOnlyConfig before r behind config
+only-config None r behind None e = cc
+only-config None r behind (Some settings) e = record { settings = settings; first = refl; is = refl; read = cc; last = cc }
+only-config (Some x) r behind None e = cc
+only-config (Some x) r behind (Some y) e = cc
+
+-- what the lines of a head are to say in the end, behind those that are read
+record IsLeft (config : Option Settings) (base : Option ℕ) (members : List MemberText) (back : List HeadLine) (all_config : Option Settings) (all_base : Option ℕ) : Type 0 where
+  pub configs : read_at_most_once config ++ configs_said back ≡ read_at_most_once all_config
+  pub bases : at_most_one base ++ bases_said back ≡ at_most_one all_base
+  pub different : AreDifferent (member_names (members ++ members_said back))
+  pub few : length (members ++ members_said back) ≤ 16
+
+module _ (cluster : Name) (all_config : Option Settings) (all_base : Option ℕ) (least : 1 ≤ base_or_default all_base) (most : base_or_default all_base ≤ 2 ^ 40) where
+  said-again : (config : Option Settings) (base : Option ℕ) (members : List MemberText) (back : List HeadLine) → IsLeft config base members back all_config all_base
+      → Chain (Some (start cluster config base members)) (map head_line_text back) (Some (start cluster all_config all_base (members ++ members_said back)))
+  unfolding Chain start
+  said-again config base members [] h =
+      rw (configuration-again config all_config h.configs, one-again base all_base h.bases) (ap (λ m. Some (start cluster all_config all_base m)) (sym (append-nil members)))
+  said-again config base members (ConfigLine bytes ∷ back) h =
+      let only = only-config config (config_read bytes) (configs_said back) all_config h.configs in
+      let left : IsLeft (Some only.settings) base members back all_config all_base = record {
+        configs = ap (λ t. Ok only.settings ∷ t) only.last ∙ ap read_at_most_once only.is;
+        bases = h.bases;
+        different = h.different;
+        few = h.few;
+      } in (
+        Some (start cluster (Some only.settings) base members),
+        subst (λ (c : Option Settings). after_counted (Some (start cluster c base members)) (config_text bytes) ≡ Ok (Some (start cluster (Some only.settings) base members))) (sym only.first)
+            (ap (λ r. on_ok r (λ t. Ok (Some t))) (config_line-again cluster bytes only.settings base members only.read)),
+        said-again (Some only.settings) base members back left,
+      )
+  said-again config base members (BaseLine n ∷ back) h =
+      let only = only-base base n (bases_said back) all_base h.bases in
+      let left : IsLeft config (Some n) members back all_config all_base = record {
+        configs = h.configs;
+        bases = ap (λ t. n ∷ t) only.last ∙ ap at_most_one only.is;
+        different = h.different;
+        few = h.few;
+      } in
+      let is : n ≡ base_or_default all_base = ap base_or_default only.is in (
+        Some (start cluster config (Some n) members),
+        subst (λ (b : Option ℕ). after_counted (Some (start cluster config b members)) (base_text n) ≡ Ok (Some (start cluster config (Some n) members))) (sym only.first)
+            (ap (λ r. on_ok r (λ t. Ok (Some t))) (base_line-again cluster n config members (rw is least) (rw is most))),
+        said-again config (Some n) members back left,
+      )
+  said-again config base members (MembersLine line ∷ back) h =
+      let next : (members ++ member_of_line line ∷ []) ++ members_said back ≡ members ++ member_of_line line ∷ members_said back = append_assoc members (member_of_line line ∷ []) (members_said back) in
+      let fits : length (member_names members) < 16 = omega (arith, h.few, length-append members (member_of_line line ∷ members_said back), count-names members) in
+      let apart : AreDifferent (member_names members ++ line.name ∷ member_names (members_said back)) = subst AreDifferent (member_names-append members (member_of_line line ∷ members_said back)) h.different in
+      let left : IsLeft config base (members ++ member_of_line line ∷ []) back all_config all_base = record {
+        configs = h.configs;
+        bases = h.bases;
+        different = rw next h.different;
+        few = rw next h.few;
+      } in (
+        Some (start cluster config base (members ++ member_of_line line ∷ [])),
+        ap (λ r. on_ok r (λ t. Ok (Some t))) (member_line-again cluster line config base members fits (new_name (member_names members) line.name (member_names (members_said back)) (place_of (member_names members) line.name) apart refl)),
+        subst (λ (m : List MemberText). Chain (Some (start cluster config base (members ++ member_of_line line ∷ []))) (map head_line_text back) (Some (start cluster all_config all_base m))) next
+            (said-again config base (members ++ member_of_line line ∷ []) back left),
+      )
 
 body-again : (d : DraftText) (front back : List Line) → 0 < length (member_names d.members) → AreDifferent (member_names d.members) → AllAreLines (member_names d.members) back → Chain (Some (record d { body = front })) (body_lines (member_names d.members) back) (Some (record d { body = front ++ back }))
 unfolding Chain
@@ -394,40 +501,26 @@ first-again cluster =
     ∙ ap (λ p. cluster_named (name_of p.0) p.1) (cut_word-alone (name_bytes cluster) (first_at-name cluster))
     ∙ ap (λ o. cluster_named o None) (name_of-name_bytes cluster)
 
--- names before others are different, and no more than all
-front-AreDifferent : (front back : List Name) → AreDifferent (front ++ back) → AreDifferent front
-front-AreDifferent front back h i j name p q = h i j name (slice_get-front front back i name p) (slice_get-front front back j name q)
+-- what the lines of a script say, where they say this configuration and this base
+draft : ScriptText → Option Settings → Option ℕ → DraftText
+draft s config base = record { cluster = s.head.cluster; config = config; base = base; members = s.head.members; body = s.body }
 
--- a head's lines, whose base stands behind these members
-head-again : (cluster : Name) (before : List MemberLine) (said : Option ℕ) (behind : List MemberLine) → AreDifferent (member_names (members_of_lines before ++ members_of_lines behind)) → length (members_of_lines before ++ members_of_lines behind) ≤ 16
-    → 1 ≤ base_or_default said → base_or_default said ≤ 2 ^ 40 → Chain None (head_with_base cluster (member_lines before) said (member_lines behind)) (Some (start cluster said (members_of_lines before ++ members_of_lines behind)))
+head-again : (s : ScriptText) (head : List (List ℕ)) (says : IsHeadLines s.head head) → IsScript s → Chain None (head_with s.head.cluster says.said) (Some (start s.head.cluster says.config says.base (members_said says.said)))
 unfolding Chain start
-head-again cluster before said behind h small least most =
-    let front : List MemberText = members_of_lines before in
-    let back : List MemberText = members_of_lines behind in
-    let different : AreDifferent (member_names (members_of_lines before)) = front-AreDifferent (member_names (members_of_lines before)) (member_names (members_of_lines behind)) (subst AreDifferent (member_names-append (members_of_lines before) (members_of_lines behind)) h) in (
-      Some (start cluster None []),
-      ap (λ r. on_ok r (λ name. Ok (Some (first_draft name)))) (first-again cluster),
-      chain-append (Some (start cluster None [])) (Some (start cluster None front)) (Some (start cluster said (front ++ back))) (member_lines before) (base_lines said ++ member_lines behind)
-          (members-again cluster None [] before different (omega (arith, length-append (members_of_lines before) (members_of_lines behind))))
-          (chain-append (Some (start cluster None front)) (Some (start cluster said front)) (Some (start cluster said (front ++ back))) (base_lines said) (member_lines behind)
-          (base-again cluster said front least most)
-          (members-again cluster said front behind h small)),
+head-again s head says h =
+    let left : IsLeft None None [] says.said says.config says.base = record { configs = says.configs; bases = says.bases; different = rw says.members h.head.different; few = rw says.members h.head.few } in (
+      Some (start s.head.cluster None None []),
+      ap (λ r. on_ok r (λ name. Ok (Some (first_draft name)))) (first-again s.head.cluster),
+      said-again s.head.cluster says.config says.base (rw says.base_is h.head.base_least) (rw says.base_is h.head.base_most) None None [] says.said left,
     )
 
--- what the lines of a script say, where they say this base
-draft : ScriptText → Option ℕ → DraftText
-draft s said = record { cluster = s.head.cluster; config = None; base = said; members = s.head.members; body = s.body }
-
-all-again : (s : ScriptText) (head : List (List ℕ)) (says : IsHeadLines s.head head) → IsScript s → Chain None (head ++ body_lines (names_of s.head) s.body) (Some (draft s says.said))
+all-again : (s : ScriptText) (head : List (List ℕ)) (says : IsHeadLines s.head head) → IsScript s → Chain None (head ++ body_lines (names_of s.head) s.body) (Some (draft s says.config says.base))
 unfolding start draft
 all-again s head says h =
-    let members : members_of_lines says.before ++ members_of_lines says.behind ≡ s.head.members = sym (map-append member_of_line says.before says.behind) ∙ says.members in
-    chain-append None (Some (start s.head.cluster says.said s.head.members)) (Some (draft s says.said)) head (body_lines (names_of s.head) s.body)
-    (subst (λ (ls : List (List ℕ)). Chain None ls (Some (start s.head.cluster says.said s.head.members))) (sym says.order)
-    (subst (λ (m : List MemberText). Chain None (head_with_base s.head.cluster (member_lines says.before) says.said (member_lines says.behind)) (Some (start s.head.cluster says.said m))) members
-    (head-again s.head.cluster says.before says.said says.behind (rw members h.head.different) (rw members h.head.few) (rw says.base h.head.base_least) (rw says.base h.head.base_most))))
-    (body-again (draft s says.said) [] s.body (omega (arith, h.head.some, count-names s.head.members)) h.head.different h.body)
+    chain-append None (Some (start s.head.cluster says.config says.base s.head.members)) (Some (draft s says.config says.base)) head (body_lines (names_of s.head) s.body)
+    (subst (λ (ls : List (List ℕ)). Chain None ls (Some (start s.head.cluster says.config says.base s.head.members))) (sym says.order)
+    (subst (λ (m : List MemberText). Chain None (head_with s.head.cluster says.said) (Some (start s.head.cluster says.config says.base m))) says.members (head-again s head says h)))
+    (body-again (draft s says.config says.base) [] s.body (omega (arith, h.head.some, count-names s.head.members)) h.head.different h.body)
 
 -- lines among empty lines and comments
 short-true : (line : List ℕ) → length line ≤ 8192 → nat_le (length line) 8192 ≡ true
@@ -459,16 +552,16 @@ with_some-again : (s : ScriptText) (members : List MemberText) → 0 < length me
 with_some-again s [] h = absurd (omega arith)
 with_some-again s (m ∷ members) h = refl
 
-finished-again : (s : ScriptText) (said : Option ℕ) → 0 < length s.head.members → default_settings ≡ s.head.config → base_or_default said ≡ s.head.base → finished (Some (draft s said)) ≡ Ok s
+finished-again : (s : ScriptText) (config : Option Settings) (base : Option ℕ) → 0 < length s.head.members → config_or_default config ≡ s.head.config → base_or_default base ≡ s.head.base → finished (Some (draft s config base)) ≡ Ok s
 unfolding draft
-finished-again s said some config base =
-    with_some-again (script_so_far (draft s said)) s.head.members some
-    ∙ ap (λ (c : Settings). Ok (record { head = record { cluster = s.head.cluster; config = c; base = base_or_default said; members = s.head.members }; body = s.body })) config
-    ∙ ap (λ b. Ok (record { head = record { cluster = s.head.cluster; config = s.head.config; base = b; members = s.head.members }; body = s.body })) base
+finished-again s config base some config_is base_is =
+    with_some-again (script_so_far (draft s config base)) s.head.members some
+    ∙ ap (λ (c : Settings). Ok (record { head = record { cluster = s.head.cluster; config = c; base = base_or_default base; members = s.head.members }; body = s.body })) config_is
+    ∙ ap (λ b. Ok (record { head = record { cluster = s.head.cluster; config = s.head.config; base = b; members = s.head.members }; body = s.body })) base_is
 
 pub spelled-is-read : (bytes : List ℕ) (text : ScriptText) → IsScript text → Spells bytes text → script_of bytes ≡ Ok text
 spelled-is-read bytes text h spells =
-    let d : Option DraftText = Some (draft text spells.says.said) in
+    let d : Option DraftText = Some (draft text spells.says.config spells.says.base) in
     ap (λ r. on_ok r (λ d. at_line (length (lines_in bytes) + 1) (finished d)))
     (lines-again 1 None d (lines_in bytes) spells.form (subst (λ (ls : List (List ℕ)). Chain None ls d) (sym spells.lines) (all-again text spells.head spells.says h)))
-    ∙ ap (at_line (length (lines_in bytes) + 1)) (finished-again text spells.says.said h.head.some spells.says.config spells.says.base)
+    ∙ ap (at_line (length (lines_in bytes) + 1)) (finished-again text spells.says.config spells.says.base h.head.some spells.says.config_is spells.says.base_is)

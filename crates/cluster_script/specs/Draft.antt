@@ -1,7 +1,8 @@
 -- What is kept of a script while its lines are read.
-use Rattle.std.specs.Prelude.{ℕ, ◌≡◌, ◌≤◌, List, [], Option, Some, None, length}
+use Rattle.std.specs.Prelude.{ℕ, ◌≡◌, ◌≤◌, List, [], Option, Some, None, IfSome, length}
 use Rattle.pat_base.specs.declared.name.Name.{Name}
 use Rattle.lease_store.specs.Settings.{Settings}
+use Rattle.cluster_config.specs.ConfigReading.{IsConfiguration}
 use Rattle.cluster_script.specs.Script.{MemberText, ScriptText, config_or_default, base_or_default}
 use Rattle.cluster_script.specs.declared.line.Line.{Line}
 
@@ -22,9 +23,10 @@ draft_of (Some cluster) config base members body = Some (record { cluster = clus
 abbrev pub script_so_far : DraftText → ScriptText
 script_so_far d = record { head = record { cluster = d.cluster; config = config_or_default d.config; base = base_or_default d.base; members = d.members }; body = d.body }
 
--- at most 16 members, and nothing before the line of the cluster
+-- at most 16 members, a configuration that is what its text says, and nothing before the line of the cluster
 pub record IsDraft (cluster : Option Name) (config : Option Settings) (base : Option ℕ) (members : List MemberText) (body : List Line) : Type 0 where
   pub few : length members ≤ 16
+  pub configured : IfSome config IsConfiguration
   pub no_config : cluster ≡ None → config ≡ None
   pub no_base : cluster ≡ None → base ≡ None
   pub no_members : cluster ≡ None → members ≡ []

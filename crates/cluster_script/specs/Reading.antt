@@ -1,9 +1,12 @@
 -- The script that bytes are, or the first line with a fault and its first fault.
-use Rattle.std.specs.Prelude.{ℕ, ◌≡◌, ◌+◌, ◌^◌, ◌<◌, nat_le, ◌&&◌, if◌then◌else◌, List, [], ◌∷◌, ◌++◌, Option, Some, None, Result, Ok, Err, length}
+use Rattle.std.specs.Prelude.{ℕ, ◌≡◌, ◌+◌, ◌^◌, ◌<◌, nat_le, ◌&&◌, Bool, true, false, if◌then◌else◌, List, [], ◌∷◌, ◌++◌, Option, Some, None, Result, Ok, Err, length}
 use Rattle.std.specs.Option.{ok_or}
 use Rattle.std.specs.Str.{is_utf8}
 use Rattle.pat_base.specs.Name.{name_of}
 use Rattle.pat_base.specs.declared.name.Name.{Name}
+use Rattle.lease_store.specs.Settings.{Settings}
+use Rattle.cluster_config.specs.ConfigReading.{config_read}
+use Rattle.cluster_config.specs.declared.config_fault.ConfigFault.{ConfigFault}
 use Rattle.cluster_script.specs.Arguments.{number_in, line_of_words}
 use Rattle.cluster_script.specs.Draft.{DraftText, script_so_far}
 use Rattle.cluster_script.specs.Faults.{on_ok, both}
@@ -94,21 +97,17 @@ abbrev pub second_cluster : Option (List ℕ) → Fault
 second_cluster None = faults.Duplicate
 second_cluster (Some words) = named_twice (name_of (cut_word words).0)
 
--- what a line of this first word adds, from the words behind it
+-- what a line of this first word adds, from the words behind it; that of a configuration is judged apart
 abbrev pub addition_of : Option ℕ → List Name → List Line → Keyword → Option (List ℕ) → Result Addition Fault
 addition_of base members body words.Cluster rest = Err (second_cluster rest)
 addition_of base members body words.Base rest = on_ok (next_base base body rest) (λ n. Ok (additions.Base n))
 addition_of base members body words.Member rest = on_ok (next_member members body rest) (λ member. Ok (additions.Member member.0 member.1))
 addition_of base members body keyword rest = on_ok (line_of_words members keyword rest) (λ line. Ok (additions.Body line))
 
--- what a line adds, if its first word is known
+-- what a line other than 'config' adds, if its first word is known
 abbrev pub known_addition : Option ℕ → List Name → List Line → Option Keyword → Option (List ℕ) → Result Addition Fault
 known_addition base members body None rest = Err faults.BadWord
 known_addition base members body (Some keyword) rest = addition_of base members body keyword rest
-
--- what a line adds
-abbrev pub addition_in : Option ℕ → List Name → List Line → List ℕ → Result Addition Fault
-addition_in base members body line = known_addition base members body (keyword_of (cut_word line).0) (cut_word line).1
 
 -- the base behind what is added
 abbrev pub base_after : Option ℕ → Addition → Option ℕ
@@ -132,9 +131,46 @@ body_after body (additions.Body line) = body ++ line ∷ []
 abbrev pub with_addition : DraftText → Addition → DraftText
 with_addition d added = record { cluster = d.cluster; config = d.config; base = base_after d.base added; members = members_after d.members added; body = body_after d.body added }
 
+-- a configuration that is read, or refused for whatever reason
+abbrev pub config_if_read : Result Settings ConfigFault → Result Settings Fault
+config_if_read (Ok config) = Ok config
+config_if_read (Err refusal) = Err faults.BadConfig
+
+-- a configuration: the whole rest of its line
+abbrev pub config_in : Option (List ℕ) → Result Settings Fault
+config_in None = Err faults.WordCount
+config_in (Some bytes) = config_if_read (config_read bytes)
+
+-- a configuration that is said in front of the body
+abbrev pub config_in_head : List Line → Option (List ℕ) → Result Settings Fault
+config_in_head [] rest = config_in rest
+config_in_head (line ∷ body) rest = Err faults.HeadLate
+
+-- a line 'config', behind the configuration that is said already
+abbrev pub next_config : Option Settings → List Line → Option (List ℕ) → Result Settings Fault
+next_config (Some said) body rest = Err faults.Duplicate
+next_config None body rest = config_in_head body rest
+
+-- the first word 'config'
+abbrev pub is_config : Option Keyword → Bool
+is_config (Some words.Config) = true
+is_config _ = false
+
+-- what the lines say with one more line 'config'
+abbrev pub with_config : DraftText → Option (List ℕ) → Result DraftText Fault
+with_config d rest = on_ok (next_config d.config d.body rest) (λ config. Ok (record d { config = Some config }))
+
+-- what the lines say with one more line of another first word
+abbrev pub with_other : DraftText → Option Keyword → Option (List ℕ) → Result DraftText Fault
+with_other d keyword rest = on_ok (known_addition d.base (member_names d.members) d.body keyword rest) (λ added. Ok (with_addition d added))
+
+-- what the lines say with one more, of this first word
+abbrev pub with_keyword : DraftText → Option Keyword → Option (List ℕ) → Result DraftText Fault
+with_keyword d keyword rest = if is_config keyword then with_config d rest else with_other d keyword rest
+
 -- what the lines say with one more of them
 abbrev pub with_line : DraftText → List ℕ → Result DraftText Fault
-with_line d line = on_ok (addition_in d.base (member_names d.members) d.body line) (λ added. Ok (with_addition d added))
+with_line d line = with_keyword d (keyword_of (cut_word line).0) (cut_word line).1
 
 -- a name, behind which its line ends
 abbrev pub alone : Name → Option (List ℕ) → Result Name Fault

@@ -1,12 +1,15 @@
 -- What a script says, and how it is spelled.
-use Rattle.std.specs.Prelude.{ℕ, ◌≡◌, ◌≢◌, ◌≤◌, ◌<◌, ◌^◌, ◌==◌, Bool, true, false, if◌then◌else◌, List, [], ◌∷◌, ◌++◌, Option, Some, None, codes, length, map, slice_get}
+use Rattle.std.specs.Prelude.{ℕ, ◌≡◌, ◌≢◌, ◌≤◌, ◌<◌, ◌^◌, ◌==◌, Bool, true, false, if◌then◌else◌, List, [], ◌∷◌, ◌++◌, Option, Some, None, Result, Ok, codes, length, map, slice_get}
 use Rattle.std.specs.Fmt.{decimal}
-use Rattle.std.specs.Str.{is_utf8}
+use Rattle.std.specs.List.{flat_map}
+use Rattle.std.specs.Str.{is_utf8, bytes_eq}
 use Rattle.pat_base.specs.Name.{name_bytes}
 use Rattle.pat_base.specs.declared.name.Name.{Name}
 use Rattle.pat_base.specs.declared.member_id.MemberId.{MemberId}
 use Rattle.lease_store.specs.Defaults.{default_settings}
 use Rattle.lease_store.specs.Settings.{Settings}
+use Rattle.cluster_config.specs.ConfigReading.{config_read}
+use Rattle.cluster_config.specs.declared.config_fault.ConfigFault.{ConfigFault}
 use Rattle.cluster_script.specs.Lines.{ended, lines_in, counted_lines}
 use Rattle.cluster_script.specs.Options.{SayOnce, option_text, behind_blanks, options_or_default, options_to_say}
 use Rattle.cluster_script.specs.Words.{spelled}
@@ -103,10 +106,6 @@ pub record MemberLine : Type 0 where
 abbrev pub member_of_line : MemberLine → MemberText
 member_of_line line = record { name = line.name; options = options_or_default line.said }
 
--- the members that lines declare, in order
-abbrev pub members_of_lines : List MemberLine → List MemberText
-members_of_lines lines = map member_of_line lines
-
 -- the text of such a line
 abbrev pub member_line_text : MemberLine → List ℕ
 member_line_text line = line_with_options line.name line.words
@@ -118,6 +117,62 @@ shortest_line member = line_with_options member.name (options_to_say member.opti
 -- the line of a base
 abbrev pub base_text : ℕ → List ℕ
 base_text base = spelled words.Base (decimal base)
+
+-- the line of a configuration, whose bytes are the rest of the line
+abbrev pub config_text : List ℕ → List ℕ
+config_text bytes = spelled words.Config bytes
+
+-- a line of a head behind that of its cluster: a configuration's with its bytes, a base's, or a member's
+pub data HeadLine : Type 0 where
+  ConfigLine : List ℕ → HeadLine
+  BaseLine : ℕ → HeadLine
+  MembersLine : MemberLine → HeadLine
+
+-- the text of such a line
+abbrev pub head_line_text : HeadLine → List ℕ
+head_line_text (ConfigLine bytes) = config_text bytes
+head_line_text (BaseLine base) = base_text base
+head_line_text (MembersLine line) = member_line_text line
+
+-- what the configuration's bytes are read as, of a line that has one
+abbrev pub config_said : HeadLine → List (Result Settings ConfigFault)
+config_said (ConfigLine bytes) = config_read bytes ∷ []
+config_said (BaseLine base) = []
+config_said (MembersLine line) = []
+
+-- the base of a line that says one
+abbrev pub base_said : HeadLine → List ℕ
+base_said (ConfigLine bytes) = []
+base_said (BaseLine base) = base ∷ []
+base_said (MembersLine line) = []
+
+-- the member of a line that declares one
+abbrev pub member_said : HeadLine → List MemberText
+member_said (ConfigLine bytes) = []
+member_said (BaseLine base) = []
+member_said (MembersLine line) = member_of_line line ∷ []
+
+-- what lines say of configurations, in order
+abbrev pub configs_said : List HeadLine → List (Result Settings ConfigFault)
+configs_said lines = flat_map config_said lines
+
+-- the bases that lines say, in order
+abbrev pub bases_said : List HeadLine → List ℕ
+bases_said lines = flat_map base_said lines
+
+-- the members that lines declare, in order
+abbrev pub members_said : List HeadLine → List MemberText
+members_said lines = flat_map member_said lines
+
+-- none, or one
+abbrev pub at_most_one : {A : Type 0} → Option A → List A
+at_most_one None = []
+at_most_one (Some x) = x ∷ []
+
+-- none, or one that was read
+abbrev pub read_at_most_once : Option Settings → List (Result Settings ConfigFault)
+read_at_most_once None = []
+read_at_most_once (Some config) = Ok config ∷ []
 
 -- the line of a command
 abbrev pub command_text : List Name → Command → List ℕ
@@ -145,10 +200,6 @@ line_text members (lines.Run n) = spelled words.Run (decimal n)
 line_text members (lines.Tick n) = spelled words.Tick (decimal n)
 line_text members (lines.Command command) = command_text members command
 
--- the texts of lines of members, in order
-abbrev pub member_lines : List MemberLine → List (List ℕ)
-member_lines lines = map member_line_text lines
-
 -- the base of a script that says none: five files of 16 MiB
 abbrev pub default_base : ℕ
 default_base = 83886080
@@ -172,23 +223,34 @@ base_lines (Some base) = base_text base ∷ []
 abbrev pub base_to_say : ℕ → Option ℕ
 base_to_say base = if base == default_base then None else Some base
 
--- a cluster's line, then members' lines with at most one line 'base' before, between or behind them
-abbrev pub head_with_base : Name → List (List ℕ) → Option ℕ → List (List ℕ) → List (List ℕ)
-head_with_base cluster before said behind = cluster_text cluster ∷ (before ++ (base_lines said ++ behind))
+-- the line 'config', where a configuration is said
+abbrev pub config_lines : Option (List ℕ) → List (List ℕ)
+config_lines None = []
+config_lines (Some bytes) = config_text bytes ∷ []
 
--- lines that say a head: its members in order, and its base unless that is the default
+-- the text of a configuration that has to be said: any but the default's
+abbrev pub config_to_say : Settings → Option (List ℕ)
+config_to_say config = if bytes_eq config.text default_settings.text then None else Some config.text
+
+-- a cluster's line, and such lines behind it
+abbrev pub head_with : Name → List HeadLine → List (List ℕ)
+head_with cluster lines = cluster_text cluster ∷ map head_line_text lines
+
+-- lines that say a head: behind its cluster its members in order, and among them at most one configuration and at most one base, in any places
 pub record IsHeadLines (head : HeadText) (lines : List (List ℕ)) : Type 0 where
-  pub before : List MemberLine
-  pub said : Option ℕ
-  pub behind : List MemberLine
-  pub config : default_settings ≡ head.config
-  pub members : members_of_lines (before ++ behind) ≡ head.members
-  pub base : base_or_default said ≡ head.base
-  pub order : lines ≡ head_with_base head.cluster (member_lines before) said (member_lines behind)
+  pub said : List HeadLine
+  pub config : Option Settings
+  pub base : Option ℕ
+  pub configs : configs_said said ≡ read_at_most_once config
+  pub bases : bases_said said ≡ at_most_one base
+  pub members : members_said said ≡ head.members
+  pub config_is : config_or_default config ≡ head.config
+  pub base_is : base_or_default base ≡ head.base
+  pub order : lines ≡ head_with head.cluster said
 
--- all lines of a script, in order: those of its head say the base first, and of base and options only what isn't the default
+-- all lines of a head, in order: the configuration, the base, the members; of configuration, base and options only what isn't the default
 abbrev pub head_lines : HeadText → List (List ℕ)
-head_lines head = head_with_base head.cluster [] (base_to_say head.base) (map shortest_line head.members)
+head_lines head = cluster_text head.cluster ∷ (config_lines (config_to_say head.config) ++ (base_lines (base_to_say head.base) ++ map shortest_line head.members))
 
 -- all lines of a body, in order
 abbrev pub body_lines : List Name → List Line → List (List ℕ)
@@ -202,10 +264,14 @@ script_lines s = head_lines s.head ++ body_lines (names_of s.head) s.body
 abbrev pub spelling_of : ScriptText → List ℕ
 spelling_of s = ended (script_lines s)
 
--- lines that a script may have at all: text of at most 8,192 bytes
+-- at most 8,192 bytes
+abbrev pub IsShort : List ℕ → Type 0
+IsShort line = length line ≤ 8192
+
+-- lines that a script may have at all: text that is short
 pub record IsInForm (line : List ℕ) : Type 0 where
   pub text : is_utf8 line ≡ true
-  pub short : length line ≤ 8192
+  pub short : IsShort line
 
 -- all of these lines are such
 abbrev pub AllInForm : List (List ℕ) → Type 0

@@ -2,11 +2,13 @@
 ghost use Rattle.std.specs.Prelude.{ℕ, ◌≡◌, ◌<◌, ◌≤◌, ◌+◌, ◌++◌, ◌∷◌, ◌^◌, List, [], length, map, Option, None, Some, Ok, IfOk, OnOk, OnErr, IfErr, IfSome};
 ghost use Rattle.std.specs.Option.{option_copied};
 ghost use Rattle.indexmap.specs.IndexMap.{keys};
+ghost use Rattle.cluster_config.specs.ConfigReading.{IsConfiguration};
 ghost use Rattle.cluster_script.specs.Script.{ScriptText, IsScript, config_or_default, base_or_default, member_names, members_in};
-ghost use Rattle.cluster_script.specs.Reading.{Gives, IsNew, addition_of, addition_in, base_after, members_after, body_after, after_counted, after_line, after_lines, at_line, finished};
+ghost use Rattle.cluster_script.specs.Reading.{Gives, IsNew, addition_of, known_addition, is_config, base_after, members_after, body_after, after_counted, after_line, after_lines, at_line, finished};
 
 use crate::addition::Addition;
 use crate::arguments::line_of_words;
+use crate::config_line::next_config;
 use crate::head::DEFAULT_BASE;
 use crate::head_lines::{first_line, next_base, next_member, second_cluster};
 use crate::keyword::Keyword;
@@ -69,22 +71,28 @@ fn addition_of(
     }
 }
 
-/// What a line adds.
-fn addition_in(
+/// What a line other than `config` adds.
+fn known_addition(
     base: Option<u64>,
     members: &Members,
     body: &[Line],
-    line: &[u8],
+    keyword: Option<Keyword>,
+    rest: Option<&[u8]>,
 ) -> Result<Addition, Fault>
     requires { length (members_in members.now.entries) ≤ 16 }
-    ensures value { result ≡ addition_in base (member_names (members_in members.now.entries)) body.now line.now }
+    ensures value { result ≡ known_addition base (member_names (members_in members.now.entries)) body.now keyword (option_copied rest.entry) }
     ensures new { IfOk result (IsNew (members_in members.now.entries)) }
 {
-    let (word, rest) = cut_word(line);
-    match keyword_of(word) {
+    match keyword {
         None => Err(Fault::BadWord),
         Some(keyword) => addition_of(base, members, body, keyword, rest),
     }
+}
+
+fn is_config(keyword: Option<Keyword>) -> bool
+    ensures { result ≡ is_config keyword }
+{
+    matches!(keyword, Some(Keyword::Config))
 }
 
 fn apply(
@@ -122,10 +130,15 @@ fn located<T: Drop>(line: u64, outcome: Result<T, Fault>) -> Result<T, ScriptFau
 
 /// The configuration that is said, or the default.
 fn config_or_default(alloc: Global, said: Option<ConfigValue>) -> Result<ConfigValue, AllocError>
-    ensures { IfOk result (λ config. config ≡ config_or_default said) }
+    requires { IfSome said IsConfiguration }
+    ensures value { IfOk result (λ config. config ≡ config_or_default said) }
+    ensures configured { IfOk result IsConfiguration }
 {
     match said {
-        None => ConfigValue::defaults(alloc),
+        None => {
+            let config = ConfigValue::defaults(alloc)?;
+            Ok(config)
+        }
         Some(config) => Ok(config),
     }
 }
@@ -154,21 +167,26 @@ impl Draft {
         }
     }
 
-    fn add_counted(&mut self, number: u64, line: &[u8]) -> Result<(), ScriptFault>
+    fn add_counted(&mut self, alloc: Global, number: u64, line: &[u8]) -> Result<(), ScriptFault>
         ensures { Gives (λ _. self.new) result (at_line number (after_counted self.old line.now)) }
     {
         if self.cluster.is_none() {
             self.cluster = Some(located(number, first_line(line))?);
             return Ok(());
         }
-        let added = located(
-            number,
-            addition_in(self.base, &self.members, &self.body, line),
-        )?;
+        let (word, rest) = cut_word(line);
+        let keyword = keyword_of(word);
+        if is_config(keyword) {
+            let config = next_config(alloc, &self.config, &self.body, rest)?;
+            self.config = Some(located(number, config)?);
+            return Ok(());
+        }
+        let added = known_addition(self.base, &self.members, &self.body, keyword, rest);
+        let added = located(number, added)?;
         apply(&mut self.base, &mut self.members, &mut self.body, added)
     }
 
-    fn add_line(&mut self, number: u64, line: &[u8]) -> Result<(), ScriptFault>
+    fn add_line(&mut self, alloc: Global, number: u64, line: &[u8]) -> Result<(), ScriptFault>
         ensures { Gives (λ _. self.new) result (at_line number (after_line self.old line.now)) }
     {
         if !is_text(line) {
@@ -186,15 +204,15 @@ impl Draft {
         if is_skipped(line) {
             return Ok(());
         }
-        self.add_counted(number, line)
+        self.add_counted(alloc, number, line)
     }
 
     /// More lines, in order, of which the first is line 1. The first with a fault ends it.
-    pub fn add_lines(&mut self, lines: &[&[u8]]) -> Result<(), ScriptFault>
+    pub fn add_lines(&mut self, alloc: Global, lines: &[&[u8]]) -> Result<(), ScriptFault>
         ensures { Gives (λ _. self.new) result (after_lines 1 self.old (map (λ line. line.now) lines.now)) }
     {
         for (place, line) in lines.iter().enumerate() {
-            self.add_line(place as u64 + 1, line)?;
+            self.add_line(alloc, place as u64 + 1, line)?;
         }
         Ok(())
     }

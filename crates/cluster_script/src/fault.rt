@@ -23,7 +23,7 @@ pub enum Fault {
     BadNumber,
     /// A word that isn't one of those that may stand there.
     BadOption,
-    /// A cluster, a base, a member or an option of a member is declared twice.
+    /// A cluster, a configuration, a base, a member or an option of a member is declared twice.
     Duplicate,
     /// A name that no line declares as a member's.
     UnknownName,
@@ -33,7 +33,7 @@ pub enum Fault {
     HeadLate,
     /// A word is missing, or one is too many.
     WordCount,
-    /// The configuration is none. No line has one yet.
+    /// What stands behind `config` is no configuration, or none that may be written.
     BadConfig,
     /// The two ends of a link are one.
     SameEnds,

@@ -37,17 +37,19 @@ pub struct Head {
 }
 
 impl Model for Head {
+    ghost use Rattle.cluster_config.specs.ConfigReading.{IsConfiguration};
     ghost use Rattle.cluster_script.specs.Script.{HeadText, IsHead, members_in};
 
     ghost Value = { HeadText };
 
     ghost view = { λ h. record { cluster = h.cluster; config = h.config; base = h.base; members = members_in h.members.entries } };
 
-    ghost invariant = { λ h. IsHead (record { cluster = h.cluster; config = h.config; base = h.base; members = members_in h.members.entries }) };
+    ghost invariant = { λ h. IsHead (record { cluster = h.cluster; config = h.config; base = h.base; members = members_in h.members.entries }) × IsConfiguration h.config };
 }
 
 impl Head {
     ghost use Rattle.std.specs.Prelude.{ℕ, ◌≡◌, ◌≤◌, ◌<◌, ◌^◌, ◌↔◌, length, option_map, slice_get, IsNone};
+    ghost use Rattle.cluster_config.specs.ConfigReading.{IsConfiguration};
     ghost use Rattle.cluster_script.specs.Script.{HeadText, IsHead, members_in, names_of};
 
     /// The head of this cluster with this configuration, this base and these members.
@@ -57,7 +59,8 @@ impl Head {
         base: u64,
         members: IndexMap<Name, MemberOptions>,
     ) -> Head
-        requires { IsHead (record { cluster = cluster; config = config; base = base; members = members_in members.entries }) }
+        requires configured { IsConfiguration config }
+        requires head { IsHead (record { cluster = cluster; config = config; base = base; members = members_in members.entries }) }
         ensures { result ≡ record { cluster = cluster; config = config; base = base; members = members_in members.entries } }
     {
         Head {
@@ -75,9 +78,10 @@ impl Head {
         self.cluster
     }
 
-    /// The configuration that the cluster begins with. Where no line says it, nothing is set.
+    /// The configuration that the cluster begins with, which is what its text says. Where no line says it, nothing is set.
     pub fn config(&self) -> &ConfigValue
-        ensures { result.now ≡ self.now.config }
+        ensures value { result.now ≡ self.now.config }
+        ensures configured { IsConfiguration result.now }
     {
         &self.config
     }

@@ -3,6 +3,7 @@
 
 mod addition;
 mod arguments;
+mod config_line;
 mod draft;
 mod fault;
 mod head;
@@ -21,6 +22,7 @@ mod ranges;
 mod reader;
 mod script;
 mod script_fault;
+mod script_lines;
 mod words;
 
 pub use fault::{Fault, fault_text};
@@ -32,3 +34,4 @@ pub use ranges::{CommitSize, Delay, Margin};
 pub use reader::read;
 pub use script::Script;
 pub use script_fault::ScriptFault;
+pub use script_lines::ScriptLines;

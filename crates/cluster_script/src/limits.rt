@@ -14,7 +14,7 @@ use std::alloc::{AllocError, Global};
 use std::fmt;
 
 /// The most bytes of a script.
-const MOST_BYTES: usize = 1_048_576;
+pub(crate) const MOST_BYTES: usize = 1_048_576;
 
 /// The most lines of a script: its line feeds, and one for an unended last line.
 const MOST_LINES: usize = 100_000;
@@ -112,7 +112,7 @@ fn ticks_in(lines: &[&[u8]]) -> u64
     ticks
 }
 
-fn limit_of_lines(lines: &[&[u8]]) -> Option<Limit>
+pub(crate) fn limit_of_lines(lines: &[&[u8]]) -> Option<Limit>
     ensures { result ≡ limit_of_lines (map (λ line. line.now) lines.now) }
 {
     if lines.len() > MOST_LINES {

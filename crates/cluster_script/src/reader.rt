@@ -3,9 +3,7 @@ ghost use Rattle.std.specs.Prelude.{ℕ, ◌≡◌, ◌<◌, ◌≤◌, ◌+◌,
 ghost use Rattle.cluster_script.specs.Script.{IsScript};
 ghost use Rattle.cluster_script.specs.Reading.{Gives, script_of};
 
-use crate::draft::Draft;
-use crate::lines::lines_in;
-use crate::{Script, ScriptFault};
+use crate::{Script, ScriptFault, ScriptLines};
 use std::alloc::Global;
 
 /// The script that the bytes are, or the first line with a fault and its first fault. Lines are counted from 1; what is
@@ -15,8 +13,6 @@ pub fn read(alloc: Global, bytes: &[u8]) -> Result<Script, ScriptFault>
     ensures value { Gives (λ script. script) result (script_of bytes.now) }
     ensures script { IfOk result IsScript }
 {
-    let lines = lines_in(alloc, bytes)?;
-    let mut draft = Draft::new(alloc);
-    draft.add_lines(&lines)?;
-    draft.finish(alloc, lines.len() as u64 + 1)
+    let lines = ScriptLines::cut(alloc, bytes)?;
+    lines.read(alloc)
 }

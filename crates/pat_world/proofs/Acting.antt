@@ -17,7 +17,8 @@ use Rattle.ha_loop.specs.Agents.{Leader, Follower, Outcome}
 use Rattle.ha_loop.specs.Before.{before, has_ended}
 use Rattle.ha_loop.specs.Decisions.{arms, begins, gives_back, granted, is_start_too_long, leader_renewed, may_take, refused, stray_renewed, takes_key, takes_over}
 use Rattle.ha_loop.specs.Outputs.{listed, most_outputs}
-use Rattle.ha_loop.specs.Snapshots.{follows, finds_free, got, informed, read_noted}
+use Rattle.ha_loop.specs.Racing.{finds_free}
+use Rattle.ha_loop.specs.Snapshots.{follows, got, informed, read_noted}
 use Rattle.ha_loop.specs.Table.{step}
 use Rattle.ha_loop.specs.Wake.{overdue, turned, woken}
 use Rattle.ha_loop.proofs.Rows.{if-cases, before-by, overdue-by, turn-by, wake-by, got-by, refused-by, granted-by, follow-by, free-by}
@@ -113,9 +114,9 @@ follow-row now leader o = follow-by (λ (x : Outcome). Row o (touching x)) now l
     (said-both o.knows.sequence o.outputs _ _ tt (omega (arith, o.knows.settings.ttl_range)))
 
 free-row : (now : Ticks) (o : Outcome) → Row o (finds_free now o)
-free-row now o = free-by (Row o) now o.machine.server.state (record o { role = Follower })
-    (said o.knows.sequence (o.knows.sequence + 1) o.outputs _ (omega arith) (omega (arith, o.knows.settings.ttl_range)))
+free-row now o = free-by (Row o) now (record o { role = Follower })
     (said-both o.knows.sequence o.outputs _ _ tt (omega (arith, o.knows.settings.ttl_range)))
+    (λ bar. said-both o.knows.sequence o.outputs _ _ tt (omega (arith, o.knows.settings.ttl_range)))
     (said o.knows.sequence (o.knows.sequence + 1) o.outputs _ (omega arith) (omega (arith, o.knows.settings.ttl_range)))
 
 got-row : (now : Ticks) (points : List HistoryPoint) (sequence : ℕ) (snapshot : SnapshotFacts) (o : Outcome) → Row o (got now points sequence snapshot o)

@@ -206,6 +206,7 @@ order-above last cluster member heard (outputs.Armed until) = tt
 order-above last cluster member heard (outputs.Fed until) = tt
 order-above last cluster member heard outputs.Disarmed = tt
 order-above last cluster member heard outputs.CannotArm = tt
+order-above last cluster member heard (outputs.DoesNotRace bar) = tt
 order-above last cluster member heard (outputs.HoldTaken until from sequence) = held-above last (hold_taken member until heard.run sequence) (slice_get cluster.book.members from.number) (λ from. tt)
 
 ordered-above : (last : ℕ) (cluster : Cluster) (member : Member) (heard : HeardMessage) (output : Output) → AllAre (IsAbove last) (events_of cluster (kinds_of (order_kind cluster member heard output)))

@@ -2,7 +2,7 @@
 ghost use Rattle.std.specs.Prelude.{ℕ, ◌≡◌, ◌<◌, ◌+◌, ◌^◌, IfSome, IfOk, Some, None, option_and_then, option_map, slice_get};
 ghost use Rattle.event_book.specs.Members.{server_of};
 ghost use Rattle.cluster_model.specs.Messages.{receiver_of};
-ghost use Rattle.cluster_model.specs.Orders.{arming, declared_member, feeding, following_of, hold_taken, is_same_required, require_of, required_names, stop_kind, stop_of, told_of, upstream_of};
+ghost use Rattle.cluster_model.specs.Orders.{arming, barring, declared_member, declared_name, feeding, following_of, hold_taken, is_same_required, not_racing, require_of, required_names, stop_kind, stop_of, told_of, upstream_of};
 ghost use Rattle.cluster_model.specs.State.{Cluster};
 ghost use Rattle.pat_world.specs.Comes.{MayCome};
 
@@ -12,7 +12,8 @@ use event_book::{
     WatchdogEvent,
 };
 use ha_loop::{Output, Target};
-use pat_base::{MemberId, Required, State, Ticks};
+use lease_store::Bar;
+use pat_base::{MemberId, Name, Required, State, Ticks};
 use pg_model::Servers;
 use std::alloc::{AllocError, Global};
 
@@ -197,6 +198,39 @@ pub fn told_of(member: Member, output: &Output) -> Option<EventKind>
     match output {
         Output::Disarmed => Some(EventKind::Watchdog(WatchdogEvent::Disarmed { member })),
         Output::CannotArm => Some(EventKind::Note(Note::CannotArm { member })),
+        _ => None,
+    }
+}
+
+/// A member that doesn't race for the free leader key, with the name of the member that bars it, if one does.
+pub fn not_racing(members: &[Member], member: Member, bar: Bar) -> EventKind
+    ensures kind { result ≡ not_racing members.now member bar }
+    ensures comes { (cluster : Cluster) → MayCome cluster result }
+{
+    EventKind::Note(Note::DoesNotRace {
+        member,
+        bar,
+        by: declared_name(members, barring(bar)),
+    })
+}
+
+/// The name of the declared member of this number, if there is a number.
+fn declared_name(members: &[Member], id: Option<MemberId>) -> Option<Name>
+    ensures { result ≡ declared_name members.now id }
+{
+    let member = declared_member(members, id)?;
+    Some(member.name)
+}
+
+/// The member that bars another one from racing, if one does.
+fn barring(bar: Bar) -> Option<MemberId>
+    ensures { result ≡ barring bar }
+{
+    match bar {
+        Bar::Candidate(member)
+        | Bar::OtherWrites(member)
+        | Bar::Ahead(member)
+        | Bar::Priority(member) => Some(member),
         _ => None,
     }
 }

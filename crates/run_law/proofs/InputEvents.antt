@@ -114,6 +114,7 @@ module _ (member : Member) (run heard : ℕ) (Q : Output → Type 0) where
   order-mine cluster message at (outputs.Fed until) table is = tt
   order-mine cluster message at outputs.Disarmed table is = refl
   order-mine cluster message at outputs.CannotArm table is = tt
+  order-mine cluster message at (outputs.DoesNotRace bar) table is = tt
   order-mine cluster message at (outputs.HoldTaken until from sequence) table is = absurd table
 
   ordered-mine : (cluster : Cluster) (message : HeardMessage) → message.number ≡ heard → (output : Output) → IsOfTable output → Q output → AllAre Mine (events_of cluster (kinds_of (order_kind cluster member message output)))

@@ -40,7 +40,7 @@ use Rattle.cluster_model.specs.Limits.{most_in_flight}
 use Rattle.cluster_model.specs.Messages.{agent_message, lost_at_once, sending_events, output_events}
 use Rattle.summary.specs.Lacking.{lacks_in}
 use Rattle.cluster_model.specs.Losing.{loss_if}
-use Rattle.cluster_model.specs.Orders.{declared_member, following_of, is_same_required, replica_start_kinds, require_of, required_names, server_at, stop_kind, stop_kinds, upstream_of}
+use Rattle.cluster_model.specs.Orders.{declared_member, following_of, is_same_required, not_racing, replica_start_kinds, require_of, required_names, server_at, stop_kind, stop_kinds, upstream_of}
 use Rattle.cluster_model.specs.Parts.{events_of, for_some}
 use Rattle.cluster_model.specs.State.{Cluster}
 use Rattle.run_law.proofs.InputStays.{item-here}
@@ -462,4 +462,5 @@ module _ (member : Member) where
     hold = old.hold;
   }
   output-here cluster message machine outputs.CannotArm table old = unmoved cluster (cluster_after cluster (kinds.Note (notes.CannotArm member))) member.id.number machine refl refl refl old
+  output-here cluster message machine (outputs.DoesNotRace bar) table old = unmoved cluster (cluster_after cluster (not_racing cluster.book.members member bar)) member.id.number machine refl refl refl old
   output-here cluster message machine (outputs.HoldTaken until from sequence) table old = absurd table

@@ -144,6 +144,7 @@ module _ (member : Member) (run : ℕ) (message : HeardMessage) where
   output-numbered cluster (outputs.Fed until) runs table = other-numbered cluster (outputs.Fed until) runs table tt
   output-numbered cluster outputs.Disarmed runs table = other-numbered cluster outputs.Disarmed runs table tt
   output-numbered cluster outputs.CannotArm runs table = other-numbered cluster outputs.CannotArm runs table tt
+  output-numbered cluster (outputs.DoesNotRace bar) runs table = other-numbered cluster (outputs.DoesNotRace bar) runs table tt
   output-numbered cluster (outputs.HoldTaken until from sequence) runs table = absurd table
 
   pub each-numbered : (cluster : Cluster) (outs : List Output) → Runs cluster.book.agents → All IsOfTable outs → AreNumberedAbove cluster.book.sent (each (output_events member message) cluster outs)

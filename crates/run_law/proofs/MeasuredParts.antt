@@ -40,7 +40,7 @@ use Rattle.cluster_model.specs.State.{Cluster}
 use Rattle.cluster_model.specs.Streaming.{confirm_of, source_of, unconfirmed_end}
 use Rattle.cluster_model.specs.Ticking.{tick_events}
 use Rattle.lease_law.specs.Premises.{AllAre, Moments}
-use Rattle.run_law.specs.Asides.{IsAside, IsAsideIn, IsQuiet}
+use Rattle.run_law.specs.Asides.{IsAsideIn, IsQuiet}
 use Rattle.run_law.proofs.Commands.{command-quiet}
 use Rattle.run_law.proofs.InputEvents.{holds-if, holds-then}
 use Rattle.run_law.proofs.Lists.{AllKinds, HoldsIf, all-kinds, one-kind}

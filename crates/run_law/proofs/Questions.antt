@@ -28,7 +28,8 @@ use Rattle.ha_loop.specs.Agents.{RoleFacts, Follower, Leader, Outcome, made}
 use Rattle.ha_loop.specs.Before.{has_ended, before}
 use Rattle.ha_loop.specs.Decisions.{asks_lease, is_start_too_long, leader_renewed, takes_over, stray_renewed, may_take, gives_back, begins, arms, takes_key, granted, refused}
 use Rattle.ha_loop.specs.Outputs.{listed}
-use Rattle.ha_loop.specs.Snapshots.{informed, follows, finds_free, read_noted, got}
+use Rattle.ha_loop.specs.Racing.{finds_free}
+use Rattle.ha_loop.specs.Snapshots.{informed, follows, read_noted, got}
 use Rattle.ha_loop.specs.Table.{step}
 use Rattle.ha_loop.specs.Wake.{turn_noted, overdue, turned, woken}
 use Rattle.ha_loop.proofs.Rows.{if-cases, before-by, overdue-by, turn-by, wake-by, got-by, refused-by, follow-by, free-by, granted-by}
@@ -209,9 +210,9 @@ follow-reaches now known leader o r = let x : Outcome = record o { role = Follow
 
 free-reaches : (now : Ticks) (known : Knowledge) (o : Outcome) → Reaches now known o → Reaches now known (finds_free now o)
 free-reaches now known o r = let x : Outcome = record o { role = Follower } in
-    free-by (Reaches now known) now o.machine.server.state x
-    (touch-reaches now known x r)
+    free-by (Reaches now known) now x
     (touch-reaches now known (starting_replica now None x) (one-more now known o.knows o.outputs (outputs.StartReplica None) tt r))
+    (λ bar. touch-reaches now known (record x { outputs = listed (outputs.DoesNotRace bar) x.outputs }) (one-more now known o.knows o.outputs (outputs.DoesNotRace bar) tt r))
     (ask-reaches now known Creating (seconds_after now o.knows.settings.retry_timeout) _ x (is-spanned o.knows.settings) (λ _. refl) r)
   where
     is-spanned : (settings : Config) → 0 < (lease_span settings).0

@@ -12,8 +12,8 @@ ghost use Rattle.pat_world.specs.Short.{AsksShortly, IsAsked};
 
 use super::Stage;
 use crate::orders::{
-    arming, declared_member, feeding, hold_of_request, member_at, receiver_of, require_of, told_of,
-    upstream_of,
+    arming, declared_member, feeding, hold_of_request, member_at, not_racing, receiver_of,
+    require_of, told_of, upstream_of,
 };
 use cluster_model::HeardMessage;
 use event_book::{Body, Event, EventKind, LinkEnd, Member, Message, WatchdogEvent};
@@ -156,6 +156,7 @@ impl Stage {
                 let from = member_at(&self.members, *from);
                 Ok(hold_of_request(member, *until, heard.run, *sequence, from))
             }
+            Output::DoesNotRace { bar } => Ok(Some(not_racing(&self.members, member, *bar))),
             _ => Ok(told_of(member, output)),
         }
     }

@@ -1,6 +1,6 @@
 use Rattle.std.proofs.Common.{rules}
 use Rattle.cluster_script.proofs.MemberLaws.{names-are-keys}
-use Rattle.cluster_script.proofs.draft.addition_in.Goals as goal
+use Rattle.cluster_script.proofs.draft.known_addition.Goals as goal
 
 pub returns-in-Some-clause-value : goal.returns-in-Some-clause-value
 returns-in-Some-clause-value c = rw (names-are-keys c.args.members.now.entries) (search rules)

@@ -1,0 +1,62 @@
+//! The bytes of a script, cut into lines once.
+use crate::draft::Draft;
+use crate::limits::{MOST_BYTES, limit_of_lines};
+use crate::lines::lines_in;
+use crate::{Limit, Script, ScriptFault};
+use std::alloc::{AllocError, Global};
+use std::marker::Model;
+
+/// The bytes of a script, with their lines: they are cut once, for whoever judges the limits and then reads.
+#[derive(Drop)]
+pub struct ScriptLines<'a> {
+    bytes: &'a [u8],
+    lines: Vec<&'a [u8]>,
+}
+
+impl<'a> Model for ScriptLines<'a> {
+    ghost use Rattle.std.specs.Prelude.{ℕ, ◌≡◌, List, map};
+    ghost use Rattle.cluster_script.specs.Lines.{lines_in};
+
+    ghost Value = { List ℕ };
+
+    ghost view = { λ s. s.bytes.now };
+
+    ghost invariant = { λ s. map (λ line. line.now) s.lines.items ≡ lines_in s.bytes.now };
+}
+
+impl<'a> ScriptLines<'a> {
+    ghost use Rattle.std.specs.Prelude.{ℕ, ◌≡◌, IfOk};
+    ghost use Rattle.cluster_script.specs.Limits.{limit_of};
+    ghost use Rattle.cluster_script.specs.Reading.{Gives, script_of};
+    ghost use Rattle.cluster_script.specs.Script.{IsScript};
+
+    /// The lines of these bytes. It fails only for want of memory.
+    pub fn cut(alloc: Global, bytes: &'a [u8]) -> Result<ScriptLines<'a>, AllocError>
+        ensures { IfOk result (λ lines. lines ≡ bytes.now) }
+    {
+        let lines = lines_in(alloc, bytes)?;
+        Ok(ScriptLines { bytes, lines })
+    }
+
+    /// The first limit that the bytes pass, in the order of `Limit`, whether or not they are a script.
+    pub fn limit_passed(&self) -> Option<Limit>
+        ensures { result ≡ limit_of self.now }
+    {
+        if self.bytes.len() > MOST_BYTES {
+            return Some(Limit::Bytes);
+        }
+        limit_of_lines(&self.lines)
+    }
+
+    /// The script that the bytes are, or the first line with a fault and its first fault. Lines are counted from 1; what is
+    /// missing at the end stands one past the last line. Limits are judged apart, by `limit_passed`. Want of memory says
+    /// nothing of the bytes.
+    pub fn read(&self, alloc: Global) -> Result<Script, ScriptFault>
+        ensures value { Gives (λ script. script) result (script_of self.now) }
+        ensures script { IfOk result IsScript }
+    {
+        let mut draft = Draft::new(alloc);
+        draft.add_lines(alloc, &self.lines)?;
+        draft.finish(alloc, self.lines.len() as u64 + 1)
+    }
+}
