@@ -9,10 +9,13 @@ use Rattle.pat_base.specs.declared.server_state.State.{State}
 use Rattle.pat_base.specs.declared.ticks.Ticks.{Ticks}
 use Rattle.lease_store.specs.declared.action.Bar.{Bar}
 use Rattle.lease_store.specs.declared.action.Bar.TheVariants as bars
+use Rattle.pg_model.specs.declared.answers.Rewound.{Rewound}
+use Rattle.pg_model.specs.Rewinding.{may_clone_at, rewind_at}
 use Rattle.pg_model.specs.Facts.{ServerFacts, is_down, is_replica, is_up}
 use Rattle.pg_model.specs.Running.{is_primary}
 use Rattle.event_book.specs.declared.event.EventKind.{EventKind}
 use Rattle.event_book.specs.declared.event.EventKind.TheVariants as kinds
+use Rattle.event_book.specs.declared.event.LogEvent.TheVariants as logs
 use Rattle.event_book.specs.declared.event.Note.TheVariants as notes
 use Rattle.event_book.specs.declared.event.ReplicationEvent.TheVariants as replications
 use Rattle.event_book.specs.declared.event.ServerEvent.TheVariants as servers
@@ -20,13 +23,17 @@ use Rattle.event_book.specs.declared.event.WatchdogEvent.TheVariants as watchdog
 use Rattle.event_book.specs.declared.member.Member.{Member}
 use Rattle.event_book.specs.declared.reason.Basis.TheVariants as bases
 use Rattle.event_book.specs.declared.reason.Reason.{Reason}
+use Rattle.event_book.specs.Links.{CutLinks, is_cut}
 use Rattle.event_book.specs.Members.{server_of}
 use Rattle.event_book.specs.NameLists.{names_of}
 use Rattle.ha_loop.specs.declared.output.Output.{Output}
 use Rattle.ha_loop.specs.declared.output.Output.TheVariants as outputs
+use Rattle.ha_loop.specs.declared.output.Repair.{Repair}
+use Rattle.ha_loop.specs.declared.output.Repair.TheVariants as repairs
 use Rattle.cluster_model.specs.declared.heard_message.HeardMessage.{HeardMessage}
 use Rattle.cluster_model.specs.Commands.{kinds_of}
 use Rattle.cluster_model.specs.State.{Cluster}
+use Rattle.cluster_model.specs.Streaming.{link_of_members}
 
 -- the server of a member
 abbrev pub server_at : Cluster → Member → Option ServerFacts
@@ -95,6 +102,24 @@ require_of members member required s =
 abbrev pub hold_taken : Member → Ticks → ℕ → ℕ → Member → EventKind
 hold_taken member until run sequence from = kinds.Watchdog (watchdogs.HoldTaken member until from run sequence)
 
+-- the log of a member's server was rewound to what it has in common with this leader's
+abbrev pub rewinding : Member → Member → Rewound → EventKind
+rewinding member leader rewind = kinds.Log (logs.Rewound (server_of member) (server_of leader) rewind.kept rewind.at)
+
+-- the log of a member's server became a copy of this leader's
+abbrev pub copying : Member → Member → EventKind
+copying member leader = kinds.Log (logs.Copied (server_of member) (server_of leader))
+
+-- how the log of a member's server is repaired by this leader's, where it can be: the leader's server accepts writes, and the member's may be
+-- rewound, or waits for a copy
+abbrev pub repair_by : List ServerFacts → Member → Repair → Member → Option EventKind
+repair_by known member repairs.Rewind leader = option_map (rewinding member leader) (rewind_at known member.id.number leader.id.number)
+repair_by known member repairs.Clone leader = if may_clone_at known member.id.number leader.id.number then Some (copying member leader) else None
+
+-- the same, where the link between the two is joined
+abbrev pub repair_over : CutLinks → List ServerFacts → Member → Repair → Member → Option EventKind
+repair_over cuts known member repair leader = if is_cut cuts (link_of_members member leader) then None else repair_by known member repair leader
+
 -- the member that bars another one from racing, if one does
 abbrev pub barring : Bar → Option MemberId
 barring (bars.Candidate member) = Some member
@@ -120,6 +145,8 @@ told_of member _ = None
 -- what an order comes to that brings one event at most, at the member's server, on the message that was heard
 abbrev pub order_kind : Cluster → Member → HeardMessage → Output → Option EventKind
 order_kind cluster member heard (outputs.Follow leader) = option_and_then (upstream_of member (slice_get cluster.book.members leader.number)) (server_at cluster member)
+order_kind cluster member heard outputs.ShutDown = option_and_then (stop_of member) (server_at cluster member)
+order_kind cluster member heard (outputs.Repair leader repair) = option_and_then (repair_over cluster.book.cuts cluster.book.servers member repair) (slice_get cluster.book.members leader.number)
 order_kind cluster member heard (outputs.Require required) = option_and_then (require_of cluster.book.members member required) (server_at cluster member)
 order_kind cluster member heard (outputs.HoldTaken until from sequence) = option_map (hold_taken member until heard.run sequence) (slice_get cluster.book.members from.number)
 order_kind cluster member heard (outputs.DoesNotRace bar) = Some (not_racing cluster.book.members member bar)

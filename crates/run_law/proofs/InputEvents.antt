@@ -1,6 +1,8 @@
 -- What an input of an agent brings, event by event.
-use Rattle.std.proofs.Common.{◌≡◌, ◌+◌, ◌==◌, ◌&&◌, nat_le, ℕ, Bool, true, false, if◌then◌else◌, List, [], ◌∷◌, Option, Some, None, length, slice_get, option_and_then, refl, ap}
+use Rattle.std.proofs.Common.{◌≡◌, ◌+◌, ◌==◌, ◌&&◌, nat_le, ℕ, Bool, true, false, if◌then◌else◌, List, [], ◌∷◌, Option, Some, None, length, slice_get, option_and_then, option_map, refl, ap}
 use Rattle.pg_model.specs.Facts.{ServerFacts, entries_of, is_down, is_replica, is_up}
+use Rattle.pg_model.specs.declared.answers.Rewound.{Rewound}
+use Rattle.pg_model.specs.Rewinding.{may_clone_at, rewind_at}
 use Rattle.pg_model.specs.Running.{is_primary}
 use Rattle.event_book.specs.declared.agent_process.AgentProcess.{AgentProcess}
 use Rattle.event_book.specs.declared.event.EventKind.{EventKind}
@@ -13,9 +15,12 @@ use Rattle.event_book.specs.declared.member.Member.{Member}
 use Rattle.event_book.specs.declared.message.Body.{Body}
 use Rattle.event_book.specs.declared.reason.Basis.TheVariants as bases
 use Rattle.event_book.specs.declared.reason.Reason.{Reason}
+use Rattle.event_book.specs.Links.{CutLinks, is_cut}
 use Rattle.event_book.specs.Members.{server_of}
 use Rattle.ha_loop.specs.declared.output.Output.{Output}
 use Rattle.ha_loop.specs.declared.output.Output.TheVariants as outputs
+use Rattle.ha_loop.specs.declared.output.Repair.{Repair}
+use Rattle.ha_loop.specs.declared.output.Repair.TheVariants as repairs
 use Rattle.ha_loop.specs.declared.output.Target.TheVariants as targets
 use Rattle.ha_loop.specs.Orders.{IsOfTable}
 use Rattle.cluster_model.specs.declared.beginning.Beginning.{Beginning}
@@ -28,9 +33,10 @@ use Rattle.summary.specs.Lacking.{lacks_in}
 use Rattle.cluster_model.specs.Losing.{loss_if}
 use Rattle.wal_model.specs.declared.entry.Entry.{Entry}
 use Rattle.cluster_model.specs.Messages.{agent_message, lost_at_once, sending_events, output_events}
-use Rattle.cluster_model.specs.Orders.{declared_member, following_of, is_same_required, order_kind, arming, feeding, feed_kinds, replica_start_kinds, require_of, required_names, server_at, stop_kind, stop_kinds, stop_of, upstream_of}
+use Rattle.cluster_model.specs.Orders.{declared_member, following_of, is_same_required, order_kind, arming, feeding, feed_kinds, replica_start_kinds, require_of, required_names, server_at, stop_kind, stop_kinds, stop_of, upstream_of, copying, repair_by, repair_over, rewinding}
 use Rattle.cluster_model.specs.Parts.{events_of, for_some}
 use Rattle.cluster_model.specs.State.{Cluster}
+use Rattle.cluster_model.specs.Streaming.{link_of_members}
 use Rattle.lease_law.specs.Premises.{AllAre}
 use Rattle.run_law.proofs.Lists.{AllKinds, HoldsIf, all-kinds, one-kind}
 use Rattle.run_law.specs.InputEvents.{IsOfInput}
@@ -42,6 +48,24 @@ holds-then P f (Some x) all = all x
 pub holds-if : (P : EventKind → Type 0) (test : Bool) (kind : EventKind) → P kind → HoldsIf P (if test then Some kind else None)
 holds-if P true kind is = is
 holds-if P false kind is = tt
+
+holds-unless : (P : EventKind → Type 0) (test : Bool) (o : Option EventKind) → HoldsIf P o → HoldsIf P (if test then None else o)
+holds-unless P true o is = tt
+holds-unless P false o is = is
+
+-- a repair of a log changes the log of its member's server alone
+pub rewind-holds : (P : EventKind → Type 0) (member leader : Member) (rewind : Option Rewound) → ((r : Rewound) → P (rewinding member leader r)) → HoldsIf P (option_map (rewinding member leader) rewind)
+rewind-holds P member leader None is = tt
+rewind-holds P member leader (Some r) is = is r
+
+repair-holds : (P : EventKind → Type 0) (known : List ServerFacts) (member : Member) (repair : Repair) (leader : Member) → ((r : Rewound) → P (rewinding member leader r)) → P (copying member leader) → HoldsIf P (repair_by known member repair leader)
+repair-holds P known member repairs.Rewind leader rewinds copies = rewind-holds P member leader (rewind_at known member.id.number leader.id.number) rewinds
+repair-holds P known member repairs.Clone leader rewinds copies = holds-if P (may_clone_at known member.id.number leader.id.number) (copying member leader) copies
+
+pub repaired-holds : (P : EventKind → Type 0) (cuts : CutLinks) (known : List ServerFacts) (member : Member) (repair : Repair) (found : Option Member) → ((leader : Member) (r : Rewound) → P (rewinding member leader r)) → ((leader : Member) → P (copying member leader))
+    → HoldsIf P (option_and_then (repair_over cuts known member repair) found)
+repaired-holds P cuts known member repair found rewinds copies = holds-then P (repair_over cuts known member repair) found
+    (λ leader. holds-unless P (is_cut cuts (link_of_members member leader)) (repair_by known member repair leader) (repair-holds P known member repair leader (rewinds leader) (copies leader)))
 
 -- ---- the events of one output
 module _ (member : Member) (run heard : ℕ) (Q : Output → Type 0) where
@@ -115,6 +139,10 @@ module _ (member : Member) (run heard : ℕ) (Q : Output → Type 0) where
   order-mine cluster message at outputs.Disarmed table is = refl
   order-mine cluster message at outputs.CannotArm table is = tt
   order-mine cluster message at (outputs.DoesNotRace bar) table is = tt
+  order-mine cluster message at outputs.ShutDown table is = holds-then Mine (stop_of member) (server_at cluster member)
+      (λ s. holds-if Mine (is_up s.state) (stop_kind member s.state s.stop_delay) (stop-mine (is_primary s.state && s.stop_delay.0 == 0)))
+  order-mine cluster message at (outputs.Repair leader repair) table is =
+      repaired-holds Mine cluster.book.cuts cluster.book.servers member repair (slice_get cluster.book.members leader.number) (λ other r. refl) (λ other. refl)
   order-mine cluster message at (outputs.HoldTaken until from sequence) table is = absurd table
 
   ordered-mine : (cluster : Cluster) (message : HeardMessage) → message.number ≡ heard → (output : Output) → IsOfTable output → Q output → AllAre Mine (events_of cluster (kinds_of (order_kind cluster member message output)))

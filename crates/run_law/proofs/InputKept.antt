@@ -67,8 +67,8 @@ use Rattle.run_law.specs.Waiting.{IsAddressed, AreAgentsSound}
 use Rattle.run_law.proofs.Actions.{action-kept, machine-is}
 use Rattle.run_law.proofs.Fitting.{Fits, IsFitting, SendsAddressed, fits-of, fits-over, matched-from}
 use Rattle.run_law.proofs.InputKinds.{IsOpening, opening-own, opening-taken, opening-sends, opening-from, opening-above, opening-members, opening-hands_off, opening-moments, mine-own, mine-taken, mine-from, mine-hands_off, mine-members, mine-sends, asked-over}
-use Rattle.run_law.proofs.InputMachines.{Mirrors}
-use Rattle.run_law.proofs.InputOutputs.{each-begins, each-fed, each-mirrors, each-numbered, armed-more, moments-all}
+use Rattle.run_law.proofs.InputMachines.{Mirrors, Resembles, mirrored}
+use Rattle.run_law.proofs.InputOutputs.{each-begins, each-fed, each-resembles, each-numbered, armed-more, moments-all}
 use Rattle.run_law.proofs.InputSeen.{IsFound, margin-of, seen-of}
 use Rattle.run_law.proofs.InputStays.{Stays, each-mine, item-here, stays-over}
 use Rattle.run_law.proofs.InputWaiting.{agents-after, knows-after, runs-after}
@@ -270,19 +270,21 @@ module _ (head : HeadText) (book : List Event) (cluster : Cluster) (good : Bridg
       hold = ap (λ (l : List (Option Ticks)). slice_get l M) begun.holds ∙ found.mirrors.hold;
     }
 
-    mirrors-later : Mirrors Later M After.machine
-    mirrors-later = subst (λ (x : Machine). Mirrors Later M x) (sym (step-carried-out Now (points_of cluster member) heard agent.role agent.knows machine).machine_is)
-        (each-mirrors member agent.knows.run message Now First machine After.outputs runs table begun.clock mirrors-first)
+    resembles-later : Resembles Later M After.machine
+    resembles-later =
+        let carried = step-carried-out Now (points_of cluster member) heard agent.role agent.knows machine in
+        subst (λ (x : Machine). Resembles Later M x) (sym carried.machine_is)
+        (each-resembles member agent.knows.run message Now First machine After.outputs runs table carried.last begun.clock mirrors-first)
 
     machine-later : machine_told (past_over Told Events) (volatile_of Later M) M ≡ machine_seen After.role After.knows After.machine false (run_in cluster.book.agents M)
     machine-later =
         machine-is head (past_over Told Events) Later matched-over M
-        ∙ seen-of Later M (record { role = After.role; knows = After.knows }) After.machine mirrors-later after-here
+        ∙ seen-of Later M (record { role = After.role; knows = After.knows }) After.machine resembles-later after-here
         ∙ ap (λ (p : List AgentProcess). machine_seen After.role After.knows After.machine false (run_in p M)) processes-are
 
     stands : StandsIn S M (run_in cluster.book.agents M) Now Before
     stands = record {
-      member = machine-is head Told cluster good.matched M ∙ seen-of cluster M agent machine found.mirrors here;
+      member = machine-is head Told cluster good.matched M ∙ seen-of cluster M agent machine (mirrored cluster M machine found.mirrors) here;
       me = knows-it.me;
       clock = good.matched.store.clock;
       margin = margin-of head Told cluster member machine good.matched found;

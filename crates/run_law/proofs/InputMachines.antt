@@ -1,11 +1,13 @@
 -- The machine of a member behind what an input of its agent brings.
 use Rattle.pat_base.specs.Changes.{with_changed}
 use Rattle.std.proofs.Common.{◌≡◌, ◌+◌, ◌==◌, ◌&&◌, ◌||◌, not, nat_le, ℕ, Bool, true, false, if◌then◌else◌, List, [], ◌∷◌, Option, Some, None, length, slice_get, option_and_then, refl, sym, subst, ap, ◌∙◌}
+use Rattle.pat_base.specs.declared.member_id.MemberId.{MemberId}
 use Rattle.pat_base.specs.declared.server_id.ServerId.{ServerId}
 use Rattle.pat_base.specs.declared.server_state.Required.{Required}
 use Rattle.pat_base.specs.declared.server_state.State.{State}
 use Rattle.pat_base.specs.declared.server_state.State.TheVariants as states
 use Rattle.pat_base.specs.declared.ticks.Ticks.{Ticks}
+use Rattle.pat_base.specs.ServerState.{live}
 use Rattle.pg_model.specs.Facts.{ServerFacts, entries_of, is_down, is_replica, is_up}
 use Rattle.pg_model.specs.declared.status.ServerStatus.{ServerStatus}
 use Rattle.pg_model.specs.Running.{is_primary, moment_after, started, starting}
@@ -13,6 +15,7 @@ use Rattle.pg_model.specs.Status.{status_promoted, status_started, status_starti
 use Rattle.event_book.specs.declared.agent_process.AgentProcess.{AgentProcess}
 use Rattle.event_book.specs.declared.event.EventKind.{EventKind}
 use Rattle.event_book.specs.declared.event.EventKind.TheVariants as kinds
+use Rattle.event_book.specs.declared.event.LogEvent.{LogEvent}
 use Rattle.event_book.specs.declared.event.MessageEvent.TheVariants.{Sent, Lost}
 use Rattle.event_book.specs.declared.event.ReplicationEvent.TheVariants as replications
 use Rattle.event_book.specs.declared.event.ServerEvent.TheVariants as servers
@@ -24,10 +27,12 @@ use Rattle.event_book.specs.declared.message.Body.{Body}
 use Rattle.event_book.specs.declared.reason.Basis.TheVariants as bases
 use Rattle.event_book.specs.declared.reason.Reason.{Reason}
 use Rattle.event_book.specs.Members.{server_of, server_id_of}
-use Rattle.event_book.specs.Servers.{begun_in, starts_as_primary, starts_as_replica, stops}
+use Rattle.event_book.specs.Servers.{begun_in, starts_as_primary, starts_as_replica, stops, servers_by_log}
+use Rattle.event_book.proofs.Parts.{logged-kept}
 use Rattle.ha_loop.specs.declared.machine.Machine.{Machine}
 use Rattle.ha_loop.specs.declared.output.Output.{Output}
 use Rattle.ha_loop.specs.declared.output.Output.TheVariants as outputs
+use Rattle.ha_loop.specs.declared.output.Repair.{Repair}
 use Rattle.ha_loop.specs.declared.output.Target.TheVariants as targets
 use Rattle.ha_loop.specs.Acting.{status_begun, upstream_of as upstream_id}
 use Rattle.ha_loop.specs.Orders.{IsOfTable, machine_after_output, with_server}
@@ -40,9 +45,13 @@ use Rattle.cluster_model.specs.Limits.{most_in_flight}
 use Rattle.cluster_model.specs.Messages.{agent_message, lost_at_once, sending_events, output_events}
 use Rattle.summary.specs.Lacking.{lacks_in}
 use Rattle.cluster_model.specs.Losing.{loss_if}
-use Rattle.cluster_model.specs.Orders.{declared_member, following_of, is_same_required, not_racing, replica_start_kinds, require_of, required_names, server_at, stop_kind, stop_kinds, upstream_of}
+use Rattle.cluster_model.specs.Orders.{declared_member, following_of, is_same_required, not_racing, replica_start_kinds, require_of, required_names, server_at, stop_kind, stop_kinds, upstream_of, order_kind, stop_of}
 use Rattle.cluster_model.specs.Parts.{events_of, for_some}
 use Rattle.cluster_model.specs.State.{Cluster}
+use Rattle.run_law.proofs.InputEvents.{repaired-holds}
+use Rattle.run_law.proofs.Lists.{HoldsIf}
+use Rattle.run_law.proofs.Quiet.{live-kept}
+use Rattle.run_law.specs.Machines.{live_in, live_now}
 use Rattle.run_law.proofs.InputStays.{item-here}
 
 -- what is read of a server: its state, whether its last run was a primary, and how long its stops and starts take
@@ -249,6 +258,51 @@ unmoved cluster later m machine servers deadlines holds old = record {
   hold = holds ∙ old.hold;
 }
 
+-- no log is repaired by this output
+abbrev pub RepairsNone : Output → Type 0
+RepairsNone (outputs.Repair leader repair) = ⊥
+RepairsNone _ = Unit {0}
+
+-- the member's machine, of which the server may have been repaired: it is live as the machine's is
+pub record Resembles (cluster : Cluster) (m : ℕ) (machine : Machine) : Type 0 where
+  pub lives : live_in cluster.book.servers m ≡ live machine.server.state
+  pub deadline : slice_get cluster.book.deadlines m ≡ Some machine.watchdog.deadline
+  pub hold : slice_get cluster.book.holds m ≡ Some machine.hold
+
+pub mirrored : (cluster : Cluster) (m : ℕ) (machine : Machine) → Mirrors cluster m machine → Resembles cluster m machine
+mirrored cluster m machine mirrors = record {
+  lives = ap live_now mirrors.server.is ∙ ap (λ (x : Seen). live x.state) mirrors.server.seen_is;
+  deadline = mirrors.deadline;
+  hold = mirrors.hold;
+}
+
+-- a change of a log leaves who is live
+logged-resembles : (cluster : Cluster) (m : ℕ) (machine : Machine) (happening : LogEvent) → Resembles cluster m machine → Resembles (cluster_after cluster (kinds.Log happening)) m machine
+logged-resembles cluster m machine happening old = record {
+  lives = live-kept cluster.book.servers (servers_by_log cluster.book.servers happening) m (logged-kept (λ s. live s.state) (λ s t live writes required confirmed. live) cluster.book.servers happening) ∙ old.lives;
+  deadline = old.deadline;
+  hold = old.hold;
+}
+
+abbrev IsOfLog : EventKind → Type 0
+IsOfLog (kinds.Log happening) = Unit {0}
+IsOfLog _ = ⊥
+
+one-resembles : (cluster : Cluster) (m : ℕ) (machine : Machine) (kind : EventKind) → IsOfLog kind → Resembles cluster m machine → Resembles (cluster_after cluster kind) m machine
+one-resembles cluster m machine (kinds.Log happening) is old = logged-resembles cluster m machine happening old
+one-resembles cluster m machine _ is old = absurd is
+
+may-resemble : (cluster : Cluster) (m : ℕ) (machine : Machine) (kind : Option EventKind) → HoldsIf IsOfLog kind → Resembles cluster m machine → Resembles (cluster_over cluster (events_of cluster (kinds_of kind))) m machine
+may-resemble cluster m machine None is old = old
+may-resemble cluster m machine (Some kind) is old = one-resembles cluster m machine kind is old
+
+-- a repair too
+pub repair-resembles : (cluster : Cluster) (member : Member) (message : HeardMessage) (machine : Machine) (leader : MemberId) (repair : Repair) → Resembles cluster member.id.number machine
+    → Resembles (cluster_over cluster (output_events member message cluster (outputs.Repair leader repair))) member.id.number machine
+repair-resembles cluster member message machine leader repair old =
+    may-resemble cluster member.id.number machine (order_kind cluster member message (outputs.Repair leader repair))
+    (repaired-holds IsOfLog cluster.book.cuts cluster.book.servers member repair (slice_get cluster.book.members leader.number) (λ other r. tt) (λ other. tt)) old
+
 -- ---- the machine behind each output
 module _ (member : Member) where
   abbrev Here : Cluster → Machine → Type 0
@@ -437,30 +491,40 @@ module _ (member : Member) where
       lost-here (cluster_after cluster sent) machine (nat_le most_in_flight (length cluster.book.flight)) (cluster.book.sent + 1)
       (unmoved cluster (cluster_after cluster sent) member.id.number machine refl refl refl old)
 
-  pub output-here : (cluster : Cluster) (message : HeardMessage) (machine : Machine) (output : Output) → IsOfTable output → Here cluster machine
+  -- it shuts down without a word
+  shut-here : (cluster : Cluster) (machine : Machine) → Here cluster machine
+      → Here (Behind cluster (kinds_of (option_and_then (stop_of member) (server_at cluster member)))) (with_server (status_stopping (record { 0 = cluster.book.clock }) machine.server) machine)
+  shut-here cluster machine old =
+      let s = old.server.server in
+      subst (λ (found : Option ServerFacts). Here (Behind cluster (kinds_of (option_and_then (stop_of member) found))) (with_server (status_stopping (record { 0 = cluster.book.clock }) machine.server) machine)) (sym old.server.is)
+      (stop-by cluster machine s (is_up s.state) old.server.seen_is (ap (λ (x : Seen). is_up x.state) (sym old.server.seen_is)) old)
+
+  pub output-here : (cluster : Cluster) (message : HeardMessage) (machine : Machine) (output : Output) → IsOfTable output → RepairsNone output → Here cluster machine
       → Here (cluster_over cluster (output_events member message cluster output)) (machine_after_output (record { 0 = cluster.book.clock }) machine output)
-  output-here cluster message machine (outputs.Send targets.Store sequence body) table old = sends-here cluster machine sequence body (slice_get cluster.book.agents member.id.number) old
-  output-here cluster message machine (outputs.Send (targets.Member id) sequence body) table old = absurd table
-  output-here cluster message machine outputs.Begin table old = begin-here cluster machine old
-  output-here cluster message machine (outputs.StartReplica leader) table old = start-here cluster machine (upstream_id leader) (declared_member cluster.book.members leader) old
-  output-here cluster message machine (outputs.Stop reason) table old = stop-here cluster machine reason old
-  output-here cluster message machine (outputs.Follow leader) table old = follow-here cluster machine (server_id_of leader) (slice_get cluster.book.members leader.number) old
-  output-here cluster message machine (outputs.Require required) table old = require-here cluster machine required old
-  output-here cluster message machine (outputs.Armed until) table old = record {
+  output-here cluster message machine (outputs.Repair leader repair) table none old = absurd none
+  output-here cluster message machine outputs.ShutDown table none old = shut-here cluster machine old
+  output-here cluster message machine (outputs.Send targets.Store sequence body) table none old = sends-here cluster machine sequence body (slice_get cluster.book.agents member.id.number) old
+  output-here cluster message machine (outputs.Send (targets.Member id) sequence body) table none old = absurd table
+  output-here cluster message machine outputs.Begin table none old = begin-here cluster machine old
+  output-here cluster message machine (outputs.StartReplica leader) table none old = start-here cluster machine (upstream_id leader) (declared_member cluster.book.members leader) old
+  output-here cluster message machine (outputs.Stop reason) table none old = stop-here cluster machine reason old
+  output-here cluster message machine (outputs.Follow leader) table none old = follow-here cluster machine (server_id_of leader) (slice_get cluster.book.members leader.number) old
+  output-here cluster message machine (outputs.Require required) table none old = require-here cluster machine required old
+  output-here cluster message machine (outputs.Armed until) table none old = record {
     server = stays-server cluster (cluster_after (cluster_after cluster (kinds.Watchdog (watchdogs.Measured member message.sent))) (kinds.Watchdog (watchdogs.Armed member until message.number))) member.id.number (status_seen machine.server) refl old.server;
     deadline = item-here cluster.book.deadlines member.id.number _ machine.watchdog.deadline old.deadline;
     hold = old.hold;
   }
-  output-here cluster message machine (outputs.Fed until) table old = record {
+  output-here cluster message machine (outputs.Fed until) table none old = record {
     server = stays-server cluster (cluster_after (cluster_after cluster (kinds.Watchdog (watchdogs.Measured member message.sent))) (kinds.Watchdog (watchdogs.Fed member until (bases.Grant message.number)))) member.id.number (status_seen machine.server) refl old.server;
     deadline = item-here cluster.book.deadlines member.id.number _ machine.watchdog.deadline old.deadline;
     hold = old.hold;
   }
-  output-here cluster message machine outputs.Disarmed table old = record {
+  output-here cluster message machine outputs.Disarmed table none old = record {
     server = stays-server cluster (cluster_after cluster (kinds.Watchdog (watchdogs.Disarmed member))) member.id.number (status_seen machine.server) refl old.server;
     deadline = item-here cluster.book.deadlines member.id.number _ machine.watchdog.deadline old.deadline;
     hold = old.hold;
   }
-  output-here cluster message machine outputs.CannotArm table old = unmoved cluster (cluster_after cluster (kinds.Note (notes.CannotArm member))) member.id.number machine refl refl refl old
-  output-here cluster message machine (outputs.DoesNotRace bar) table old = unmoved cluster (cluster_after cluster (not_racing cluster.book.members member bar)) member.id.number machine refl refl refl old
-  output-here cluster message machine (outputs.HoldTaken until from sequence) table old = absurd table
+  output-here cluster message machine outputs.CannotArm table none old = unmoved cluster (cluster_after cluster (kinds.Note (notes.CannotArm member))) member.id.number machine refl refl refl old
+  output-here cluster message machine (outputs.DoesNotRace bar) table none old = unmoved cluster (cluster_after cluster (not_racing cluster.book.members member bar)) member.id.number machine refl refl refl old
+  output-here cluster message machine (outputs.HoldTaken until from sequence) table none old = absurd table

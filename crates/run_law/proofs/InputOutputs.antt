@@ -3,6 +3,7 @@
 use Rattle.run_law.proofs.Composing.{over-append}
 use Rattle.std.proofs.Common.{◌≡◌, ◌⊎◌, ◌+◌, ◌++◌, ◌||◌, ◌≤◌, ◌<◌, nat_le, ℕ, Bool, true, false, List, [], ◌∷◌, Option, Some, None, All, length, slice_get, refl, sym, subst, ap, ◌∙◌, arith, inl, inr}
 use Rattle.std.proofs.lemmas.List.Elements.{All-head, All-tail}
+use Rattle.pat_base.specs.declared.member_id.MemberId.{MemberId}
 use Rattle.pat_base.specs.declared.ticks.Ticks.{Ticks}
 use Rattle.event_book.specs.declared.agent_process.AgentProcess.{AgentProcess}
 use Rattle.event_book.specs.declared.event.Event.{Event}
@@ -21,8 +22,9 @@ use Rattle.event_book.specs.Writers.{BeginsKind}
 use Rattle.ha_loop.specs.declared.machine.Machine.{Machine}
 use Rattle.ha_loop.specs.declared.output.Output.{Output}
 use Rattle.ha_loop.specs.declared.output.Output.TheVariants as outputs
+use Rattle.ha_loop.specs.declared.output.Repair.{Repair}
 use Rattle.ha_loop.specs.declared.output.Target.TheVariants as targets
-use Rattle.ha_loop.specs.Orders.{IsOfTable, machine_after_output, machine_after_outputs}
+use Rattle.ha_loop.specs.Orders.{EndsRepairing, IsOfTable, RepairsLast, machine_after_output, machine_after_outputs}
 use Rattle.ha_loop.specs.Outputs.{is_arming, is_feeding, has_one, listed, BeginsOnly, OutputsBeginBehind}
 use Rattle.cluster_model.specs.declared.heard_message.HeardMessage.{HeardMessage}
 use Rattle.cluster_model.specs.Cluster.{cluster_after, cluster_over}
@@ -37,7 +39,7 @@ use Rattle.bridge_law.specs.Groups.{IsNumberedAbove, AreNumberedAbove}
 use Rattle.run_law.proofs.Lists.{all-both, all-front, all-back}
 use Rattle.run_law.specs.InputEvents.{IsOfInput}
 use Rattle.run_law.proofs.InputEvents.{output-mine}
-use Rattle.run_law.proofs.InputMachines.{Mirrors, output-here}
+use Rattle.run_law.proofs.InputMachines.{Mirrors, RepairsNone, Resembles, mirrored, output-here, repair-resembles}
 use Rattle.run_law.proofs.InputStays.{Stays, stays-over}
 
 -- the number of the message that was sent last, behind these events
@@ -145,6 +147,8 @@ module _ (member : Member) (run : ℕ) (message : HeardMessage) where
   output-numbered cluster outputs.Disarmed runs table = other-numbered cluster outputs.Disarmed runs table tt
   output-numbered cluster outputs.CannotArm runs table = other-numbered cluster outputs.CannotArm runs table tt
   output-numbered cluster (outputs.DoesNotRace bar) runs table = other-numbered cluster (outputs.DoesNotRace bar) runs table tt
+  output-numbered cluster outputs.ShutDown runs table = other-numbered cluster outputs.ShutDown runs table tt
+  output-numbered cluster (outputs.Repair leader repair) runs table = other-numbered cluster (outputs.Repair leader repair) runs table tt
   output-numbered cluster (outputs.HoldTaken until from sequence) runs table = absurd table
 
   pub each-numbered : (cluster : Cluster) (outs : List Output) → Runs cluster.book.agents → All IsOfTable outs → AreNumberedAbove cluster.book.sent (each (output_events member message) cluster outs)
@@ -156,17 +160,41 @@ module _ (member : Member) (run : ℕ) (message : HeardMessage) where
       (each-numbered (Later cluster output) more (runs-later cluster output runs one) (All-tail IsOfTable output more table)))
 
   -- ---- the machine
-  pub each-mirrors : (now : Ticks) (cluster : Cluster) (machine : Machine) (outs : List Output) → Runs cluster.book.agents → All IsOfTable outs → cluster.book.clock ≡ now.0 → Mirrors cluster member.id.number machine
-      → Mirrors (cluster_over cluster (each (output_events member message) cluster outs)) member.id.number (machine_after_outputs now machine outs)
-  each-mirrors now cluster machine [] runs table clock old = old
-  each-mirrors now cluster machine (output ∷ more) runs table clock old =
-      let one = All-head IsOfTable output more table in
+  -- a repair comes last
+  last-resembles : (cluster : Cluster) (machine : Machine) (leader : MemberId) (repair : Repair) (more : List Output) → more ≡ [] → Mirrors cluster member.id.number machine
+      → Resembles (cluster_over cluster (each (output_events member message) cluster (outputs.Repair leader repair ∷ more))) member.id.number machine
+  last-resembles cluster machine leader repair more none old =
+      subst (λ (l : List Output). Resembles (cluster_over cluster (each (output_events member message) cluster (outputs.Repair leader repair ∷ l))) member.id.number machine) (sym none)
+      (subst (λ (c : Cluster). Resembles c member.id.number machine) (sym (over-append cluster (Brings cluster (outputs.Repair leader repair)) []))
+      (repair-resembles cluster member message machine leader repair (mirrored cluster member.id.number machine old)))
+
+  -- one output is carried out, and then the others
+  more-resemble : (now : Ticks) (cluster : Cluster) (machine : Machine) (output : Output) (more : List Output) → RepairsNone output → IsOfTable output → cluster.book.clock ≡ now.0 → Mirrors cluster member.id.number machine
+      → (Mirrors (Later cluster output) member.id.number (machine_after_output now machine output)
+        → Resembles (cluster_over (Later cluster output) (each (output_events member message) (Later cluster output) more)) member.id.number (machine_after_outputs now (machine_after_output now machine output) more))
+      → Resembles (cluster_over cluster (each (output_events member message) cluster (output ∷ more))) member.id.number (machine_after_outputs now (machine_after_output now machine output) more)
+  more-resemble now cluster machine output more none table clock old then =
       let next = Later cluster output in
-      let made = output-here member cluster message machine output one old in
-      subst (λ (c : Cluster). Mirrors c member.id.number (machine_after_outputs now (machine_after_output now machine output) more)) (sym (over-append cluster (Brings cluster output) (each (output_events member message) next more)))
-      (each-mirrors now next (machine_after_output now machine output) more (runs-later cluster output runs one) (All-tail IsOfTable output more table)
-      ((stays-output cluster output runs one).clock ∙ clock)
-      (subst (λ (n : ℕ). let t : Ticks = record { 0 = n } in Mirrors next member.id.number (machine_after_output t machine output)) clock made))
+      let made = output-here member cluster message machine output table none old in
+      subst (λ (c : Cluster). Resembles c member.id.number (machine_after_outputs now (machine_after_output now machine output) more)) (sym (over-append cluster (Brings cluster output) (each (output_events member message) next more)))
+      (then (subst (λ (n : ℕ). let t : Ticks = record { 0 = n } in Mirrors next member.id.number (machine_after_output t machine output)) clock made))
+
+  repairs-none : (output : Output) (later : List Output) → EndsRepairing output later → RepairsNone output ⊎ ((leader : MemberId) × ((repair : Repair) × ((output ≡ outputs.Repair leader repair) × (later ≡ []))))
+  repairs-none (outputs.Repair leader repair) later ends = inr (leader, (repair, (refl, ends)))
+  repairs-none _ later ends = inl tt
+
+  pub each-resembles : (now : Ticks) (cluster : Cluster) (machine : Machine) (outs : List Output) → Runs cluster.book.agents → All IsOfTable outs → RepairsLast outs → cluster.book.clock ≡ now.0 → Mirrors cluster member.id.number machine
+      → Resembles (cluster_over cluster (each (output_events member message) cluster outs)) member.id.number (machine_after_outputs now machine outs)
+  each-resembles now cluster machine [] runs table last clock old = mirrored cluster member.id.number machine old
+  each-resembles now cluster machine (output ∷ more) runs table last clock old =
+      let one = All-head IsOfTable output more table in
+      elim (repairs-none output more last.0) [
+        | inl none ↦ more-resemble now cluster machine output more none one clock old
+            (each-resembles now (Later cluster output) (machine_after_output now machine output) more (runs-later cluster output runs one) (All-tail IsOfTable output more table) last.1 ((stays-output cluster output runs one).clock ∙ clock))
+        | inr ends ↦ subst (λ (x : Output). Resembles (cluster_over cluster (each (output_events member message) cluster (x ∷ more))) member.id.number (machine_after_outputs now (machine_after_output now machine x) more)) (sym ends.1.1.0)
+            (subst (λ (l : List Output). Resembles (cluster_over cluster (each (output_events member message) cluster (outputs.Repair ends.0 ends.1.0 ∷ more))) member.id.number (machine_after_outputs now machine l)) (sym ends.1.1.1)
+            (last-resembles cluster machine ends.0 ends.1.0 more ends.1.1.1 old))
+      ]
 
   -- ---- who begins
   abbrev Keeps : List Event → Type 0

@@ -22,7 +22,7 @@ use Rattle.run_law.specs.Bridged.{IsMatched}
 use Rattle.run_law.specs.Declaring.{declared_of, margin_said, works_of, works_said}
 use Rattle.run_law.specs.Machines.{deadline_now, hold_now, live_now, run_in}
 use Rattle.run_law.specs.Volatile.{agent_now, machine_in}
-use Rattle.run_law.proofs.InputMachines.{Mirrors, Seen}
+use Rattle.run_law.proofs.InputMachines.{Mirrors, Resembles}
 use Rattle.run_law.proofs.SameMachine.{machine-same}
 
 -- ---- the machine that an agent finds
@@ -65,14 +65,14 @@ hold-is : (hold : Option Ticks) → hold_now (Some hold) ≡ hold_seen hold
 hold-is None = refl
 hold-is (Some hold) = refl
 
-pub seen-of : (cluster : Cluster) (m : ℕ) (agent : AgentFacts) (machine : Machine) → Mirrors cluster m machine → slice_get cluster.agents m ≡ Some (Some agent)
+pub seen-of : (cluster : Cluster) (m : ℕ) (agent : AgentFacts) (machine : Machine) → Resembles cluster m machine → slice_get cluster.agents m ≡ Some (Some agent)
     → machine_in cluster m ≡ machine_seen agent.role agent.knows machine false (run_in cluster.book.agents m)
-seen-of cluster m agent machine mirrors is =
+seen-of cluster m agent machine resembles is =
     machine-same _ _ _ _ _ _ _ _ _ _ _ _
-    (ap live_now mirrors.server.is ∙ ap (λ (x : Seen). live x.state) mirrors.server.seen_is)
-    (ap deadline_now mirrors.deadline ∙ deadline-is machine.watchdog.deadline)
+    resembles.lives
+    (ap deadline_now resembles.deadline ∙ deadline-is machine.watchdog.deadline)
     refl
-    (ap hold_now mirrors.hold ∙ hold-is machine.hold)
+    (ap hold_now resembles.hold ∙ hold-is machine.hold)
     (ap agent_now is)
     refl
 

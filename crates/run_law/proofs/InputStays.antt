@@ -1,5 +1,5 @@
 -- What an input of an agent leaves as it was, beside its member's machine.
-use Rattle.std.proofs.Common.{◌≡◌, ◌≢◌, ℕ, List, [], ◌∷◌, Some, All, slice_get, option_map, refl, sym, subst, ap, ◌∙◌}
+use Rattle.std.proofs.Common.{◌≡◌, ◌≢◌, ℕ, List, [], ◌∷◌, Some, All, slice_get, option_map, refl, sym, subst, ap, ◌∙◌, Option, Some, None}
 use Rattle.std.proofs.lemmas.List.Elements.{All-head, All-tail}
 use Rattle.pat_base.specs.Changes.{with_changed}
 use Rattle.pg_model.specs.Facts.{ServerFacts}
@@ -8,6 +8,8 @@ use Rattle.event_book.specs.declared.event.Event.{Event}
 use Rattle.event_book.specs.declared.event.EventKind.{EventKind}
 use Rattle.event_book.specs.declared.event.EventKind.TheVariants as kinds
 use Rattle.event_book.specs.declared.event.MessageEvent.TheVariants.{Sent, Delivered, Lost}
+use Rattle.event_book.specs.declared.event.LogEvent.{LogEvent}
+use Rattle.event_book.specs.declared.event.LogEvent.TheVariants as logs
 use Rattle.event_book.specs.declared.event.ReplicationEvent.TheVariants as replications
 use Rattle.event_book.specs.declared.event.ServerEvent.TheVariants as servers
 use Rattle.event_book.specs.declared.event.ServerEvent.{ServerEvent}
@@ -17,7 +19,7 @@ use Rattle.event_book.specs.declared.member.ServerOf.{ServerOf}
 use Rattle.event_book.specs.Agents.{agents_after}
 use Rattle.event_book.specs.Clock.{now_after}
 use Rattle.event_book.specs.Members.{server_of}
-use Rattle.event_book.specs.Servers.{servers_after}
+use Rattle.event_book.specs.Servers.{servers_after, becomes_copy, copied_by, servers_by_log}
 use Rattle.ha_loop.specs.declared.output.Output.{Output}
 use Rattle.ha_loop.specs.Orders.{IsOfTable}
 use Rattle.cluster_model.specs.declared.heard_message.HeardMessage.{HeardMessage}
@@ -87,12 +89,21 @@ module _ (member : Member) (run heard : ℕ) (Q : Output → Type 0) where
   servers-by now known (servers.Stops server) is n other = other-one known server _ n other is
   servers-by now known _ is n other = absurd is
 
+  copied-one : (known : List ServerFacts) (server : ServerOf) (source : Option ServerFacts) (n : ℕ) → n ≢ member.id.number → server ≡ server_of member → slice_get (copied_by known server.id.number source) n ≡ slice_get known n
+  copied-one known server None n other is = refl
+  copied-one known server (Some source) n other is = other-one known server (becomes_copy source) n other is
+
+  logs-by : (known : List ServerFacts) (happening : LogEvent) → Mine (kinds.Log happening) → (n : ℕ) → n ≢ member.id.number → slice_get (servers_by_log known happening) n ≡ slice_get known n
+  logs-by known (logs.Rewound server from kept at) is n other = other-one known server _ n other is
+  logs-by known (logs.Copied server from) is n other = copied-one known server (slice_get known from.id.number) n other is
+  logs-by known _ is n other = absurd is
+
   servers-one : (now : ℕ) (known : List ServerFacts) (kind : EventKind) → Mine kind → (n : ℕ) → n ≢ member.id.number → slice_get (servers_after now known kind) n ≡ slice_get known n
   servers-one now known (kinds.Server happening) is n other = servers-by now known happening is n other
   servers-one now known (kinds.Replication (replications.RequiredSet server required names)) is n other = other-one known server _ n other is
   servers-one now known (kinds.Replication (replications.Lacks server)) is n other = refl
   servers-one now known (kinds.Replication _) is n other = absurd is
-  servers-one now known (kinds.Log happening) is n other = absurd is
+  servers-one now known (kinds.Log happening) is n other = logs-by known happening is n other
   servers-one now known (kinds.Watchdog (watchdogs.Reset by)) is n other = absurd is
   servers-one now known kinds.Tick is n other = absurd is
   servers-one now known _ is n other = refl

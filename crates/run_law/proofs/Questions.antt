@@ -29,10 +29,11 @@ use Rattle.ha_loop.specs.Before.{has_ended, before}
 use Rattle.ha_loop.specs.Decisions.{asks_lease, is_start_too_long, leader_renewed, takes_over, stray_renewed, may_take, gives_back, begins, arms, takes_key, granted, refused}
 use Rattle.ha_loop.specs.Outputs.{listed}
 use Rattle.ha_loop.specs.Racing.{finds_free}
-use Rattle.ha_loop.specs.Snapshots.{informed, follows, read_noted, got}
+use Rattle.ha_loop.specs.Repairs.{repair_of}
+use Rattle.ha_loop.specs.Snapshots.{informed, follows, read_noted, got, follow_row}
 use Rattle.ha_loop.specs.Table.{step}
 use Rattle.ha_loop.specs.Wake.{turn_noted, overdue, turned, woken}
-use Rattle.ha_loop.proofs.Rows.{if-cases, before-by, overdue-by, turn-by, wake-by, got-by, refused-by, follow-by, free-by, granted-by}
+use Rattle.ha_loop.proofs.Rows.{if-cases, before-by, overdue-by, turn-by, wake-by, got-by, refused-by, follow-by, repaired-by, free-by, granted-by}
 use Rattle.run_law.specs.Questions.{IsQuestion, span_asked, SendsBetween, AsksFor, WaitsOn, Same, Nothing, New, AsksAnew}
 
 all-of : {X : Type 0} (P Q : X → Type 0) (xs : List X) → ((x : X) → P x → Q x) → All P xs → All Q xs
@@ -203,10 +204,14 @@ touch-reaches now known o r = send-reaches now known _ o tt r
 
 follow-reaches : (now : Ticks) (known : Knowledge) (leader : MemberId) (o : Outcome) → Reaches now known o → Reaches now known (follows now leader o)
 follow-reaches now known leader o r = let x : Outcome = record o { role = Follower } in
-    follow-by (λ (y : Outcome). Reaches now known (touching y)) now leader o.machine.server.state x
-    (touch-reaches now known x r)
-    (touch-reaches now known (starting_replica now (Some leader) x) (one-more now known o.knows o.outputs (outputs.StartReplica (Some leader)) tt r))
-    (touch-reaches now known (following_server leader x) (one-more now known o.knows o.outputs (outputs.Follow leader) tt r))
+    let row : Outcome = follow_row now leader o.machine.server.state x in
+    let told : Reaches now known (touching row) = touch-reaches now known row
+        (follow-by (Reaches now known) now leader o.machine.server.state x r
+        (one-more now known o.knows o.outputs (outputs.StartReplica (Some leader)) tt r)
+        (one-more now known o.knows o.outputs (outputs.Follow leader) tt r)
+        (one-more now known o.knows o.outputs outputs.ShutDown tt r)) in
+    repaired-by (Reaches now known) leader (repair_of o.knows.settings leader o.machine.server) (touching row) told
+    (λ repair. one-more now known (touching row).knows (touching row).outputs (outputs.Repair leader repair) tt told)
 
 free-reaches : (now : Ticks) (known : Knowledge) (o : Outcome) → Reaches now known o → Reaches now known (finds_free now o)
 free-reaches now known o r = let x : Outcome = record o { role = Follower } in

@@ -2,6 +2,7 @@
 use Rattle.std.specs.Prelude.{ℕ, ◌≡◌}
 use Rattle.event_book.specs.declared.event.EventKind.{EventKind}
 use Rattle.event_book.specs.declared.event.EventKind.TheVariants as kinds
+use Rattle.event_book.specs.declared.event.LogEvent.TheVariants as logs
 use Rattle.event_book.specs.declared.event.MessageEvent.TheVariants as messages
 use Rattle.event_book.specs.declared.event.ReplicationEvent.TheVariants as replications
 use Rattle.event_book.specs.declared.event.ServerEvent.TheVariants as servers
@@ -34,6 +35,8 @@ IsOfInput member run heard Q (kinds.Server (servers.StartsAsPrimary server)) = s
 IsOfInput member run heard Q (kinds.Server (servers.Follows server upstream)) = server ≡ server_of member
 IsOfInput member run heard Q (kinds.Server (servers.Ended server)) = server ≡ server_of member
 IsOfInput member run heard Q (kinds.Server (servers.Stops server)) = server ≡ server_of member
+IsOfInput member run heard Q (kinds.Log (logs.Rewound server from kept at)) = server ≡ server_of member
+IsOfInput member run heard Q (kinds.Log (logs.Copied server from)) = server ≡ server_of member
 IsOfInput member run heard Q (kinds.Watchdog (watchdogs.Armed by until answer)) = (by ≡ member) × (answer ≡ heard) × Q (outputs.Armed until)
 IsOfInput member run heard Q (kinds.Watchdog (watchdogs.Fed by until basis)) = (by ≡ member) × (basis ≡ bases.Grant heard) × Q (outputs.Fed until)
 IsOfInput member run heard Q (kinds.Watchdog (watchdogs.Disarmed by)) = by ≡ member
