@@ -1,5 +1,5 @@
 -- What messages bring: how they are sent, come, and are decided on.
-use Rattle.std.specs.Prelude.{ℕ, ◌+◌, nat_le, Bool, true, false, if◌then◌else◌, List, [], ◌∷◌, Option, Some, None, option_map, length, slice_get}
+use Rattle.std.specs.Prelude.{ℕ, ◌+◌, nat_le, Bool, true, false, if◌then◌else◌, List, [], ◌∷◌, Option, Some, None, option_and_then, option_map, length, slice_get}
 use Rattle.lease_store.specs.declared.txn.Txn.{Txn}
 use Rattle.lease_store.specs.Decision.{Decision, Grant, Refusal, decision_on}
 use Rattle.lease_store.specs.TxnKinds.{txn_kind_of}
@@ -24,6 +24,7 @@ use Rattle.ha_loop.specs.declared.heard.Heard.{Heard}
 use Rattle.ha_loop.specs.declared.heard.Heard.TheVariants.{Wake}
 use Rattle.ha_loop.specs.declared.output.Output.{Output}
 use Rattle.ha_loop.specs.declared.output.Output.TheVariants as outputs
+use Rattle.ha_loop.specs.declared.output.Repair.{Repair}
 use Rattle.ha_loop.specs.declared.output.Target.{Target}
 use Rattle.ha_loop.specs.declared.output.Target.TheVariants as targets
 use Rattle.ha_loop.specs.Agents.{Outcome}
@@ -36,7 +37,7 @@ use Rattle.cluster_model.specs.Beginnings.{begin_kinds}
 use Rattle.cluster_model.specs.Commands.{kinds_of}
 use Rattle.cluster_model.specs.Inputs.{moment_of, outcome_of, outcome_of_heard, may_act, outputs_of, standing_of, is_to_wake}
 use Rattle.cluster_model.specs.Limits.{most_in_flight}
-use Rattle.cluster_model.specs.Orders.{declared_member, order_kind, replica_start_kinds, server_at, stop_kinds, feed_kinds, arming, feeding}
+use Rattle.cluster_model.specs.Orders.{declared_member, order_kind, repair_over, replica_start_kinds, server_at, stop_kinds, feed_kinds, arming, feeding}
 use Rattle.cluster_model.specs.Parts.{event_of, events_of, events_then, for_some, each}
 use Rattle.cluster_model.specs.State.{Cluster}
 
@@ -76,6 +77,10 @@ stop_events cluster member reason = for_some (server_at cluster member) (λ s. e
 abbrev pub begin_events : Cluster → Member → List Event
 begin_events cluster member = for_some (server_at cluster member) (λ s. events_of cluster (begin_kinds member cluster.book.acknowledged s))
 
+-- the log of a member's server is repaired by this leader's, if there is such a member, where it can be
+abbrev pub repair_events : Cluster → Member → Repair → Option Member → List Event
+repair_events cluster member repair leader = events_of cluster (kinds_of (option_and_then (repair_over cluster.book.cuts cluster.book.servers member repair) leader))
+
 -- what an output of the agent of a member comes to, on the message that it heard
 abbrev pub output_events : Member → HeardMessage → Cluster → Output → List Event
 output_events member heard cluster (outputs.Send to sequence body) = sending_events cluster member (slice_get cluster.book.agents member.id.number) (receiver_of cluster.book.members to) sequence body
@@ -84,6 +89,7 @@ output_events member heard cluster (outputs.Armed until) = events_of cluster (fe
 output_events member heard cluster (outputs.Fed until) = events_of cluster (feed_kinds member heard (feeding member until heard))
 output_events member heard cluster (outputs.StartReplica leader) = replica_start_events cluster member (declared_member cluster.book.members leader)
 output_events member heard cluster (outputs.Stop reason) = stop_events cluster member reason
+output_events member heard cluster (outputs.Repair leader repair) = repair_events cluster member repair (slice_get cluster.book.members leader.number)
 output_events member heard cluster output = events_of cluster (kinds_of (order_kind cluster member heard output))
 
 -- what the outputs of an input come to, one after another

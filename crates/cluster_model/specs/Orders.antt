@@ -146,7 +146,6 @@ told_of member _ = None
 abbrev pub order_kind : Cluster → Member → HeardMessage → Output → Option EventKind
 order_kind cluster member heard (outputs.Follow leader) = option_and_then (upstream_of member (slice_get cluster.book.members leader.number)) (server_at cluster member)
 order_kind cluster member heard outputs.ShutDown = option_and_then (stop_of member) (server_at cluster member)
-order_kind cluster member heard (outputs.Repair leader repair) = option_and_then (repair_over cluster.book.cuts cluster.book.servers member repair) (slice_get cluster.book.members leader.number)
 order_kind cluster member heard (outputs.Require required) = option_and_then (require_of cluster.book.members member required) (server_at cluster member)
 order_kind cluster member heard (outputs.HoldTaken until from sequence) = option_map (hold_taken member until heard.run sequence) (slice_get cluster.book.members from.number)
 order_kind cluster member heard (outputs.DoesNotRace bar) = Some (not_racing cluster.book.members member bar)

@@ -18,10 +18,11 @@ use Rattle.ha_loop.specs.Before.{before, has_ended}
 use Rattle.ha_loop.specs.Decisions.{arms, begins, gives_back, granted, is_start_too_long, leader_renewed, may_take, refused, stray_renewed, takes_key, takes_over}
 use Rattle.ha_loop.specs.Outputs.{listed, most_outputs}
 use Rattle.ha_loop.specs.Racing.{finds_free}
-use Rattle.ha_loop.specs.Snapshots.{follows, got, informed, read_noted}
+use Rattle.ha_loop.specs.Repairs.{repair_of}
+use Rattle.ha_loop.specs.Snapshots.{follow_row, follows, got, informed, read_noted}
 use Rattle.ha_loop.specs.Table.{step}
 use Rattle.ha_loop.specs.Wake.{overdue, turned, woken}
-use Rattle.ha_loop.proofs.Rows.{if-cases, before-by, overdue-by, turn-by, wake-by, got-by, refused-by, granted-by, follow-by, free-by}
+use Rattle.ha_loop.proofs.Rows.{if-cases, before-by, overdue-by, turn-by, wake-by, got-by, refused-by, granted-by, follow-by, repaired-by, free-by}
 use Rattle.pat_world.specs.Short.{AsksShortly}
 
 -- from this number of messages and these outputs on there are so many more at most, and each asks shortly if each did before
@@ -58,10 +59,13 @@ said : (sequence later : ℕ) (before : List Output) (output : Output) → later
 said sequence later before output h asks = weaker 1 9 sequence later before (listed output before) (omega arith) (one sequence later before output h asks)
 
 -- one thing, and then a message
-said-both : (sequence : ℕ) (before : List Output) (first second : Output) → AsksShortly first → AsksShortly second → Grows 9 sequence (sequence + 1) before (listed second (listed first before))
-said-both sequence before first second asks also =
-    grows-then 1 1 9 sequence sequence (sequence + 1) before (listed first before) (listed second (listed first before)) (omega arith)
+both : (sequence : ℕ) (before : List Output) (first second : Output) → AsksShortly first → AsksShortly second → Grows 2 sequence (sequence + 1) before (listed second (listed first before))
+both sequence before first second asks also =
+    grows-then 1 1 2 sequence sequence (sequence + 1) before (listed first before) (listed second (listed first before)) (omega arith)
     (one sequence sequence before first (omega arith) asks) (one sequence (sequence + 1) (listed first before) second (omega arith) also)
+
+said-both : (sequence : ℕ) (before : List Output) (first second : Output) → AsksShortly first → AsksShortly second → Grows 9 sequence (sequence + 1) before (listed second (listed first before))
+said-both sequence before first second asks also = weaker 2 9 _ _ _ _ (omega arith) (both sequence before first second asks also)
 
 disarmed-one : (sequence : ℕ) (deadline : Option Ticks) (before : List Output) → Grows 1 sequence sequence before (disarmed deadline before)
 disarmed-one sequence None before = none sequence before
@@ -107,11 +111,19 @@ overdue-row now o = overdue-by (Row o) now o (record {
 turn-row : (now : Ticks) (o : Outcome) → Row o (turned now o)
 turn-row now o = turn-by (Row o) now o (record { kept = kept; quiet = kept; reads = λ _. said o.knows.sequence (o.knows.sequence + 1) o.outputs _ (omega arith) tt })
 
+follow-told : (now : Ticks) (leader : MemberId) (o : Outcome) → Brings 2 o (touching (follow_row now leader o.machine.server.state (record o { role = Follower })))
+follow-told now leader o = follow-by (λ (y : Outcome). Brings 2 o (touching y)) now leader o.machine.server.state (record o { role = Follower })
+    (weaker 1 2 _ _ _ _ (omega arith) (one o.knows.sequence (o.knows.sequence + 1) o.outputs _ (omega arith) (omega (arith, o.knows.settings.ttl_range))))
+    (both o.knows.sequence o.outputs _ _ tt (omega (arith, o.knows.settings.ttl_range)))
+    (both o.knows.sequence o.outputs _ _ tt (omega (arith, o.knows.settings.ttl_range)))
+    (both o.knows.sequence o.outputs _ _ tt (omega (arith, o.knows.settings.ttl_range)))
+
 follow-row : (now : Ticks) (leader : MemberId) (o : Outcome) → Row o (follows now leader o)
-follow-row now leader o = follow-by (λ (x : Outcome). Row o (touching x)) now leader o.machine.server.state (record o { role = Follower })
-    (said o.knows.sequence (o.knows.sequence + 1) o.outputs _ (omega arith) (omega (arith, o.knows.settings.ttl_range)))
-    (said-both o.knows.sequence o.outputs _ _ tt (omega (arith, o.knows.settings.ttl_range)))
-    (said-both o.knows.sequence o.outputs _ _ tt (omega (arith, o.knows.settings.ttl_range)))
+follow-row now leader o =
+    let row : Outcome = touching (follow_row now leader o.machine.server.state (record o { role = Follower })) in
+    let told = follow-told now leader o in
+    repaired-by (Row o) leader (repair_of o.knows.settings leader o.machine.server) row (weaker 2 9 _ _ _ _ (omega arith) told)
+    (λ r. grows-then 2 1 9 _ _ _ _ _ _ (omega arith) told (one row.knows.sequence row.knows.sequence row.outputs (outputs.Repair leader r) (omega arith) tt))
 
 free-row : (now : Ticks) (o : Outcome) → Row o (finds_free now o)
 free-row now o = free-by (Row o) now (record o { role = Follower })

@@ -1,6 +1,6 @@
 -- What an agent did is carried out, one after another.
 use Rattle.std.proofs.Common.{◌≡◌, ℕ, ◌+◌, ◌*◌, ◌≤◌, List, [], ◌∷◌, ◌++◌, All, length, Option, Some, arith, refl, ◌∙◌, ap, sym, subst}
-use Rattle.std.specs.Prelude.{option_to_list}
+use Rattle.std.specs.Prelude.{option_and_then, option_to_list, slice_get}
 use Rattle.std.proofs.lemmas.List.Elements.{All-head, All-tail}
 use Rattle.pat_base.specs.declared.member_id.MemberId.{MemberId}
 use Rattle.pat_base.specs.declared.ticks.Ticks.{Ticks}
@@ -11,12 +11,13 @@ use Rattle.event_book.specs.declared.message.Body.{Body}
 use Rattle.event_book.specs.declared.reason.Reason.{Reason}
 use Rattle.ha_loop.specs.declared.output.Output.{Output}
 use Rattle.ha_loop.specs.declared.output.Output.TheVariants as outputs
+use Rattle.ha_loop.specs.declared.output.Repair.{Repair}
 use Rattle.ha_loop.specs.declared.output.Target.{Target}
 use Rattle.ha_loop.specs.Outputs.{most_outputs}
 use Rattle.cluster_model.specs.declared.heard_message.HeardMessage.{HeardMessage}
 use Rattle.cluster_model.specs.Commands.{kinds_of}
-use Rattle.cluster_model.specs.Messages.{output_events}
-use Rattle.cluster_model.specs.Orders.{order_kind}
+use Rattle.cluster_model.specs.Messages.{output_events, repair_events}
+use Rattle.cluster_model.specs.Orders.{order_kind, repair_over}
 use Rattle.cluster_model.specs.Parts.{each, events_of}
 use Rattle.cluster_model.specs.State.{Cluster}
 use Rattle.pat_world.specs.Emits.{Emits}
@@ -71,14 +72,16 @@ carrying-end member heard start cluster had has whole rest c nothing =
 -- an output that is no message, no feed, and no start or end of a server is an order that brings one event at most
 pub order-same : (cluster : Cluster) (member : Member) (heard : HeardMessage) (output : Output) → ((to : Target) (n : ℕ) (body : Body) → output ≡ outputs.Send to n body → ⊥) → (output ≡ outputs.Begin → ⊥)
     → ((leader : Option MemberId) → output ≡ outputs.StartReplica leader → ⊥) → ((reason : Reason) → output ≡ outputs.Stop reason → ⊥) → ((until : Ticks) → output ≡ outputs.Armed until → ⊥) → ((until : Ticks) → output ≡ outputs.Fed until → ⊥)
+    → ((leader : MemberId) (repair : Repair) → output ≡ outputs.Repair leader repair → ⊥)
     → output_events member heard cluster output ≡ events_of cluster (kinds_of (order_kind cluster member heard output))
-order-same cluster member heard (outputs.Send to n body) send begin start stop arm feed = absurd (send to n body refl)
-order-same cluster member heard outputs.Begin send begin start stop arm feed = absurd (begin refl)
-order-same cluster member heard (outputs.StartReplica leader) send begin start stop arm feed = absurd (start leader refl)
-order-same cluster member heard (outputs.Stop reason) send begin start stop arm feed = absurd (stop reason refl)
-order-same cluster member heard (outputs.Armed until) send begin start stop arm feed = absurd (arm until refl)
-order-same cluster member heard (outputs.Fed until) send begin start stop arm feed = absurd (feed until refl)
-order-same cluster member heard _ send begin start stop arm feed = refl
+order-same cluster member heard (outputs.Send to n body) send begin start stop arm feed mends = absurd (send to n body refl)
+order-same cluster member heard outputs.Begin send begin start stop arm feed mends = absurd (begin refl)
+order-same cluster member heard (outputs.StartReplica leader) send begin start stop arm feed mends = absurd (start leader refl)
+order-same cluster member heard (outputs.Stop reason) send begin start stop arm feed mends = absurd (stop reason refl)
+order-same cluster member heard (outputs.Armed until) send begin start stop arm feed mends = absurd (arm until refl)
+order-same cluster member heard (outputs.Fed until) send begin start stop arm feed mends = absurd (feed until refl)
+order-same cluster member heard (outputs.Repair leader repair) send begin start stop arm feed mends = absurd (mends leader repair refl)
+order-same cluster member heard _ send begin start stop arm feed mends = refl
 
 -- what an order comes to that brings one event at most
 pub order-took : (cluster after : Cluster) (had has : List Event) (member : Member) (heard : HeardMessage) (output : Output) (found : Option EventKind)
@@ -87,3 +90,12 @@ pub order-took : (cluster after : Cluster) (had has : List Event) (member : Memb
 order-took cluster after had has member heard output found is kind took =
     subst (λ (es : List Event). Emits cluster after had has es output_cost) (sym is)
     (subst (λ (o : Option EventKind). Emits cluster after had has (events_of cluster (kinds_of o)) output_cost) kind (Emits-weaker cluster after had has (events_of cluster (kinds_of found)) 1 output_cost took (omega arith)))
+
+-- a repair of a log
+pub repair-took : (cluster after : Cluster) (had has : List Event) (member : Member) (heard : HeardMessage) (leader : MemberId) (repair : Repair) (output : Output) (found : Option Member)
+    → output ≡ outputs.Repair leader repair → found ≡ slice_get cluster.book.members leader.number
+    → Emits cluster after had has (events_of cluster (kinds_of (option_and_then (repair_over cluster.book.cuts cluster.book.servers member repair) found))) 1 → Emits cluster after had has (output_events member heard cluster output) output_cost
+repair-took cluster after had has member heard leader repair output found is there took =
+    subst (λ (o : Output). Emits cluster after had has (output_events member heard cluster o) output_cost) (sym is)
+    (Emits-weaker cluster after had has (repair_events cluster member repair (slice_get cluster.book.members leader.number)) 1 output_cost
+    (subst (λ (o : Option Member). Emits cluster after had has (events_of cluster (kinds_of (option_and_then (repair_over cluster.book.cuts cluster.book.servers member repair) o))) 1) there took) (omega arith))

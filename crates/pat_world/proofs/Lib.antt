@@ -12,6 +12,7 @@ pub mod IdleTicks
 pub mod Idling
 pub mod Indexing
 pub mod Reaching
+mod Repairing
 pub mod Lacking
 pub mod Losses
 pub mod Numbering

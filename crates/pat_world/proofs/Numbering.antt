@@ -45,12 +45,12 @@ use Rattle.cluster_model.specs.Inputs.{outcome_of_heard, outputs_of}
 use Rattle.cluster_model.specs.Limits.{most_in_flight}
 use Rattle.cluster_model.specs.Losing.{loss_if}
 use Rattle.cluster_model.specs.Messages.{answer_events_by, answer_message, arrival_events_at, decision_body, decision_events, heard_message, lost_at_once, message_events, message_events_by, output_events, receiver_of, send_events, sending_events}
-use Rattle.cluster_model.specs.Orders.{arming, declared_member, feed_kinds, feeding, following_of, hold_taken, is_same_required, order_kind, replica_start_kinds, require_of, required_names, server_at, stop_kind, stop_kinds, stop_of, upstream_of}
+use Rattle.cluster_model.specs.Orders.{arming, declared_member, feed_kinds, feeding, following_of, hold_taken, is_same_required, order_kind, replica_start_kinds, require_of, required_names, server_at, stop_kind, stop_kinds, stop_of, upstream_of, repair_over}
 use Rattle.cluster_model.specs.Parts.{each, events_of, for_some}
 use Rattle.cluster_model.specs.State.{Cluster}
 use Rattle.summary.specs.Lacking.{lacks_in}
 use Rattle.lease_law.specs.Premises.{AllAre}
-use Rattle.run_law.proofs.InputEvents.{holds-then, holds-if}
+use Rattle.run_law.proofs.InputEvents.{holds-then, holds-if, repaired-holds}
 use Rattle.run_law.proofs.Lists.{AllKinds, HoldsIf, all-both, all-kinds, one-kind}
 
 -- ---- the messages in flight
@@ -207,6 +207,9 @@ order-above last cluster member heard (outputs.Fed until) = tt
 order-above last cluster member heard outputs.Disarmed = tt
 order-above last cluster member heard outputs.CannotArm = tt
 order-above last cluster member heard (outputs.DoesNotRace bar) = tt
+order-above last cluster member heard outputs.ShutDown =
+    holds-then (IsAbove last) (stop_of member) (server_at cluster member) (λ s. holds-if (IsAbove last) (is_up s.state) (stop_kind member s.state s.stop_delay) (stop-above last member (is_primary s.state && s.stop_delay.0 == 0)))
+order-above last cluster member heard (outputs.Repair leader repair) = tt
 order-above last cluster member heard (outputs.HoldTaken until from sequence) = held-above last (hold_taken member until heard.run sequence) (slice_get cluster.book.members from.number) (λ from. tt)
 
 ordered-above : (last : ℕ) (cluster : Cluster) (member : Member) (heard : HeardMessage) (output : Output) → AllAre (IsAbove last) (events_of cluster (kinds_of (order_kind cluster member heard output)))
@@ -220,6 +223,9 @@ output-above last cluster member heard (outputs.Armed until) low = all-kinds (Is
 output-above last cluster member heard (outputs.Fed until) low = all-kinds (IsAbove last) cluster (feed_kinds member heard (feeding member until heard)) (tt, (tt, tt))
 output-above last cluster member heard (outputs.StartReplica leader) low = starts-above last cluster member (declared_member cluster.book.members leader) (server_at cluster member)
 output-above last cluster member heard (outputs.Stop reason) low = stops-above last cluster member reason (server_at cluster member)
+output-above last cluster member heard (outputs.Repair leader repair) low =
+    let kind = option_and_then (repair_over cluster.book.cuts cluster.book.servers member repair) (slice_get cluster.book.members leader.number) in
+    all-kinds (IsAbove last) cluster (kinds_of kind) (one-kind (IsAbove last) kind (repaired-holds (IsAbove last) cluster.book.cuts cluster.book.servers member repair (slice_get cluster.book.members leader.number) (λ other r. tt) (λ other. tt)))
 output-above last cluster member heard output low = ordered-above last cluster member heard output
 
 outputs-above : (last : ℕ) (cluster : Cluster) (member : Member) (heard : HeardMessage) (outs : List Output) → last ≤ cluster.book.sent → AllAre (IsAbove last) (each (output_events member heard) cluster outs)

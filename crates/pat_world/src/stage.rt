@@ -20,6 +20,7 @@ mod happening;
 mod idling;
 mod messages;
 mod orders;
+mod repairing;
 mod servers;
 mod streaming;
 mod ticking;

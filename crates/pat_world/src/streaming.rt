@@ -48,7 +48,7 @@ fn source_named(
 }
 
 /// The link between two members.
-fn link_of_members(member: Member, other: Member) -> Link
+pub fn link_of_members(member: Member, other: Member) -> Link
     ensures { result ≡ link_of_members member other }
 {
     Link {

@@ -141,8 +141,7 @@ module _ (member : Member) (run heard : ℕ) (Q : Output → Type 0) where
   order-mine cluster message at (outputs.DoesNotRace bar) table is = tt
   order-mine cluster message at outputs.ShutDown table is = holds-then Mine (stop_of member) (server_at cluster member)
       (λ s. holds-if Mine (is_up s.state) (stop_kind member s.state s.stop_delay) (stop-mine (is_primary s.state && s.stop_delay.0 == 0)))
-  order-mine cluster message at (outputs.Repair leader repair) table is =
-      repaired-holds Mine cluster.book.cuts cluster.book.servers member repair (slice_get cluster.book.members leader.number) (λ other r. refl) (λ other. refl)
+  order-mine cluster message at (outputs.Repair leader repair) table is = tt
   order-mine cluster message at (outputs.HoldTaken until from sequence) table is = absurd table
 
   ordered-mine : (cluster : Cluster) (message : HeardMessage) → message.number ≡ heard → (output : Output) → IsOfTable output → Q output → AllAre Mine (events_of cluster (kinds_of (order_kind cluster member message output)))
@@ -158,4 +157,8 @@ module _ (member : Member) (run heard : ℕ) (Q : Output → Type 0) where
   output-mine cluster message at runs (outputs.Fed until) table is = all-kinds Mine cluster (feed_kinds member message (feeding member until message)) (refl, ((refl, ap (λ (n : ℕ). bases.Grant n) at, is), tt))
   output-mine cluster message at runs (outputs.StartReplica leader) table is = starts-mine cluster (declared_member cluster.book.members leader) (server_at cluster member)
   output-mine cluster message at runs (outputs.Stop reason) table is = stops-mine cluster reason (server_at cluster member)
+  output-mine cluster message at runs (outputs.Repair leader repair) table is =
+      let kind = option_and_then (repair_over cluster.book.cuts cluster.book.servers member repair) (slice_get cluster.book.members leader.number) in
+      all-kinds Mine cluster (kinds_of kind) (one-kind Mine kind
+      (repaired-holds Mine cluster.book.cuts cluster.book.servers member repair (slice_get cluster.book.members leader.number) (λ other r. refl) (λ other. refl)))
   output-mine cluster message at runs output table is = ordered-mine cluster message at output table is

@@ -45,7 +45,7 @@ use Rattle.cluster_model.specs.Limits.{most_in_flight}
 use Rattle.cluster_model.specs.Messages.{agent_message, lost_at_once, sending_events, output_events}
 use Rattle.summary.specs.Lacking.{lacks_in}
 use Rattle.cluster_model.specs.Losing.{loss_if}
-use Rattle.cluster_model.specs.Orders.{declared_member, following_of, is_same_required, not_racing, replica_start_kinds, require_of, required_names, server_at, stop_kind, stop_kinds, upstream_of, order_kind, stop_of}
+use Rattle.cluster_model.specs.Orders.{declared_member, following_of, is_same_required, not_racing, replica_start_kinds, require_of, required_names, server_at, stop_kind, stop_kinds, upstream_of, repair_over, stop_of}
 use Rattle.cluster_model.specs.Parts.{events_of, for_some}
 use Rattle.cluster_model.specs.State.{Cluster}
 use Rattle.run_law.proofs.InputEvents.{repaired-holds}
@@ -300,7 +300,7 @@ may-resemble cluster m machine (Some kind) is old = one-resembles cluster m mach
 pub repair-resembles : (cluster : Cluster) (member : Member) (message : HeardMessage) (machine : Machine) (leader : MemberId) (repair : Repair) → Resembles cluster member.id.number machine
     → Resembles (cluster_over cluster (output_events member message cluster (outputs.Repair leader repair))) member.id.number machine
 repair-resembles cluster member message machine leader repair old =
-    may-resemble cluster member.id.number machine (order_kind cluster member message (outputs.Repair leader repair))
+    may-resemble cluster member.id.number machine (option_and_then (repair_over cluster.book.cuts cluster.book.servers member repair) (slice_get cluster.book.members leader.number))
     (repaired-holds IsOfLog cluster.book.cuts cluster.book.servers member repair (slice_get cluster.book.members leader.number) (λ other r. tt) (λ other. tt)) old
 
 -- ---- the machine behind each output

@@ -171,7 +171,7 @@ module _ (member : Member) (run : ℕ) (message : HeardMessage) where
   -- one output is carried out, and then the others
   more-resemble : (now : Ticks) (cluster : Cluster) (machine : Machine) (output : Output) (more : List Output) → RepairsNone output → IsOfTable output → cluster.book.clock ≡ now.0 → Mirrors cluster member.id.number machine
       → (Mirrors (Later cluster output) member.id.number (machine_after_output now machine output)
-        → Resembles (cluster_over (Later cluster output) (each (output_events member message) (Later cluster output) more)) member.id.number (machine_after_outputs now (machine_after_output now machine output) more))
+      → Resembles (cluster_over (Later cluster output) (each (output_events member message) (Later cluster output) more)) member.id.number (machine_after_outputs now (machine_after_output now machine output) more))
       → Resembles (cluster_over cluster (each (output_events member message) cluster (output ∷ more))) member.id.number (machine_after_outputs now (machine_after_output now machine output) more)
   more-resemble now cluster machine output more none table clock old then =
       let next = Later cluster output in

@@ -206,10 +206,10 @@ follow-reaches : (now : Ticks) (known : Knowledge) (leader : MemberId) (o : Outc
 follow-reaches now known leader o r = let x : Outcome = record o { role = Follower } in
     let row : Outcome = follow_row now leader o.machine.server.state x in
     let told : Reaches now known (touching row) = touch-reaches now known row
-        (follow-by (Reaches now known) now leader o.machine.server.state x r
-        (one-more now known o.knows o.outputs (outputs.StartReplica (Some leader)) tt r)
-        (one-more now known o.knows o.outputs (outputs.Follow leader) tt r)
-        (one-more now known o.knows o.outputs outputs.ShutDown tt r)) in
+    (follow-by (Reaches now known) now leader o.machine.server.state x r
+    (one-more now known o.knows o.outputs (outputs.StartReplica (Some leader)) tt r)
+    (one-more now known o.knows o.outputs (outputs.Follow leader) tt r)
+    (one-more now known o.knows o.outputs outputs.ShutDown tt r)) in
     repaired-by (Reaches now known) leader (repair_of o.knows.settings leader o.machine.server) (touching row) told
     (λ repair. one-more now known (touching row).knows (touching row).outputs (outputs.Repair leader repair) tt told)
 

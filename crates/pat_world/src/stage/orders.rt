@@ -13,7 +13,7 @@ ghost use Rattle.pat_world.specs.Short.{AsksShortly, IsAsked};
 use super::Stage;
 use crate::orders::{
     arming, declared_member, feeding, hold_of_request, member_at, not_racing, receiver_of,
-    require_of, told_of, upstream_of,
+    require_of, stop_of, told_of, upstream_of,
 };
 use cluster_model::HeardMessage;
 use event_book::{Body, Event, EventKind, LinkEnd, Member, Message, WatchdogEvent};
@@ -70,6 +70,10 @@ impl Stage {
                 self.start_replica(member, leader, events)
             }
             Output::Stop { reason } => self.stop(member, reason, events),
+            Output::Repair { leader, repair } => {
+                let leader = member_at(&self.members, leader);
+                self.repair(member, repair, leader, events)
+            }
             _ => {
                 let kind = self.order_kind(member, heard, &output)?;
                 self.happen_if(kind, events)
@@ -141,6 +145,7 @@ impl Stage {
                 let leader = member_at(&self.members, *leader);
                 Ok(upstream_of(&self.servers, member, leader))
             }
+            Output::ShutDown => Ok(stop_of(&self.servers, member)),
             Output::Require { required } => require_of(
                 self.alloc,
                 &self.members,

@@ -1,11 +1,22 @@
+use Rattle.std.proofs.Common.{◌∙◌, ap, List, slice_get}
 use Rattle.std.proofs.lemmas.Result.{on_ok_weaker}
-use Rattle.pat_world.proofs.Carrying.{order-same, order-took}
+use Rattle.event_book.specs.declared.member.Member.{Member}
+use Rattle.cluster_model.specs.State.{Cluster}
+use Rattle.pat_world.proofs.Carrying.{order-same, order-took, repair-took}
 use Rattle.pat_world.proofs.stage.Stage.carry.Goals as goal
 
 pub returns-in_ok-kind-in_default : goal.returns-in_ok-kind-in_default
 returns-in_ok-kind-in_default c =
     let none = c.in_default in
-    let same = order-same c.args.self.now c.args.member c.args.heard c.args.output none.not-Send none.not-Begin none.not-StartReplica none.not-Stop none.not-Armed none.not-Fed in
+    let same = order-same c.args.self.now c.args.member c.args.heard c.args.output none.not-Send none.not-Begin none.not-StartReplica none.not-Stop none.not-Armed none.not-Fed none.not-Repair in
     on_ok_weaker c.happen_if.result
     (λ took. order-took c.args.self.now c.happen_if.new.self c.args.events.now.items c.happen_if.new.events.items c.args.member c.args.heard c.args.output c.in_ok-kind-in_default.kind same c.in_ok-kind-in_default.ensures.kind took)
     c.happen_if.ensures
+
+pub returns-in-Repair : goal.returns-in-Repair
+returns-in-Repair c =
+    let place = c.in-Repair.leader.number in
+    let there = c.member_at-leader.ensures ∙ ap (λ (l : List Member). slice_get l place) (c.deref-in-Repair.ensures.value ∙ ap (λ (b : Cluster). b.book.members) c.self-in-Repair.view_is) in
+    on_ok_weaker c.repair.result
+    (λ took. repair-took c.args.self.now c.repair.new.self c.args.events.now.items c.repair.new.events.items c.args.member c.args.heard c.in-Repair.leader c.in-Repair.repair c.args.output c.member_at-leader.result c.in-Repair.is there took)
+    c.repair.ensures
