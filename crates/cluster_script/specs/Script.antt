@@ -232,7 +232,7 @@ config_lines (Some bytes) = config_text bytes ∷ []
 abbrev pub config_to_say : Settings → Option (List ℕ)
 config_to_say config = if bytes_eq config.text default_settings.text then None else Some config.text
 
--- a cluster's line, and such lines behind it
+-- a cluster's line, and the lines of a head behind it
 abbrev pub head_with : Name → List HeadLine → List (List ℕ)
 head_with cluster lines = cluster_text cluster ∷ map head_line_text lines
 

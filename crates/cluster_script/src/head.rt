@@ -27,7 +27,8 @@ pub struct MemberOptions {
 /// The base of a script that says none: five files of 16 MiB.
 pub(crate) const DEFAULT_BASE: u64 = 83_886_080;
 
-/// The head of a script: the name of its cluster, its configuration, its base, and its 1 to 16 members, in the order of their lines.
+/// The head of a script: the name of its cluster, its configuration, its base, and its 1 to 16 members, in the order of
+/// their lines.
 #[derive(Drop)]
 pub struct Head {
     cluster: Name,

@@ -6,8 +6,8 @@ ghost use Rattle.cluster_script.specs.Reading.{script_of};
 ghost use Rattle.cluster_script.specs.Script.{ScriptText};
 ghost use Rattle.cluster_script.specs.Steps.{total_ticks};
 
+use crate::ScriptLines;
 use crate::keyword::Keyword;
-use crate::lines::lines_in;
 use crate::numbers::number;
 use crate::words::{cut_word, keyword_of};
 use std::alloc::{AllocError, Global};
@@ -131,11 +131,8 @@ pub(crate) fn limit_of_lines(lines: &[&[u8]]) -> Option<Limit>
 pub fn limit_passed(alloc: Global, bytes: &[u8]) -> Result<Option<Limit>, AllocError>
     ensures { IfOk result (λ limit. limit ≡ limit_of bytes.now) }
 {
-    if bytes.len() > MOST_BYTES {
-        return Ok(Some(Limit::Bytes));
-    }
-    let lines = lines_in(alloc, bytes)?;
-    Ok(limit_of_lines(&lines))
+    let lines = ScriptLines::cut(alloc, bytes)?;
+    Ok(lines.limit_passed())
 }
 
 /// A script within the limits has at most 1,000,000 ticks, and a body of at most 100,000 lines.

@@ -375,7 +375,13 @@ const FAULTY_TAGS: [(&[u8], Fault); 43] = [
 ];
 
 /// Two lines behind the head, and the fault of the second.
-const FAULTY_SECOND_LINES: [(&[u8], Fault); 16] = [
+const FAULTY_SECOND_LINES: [(&[u8], Fault); 22] = [
+    (b"config {}\nconfig {}", Fault::Duplicate),
+    (b"config {}\nconfig", Fault::Duplicate),
+    (b"config {}\nconfig [", Fault::Duplicate),
+    (b"tick 1\nconfig {}", Fault::HeadLate),
+    (b"tick 1\nconfig", Fault::HeadLate),
+    (b"tick 1\nconfig [", Fault::HeadLate),
     (b"base 5\nbase 5", Fault::Duplicate),
     (b"base 5\nbase", Fault::Duplicate),
     (b"base 5\nbase 5 6", Fault::Duplicate),
@@ -392,6 +398,23 @@ const FAULTY_SECOND_LINES: [(&[u8], Fault); 16] = [
     (b"tick 1\nmember c watchdog=maybe", Fault::BadOption),
     (b"member c watchdog=off\nmember c", Fault::Duplicate),
     (b"tick 1\ncluster x", Fault::Duplicate),
+];
+
+/// Lines of a configuration, and the first fault there.
+const FAULTY_CONFIGS: [(&[u8], Fault); 13] = [
+    (b"config", Fault::WordCount),
+    (b"config ", Fault::BadConfig),
+    (b"config {", Fault::BadConfig),
+    (b"config []", Fault::BadConfig),
+    (b"config 5", Fault::BadConfig),
+    (b"config {} {}", Fault::BadConfig),
+    (b"config {\"ttl\":19}", Fault::BadConfig),
+    (b"config {\"ttl\":\"30\"}", Fault::BadConfig),
+    (b"config {\"loop_wait\":20}", Fault::BadConfig),
+    (b"config {\"x\":1.5}", Fault::BadConfig),
+    (b"config {\"synchronous_node_count\":17}", Fault::BadConfig),
+    (b"configs {}", Fault::BadWord),
+    (b"Config {}", Fault::BadWord),
 ];
 
 /// Lines on servers, and the first fault there.
@@ -434,8 +457,7 @@ const FAULTY_SERVER_LINES: [(&[u8], Fault); 35] = [
 ];
 
 /// Lines that are to come.
-const NOT_BUILT: [&[u8]; 6] = [
-    b"config {}",
+const NOT_BUILT: [&[u8]; 5] = [
     b"rest a GET /",
     b"ctl list",
     b"member c margin=-1",
@@ -584,6 +606,38 @@ fn a_base_stands_anywhere_in_the_head(rt: HostRuntime) -> Result<(), Fail> {
 }
 
 #[test]
+fn a_configuration_stands_anywhere_in_the_head(rt: HostRuntime) -> Result<(), Fail> {
+    let alloc = rt.alloc();
+    let cases: [(&[u8], &str, u64); 5] = [
+        (HEAD, "{}", 30),
+        (b"cluster c\nconfig  { }\nmember a\nmember b", "{}", 30),
+        (
+            b"cluster c\nconfig { \"ttl\" : 40, \"loop_wait\":5 }\nmember a\nmember b",
+            "{\"loop_wait\":5,\"ttl\":40}",
+            40,
+        ),
+        (
+            b"cluster c\nmember a\nconfig {\"ttl\":40}\nbase 5\nmember b\ntick 1",
+            "{\"ttl\":40}",
+            40,
+        ),
+        (
+            b"cluster c\nbase 5\nmember a\nmember b\nconfig {\"x\":null}",
+            "{\"x\":null}",
+            30,
+        ),
+    ];
+    for (bytes, text, ttl) in cases {
+        let script = read(alloc, bytes).map_err(|_| "none")?;
+        let config = script.head().config();
+        assert_eq!(rt; config.as_str(), text);
+        assert_eq!(rt; config.config().ttl, ttl);
+        assert_eq!(rt; script.head().member_count(), 2);
+    }
+    Ok(())
+}
+
+#[test]
 fn options_say_what_they_say(rt: HostRuntime) -> Result<(), Fail> {
     let alloc = rt.alloc();
     for (line, mode, works, seconds) in OPTIONS {
@@ -661,6 +715,11 @@ fn hosts_and_tags_with_a_fault(rt: HostRuntime) -> Result<(), Fail> {
 #[test]
 fn second_lines_with_a_fault(rt: HostRuntime) -> Result<(), Fail> {
     have_faults(&rt, rt.alloc(), 5, &FAULTY_SECOND_LINES)
+}
+
+#[test]
+fn configurations_with_a_fault(rt: HostRuntime) -> Result<(), Fail> {
+    have_faults(&rt, rt.alloc(), 4, &FAULTY_CONFIGS)
 }
 
 #[test]

@@ -147,6 +147,46 @@ const THREE_MEMBERS: [Run; 1] = [(
     },
 )];
 
+/// A member that is barred tells so in each turn that finds nobody leading, and leaves the leader key to others.
+const BARRED: [Run; 2] = [
+    (
+        "member a nofailover=true\nmember b\nrun 110\n",
+        "1 a does not race: it may not fail over\n\
+         2 b takes the leader key\n\
+         2 b arms its watchdog until 252\n\
+         2 b accepts writes on timeline 2\n\
+         101 a follows b\n",
+        Closing {
+            end: 110,
+            writers: "b",
+            ..QUIET
+        },
+    ),
+    (
+        "member a priority=0\nrun 110\n",
+        "1 a does not race: it may not fail over\n\
+         101 a does not race: it may not fail over\n",
+        Closing { end: 110, ..QUIET },
+    ),
+];
+
+/// A standby lacks more than 1 MiB of what the leader told last.
+const FAR_BEHIND: [Run; 1] = [(
+    "freeze b\ncommit a 1048577\nrun 108\nhold a\nrun 310\n",
+    "2 b is frozen\n\
+     2 commit 1 of 1048577 bytes on a\n\
+     2 commit 1 is acknowledged\n\
+     110 a is held\n\
+     351 a is reset by its watchdog\n\
+     401 the leader key of a expires\n\
+     402 b does not race: it is too far behind\n",
+    Closing {
+        end: 420,
+        acknowledged: 1,
+        ..QUIET
+    },
+)];
+
 /// The key store grants a create, and the agent hears of its lease only by reading.
 const LOST_ANSWER_OF_A_CREATE: [Run; 1] = [(
     "tick 1\nturn a\ndeliver 1\ndeliver 2\ndeliver 3\nlose 4\ntick 100\nturn a\n\
@@ -209,6 +249,12 @@ fn ordinary_failover(rt: HostRuntime) -> Result<(), Fail> {
 fn the_key_passed_on(rt: HostRuntime) -> Result<(), Fail> {
     prints(&rt, rt.alloc(), &FOLLOWED, &KEY_PASSED_ON)?;
     prints(&rt, rt.alloc(), &OWN_MEMBERS, &THREE_MEMBERS)
+}
+
+#[test]
+fn barred_members(rt: HostRuntime) -> Result<(), Fail> {
+    prints(&rt, rt.alloc(), &OWN_MEMBERS, &BARRED)?;
+    prints(&rt, rt.alloc(), &FOLLOWED, &FAR_BEHIND)
 }
 
 #[test]

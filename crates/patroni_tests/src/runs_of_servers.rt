@@ -262,11 +262,12 @@ const SERVERS_WITHOUT_A_LEADER: [Run; 5] = [
             ..QUIET
         },
     ),
-    // One that starts isn't a running replica: its agent only tells of itself.
+    // One that starts isn't a running replica: its member is barred.
     (
         "slow a start 150\ncrash a\nrun 210\n",
         "0 a crashed\n\
          1 a starts as a replica\n\
+         101 a does not race: its server is not a replica\n\
          201 a takes the leader key\n\
          201 a arms its watchdog until 451\n\
          201 a accepts writes on timeline 2\n",

@@ -7,7 +7,7 @@ ghost use Rattle.patroni_top.specs.Run.{KeepsLimits};
 ghost use Rattle.patroni_top.specs.Status.{Says, IsRefusal};
 
 use crate::ending::Ending;
-use cluster_script::{Script, limit_passed, read};
+use cluster_script::{Script, ScriptLines};
 use pat_base::{Source, read_at_most};
 use std::alloc::Global;
 
@@ -38,9 +38,10 @@ fn script_in(alloc: Global, bytes: &[u8]) -> Result<Script, Ending>
     ensures says { IfErr result (λ ending. Says ending bytes.now) }
     ensures read { result ≢ Err Ending.ReadFault }
 {
-    if let Some(limit) = limit_passed(alloc, bytes)? {
+    let lines = ScriptLines::cut(alloc, bytes)?;
+    if let Some(limit) = lines.limit_passed() {
         return Err(Ending::Limit(limit));
     }
-    let script = read(alloc, bytes)?;
+    let script = lines.read(alloc)?;
     Ok(script)
 }

@@ -1,8 +1,11 @@
-use Rattle.std.proofs.Common.{◌∙◌, sym}
+use Rattle.std.proofs.Common.{◌∙◌, ap, sym}
+use Rattle.cluster_script.specs.Limits.{limit_of}
+use Rattle.cluster_script.specs.Reading.{script_of}
 use Rattle.cluster_script.proofs.LimitLaws.{within-limits}
 use Rattle.patroni_top.proofs.reading.script_in.Goals as goal
 
 pub returns-clause-few : goal.returns-clause-few
 returns-clause-few c =
-    let few = within-limits c.args.bytes.now c.in_ok-script.script c.in_ok-script.ensures.value (sym c.in_ok-limit.ensures ∙ c.in_default.is) in
+    let cut = sym c.in_ok-lines.ensures in
+    let few = within-limits c.args.bytes.now c.in_ok-script.script (ap script_of cut ∙ c.in_ok-script.ensures.value) (ap limit_of cut ∙ sym c.limit_passed.ensures ∙ c.in_default.is) in
     record { ticks = few.0; lines = few.1 }
