@@ -1,6 +1,9 @@
 -- What messages say to agents.
 use Rattle.std.specs.Prelude.{ℕ, List, Option, Some, None, option_map}
+use Rattle.pat_base.specs.declared.member_id.MemberId.{MemberId}
 use Rattle.lease_store.specs.declared.granted.Granted.{Granted}
+use Rattle.event_book.specs.declared.link.LinkEnd.{LinkEnd}
+use Rattle.event_book.specs.declared.link.LinkEnd.TheVariants as link_ends
 use Rattle.event_book.specs.declared.message.Body.{Body}
 use Rattle.event_book.specs.declared.message.Body.TheVariants as bodies
 use Rattle.event_book.specs.Flight.{InFlightFacts}
@@ -14,11 +17,18 @@ use Rattle.cluster_model.specs.State.{Cluster}
 abbrev pub snapshot_in : Cluster → InFlightFacts → SnapshotFacts
 snapshot_in cluster message = record { scope = cluster.scope; members = hosts_of cluster.options cluster.book.members; entries = message.snapshot }
 
--- what a message with these words says to an agent: the key store's answers. Nothing else is said to agents yet
+-- the member at this end of a link, if one is
+abbrev pub member_at_end : LinkEnd → Option MemberId
+member_at_end link_ends.Store = None
+member_at_end (link_ends.Member member) = Some member.id
+
+-- what a message with these words says to an agent: what the key store answers, and what other members ask and answer
 abbrev pub heard_in : Cluster → InFlightFacts → Body → Option Heard
 heard_in cluster message bodies.Snapshot = Some (heard.Got message.message.sequence (snapshot_in cluster message))
 heard_in cluster message (bodies.Granted request leased) = option_map (λ grant. heard.Granted message.message.sequence grant (snapshot_in cluster message)) message.grant
 heard_in cluster message (bodies.Refused request key found) = Some (heard.Mismatch message.message.sequence key found)
+heard_in cluster message bodies.Ask = option_map (λ from. heard.Asked from message.message.run message.message.sequence) (member_at_end message.message.from)
+heard_in cluster message (bodies.Answer answer) = Some (heard.Answered message.message.sequence answer)
 heard_in cluster message _ = None
 
 -- what a message says to an agent

@@ -65,6 +65,11 @@ abbrev pub sending_events : Cluster → Member → Option AgentProcess → Optio
 sending_events cluster member (Some process) (Some to) sequence body = send_events cluster (agent_message member to process.run sequence body)
 sending_events cluster member _ _ sequence body = []
 
+-- what an agent answers another member, in the run in which that one asked
+abbrev pub replying_events : Cluster → Member → Option LinkEnd → ℕ → ℕ → Body → List Event
+replying_events cluster member None run sequence body = []
+replying_events cluster member (Some to) run sequence body = send_events cluster (agent_message member to run sequence body)
+
 -- the server of a member starts as a replica, where it is down
 abbrev pub replica_start_events : Cluster → Member → Option Member → List Event
 replica_start_events cluster member leader = for_some (server_at cluster member) (λ s. events_of cluster (replica_start_kinds member leader s))
@@ -84,6 +89,7 @@ repair_events cluster member repair leader = events_of cluster (kinds_of (option
 -- what an output of the agent of a member comes to, on the message that it heard
 abbrev pub output_events : Member → HeardMessage → Cluster → Output → List Event
 output_events member heard cluster (outputs.Send to sequence body) = sending_events cluster member (slice_get cluster.book.agents member.id.number) (receiver_of cluster.book.members to) sequence body
+output_events member heard cluster (outputs.Answer to run sequence answer) = replying_events cluster member (receiver_of cluster.book.members (targets.Member to)) run sequence (bodies.Answer answer)
 output_events member heard cluster outputs.Begin = begin_events cluster member
 output_events member heard cluster (outputs.Armed until) = events_of cluster (feed_kinds member heard (arming member until heard))
 output_events member heard cluster (outputs.Fed until) = events_of cluster (feed_kinds member heard (feeding member until heard))

@@ -2,6 +2,7 @@
 use Rattle.std.proofs.Common.{◌≡◌, ◌⊎◌, ℕ, ◌+◌, ◌≤◌, ◌<◌, true, false, List, [], Some, None, All, Contains, refl, sym, subst, ap, ◌∙◌, arith, inl, inr}
 use Rattle.std.proofs.lemmas.List.Elements.{All-push, All-weaker, All-nil}
 use Rattle.pat_base.specs.declared.member_id.MemberId.{MemberId}
+use Rattle.pat_base.specs.declared.peer_answer.PeerAnswer.{PeerAnswer}
 use Rattle.pat_base.specs.declared.ticks.Ticks.{Ticks}
 use Rattle.lease_store.specs.declared.granted.Granted.{Granted}
 use Rattle.lease_store.specs.declared.txn.Txn.{Txn}
@@ -12,7 +13,7 @@ use Rattle.event_book.specs.declared.reason.Reason.TheVariants.{StartTooLong, Wa
 use Rattle.lease_law.specs.Past.{query_of, lease_span as span_asked}
 use Rattle.lease_law.proofs.Tools.{some-is, none-some}
 use Rattle.ha_loop.specs.declared.heard.Heard.{Heard}
-use Rattle.ha_loop.specs.declared.heard.Heard.TheVariants.{Wake, Got, Granted as HeardGranted, Mismatch}
+use Rattle.ha_loop.specs.declared.heard.Heard.TheVariants.{Wake, Got, Granted as HeardGranted, Mismatch, Asked, Answered}
 use Rattle.ha_loop.specs.declared.knowledge.Knowledge.{Knowledge}
 use Rattle.ha_loop.specs.declared.knowledge.Waited.{Waited}
 use Rattle.ha_loop.specs.declared.machine.Machine.{Machine}
@@ -27,7 +28,8 @@ use Rattle.ha_loop.specs.Decisions.{asks_lease, is_start_too_long, leader_renewe
 use Rattle.ha_loop.specs.Outputs.{listed}
 use Rattle.ha_loop.specs.Repairs.{repair_of}
 use Rattle.ha_loop.specs.Snapshots.{renewing, follow_row, follows, leader_loses_key, stray_loses_key, read_noted, got}
-use Rattle.ha_loop.specs.Racing.{creating, barred, finds_free}
+use Rattle.ha_loop.specs.Racing.{creating, barred, finds_free, judged, asking_others, unheard}
+use Rattle.ha_loop.specs.Peers.{asked, keeping, answered}
 use Rattle.ha_loop.specs.Table.{step, act}
 use Rattle.ha_loop.specs.Wake.{reading, turn_noted, leader_out_of_reach, stray_out_of_reach, overdue, turned, woken}
 use Rattle.ha_loop.specs.declared.role.Why.TheVariants.{HandOver}
@@ -35,8 +37,8 @@ use Rattle.ha_loop.proofs.Granting.{Told}
 use Rattle.ha_loop.proofs.Knowing.{IsAlone, alone-of, before-onward}
 use Rattle.ha_loop.proofs.LawfulSteps.{before-waits}
 use Rattle.ha_loop.proofs.Living.{no-way}
-use Rattle.ha_loop.proofs.Rows.{if-cases, overdue-by, turn-by, wake-by, got-by, refused-by, follow-by, repaired-by, free-by, granted-by}
-use Rattle.ha_loop.proofs.Sending.{IsSilent, MayPut, AllMay, Fronts, before-fronts, got-none, before-may, wake-may, got-may, refused-may, granted-may}
+use Rattle.ha_loop.proofs.Rows.{if-cases, overdue-by, turn-by, wake-by, got-by, refused-by, follow-by, repaired-by, free-by, granted-by, judged-by, answered-by}
+use Rattle.ha_loop.proofs.Sending.{IsSilent, MayPut, AllMay, Fronts, before-fronts, got-none, before-may, wake-may, got-may, refused-may, granted-may, overdue-none, answered-none, answered-may, asked-may}
 use Rattle.ha_loop.proofs.Sending.Fronts.{Silent, Released}
 use Rattle.ha_loop.proofs.Fitting.{before-fits}
 
@@ -50,7 +52,7 @@ nothing now o after none waited is asks = absurd (none-some waited (sym none ∙
 as-before : (now : Ticks) (o after : Outcome) → after.knows.waited ≡ o.knows.waited → Holds now o after
 as-before now o after same waited is asks = inl (sym same ∙ is)
 
--- a read isn't a request for a lease
+-- a read, and an ask of other members, is no request for a lease
 only-reads : (now : Ticks) (o after : Outcome) (read : Waited) → after.knows.waited ≡ Some read → asks_lease read.question ≡ false → Holds now o after
 only-reads now o after read is no-lease waited waits asks = let same : read ≡ waited = some-is read waited (sym is ∙ waits) in
     absurd (no-way (sym no-lease ∙ (ap (λ (w : Waited). asks_lease w.question) same ∙ asks)))
@@ -76,13 +78,25 @@ asked-now now o after outs asked txn silent is waits sent span later waited wait
       ttl = λ request among. subst (λ (y : Output). SpansAs asked.sequence asked.ttl.0 y) among.2 (all among.0 (outputs.Send targets.Store asked.sequence (bodies.Request request)) among.1) refl;
     }))
 
-overdue-holds : (now : Ticks) (o b : Outcome) → b.knows.waited ≡ o.knows.waited → Holds now o (overdue now b)
-overdue-holds now o b same = overdue-by (Holds now o) now b (record {
+more-than : (a b : ℕ) → a ≤ b → a < b + 1
+more-than a b less = omega (arith, less)
+
+judged-holds : (now : Ticks) (o b : Outcome) → o.knows.sequence ≤ b.knows.sequence → All IsSilent b.outputs → Holds now o (judged now b)
+judged-holds now o b later silent = judged-by (Holds now o) now b
+    (asked-now now o (creating now (waiting_no_more b)) b.outputs _ _ silent refl refl refl refl (more-than o.knows.sequence b.knows.sequence later)) (λ bar. nothing now o (barred bar (waiting_no_more b)) refl)
+
+overdue-silent : (now : Ticks) (o b : Outcome) → o.knows.sequence ≤ b.knows.sequence → b.knows.waited ≡ o.knows.waited → All IsSilent b.outputs → Holds now o (overdue now b)
+overdue-silent now o b later same silent = overdue-by (Holds now o) now b (record {
   kept = as-before now o b same;
   quiet = nothing now o (waiting_no_more b) refl;
   leader = λ held _. nothing now o (leader_out_of_reach now held (waiting_no_more b)) refl;
   stray = λ _. nothing now o (stray_out_of_reach now (waiting_no_more b)) refl;
+  judges = λ _. judged-holds now o b later silent;
 })
+
+overdue-holds : (now : Ticks) (o b : Outcome) → o.knows.sequence ≤ b.knows.sequence → b.knows.waited ≡ o.knows.waited → Fronts o b → Holds now o (overdue now b)
+overdue-holds now o b later same (Silent all) = overdue-silent now o b later same all
+overdue-holds now o b later same (Released revision held alone role ended counted all) = subst (λ (z : Outcome). Holds now o z) (sym (overdue-none now b alone)) (as-before now o b same)
 
 turn-holds : (now : Ticks) (o b : Outcome) → Holds now o b → ((x : Outcome) → x.outputs ≡ b.outputs → x.knows.waited ≡ b.knows.waited → Holds now o x) → Holds now o (turned now b)
 turn-holds now o b holds more = let noted : Outcome = record b { knows = turn_noted now b.knows } in
@@ -102,18 +116,18 @@ same-holds now o b x holds outs waits waited is asks = elim (holds waited (sym w
 before-holds : (now : Ticks) (o : Outcome) → Holds now o (before now o)
 before-holds now o = as-before now o (before now o) (before-waits now o)
 
-wake-holds : (now : Ticks) (o : Outcome) → Holds now o (woken now o)
-wake-holds now o = let holds : Holds now o (overdue now (before now o)) = overdue-holds now o (before now o) (before-waits now o) in
+wake-holds : (now : Ticks) (o : Outcome) → IsAlone o → All IsSilent o.outputs → Holds now o (woken now o)
+wake-holds now o alone silent = let holds : Holds now o (overdue now (before now o)) = overdue-holds now o (before now o) (before-onward None now o).last (before-waits now o) (before-fronts now o alone silent) in
     wake-by (Holds now o) now o (before-holds now o) (turn-holds now o (overdue now (before now o)) holds (λ x outs waits. same-holds now o (overdue now (before now o)) x holds outs waits))
-
-more-than : (a b : ℕ) → a ≤ b → a < b + 1
-more-than a b less = omega (arith, less)
 
 free-holds : (now : Ticks) (o b : Outcome) → o.knows.sequence ≤ b.knows.sequence → b.knows.waited ≡ None → All IsSilent b.outputs → Holds now o (finds_free now b)
 free-holds now o b later none silent = let x : Outcome = record b { role = Follower } in
-    free-by (Holds now o) now x
-    (nothing now o (touching (starting_replica now None x)) none) (λ bar. nothing now o (barred bar x) none)
-    (asked-now now o (creating now x) b.outputs _ _ silent refl refl refl refl (more-than o.knows.sequence b.knows.sequence later))
+    free-by (Holds now o) now x (record {
+      starts = nothing now o (touching (starting_replica now None x)) none;
+      bars = λ bar. nothing now o (barred bar x) none;
+      judges = judged-holds now o (unheard x) later silent;
+      asks = only-reads now o (asking_others now (unheard x)) _ refl refl;
+    })
 
 abbrev WaitsNot : Outcome → Type 0
 WaitsNot o = o.knows.waited ≡ None
@@ -177,11 +191,26 @@ granted-holds now sequence grant snapshot o b same = granted-by (Holds now o) no
       takes = λ _. takes-holds now waited.ttl grant.revision o (Told snapshot b) refl;
     })
 
+answered-silent : (now : Ticks) (sequence : ℕ) (answer : PeerAnswer) (o b : Outcome) → o.knows.sequence ≤ b.knows.sequence → b.knows.waited ≡ o.knows.waited → All IsSilent b.outputs → Holds now o (answered now sequence answer b)
+answered-silent now sequence answer o b later same silent = answered-by (Holds now o) now sequence answer b (record {
+  kept = as-before now o b same;
+  quiet = nothing now o (waiting_no_more b) refl;
+  keeps = as-before now o (keeping answer b) same;
+  judges = λ _. judged-holds now o (keeping answer b) later silent;
+})
+
+answered-holds : (now : Ticks) (sequence : ℕ) (answer : PeerAnswer) (o b : Outcome) → o.knows.sequence ≤ b.knows.sequence → b.knows.waited ≡ o.knows.waited → Fronts o b → Holds now o (answered now sequence answer b)
+answered-holds now sequence answer o b later same (Silent all) = answered-silent now sequence answer o b later same all
+answered-holds now sequence answer o b later same (Released revision held alone role ended counted all) =
+    subst (λ (z : Outcome). Holds now o z) (sym (answered-none now sequence answer b alone)) (as-before now o b same)
+
 step-holds : (now : Ticks) (points : List HistoryPoint) (heard : Heard) (o : Outcome) → IsAlone o → All IsSilent o.outputs → Holds now o (step now points heard o)
-step-holds now points Wake o alone silent = wake-holds now o
+step-holds now points Wake o alone silent = wake-holds now o alone silent
 step-holds now points (Got sequence snapshot) o alone silent = got-fronts now points sequence snapshot o (before now o) (before-onward None now o).last (before-waits now o) (before-fronts now o alone silent)
 step-holds now points (HeardGranted sequence grant snapshot) o alone silent = granted-holds now sequence grant snapshot o (before now o) (before-waits now o)
 step-holds now points (Mismatch sequence key found) o alone silent = refused-holds now sequence o (before now o) (before-waits now o)
+step-holds now points (Asked from run sequence) o alone silent = as-before now o (asked from run sequence (before now o)) (before-waits now o)
+step-holds now points (Answered sequence answer) o alone silent = answered-holds now sequence answer o (before now o) (before-onward None now o).last (before-waits now o) (before-fronts now o alone silent)
 
 -- whatever is granted
 abbrev Any : ℕ → Type 0
@@ -192,10 +221,12 @@ step-sends now points Wake o alone silent = wake-may Any now o alone (before-onw
 step-sends now points (Got sequence snapshot) o alone silent = got-may Any now points sequence snapshot o alone (before-onward None now o).last silent
 step-sends now points (HeardGranted sequence grant snapshot) o alone silent = granted-may Any now sequence grant snapshot o alone (before-onward None now o).last (before-fits now o) (λ _. tt) silent
 step-sends now points (Mismatch sequence key found) o alone silent = refused-may Any now sequence o alone silent
+step-sends now points (Asked from run sequence) o alone silent = asked-may Any now from run sequence o alone silent
+step-sends now points (Answered sequence answer) o alone silent = answered-may Any now sequence answer o alone (before-onward None now o).last silent
 
 numbered : (o after : Outcome) (output : Output) → MayPut Any o after output → IsNumbered o.knows.sequence after.knows.sequence output
 numbered o after (outputs.Send targets.Store sequence body) may = (may.later, may.counted)
-numbered o after (outputs.Send (targets.Member member) sequence body) may = absurd may
+numbered o after (outputs.Send (targets.Member member) sequence body) may = (may.0, may.1)
 numbered o after _ may = tt
 
 pub input-asks : (now : Ticks) (points : List HistoryPoint) (heard : Heard) (role : RoleFacts) (knows : Knowledge) (machine : Machine) → IsSoundAgent role knows → AsksAsWaited now (made role knows machine []) (step now points heard (made role knows machine []))

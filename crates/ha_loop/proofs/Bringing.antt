@@ -1,6 +1,7 @@
 -- An input without a grant brings an agent nothing of the leader key, and its server no power to write.
 use Rattle.std.proofs.Common.{◌≡◌, ℕ, true, false, Option, Some, None, List, refl, sym, subst, ◌∙◌}
 use Rattle.pat_base.specs.declared.member_id.MemberId.{MemberId}
+use Rattle.pat_base.specs.declared.peer_answer.PeerAnswer.{PeerAnswer}
 use Rattle.pat_base.specs.declared.ticks.Ticks.{Ticks}
 use Rattle.pat_base.specs.ServerState.{live}
 use Rattle.wal_model.specs.declared.entry.HistoryPoint.{HistoryPoint}
@@ -15,10 +16,11 @@ use Rattle.ha_loop.specs.Decisions.{refused}
 use Rattle.ha_loop.specs.Powers.{BringsNothing, lease_of, leads, is_ready}
 use Rattle.ha_loop.specs.Repairs.{repair_of}
 use Rattle.ha_loop.specs.Snapshots.{leader_loses_key, stray_loses_key, renewing, follow_row, follows, read_noted, got}
-use Rattle.ha_loop.specs.Racing.{creating, barred, finds_free}
+use Rattle.ha_loop.specs.Racing.{creating, barred, finds_free, judged, asking_others, unheard}
 use Rattle.ha_loop.specs.Wake.{leader_out_of_reach, stray_out_of_reach, reading, turn_noted, overdue, turned, woken}
 use Rattle.ha_loop.proofs.Living.{no-way, stop-live, start-live, follow-live}
-use Rattle.ha_loop.proofs.Rows.{before-by, overdue-by, turn-by, wake-by, got-by, refused-by, follow-by, repaired-by, free-by}
+use Rattle.ha_loop.proofs.Rows.{before-by, overdue-by, turn-by, wake-by, got-by, refused-by, follow-by, repaired-by, free-by, judged-by, answered-by}
+use Rattle.ha_loop.specs.Peers.{asked, keeping, answered}
 
 none-some : {revision : ℕ} → ◌≡◌ {A = Option ℕ} None (Some revision) → ⊥
 none-some e = cc
@@ -84,12 +86,16 @@ before-brings now o = before-by (BringsNothing o) now o (record {
   stray = λ _ _. no-lease o (stray_finds_ended o) refl refl (λ e. e);
 })
 
+judged-brings : (now : Ticks) (o : Outcome) → BringsNothing o (judged now o)
+judged-brings now o = judged-by (BringsNothing o) now o (same-role o (creating now (waiting_no_more o)) refl (λ e. e)) (λ bar. same-role o (barred bar (waiting_no_more o)) refl (λ e. e))
+
 pub overdue-brings : (now : Ticks) (o : Outcome) → BringsNothing o (overdue now o)
 overdue-brings now o = overdue-by (BringsNothing o) now o (record {
   kept = same-role o o refl (λ e. e);
   quiet = same-role o (waiting_no_more o) refl (λ e. e);
   leader = λ held is. keeps-lease o (leader_out_of_reach now held (waiting_no_more o)) held is refl refl (stop-live now o.machine.server);
   stray = λ _. same-role o (stray_out_of_reach now (waiting_no_more o)) refl (stop-live now o.machine.server);
+  judges = λ _. judged-brings now o;
 })
 
 pub turn-brings : (now : Ticks) (o : Outcome) → BringsNothing o (turned now o)
@@ -118,10 +124,12 @@ follow-brings now leader o = let x : Outcome = record o { role = Follower } in
     (λ r. record { live = told.live; leads = told.leads; ready = told.ready; lease = told.lease })
 
 free-brings : (now : Ticks) (o : Outcome) → BringsNothing o (finds_free now o)
-free-brings now o = free-by (BringsNothing o) now (record o { role = Follower })
-    (no-lease o (touching (starting_replica now None (record o { role = Follower }))) refl refl (start-live now None o.machine.server))
-    (λ bar. no-lease o (barred bar (record o { role = Follower })) refl refl (λ e. e))
-    (no-lease o (creating now (record o { role = Follower })) refl refl (λ e. e))
+free-brings now o = let x : Outcome = record o { role = Follower } in free-by (BringsNothing o) now x (record {
+  starts = no-lease o (touching (starting_replica now None x)) refl refl (start-live now None o.machine.server);
+  bars = λ bar. no-lease o (barred bar x) refl refl (λ e. e);
+  judges = brings-then o (unheard x) (judged now (unheard x)) (no-lease o (unheard x) refl refl (λ e. e)) (judged-brings now (unheard x));
+  asks = no-lease o (asking_others now (unheard x)) refl refl (λ e. e);
+})
 
 read-then : (now : Ticks) (snapshot : SnapshotFacts) (o after : Outcome) → BringsNothing (record o { knows = read_noted now snapshot o.knows }) after → BringsNothing o after
 read-then now snapshot o after brings = record { live = brings.live; leads = brings.leads; ready = brings.ready; lease = brings.lease }
@@ -156,3 +164,19 @@ read-brings now points sequence snapshot o = brings-then o (before now o) (got n
 -- a refusal
 pub refusal-brings : (now : Ticks) (sequence : ℕ) (o : Outcome) → BringsNothing o (refused now sequence (before now o))
 refusal-brings now sequence o = brings-then o (before now o) (refused now sequence (before now o)) (before-brings now o) (refused-brings now sequence (before now o))
+
+pub answer-brings : (now : Ticks) (sequence : ℕ) (answer : PeerAnswer) (o : Outcome) → BringsNothing o (answered now sequence answer o)
+answer-brings now sequence answer o = answered-by (BringsNothing o) now sequence answer o (record {
+  kept = same-role o o refl (λ e. e);
+  quiet = same-role o (waiting_no_more o) refl (λ e. e);
+  keeps = same-role o (keeping answer o) refl (λ e. e);
+  judges = λ _. brings-then o (keeping answer o) (judged now (keeping answer o)) (same-role o (keeping answer o) refl (λ e. e)) (judged-brings now (keeping answer o));
+})
+
+-- the answer of another member
+pub answered-brings : (now : Ticks) (sequence : ℕ) (answer : PeerAnswer) (o : Outcome) → BringsNothing o (answered now sequence answer (before now o))
+answered-brings now sequence answer o = brings-then o (before now o) (answered now sequence answer (before now o)) (before-brings now o) (answer-brings now sequence answer (before now o))
+
+-- the question of another member
+pub asked-brings : (now : Ticks) (from : MemberId) (run sequence : ℕ) (o : Outcome) → BringsNothing o (asked from run sequence (before now o))
+asked-brings now from run sequence o = brings-then o (before now o) (asked from run sequence (before now o)) (before-brings now o) (same-role (before now o) (asked from run sequence (before now o)) refl (λ e. e))

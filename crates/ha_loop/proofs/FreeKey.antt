@@ -1,37 +1,50 @@
 -- What becomes of an answer that tells that nobody leads.
-use Rattle.std.proofs.Common.{◌≡◌, ℕ, ◌&&◌, not, Bool, true, false, if◌then◌else◌, List, Option, Some, None, refl, sym, subst, ap, ◌∙◌}
+use Rattle.std.proofs.Common.{◌≡◌, ◌⊎◌, ℕ, ◌+◌, ◌<◌, ◌&&◌, ◌||◌, nat_le, not, Bool, true, false, List, [], ◌∷◌, Option, Some, None, Contains, refl, sym, subst, ap, ◌∙◌, arith, inl, inr, zero, suc}
+use Rattle.std.proofs.lemmas.List.Elements.{Contains-push, Contains-append_left}
+use Rattle.pat_base.specs.MemberId.{member_of}
+use Rattle.pat_base.proofs.Members.{member_of-number}
+use Rattle.pat_base.specs.declared.member_id.MemberId.{MemberId}
+use Rattle.pat_base.specs.declared.peer_answer.PeerAnswer.{PeerAnswer}
 use Rattle.pat_base.specs.declared.server_state.State.{State}
 use Rattle.pat_base.specs.declared.server_state.State.TheVariants as states
 use Rattle.pat_base.specs.declared.ticks.Ticks.{Ticks}
 use Rattle.lease_store.specs.declared.action.Bar.{Bar}
 use Rattle.wal_model.specs.declared.entry.HistoryPoint.{HistoryPoint}
 use Rattle.pg_model.specs.Facts.{is_down}
+use Rattle.event_book.specs.declared.message.Body.TheVariants as bodies
 use Rattle.cluster_config.specs.declared.snapshot.LeaderEntry.{LeaderEntry}
+use Rattle.cluster_config.specs.declared.view.AgentView.{AgentView}
+use Rattle.cluster_config.specs.KeyValues.{failover_in}
+use Rattle.cluster_config.specs.Naming.{is_candidate}
 use Rattle.cluster_config.specs.Snapshots.{SnapshotFacts, leader_in}
+use Rattle.leader_race.specs.Bars.{first_bar}
 use Rattle.leader_race.specs.Eligibility.{eligibility_of}
+use Rattle.leader_race.specs.Outcome.{unless, outcome_of}
 use Rattle.leader_race.proofs.Winning.{race-replica}
+use Rattle.ha_loop.specs.declared.knowledge.Question.{Question}
+use Rattle.ha_loop.specs.declared.knowledge.Question.TheVariants.{Reading, Asking, Creating, Renewing}
+use Rattle.ha_loop.specs.declared.knowledge.Waited.{Waited}
+use Rattle.ha_loop.specs.declared.output.Output.{Output}
+use Rattle.ha_loop.specs.declared.output.Output.TheVariants as outputs
+use Rattle.ha_loop.specs.declared.output.Target.TheVariants as targets
+use Rattle.ha_loop.specs.declared.who.Who.{Who}
 use Rattle.ha_loop.specs.Acting.{touching, starting_replica, waiting_no_more}
 use Rattle.ha_loop.specs.Agents.{RoleFacts, Follower, Holder, Ready, Leader, Ending, Stray, Outcome}
+use Rattle.ha_loop.specs.Answers.{is_other, with_answer, most_answers, asking_one, asking_first, all_answered}
+use Rattle.ha_loop.specs.Before.{before}
 use Rattle.ha_loop.specs.Decisions.{may_create}
-use Rattle.ha_loop.specs.FreeKey.{HearsFree, StaysOut, AsksForKey}
-use Rattle.ha_loop.specs.Racing.{can_start, bar_of, races_unless, finds_free}
+use Rattle.ha_loop.specs.FreeKey.{HearsFree, StaysOut, AsksForKey, AsksOthers, HearsLast, RunsLate, LosesRace, LosesAndTurns}
+use Rattle.ha_loop.specs.Outputs.{listed}
+use Rattle.ha_loop.specs.Peers.{is_asking, awaits_answer, judged_if_all, keeping, accepted_answer, answered_for, answered}
+use Rattle.ha_loop.specs.Racing.{can_start, bar_of, outcome_by, judged_as, judged, asking_others, unheard, races, races_unless, finds_free}
 use Rattle.ha_loop.specs.Snapshots.{no_key, led, is_active, awaits_read, read_noted, accepted, got}
 use Rattle.ha_loop.specs.Views.{shown}
+use Rattle.ha_loop.specs.Wake.{finds_ended, is_overdue, has_turn, is_due, unanswered, overdue_for, overdue, turned, woken}
+use Rattle.ha_loop.proofs.Judging.{if-true, if-false}
+use Rattle.ha_loop.proofs.Knowing.{creates-active}
+use Rattle.ha_loop.proofs.LawfulSteps.{before-waits}
 use Rattle.ha_loop.proofs.Living.{no-way}
-
-if-true : {A : Type 0} (test : Bool) (x y : A) → test ≡ true → (if test then x else y) ≡ x
-if-true test x y is = rw is refl
-
-if-false : {A : Type 0} (test : Bool) (x y : A) → test ≡ false → (if test then x else y) ≡ y
-if-false test x y is = rw is refl
-
-creates-active : (role : RoleFacts) → may_create role ≡ true → is_active role ≡ true
-creates-active Follower may = refl
-creates-active (Holder held) may = refl
-creates-active (Ready held) may = refl
-creates-active (Leader held) may = refl
-creates-active (Ending held why) may = absurd (no-way may)
-creates-active Stray may = refl
+use Rattle.ha_loop.proofs.Rows.{if-cases}
 
 no-key-free : (now : Ticks) (role : RoleFacts) (o : Outcome) → may_create role ≡ true → no_key now role o ≡ finds_free now o
 no-key-free now Follower o may = refl
@@ -66,8 +79,119 @@ barred-out now points sequence snapshot bar o hears down is = let x : Outcome = 
     subst (λ (after : Outcome). StaysOut snapshot bar o after) (sym (got-free now points sequence snapshot o hears ∙ free-raced now snapshot o (Some bar) down is))
     (record { role = refl; machine = refl; waits = refl; outputs_are = refl })
 
-pub free-asked : (now : Ticks) (points : List HistoryPoint) (sequence : ℕ) (snapshot : SnapshotFacts) (o : Outcome) → HearsFree sequence snapshot o → eligibility_of (shown now o) snapshot ≡ None → AsksForKey o (got now points sequence snapshot o)
-free-asked now points sequence snapshot o hears is = let x : Outcome = record o { role = Follower; knows = read_noted now snapshot o.knows } in
+-- nobody bars who has no answers
+nobody-bars : (excepted : Bool) → first_bar (None ∷ unless excepted None ∷ unless excepted None ∷ []) ≡ None
+nobody-bars true = refl
+nobody-bars false = refl
+
+alone-wins : (view : AgentView) (snapshot : SnapshotFacts) → outcome_of view snapshot [] ≡ None
+alone-wins view snapshot = nobody-bars (is_candidate view.me (failover_in snapshot))
+
+-- what the answers bring
+judged-is : (now : Ticks) (snapshot : SnapshotFacts) (bar : Option Bar) (o : Outcome) → o.knows.seen ≡ Some snapshot → outcome_of (shown now o) snapshot o.knows.answers ≡ bar → judged now o ≡ judged_as now bar (waiting_no_more o)
+judged-is now snapshot bar o seen is =
+    ap (λ (b : Option Bar). judged_as now b (waiting_no_more o)) (ap (λ (s : Option SnapshotFacts). outcome_by (shown now o) s o.knows.answers) seen ∙ is)
+
+-- an agent that nothing bars races
+free-races : (now : Ticks) (points : List HistoryPoint) (sequence : ℕ) (snapshot : SnapshotFacts) (o : Outcome) → HearsFree sequence snapshot o → eligibility_of (shown now o) snapshot ≡ None
+    → got now points sequence snapshot o ≡ races now (record o { role = Follower; knows = read_noted now snapshot o.knows })
+free-races now points sequence snapshot o hears is =
+    got-free now points sequence snapshot o hears ∙ free-raced now snapshot o None (replica-runs o.machine.server.state o.machine.server.diverged (race-replica (shown now o) snapshot is)) is
+
+pub free-alone : (now : Ticks) (points : List HistoryPoint) (sequence : ℕ) (snapshot : SnapshotFacts) (o : Outcome) → HearsFree sequence snapshot o → eligibility_of (shown now o) snapshot ≡ None → all_answered o.knows.who [] ≡ true
+    → AsksForKey o (got now points sequence snapshot o)
+free-alone now points sequence snapshot o hears is alone = let x : Outcome = unheard (record o { role = Follower; knows = read_noted now snapshot o.knows }) in
     subst (λ (after : Outcome). AsksForKey o after)
-    (sym (got-free now points sequence snapshot o hears ∙ free-raced now snapshot o None (replica-runs o.machine.server.state o.machine.server.diverged (race-replica (shown now o) snapshot is)) is))
+    (sym (free-races now points sequence snapshot o hears is ∙ if-true (all_answered o.knows.who []) (judged now x) (asking_others now x) alone ∙ judged-is now snapshot None x refl (alone-wins (shown now x) snapshot)))
     (record { waited = _; waits = refl; asks = refl; outputs_are = refl })
+
+-- one more ask keeps those before it
+ask-keeps : (who : Who) (sequence : ℕ) (member : Option MemberId) (outs : List Output) (output : Output) → Contains outs output → Contains (asking_one who sequence member outs) output
+ask-keeps who sequence None outs output among = among
+ask-keeps who sequence (Some member) outs output among =
+    if-cases (λ (l : List Output). Contains l output) (is_other who member) (listed (outputs.Send (targets.Member member) sequence bodies.Ask) outs) outs (λ _. Contains-append_left outs (outputs.Send (targets.Member member) sequence bodies.Ask ∷ []) output among) (λ _. among)
+
+ask-sent : (who : Who) (sequence : ℕ) (member : MemberId) (outs : List Output) → is_other who member ≡ true → Contains (asking_one who sequence (Some member) outs) (outputs.Send (targets.Member member) sequence bodies.Ask)
+ask-sent who sequence member outs other = subst (λ (l : List Output). Contains l (outputs.Send (targets.Member member) sequence bodies.Ask))
+    (sym (if-true (is_other who member) (listed (outputs.Send (targets.Member member) sequence bodies.Ask) outs) outs other)) (Contains-push outs (outputs.Send (targets.Member member) sequence bodies.Ask))
+
+below-or : (a n : ℕ) → a < suc n → (a < n) ⊎ (a ≡ n)
+below-or a n less = grind (arith, less)
+
+-- each other member is asked
+each-asked : (who : Who) (sequence count : ℕ) (member : MemberId) (outs : List Output) → is_other who member ≡ true → member.number < count → Contains (asking_first who sequence count outs) (outputs.Send (targets.Member member) sequence bodies.Ask)
+each-asked who sequence zero member outs other less = absurd (omega (arith, less))
+each-asked who sequence (suc count) member outs other less = elim (below-or member.number count less) [
+  | inl before-it ↦ ask-keeps who sequence (member_of count) (asking_first who sequence count outs) (outputs.Send (targets.Member member) sequence bodies.Ask) (each-asked who sequence count member outs other before-it)
+  | inr here ↦ subst (λ (m : Option MemberId). Contains (asking_one who sequence m (asking_first who sequence count outs)) (outputs.Send (targets.Member member) sequence bodies.Ask))
+      (sym (member_of-number member) ∙ ap (λ (n : ℕ). member_of n) here) (ask-sent who sequence member (asking_first who sequence count outs) other)
+]
+
+pub free-asks : (now : Ticks) (points : List HistoryPoint) (sequence : ℕ) (snapshot : SnapshotFacts) (o : Outcome) → HearsFree sequence snapshot o → eligibility_of (shown now o) snapshot ≡ None → all_answered o.knows.who [] ≡ false
+    → AsksOthers now o (got now points sequence snapshot o)
+free-asks now points sequence snapshot o hears is others = let x : Outcome = unheard (record o { role = Follower; knows = read_noted now snapshot o.knows }) in
+    subst (λ (after : Outcome). AsksOthers now o after)
+    (sym (free-races now points sequence snapshot o hears is ∙ if-false (all_answered o.knows.who []) (judged now x) (asking_others now x) others))
+    (record {
+      waited = _;
+      waits = refl;
+      asks = refl;
+      later = omega arith;
+      until = refl;
+      unheard = refl;
+      each = λ member other. each-asked o.knows.who (o.knows.sequence + 1) most_answers member o.outputs other member.below;
+      outputs_are = refl;
+    })
+
+-- the last answer
+last-judged : (now : Ticks) (waited : Waited) (sequence : ℕ) (answer : PeerAnswer) (snapshot : SnapshotFacts) (bar : Option Bar) (o : Outcome) → HearsLast waited sequence answer snapshot o → outcome_of (shown now o) snapshot (with_answer answer o.knows.answers) ≡ bar
+    → answered now sequence answer o ≡ judged_as now bar (waiting_no_more (keeping answer o))
+last-judged now waited sequence answer snapshot bar o hears is = let x : Outcome = keeping answer o in
+    ap (λ (w : Option Waited). answered_for now sequence answer w o) hears.awaits.waits
+    ∙ if-true (awaits_answer waited sequence) (accepted_answer now answer o) o hears.number
+    ∙ if-true (may_create o.role) (judged_if_all now x) (waiting_no_more o) hears.awaits.role
+    ∙ if-true (all_answered o.knows.who (with_answer answer o.knows.answers)) (judged now x) x hears.all
+    ∙ judged-is now snapshot bar x hears.awaits.seen is
+
+pub last-won : (now : Ticks) (waited : Waited) (sequence : ℕ) (answer : PeerAnswer) (snapshot : SnapshotFacts) (o : Outcome) → HearsLast waited sequence answer snapshot o → outcome_of (shown now o) snapshot (with_answer answer o.knows.answers) ≡ None
+    → AsksForKey o (answered now sequence answer o)
+last-won now waited sequence answer snapshot o hears is = subst (λ (after : Outcome). AsksForKey o after) (sym (last-judged now waited sequence answer snapshot None o hears is)) (record { waited = _; waits = refl; asks = refl; outputs_are = refl })
+
+pub last-lost : (now : Ticks) (waited : Waited) (sequence : ℕ) (answer : PeerAnswer) (snapshot : SnapshotFacts) (bar : Bar) (o : Outcome) → HearsLast waited sequence answer snapshot o → outcome_of (shown now o) snapshot (with_answer answer o.knows.answers) ≡ Some bar
+    → LosesRace bar o (answered now sequence answer o)
+last-lost now waited sequence answer snapshot bar o hears is = subst (λ (after : Outcome). LosesRace bar o after) (sym (last-judged now waited sequence answer snapshot (Some bar) o hears is)) (record { role = refl; machine = refl; waits = refl; outputs_are = refl })
+
+-- the time for answers is over
+asking-late : (now : Ticks) (question : Question) (o : Outcome) → is_asking question ≡ true → may_create o.role ≡ true → unanswered now question o ≡ judged now o
+asking-late now Asking o asking may = if-true (may_create o.role) (judged now o) (waiting_no_more o) may
+asking-late now Reading o asking may = absurd (no-way asking)
+asking-late now Creating o asking may = absurd (no-way asking)
+asking-late now Renewing o asking may = absurd (no-way asking)
+
+either-late : (a b c : Bool) → b ≡ true → a || (b || c) ≡ true
+either-late true b c e = refl
+either-late false true c e = refl
+either-late false false c e = absurd (no-way e)
+
+late-due : (now : Ticks) (waited : Waited) (o : Outcome) → o.knows.waited ≡ Some waited → nat_le waited.until.0 now.0 ≡ true → is_due now o.role o.knows o.machine ≡ true
+late-due now waited o waits late = either-late (finds_ended o.role o.machine.server.state) (is_overdue now o.knows.waited) (has_turn now o.knows) (ap (λ (w : Option Waited). is_overdue now w) waits ∙ late)
+
+late-judged : (now : Ticks) (waited : Waited) (snapshot : SnapshotFacts) (bar : Option Bar) (o : Outcome) → RunsLate now waited snapshot (before now o) → outcome_of (shown now (before now o)) snapshot (before now o).knows.answers ≡ bar
+    → woken now o ≡ turned now (judged_as now bar (waiting_no_more (before now o)))
+late-judged now waited snapshot bar o runs is = let b : Outcome = before now o in
+    if-true (is_due now o.role o.knows o.machine) (turned now (overdue now b)) b (late-due now waited o (sym (before-waits now o) ∙ runs.awaits.waits) runs.late)
+    ∙ ap (λ (x : Outcome). turned now x)
+    (ap (λ (w : Option Waited). overdue_for now w b) runs.awaits.waits
+    ∙ if-true (nat_le waited.until.0 now.0) (unanswered now waited.question b) b runs.late
+    ∙ asking-late now waited.question b runs.awaits.asking runs.awaits.role
+    ∙ judged-is now snapshot bar b runs.awaits.seen is)
+
+pub late-won : (now : Ticks) (waited : Waited) (snapshot : SnapshotFacts) (o : Outcome) → RunsLate now waited snapshot (before now o) → outcome_of (shown now (before now o)) snapshot (before now o).knows.answers ≡ None → AsksForKey (before now o) (woken now o)
+late-won now waited snapshot o runs is = subst (λ (after : Outcome). AsksForKey (before now o) after) (sym (late-judged now waited snapshot None o runs is)) (record { waited = _; waits = refl; asks = refl; outputs_are = refl })
+
+pub late-lost : (now : Ticks) (waited : Waited) (snapshot : SnapshotFacts) (bar : Bar) (o : Outcome) → RunsLate now waited snapshot (before now o) → outcome_of (shown now (before now o)) snapshot (before now o).knows.answers ≡ Some bar → LosesAndTurns now bar (before now o) (woken now o)
+late-lost now waited snapshot bar o runs is = record {
+  lost = judged_as now (Some bar) (waiting_no_more (before now o));
+  loses = record { role = refl; machine = refl; waits = refl; outputs_are = refl };
+  turns = late-judged now waited snapshot (Some bar) o runs is;
+}

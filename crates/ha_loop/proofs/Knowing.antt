@@ -6,6 +6,7 @@ use Rattle.std.proofs.lemmas.Nat.Bits.{bit_at_or}
 use Rattle.std.proofs.lemmas.Bool.Decides.{nat_tests}
 use Rattle.pat_base.specs.declared.member_id.MemberId.{MemberId}
 use Rattle.pat_base.specs.declared.member_set.MemberSet.{MemberSet}
+use Rattle.pat_base.specs.declared.peer_answer.PeerAnswer.{PeerAnswer}
 use Rattle.pat_base.specs.declared.ticks.Ticks.{Ticks}
 use Rattle.lease_store.specs.declared.granted.Granted.{Granted}
 use Rattle.lease_store.specs.declared.key.Key.TheVariants as keys
@@ -17,7 +18,7 @@ use Rattle.lease_law.specs.Leases.{LeaderSeen, FailsafeKey}
 use Rattle.lease_law.specs.Past.{set_members}
 use Rattle.lease_law.proofs.Tools.{some-is, none-some}
 use Rattle.ha_loop.specs.declared.heard.Heard.{Heard}
-use Rattle.ha_loop.specs.declared.heard.Heard.TheVariants.{Wake, Got, Granted as HeardGranted, Mismatch}
+use Rattle.ha_loop.specs.declared.heard.Heard.TheVariants.{Wake, Got, Granted as HeardGranted, Mismatch, Asked, Answered}
 use Rattle.ha_loop.specs.declared.knowledge.Waited.{Waited}
 use Rattle.ha_loop.specs.declared.output.Output.TheVariants as outputs
 use Rattle.ha_loop.specs.declared.role.Why.{Why}
@@ -25,17 +26,18 @@ use Rattle.ha_loop.specs.declared.role.Why.TheVariants.{HandOver, Lost}
 use Rattle.ha_loop.specs.Acting.{disarming, arming, feeding, ending_server, shutting_down, touching, starting_replica, following_server, is_refusing, waiting_no_more}
 use Rattle.ha_loop.specs.Agents.{EndsAlone, HasCounted, RoleFacts, Follower, Holder, Ready, Leader, Ending, Stray, Outcome}
 use Rattle.ha_loop.specs.Before.{leader_finds_ended, has_ended, finds_live, stray_finds_ended, before}
-use Rattle.ha_loop.specs.Decisions.{is_start_too_long, leader_renewed, takes_over, stray_renewed, may_take, gives_back, begins, arms, takes_key, granted, refused}
+use Rattle.ha_loop.specs.Decisions.{may_create, is_start_too_long, leader_renewed, takes_over, stray_renewed, may_take, gives_back, begins, arms, takes_key, granted, refused}
 use Rattle.ha_loop.specs.Outputs.{listed}
 use Rattle.ha_loop.specs.Seen.{lease_asked, leader_seen_if, failsafe_listed, failsafe_entry_seen, failsafe_seen_if}
 use Rattle.ha_loop.specs.Repairs.{repair_of, repairing}
 use Rattle.ha_loop.specs.Snapshots.{known_with, informed, is_active, renewing, follow_row, follows, leader_loses_key, stray_loses_key, read_noted, got}
-use Rattle.ha_loop.specs.Racing.{creating, barred, finds_free}
+use Rattle.ha_loop.specs.Racing.{creating, barred, finds_free, judged, asking_others, unheard}
+use Rattle.ha_loop.specs.Peers.{asked, keeping, answered}
 use Rattle.ha_loop.specs.Table.{step}
 use Rattle.ha_loop.specs.Wake.{reading, turn_noted, leader_out_of_reach, stray_out_of_reach, overdue, turned, woken}
 use Rattle.ha_loop.proofs.Granting.{Told}
 use Rattle.ha_loop.proofs.Living.{no-way}
-use Rattle.ha_loop.proofs.Rows.{if-cases, before-by, overdue-by, turn-by, wake-by, got-by, refused-by, follow-by, repaired-by, free-by, granted-by}
+use Rattle.ha_loop.proofs.Rows.{if-cases, before-by, overdue-by, turn-by, wake-by, got-by, refused-by, follow-by, repaired-by, free-by, granted-by, judged-by, answered-by}
 
 -- who ends its server waits for nothing
 abbrev pub IsAlone : Outcome → Type 0
@@ -208,12 +210,26 @@ before-onward told now o = before-by (Onward told o) now o (record {
   stray = λ _ _. waits-on told o (stray_finds_ended o) refl refl refl refl refl (omega arith) refl refl refl;
 })
 
+pub creates-active : (role : RoleFacts) → may_create role ≡ true → is_active role ≡ true
+creates-active Follower may = refl
+creates-active (Holder held) may = refl
+creates-active (Ready held) may = refl
+creates-active (Leader held) may = refl
+creates-active (Ending held why) may = absurd (no-way may)
+creates-active Stray may = refl
+
+judged-onward : (told : Option SnapshotFacts) (now : Ticks) (o : Outcome) → may_create o.role ≡ true → Onward told o (judged now o)
+judged-onward told now o may = judged-by (Onward told o) now o
+    (asks-on told o (creating now (waiting_no_more o)) refl refl refl refl refl (omega arith) (λ n e. asked-new o.knows.sequence n e) refl (creates-active o.role may) _ refl refl)
+    (λ bar. rests told o (barred bar (waiting_no_more o)) refl refl refl refl refl (omega arith) refl refl)
+
 pub overdue-onward : (told : Option SnapshotFacts) (now : Ticks) (o : Outcome) → Onward told o (overdue now o)
 overdue-onward told now o = overdue-by (Onward told o) now o (record {
   kept = same told o;
   quiet = rests told o (waiting_no_more o) refl refl refl refl refl (omega arith) refl refl;
   leader = λ held _. rests told o (leader_out_of_reach now held (waiting_no_more o)) refl refl refl refl refl (omega arith) refl refl;
   stray = λ _. rests told o (stray_out_of_reach now (waiting_no_more o)) refl refl refl refl refl (omega arith) refl refl;
+  judges = λ may. judged-onward told now o may;
 })
 
 pub turn-onward : (told : Option SnapshotFacts) (now : Ticks) (o : Outcome) → Onward told o (turned now o)
@@ -258,10 +274,13 @@ follow-onward now snapshot leader o = let x : Outcome = record o { role = Follow
 
 free-onward : (now : Ticks) (snapshot : SnapshotFacts) (o : Outcome) → Onward (Some snapshot) o (finds_free now (record o { knows = read_noted now snapshot o.knows }))
 free-onward now snapshot o = let x : Outcome = record o { role = Follower; knows = read_noted now snapshot o.knows } in
-    free-by (Onward (Some snapshot) o) now x
-    (quiet-told snapshot o (touching (starting_replica now None x)) refl refl refl refl refl (omega arith) refl refl)
-    (λ bar. quiet-told snapshot o (barred bar x) refl refl refl refl refl (omega arith) refl refl)
-    (asks-told snapshot o (creating now x) refl refl refl refl refl (omega arith) refl refl refl _ refl refl)
+    free-by (Onward (Some snapshot) o) now x (record {
+      starts = quiet-told snapshot o (touching (starting_replica now None x)) refl refl refl refl refl (omega arith) refl refl;
+      bars = λ bar. quiet-told snapshot o (barred bar x) refl refl refl refl refl (omega arith) refl refl;
+      judges = onward-then (Some snapshot) o (unheard x) (judged now (unheard x)) (quiet-told snapshot o (unheard x) refl refl refl refl refl (omega arith) refl refl) (judged-onward (Some snapshot) now (unheard x) refl);
+      asks = onward-then (Some snapshot) o (Told snapshot o) (asking_others now (unheard x)) (tells snapshot o)
+          (asks-on (Some snapshot) (Told snapshot o) (asking_others now (unheard x)) refl refl refl refl refl (omega arith) (λ n e. absurd (none-some _ e)) refl refl _ refl refl);
+    })
 
 pub got-onward : (now : Ticks) (points : List HistoryPoint) (sequence : ℕ) (snapshot : SnapshotFacts) (o : Outcome) → Onward (Some snapshot) o (got now points sequence snapshot o)
 got-onward now points sequence snapshot o = let read : Outcome = record o { knows = read_noted now snapshot o.knows } in
@@ -318,15 +337,32 @@ granted-onward now sequence grant snapshot o = granted-by (Onward (Some snapshot
       takes = λ _. takes-onward now waited.ttl grant.revision snapshot o;
     })
 
+pub answered-onward : (told : Option SnapshotFacts) (now : Ticks) (sequence : ℕ) (answer : PeerAnswer) (o : Outcome) → Onward told o (answered now sequence answer o)
+answered-onward told now sequence answer o =
+    let kept : Onward told o (keeping answer o) = keeps told o (keeping answer o) refl refl refl refl refl (omega arith) (λ n e. inl e) refl (λ alone. alone) (λ counted. counted) in
+    answered-by (Onward told o) now sequence answer o (record {
+      kept = same told o;
+      quiet = rests told o (waiting_no_more o) refl refl refl refl refl (omega arith) refl refl;
+      keeps = kept;
+      judges = λ may. onward-then told o (keeping answer o) (judged now (keeping answer o)) kept (judged-onward told now (keeping answer o) may);
+    })
+
+pub asked-onward : (told : Option SnapshotFacts) (from : MemberId) (run sequence : ℕ) (o : Outcome) → Onward told o (asked from run sequence o)
+asked-onward told from run sequence o = keeps told o (asked from run sequence o) refl refl refl refl refl (omega arith) (λ n e. inl e) refl (λ alone. alone) (λ counted. counted)
+
 -- the snapshot that comes with what is heard
 abbrev pub told_by : Heard → Option SnapshotFacts
 told_by Wake = None
 told_by (Got sequence snapshot) = Some snapshot
 told_by (HeardGranted sequence grant snapshot) = Some snapshot
 told_by (Mismatch sequence key found) = None
+told_by (Asked from run sequence) = None
+told_by (Answered sequence answer) = None
 
 pub step-onward : (now : Ticks) (points : List HistoryPoint) (heard : Heard) (o : Outcome) → Onward (told_by heard) o (step now points heard o)
 step-onward now points Wake o = wake-onward None now o
 step-onward now points (Got sequence snapshot) o = onward-then (Some snapshot) o (before now o) (got now points sequence snapshot (before now o)) (before-onward (Some snapshot) now o) (got-onward now points sequence snapshot (before now o))
 step-onward now points (HeardGranted sequence grant snapshot) o = onward-then (Some snapshot) o (before now o) (granted now sequence grant snapshot (before now o)) (before-onward (Some snapshot) now o) (granted-onward now sequence grant snapshot (before now o))
 step-onward now points (Mismatch sequence key found) o = onward-then None o (before now o) (refused now sequence (before now o)) (before-onward None now o) (refused-onward None now sequence (before now o))
+step-onward now points (Asked from run sequence) o = onward-then None o (before now o) (asked from run sequence (before now o)) (before-onward None now o) (asked-onward None from run sequence (before now o))
+step-onward now points (Answered sequence answer) o = onward-then None o (before now o) (answered now sequence answer (before now o)) (before-onward None now o) (answered-onward None now sequence answer (before now o))

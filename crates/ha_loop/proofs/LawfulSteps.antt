@@ -2,7 +2,9 @@
 use Rattle.std.proofs.Common.{◌≡◌, ◌⊎◌, ℕ, ◌≤◌, true, false, List, [], Option, Some, None, All, refl, sym, subst, ap, ◌∙◌, inl, inr}
 use Rattle.std.proofs.lemmas.List.Elements.{All-nil}
 use Rattle.std.specs.Option.{ForSome}
+use Rattle.pat_base.specs.declared.member_id.MemberId.{MemberId}
 use Rattle.pat_base.specs.declared.member_set.MemberSet.{MemberSet}
+use Rattle.pat_base.specs.declared.peer_answer.PeerAnswer.{PeerAnswer}
 use Rattle.pat_base.specs.declared.ticks.Ticks.{Ticks}
 use Rattle.pat_base.specs.ServerState.{live}
 use Rattle.lease_store.specs.declared.granted.Granted.{Granted}
@@ -16,7 +18,7 @@ use Rattle.lease_law.specs.Inputs.{AgentInput, HeardLeader, HeardFailsafe, FedKn
 use Rattle.lease_law.specs.Past.{set_members}
 use Rattle.lease_law.proofs.Tools.{some-is, none-some}
 use Rattle.ha_loop.specs.declared.heard.Heard.{Heard}
-use Rattle.ha_loop.specs.declared.heard.Heard.TheVariants.{Wake, Got, Granted as HeardGranted, Mismatch}
+use Rattle.ha_loop.specs.declared.heard.Heard.TheVariants.{Wake, Got, Granted as HeardGranted, Mismatch, Asked, Answered}
 use Rattle.ha_loop.specs.declared.knowledge.Knowledge.{Knowledge}
 use Rattle.ha_loop.specs.declared.knowledge.Waited.{Waited}
 use Rattle.ha_loop.specs.declared.machine.Machine.{Machine}
@@ -31,19 +33,20 @@ use Rattle.ha_loop.specs.Lawful.{StandsIn, HearsAnswer, TellsLease, HearsGrant, 
 use Rattle.ha_loop.specs.Powers.{BringsNothing, LeavesMachine, IsAwaitedLease, GrantMay, is_ready, leads, lease_of}
 use Rattle.ha_loop.specs.Powers.GrantMay.{Nothing, Leads}
 use Rattle.ha_loop.specs.Seen.{leader_seen_if, failsafe_seen_if}
+use Rattle.ha_loop.specs.Peers.{asked, answered}
 use Rattle.ha_loop.specs.Snapshots.{got}
 use Rattle.ha_loop.specs.Table.{step, act}
 use Rattle.ha_loop.specs.Wake.{overdue, turned, woken}
-use Rattle.ha_loop.proofs.Bringing.{brings-then, before-brings, overdue-brings, turn-brings, wake-brings, got-brings, refused-brings, read-brings, refusal-brings}
+use Rattle.ha_loop.proofs.Bringing.{brings-then, before-brings, overdue-brings, turn-brings, wake-brings, got-brings, refused-brings, answer-brings, read-brings, refusal-brings, asked-brings, answered-brings}
 use Rattle.ha_loop.proofs.Fitting.{before-fits}
 use Rattle.ha_loop.proofs.Granting.{awaited-lease, granted-may as grant-may}
-use Rattle.ha_loop.proofs.Knowing.{IsAlone, alone-of, ends-of, Onward, before-onward, wake-onward, got-onward, refused-onward, granted-onward, onward-then, step-onward}
+use Rattle.ha_loop.proofs.Knowing.{IsAlone, alone-of, ends-of, Onward, before-onward, wake-onward, got-onward, refused-onward, granted-onward, answered-onward, asked-onward, onward-then, step-onward}
 use Rattle.ha_loop.proofs.Lawful.{was_of, acts-seen, seen-acts, watchdog-leaves, parted-by, lawful-of}
 use Rattle.ha_loop.proofs.LawfulGrants.{heard-leader, heard-failsafe, hears-grant, fed-of, entry-known, armable-before, new-deadline, free-of}
-use Rattle.ha_loop.proofs.Leaving.{behind, before-leaves, wake-leaves, read-leaves, refusal-leaves}
+use Rattle.ha_loop.proofs.Leaving.{behind, before-leaves, wake-leaves, read-leaves, refusal-leaves, asked-leaves, answered-leaves}
 use Rattle.ha_loop.proofs.Living.{no-way}
 use Rattle.ha_loop.proofs.Rows.{before-by, wake-by}
-use Rattle.ha_loop.proofs.Sending.{IsSilent, AllMay, Decides, BeginsOn, before-may, wake-may, got-may, refused-may, granted-may as granted-sends, nobody-begins, grant-begins, begins-weaker}
+use Rattle.ha_loop.proofs.Sending.{IsSilent, AllMay, Decides, BeginsOn, before-may, wake-may, got-may, refused-may, granted-may as granted-sends, asked-may, answered-may, nobody-begins, grant-begins, begins-weaker}
 
 -- no revision is granted
 abbrev Nobody : ℕ → Type 0
@@ -184,6 +187,20 @@ refused-lawful s m runs input now sequence o alone silent stands is = let b : Ou
     (refusal-leaves now sequence o) (refusal-brings now sequence o) (parted-by b (refused now sequence b) (before-fits now o) (refused-brings now sequence b))
     (refused-may Nobody now sequence o alone silent) (λ key e. absurd (none-some _ e)) (λ seen e. absurd (none-some _ e))
 
+answered-lawful : (s : State) (m runs : ℕ) (input : AgentInput) (now : Ticks) (sequence : ℕ) (answer : PeerAnswer) (o : Outcome) → IsAlone o → All IsSilent o.outputs → StandsIn s m runs now o
+    → IsInputOf s m runs o (answered now sequence answer (before now o)) input → IsLawfulAnd s m (answered now sequence answer (before now o)) input
+answered-lawful s m runs input now sequence answer o alone silent stands is = let b : Outcome = before now o in
+    without-grant s m runs input now None o (answered now sequence answer b) stands is (onward-then None o b (answered now sequence answer b) (before-onward None now o) (answered-onward None now sequence answer b))
+    (answered-leaves now sequence answer o) (answered-brings now sequence answer o) (parted-by b (answered now sequence answer b) (before-fits now o) (answer-brings now sequence answer b))
+    (answered-may Nobody now sequence answer o alone (before-onward None now o).last silent) (λ key e. absurd (none-some _ e)) (λ seen e. absurd (none-some _ e))
+
+asked-lawful : (s : State) (m runs : ℕ) (input : AgentInput) (now : Ticks) (from : MemberId) (run sequence : ℕ) (o : Outcome) → IsAlone o → All IsSilent o.outputs → StandsIn s m runs now o
+    → IsInputOf s m runs o (asked from run sequence (before now o)) input → IsLawfulAnd s m (asked from run sequence (before now o)) input
+asked-lawful s m runs input now from run sequence o alone silent stands is = let b : Outcome = before now o in
+    without-grant s m runs input now None o (asked from run sequence b) stands is (onward-then None o b (asked from run sequence b) (before-onward None now o) (asked-onward None from run sequence b))
+    (asked-leaves now from run sequence o) (asked-brings now from run sequence o) (parted-by b b (before-fits now o) (record { live = λ e. e; leads = λ e. e; ready = λ e. e; lease = λ revision e. e }))
+    (asked-may Nobody now from run sequence o alone silent) (λ key e. absurd (none-some _ e)) (λ seen e. absurd (none-some _ e))
+
 may-promote : (s : State) (m runs sequence : ℕ) (input : AgentInput) (now : Ticks) (grant : Granted) (snapshot : SnapshotFacts) (o : Outcome) → AsksLeases o.knows → StandsIn s m runs now o → HearsGrant s m input.heard now sequence grant snapshot o
     → (outs : List Output) → BeginsOn now sequence grant (before now o) outs → MayPromote s m input outs
 may-promote s m runs sequence input now grant snapshot o sound stands hears outs begin = let awaited : IsAwaitedLease sequence grant o.knows = awaited-by sequence grant now o begin.decides in record {
@@ -221,6 +238,8 @@ step-lawful now points Wake o sound alone silent s m runs input stands hears is 
 step-lawful now points (Got sequence snapshot) o sound alone silent s m runs input stands hears is = got-lawful s m runs input now points sequence snapshot o alone silent stands hears is
 step-lawful now points (HeardGranted sequence grant snapshot) o sound alone silent s m runs input stands hears is = grant-lawful s m runs input now sequence grant snapshot o sound alone silent stands hears is
 step-lawful now points (Mismatch sequence key found) o sound alone silent s m runs input stands hears is = refused-lawful s m runs input now sequence o alone silent stands is
+step-lawful now points (Asked from run sequence) o sound alone silent s m runs input stands hears is = asked-lawful s m runs input now from run sequence o alone silent stands is
+step-lawful now points (Answered sequence answer) o sound alone silent s m runs input stands hears is = answered-lawful s m runs input now sequence answer o alone silent stands is
 
 -- each input of the table is lawful, whenever the agent's turns began
 pub input-lawful-from : (now : Ticks) (points : List HistoryPoint) (heard : Heard) (role : RoleFacts) (knows : Knowledge) (machine : Machine) → AsksLeases knows → EndsAlone role knows.waited

@@ -1,6 +1,7 @@
 -- What an input without a grant does to the watchdog and the hold.
 use Rattle.std.proofs.Common.{◌≡◌, ℕ, true, false, List, refl, sym, ◌∙◌, inl, inr}
 use Rattle.pat_base.specs.declared.member_id.MemberId.{MemberId}
+use Rattle.pat_base.specs.declared.peer_answer.PeerAnswer.{PeerAnswer}
 use Rattle.pat_base.specs.declared.ticks.Ticks.{Ticks}
 use Rattle.pat_base.specs.ServerState.{live}
 use Rattle.wal_model.specs.declared.entry.HistoryPoint.{HistoryPoint}
@@ -15,11 +16,12 @@ use Rattle.ha_loop.specs.Decisions.{refused}
 use Rattle.ha_loop.specs.Powers.{BringsNothing, LeavesMachine, Acts, is_ready}
 use Rattle.ha_loop.specs.Powers.DeadlineMay.{Kept, Removed, Undone}
 use Rattle.ha_loop.specs.Snapshots.{follows, read_noted, got, follow_row}
-use Rattle.ha_loop.specs.Racing.{finds_free}
+use Rattle.ha_loop.specs.Racing.{finds_free, judged, unheard}
+use Rattle.ha_loop.specs.Peers.{asked, keeping, answered}
 use Rattle.ha_loop.specs.Wake.{overdue, turned, woken}
-use Rattle.ha_loop.proofs.Bringing.{overdue-brings, turn-brings, got-brings, refused-brings}
+use Rattle.ha_loop.proofs.Bringing.{same-role, overdue-brings, turn-brings, got-brings, refused-brings, answer-brings}
 use Rattle.ha_loop.proofs.Living.{no-way}
-use Rattle.ha_loop.proofs.Rows.{before-by, overdue-by, turn-by, wake-by, got-by, refused-by, follow-by, free-by, repaired-by}
+use Rattle.ha_loop.proofs.Rows.{before-by, overdue-by, turn-by, wake-by, got-by, refused-by, follow-by, free-by, repaired-by, judged-by, answered-by}
 
 -- neither changes
 pub record Stays (o after : Outcome) : Type 0 where
@@ -67,8 +69,11 @@ before-leaves now o = before-by (LeavesMachine o) now o (record {
   stray = λ _ ended. record { deadline = Removed refl (rests-by (stray_finds_ended o) ended refl); hold = refl };
 })
 
+judged-stays : (now : Ticks) (o : Outcome) → Stays o (judged now o)
+judged-stays now o = judged-by (Stays o) now o (record { watchdog = refl; hold = refl }) (λ bar. record { watchdog = refl; hold = refl })
+
 overdue-stays : (now : Ticks) (o : Outcome) → Stays o (overdue now o)
-overdue-stays now o = overdue-by (Stays o) now o (record { kept = stays; quiet = record { watchdog = refl; hold = refl }; leader = λ held _. record { watchdog = refl; hold = refl }; stray = λ _. record { watchdog = refl; hold = refl } })
+overdue-stays now o = overdue-by (Stays o) now o (record { kept = stays; quiet = record { watchdog = refl; hold = refl }; leader = λ held _. record { watchdog = refl; hold = refl }; stray = λ _. record { watchdog = refl; hold = refl }; judges = λ _. judged-stays now o })
 
 turn-stays : (now : Ticks) (o : Outcome) → Stays o (turned now o)
 turn-stays now o = turn-by (Stays o) now o (record { kept = stays; quiet = record { watchdog = refl; hold = refl }; reads = λ _. record { watchdog = refl; hold = refl } })
@@ -86,7 +91,8 @@ follow-stays now leader o = let x : Outcome = record o { role = Follower } in
     repaired-by (Stays o) leader (repair_of o.knows.settings leader o.machine.server) (touching (follow_row now leader o.machine.server.state x)) told (λ r. record { watchdog = told.watchdog; hold = told.hold })
 
 free-stays : (now : Ticks) (o : Outcome) → Stays o (finds_free now o)
-free-stays now o = free-by (Stays o) now (record o { role = Follower }) (record { watchdog = refl; hold = refl }) (λ bar. record { watchdog = refl; hold = refl }) (record { watchdog = refl; hold = refl })
+free-stays now o = let x : Outcome = record o { role = Follower } in let race : Stays (unheard x) (judged now (unheard x)) = judged-stays now (unheard x) in
+    free-by (Stays o) now x (record { starts = record { watchdog = refl; hold = refl }; bars = λ bar. record { watchdog = refl; hold = refl }; judges = record { watchdog = race.watchdog; hold = race.hold }; asks = record { watchdog = refl; hold = refl } })
 
 stays-read : (now : Ticks) (snapshot : SnapshotFacts) (o after : Outcome) → Stays (record o { knows = read_noted now snapshot o.knows }) after → Stays o after
 stays-read now snapshot o after stay = record { watchdog = stay.watchdog; hold = stay.hold }
@@ -119,3 +125,13 @@ read-leaves now points sequence snapshot o = behind o (before now o) (got now po
 
 pub refusal-leaves : (now : Ticks) (sequence : ℕ) (o : Outcome) → LeavesMachine o (refused now sequence (before now o))
 refusal-leaves now sequence o = behind o (before now o) (refused now sequence (before now o)) (before-leaves now o) (refused-stays now sequence (before now o)) (refused-brings now sequence (before now o))
+
+answer-stays : (now : Ticks) (sequence : ℕ) (answer : PeerAnswer) (o : Outcome) → Stays o (answered now sequence answer o)
+answer-stays now sequence answer o = let race : Stays (keeping answer o) (judged now (keeping answer o)) = judged-stays now (keeping answer o) in
+    answered-by (Stays o) now sequence answer o (record { kept = stays; quiet = record { watchdog = refl; hold = refl }; keeps = record { watchdog = refl; hold = refl }; judges = λ _. record { watchdog = race.watchdog; hold = race.hold } })
+
+pub answered-leaves : (now : Ticks) (sequence : ℕ) (answer : PeerAnswer) (o : Outcome) → LeavesMachine o (answered now sequence answer (before now o))
+answered-leaves now sequence answer o = behind o (before now o) (answered now sequence answer (before now o)) (before-leaves now o) (answer-stays now sequence answer (before now o)) (answer-brings now sequence answer (before now o))
+
+pub asked-leaves : (now : Ticks) (from : MemberId) (run sequence : ℕ) (o : Outcome) → LeavesMachine o (asked from run sequence (before now o))
+asked-leaves now from run sequence o = behind o (before now o) (asked from run sequence (before now o)) (before-leaves now o) (record { watchdog = refl; hold = refl }) (same-role (before now o) (asked from run sequence (before now o)) refl (λ e. e))

@@ -6,6 +6,7 @@ pub mod Bringing
 pub mod Leaving
 pub mod Granting
 pub mod Orders
+pub mod Judging
 pub mod Knowing
 pub mod Sending
 pub mod Lawful

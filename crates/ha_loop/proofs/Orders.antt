@@ -1,7 +1,9 @@
 -- The machine that an input leaves is what its outputs make of the machine before.
-use Rattle.std.proofs.Common.{◌≡◌, ◌+◌, ◌++◌, ℕ, Bool, true, false, if◌then◌else◌, List, [], ◌∷◌, Option, Some, None, All, refl, sym, subst, ap, ◌∙◌}
+use Rattle.std.proofs.Common.{◌≡◌, ◌+◌, ◌++◌, ℕ, Bool, true, false, if◌then◌else◌, List, [], ◌∷◌, Option, Some, None, All, refl, sym, subst, ap, ◌∙◌, zero, suc}
 use Rattle.std.proofs.lemmas.List.Elements.{All-push, All-nil, All-weaker, All-head, All-tail}
+use Rattle.pat_base.specs.MemberId.{member_of}
 use Rattle.pat_base.specs.declared.member_id.MemberId.{MemberId}
+use Rattle.pat_base.specs.declared.peer_answer.PeerAnswer.{PeerAnswer}
 use Rattle.pat_base.specs.declared.ticks.Ticks.{Ticks}
 use Rattle.lease_store.specs.declared.granted.Granted.{Granted}
 use Rattle.lease_store.specs.declared.txn.Txn.TheVariants as txns
@@ -15,7 +17,7 @@ use Rattle.leader_key.specs.Watchdog.{is_armable, timeout_of}
 use Rattle.ha_loop.specs.declared.output.Repair.{Repair}
 use Rattle.ha_loop.specs.Repairs.{repair_of, repairing}
 use Rattle.ha_loop.specs.declared.heard.Heard.{Heard}
-use Rattle.ha_loop.specs.declared.heard.Heard.TheVariants.{Wake, Got, Granted as HeardGranted, Mismatch}
+use Rattle.ha_loop.specs.declared.heard.Heard.TheVariants.{Wake, Got, Granted as HeardGranted, Mismatch, Asked, Answered}
 use Rattle.ha_loop.specs.declared.knowledge.Knowledge.{Knowledge}
 use Rattle.ha_loop.specs.declared.machine.Machine.{Machine}
 use Rattle.ha_loop.specs.declared.output.Output.{Output}
@@ -27,13 +29,16 @@ use Rattle.ha_loop.specs.Acting.{arming, feeding, armed, fed_until, disarmed, wi
 use Rattle.ha_loop.specs.Agents.{RoleFacts, Follower, Leader, Outcome, made}
 use Rattle.ha_loop.specs.Before.{has_ended, before}
 use Rattle.ha_loop.specs.Decisions.{is_start_too_long, leader_renewed, takes_over, stray_renewed, may_take, gives_back, begins, arms, takes_key, granted, refused}
-use Rattle.ha_loop.specs.Orders.{machine_after_output, machine_after_outputs, IsOfTable, IsCarriedOut, EndsRepairing, RepairsLast}
+use Rattle.ha_loop.specs.Orders.{IsAsk, machine_after_output, machine_after_outputs, IsOfTable, IsCarriedOut, EndsRepairing, RepairsLast}
 use Rattle.ha_loop.specs.Outputs.{listed}
 use Rattle.ha_loop.specs.Snapshots.{informed, follows, read_noted, got, follow_row, leader_loses_key, stray_loses_key, renewing}
-use Rattle.ha_loop.specs.Racing.{finds_free}
+use Rattle.ha_loop.specs.Racing.{finds_free, judged, unheard}
 use Rattle.ha_loop.specs.Table.{step, act}
 use Rattle.ha_loop.specs.Wake.{overdue, turned, woken}
-use Rattle.ha_loop.proofs.Rows.{if-cases, before-by, overdue-by, turn-by, wake-by, got-by, refused-by, follow-by, free-by, granted-by, repaired-by}
+use Rattle.ha_loop.proofs.Rows.{if-cases, before-by, overdue-by, turn-by, wake-by, got-by, refused-by, follow-by, free-by, granted-by, repaired-by, judged-by, answered-by}
+use Rattle.ha_loop.specs.Answers.{is_other, most_answers, asking_one, asking_first}
+use Rattle.ha_loop.specs.Peers.{keeping, answered}
+use Rattle.ha_loop.specs.declared.who.Who.{Who}
 
 after-push : (now : Ticks) (machine : Machine) (outs : List Output) (output : Output) → machine_after_outputs now machine (outs ++ output ∷ []) ≡ machine_after_output now (machine_after_outputs now machine outs) output
 after-push now machine [] output = refl
@@ -42,7 +47,7 @@ after-push now machine (one ∷ outs) output = after-push now (machine_after_out
 -- an output that the table makes so far, and that repairs no log
 abbrev IsPlain : Output → Type 0
 IsPlain (outputs.HoldTaken until from sequence) = ⊥
-IsPlain (outputs.Send (targets.Member member) sequence body) = ⊥
+IsPlain (outputs.Send (targets.Member member) sequence body) = IsAsk body
 IsPlain (outputs.Repair leader repair) = ⊥
 IsPlain _ = Unit {0}
 
@@ -143,12 +148,28 @@ before-reaches now start o r = before-by (Reaches now start) now o (record {
   stray = λ _ _. disarm-reaches now start o r;
 })
 
+judged-reaches : (now : Ticks) (start : Machine) (o : Outcome) → Reaches now start o → Reaches now start (judged now o)
+judged-reaches now start o r = judged-by (Reaches now start) now o (one-more now start o.machine o.outputs _ tt r)
+    (λ bar. touch-reaches now start (record (waiting_no_more o) { outputs = listed (outputs.DoesNotRace bar) o.outputs }) (one-more now start o.machine o.outputs (outputs.DoesNotRace bar) tt r))
+
+-- asks of other members leave the machine alone
+ask-reaches : (now : Ticks) (start machine : Machine) (who : Who) (sequence : ℕ) (member : Option MemberId) (outs : List Output) → Reached now start machine outs → Reached now start machine (asking_one who sequence member outs)
+ask-reaches now start machine who sequence None outs r = r
+ask-reaches now start machine who sequence (Some member) outs r =
+    if-cases (Reached now start machine) (is_other who member) (listed (outputs.Send (targets.Member member) sequence bodies.Ask) outs) outs
+    (λ _. one-more now start machine outs (outputs.Send (targets.Member member) sequence bodies.Ask) tt r) (λ _. r)
+
+asks-reach : (now : Ticks) (start machine : Machine) (who : Who) (sequence count : ℕ) (outs : List Output) → Reached now start machine outs → Reached now start machine (asking_first who sequence count outs)
+asks-reach now start machine who sequence zero outs r = r
+asks-reach now start machine who sequence (suc count) outs r = ask-reaches now start machine who sequence (member_of count) (asking_first who sequence count outs) (asks-reach now start machine who sequence count outs r)
+
 overdue-reaches : (now : Ticks) (start : Machine) (o : Outcome) → Reaches now start o → Reaches now start (overdue now o)
 overdue-reaches now start o r = overdue-by (Reaches now start) now o (record {
   kept = r;
   quiet = r;
   leader = λ held _. end-reaches now start StoreOutOfReach o r;
   stray = λ _. end-reaches now start StoreOutOfReach o r;
+  judges = λ _. judged-reaches now start o r;
 })
 
 turn-reaches : (now : Ticks) (start : Machine) (o : Outcome) → Reaches now start o → Reaches now start (turned now o)
@@ -170,10 +191,15 @@ follow-carries now start leader o r = let x : Outcome = record o { role = Follow
 
 free-reaches : (now : Ticks) (start : Machine) (o : Outcome) → Reaches now start o → Reaches now start (finds_free now o)
 free-reaches now start o r = let x : Outcome = record o { role = Follower } in
-    free-by (Reaches now start) now x
-    (touch-reaches now start (starting_replica now None x) (start-reaches now start None x r))
-    (λ bar. touch-reaches now start (record x { outputs = listed (outputs.DoesNotRace bar) x.outputs }) (one-more now start o.machine o.outputs (outputs.DoesNotRace bar) tt r))
-    (one-more now start o.machine o.outputs _ tt r)
+    free-by (Reaches now start) now x (record {
+      starts = touch-reaches now start (starting_replica now None x) (start-reaches now start None x r);
+      bars = λ bar. touch-reaches now start (record x { outputs = listed (outputs.DoesNotRace bar) x.outputs }) (one-more now start o.machine o.outputs (outputs.DoesNotRace bar) tt r);
+      judges = judged-reaches now start (unheard x) r;
+      asks = asks-reach now start o.machine o.knows.who (o.knows.sequence + 1) most_answers o.outputs r;
+    })
+
+answered-reaches : (now : Ticks) (start : Machine) (sequence : ℕ) (answer : PeerAnswer) (o : Outcome) → Reaches now start o → Reaches now start (answered now sequence answer o)
+answered-reaches now start sequence answer o r = answered-by (Reaches now start) now sequence answer o (record { kept = r; quiet = r; keeps = r; judges = λ _. judged-reaches now start (keeping answer o) r })
 
 got-carries : (now : Ticks) (points : List HistoryPoint) (start : Machine) (sequence : ℕ) (snapshot : SnapshotFacts) (o : Outcome) → Reaches now start o → IsCarriedOut now start (got now points sequence snapshot o)
 got-carries now points start sequence snapshot o r = let read : Outcome = record o { knows = read_noted now snapshot o.knows } in
@@ -238,6 +264,9 @@ step-carries now points (Got sequence snapshot) start o r = got-carries now poin
 step-carries now points (HeardGranted sequence grant snapshot) start o r =
     carried-out now start (granted now sequence grant snapshot (before now o)) (granted-reaches now start sequence grant snapshot (before now o) (before-reaches now start o r))
 step-carries now points (Mismatch sequence key found) start o r = carried-out now start (refused now sequence (before now o)) (refused-reaches now start sequence (before now o) (before-reaches now start o r))
+step-carries now points (Asked from run sequence) start o r =
+    carried-out now start (step now points (Asked from run sequence) o) (one-more now start (before now o).machine (before now o).outputs _ tt (before-reaches now start o r))
+step-carries now points (Answered sequence answer) start o r = carried-out now start (answered now sequence answer (before now o)) (answered-reaches now start sequence answer (before now o) (before-reaches now start o r))
 
 nothing : (now : Ticks) (machine : Machine) → Reached now machine machine []
 nothing now machine = record { machine_is = refl; kinds = All-nil IsPlain }

@@ -1,11 +1,12 @@
 -- The rows of the decision table, one by one: what holds of each row that applies holds of the whole.
-use Rattle.std.proofs.Common.{◌≡◌, ℕ, ◌==◌, ◌&&◌, nat_le, Bool, true, false, if◌then◌else◌, Option, Some, None, List, refl, subst, not}
+use Rattle.std.proofs.Common.{◌≡◌, ℕ, ◌==◌, ◌&&◌, nat_le, Bool, true, false, if◌then◌else◌, Option, Some, None, List, refl, subst, not, []}
 use Rattle.lease_store.specs.declared.action.Bar.{Bar}
 use Rattle.lease_store.specs.declared.granted.Granted.{Granted}
 use Rattle.wal_model.specs.declared.entry.HistoryPoint.{HistoryPoint}
 use Rattle.cluster_config.specs.declared.snapshot.LeaderEntry.{LeaderEntry}
 use Rattle.cluster_config.specs.Snapshots.{SnapshotFacts, leader_in}
 use Rattle.pat_base.specs.declared.member_id.MemberId.{MemberId}
+use Rattle.pat_base.specs.declared.peer_answer.PeerAnswer.{PeerAnswer}
 use Rattle.pat_base.specs.declared.ticks.Ticks.{Ticks}
 use Rattle.pat_base.specs.declared.server_state.State.{State}
 use Rattle.pat_base.specs.declared.server_state.State.TheVariants as states
@@ -13,7 +14,7 @@ use Rattle.pat_base.specs.ServerState.{live}
 use Rattle.ha_loop.specs.declared.output.Repair.{Repair}
 use Rattle.ha_loop.specs.Repairs.{is_upstream, repairing, repaired_if}
 use Rattle.ha_loop.specs.declared.knowledge.Question.{Question}
-use Rattle.ha_loop.specs.declared.knowledge.Question.TheVariants.{Reading, Creating, Renewing}
+use Rattle.ha_loop.specs.declared.knowledge.Question.TheVariants.{Reading, Asking, Creating, Renewing}
 use Rattle.ha_loop.specs.declared.knowledge.Waited.{Waited}
 use Rattle.ha_loop.specs.declared.role.Why.{Why}
 use Rattle.ha_loop.specs.Acting.{disarming, waiting_no_more, touching, starting_replica, following_server, is_hold_active, shutting_down}
@@ -22,7 +23,9 @@ use Rattle.ha_loop.specs.Before.{leader_finds_ended, has_ended, finds_live, stra
 use Rattle.ha_loop.specs.Decisions.{may_create, leader_renewed, stray_renewed, takes_key, lease_granted, belongs, accepted_grant, is_lease_of, granted_for, granted, is_decision, follower_for, renewal_refused, refused_as, refused_for, refused}
 use Rattle.ha_loop.specs.Fits.{Fits}
 use Rattle.ha_loop.specs.Snapshots.{leader_loses_key, stray_loses_key, renewing, finds_own_key, own_key, starts_behind, follow_row, follows, others_key, no_key, led, is_active, awaits_read, read_noted, informed, accepted, got, ends_fork}
-use Rattle.ha_loop.specs.Racing.{can_start, bar_of, creating, barred, races_unless, free_key, finds_free}
+use Rattle.ha_loop.specs.Racing.{can_start, bar_of, creating, barred, races_unless, free_key, finds_free, outcome_at, judged_as, judged, asking_others, unheard}
+use Rattle.ha_loop.specs.Answers.{all_answered}
+use Rattle.ha_loop.specs.Peers.{awaits_answer, judged_if_all, keeping, accepted_answer, answered_for, answered}
 use Rattle.ha_loop.specs.Wake.{is_due, has_turn, leader_out_of_reach, stray_out_of_reach, out_of_reach_as, unanswered, overdue_for, overdue, is_stopping, reading, turn_noted, turn_as, turn_begins, turned, woken}
 
 pub if-cases : {A : Type 0} (P : A → Type 0) (test : Bool) (x y : A) → (test ≡ true → P x) → (test ≡ false → P y) → P (if test then x else y)
@@ -53,12 +56,21 @@ before-as P now Stray o is rows = if-cases P (live o.machine.server.state) o (st
 pub before-by : (P : Outcome → Type 0) (now : Ticks) (o : Outcome) → BeforeRows P now o → P (before now o)
 before-by P now o rows = before-as P now o.role o refl rows
 
+-- the race is judged
+judged-as : (P : Outcome → Type 0) (now : Ticks) (bar : Option Bar) (o : Outcome) → P (creating now o) → ((by : Bar) → P (barred by o)) → P (judged_as now bar o)
+judged-as P now None o wins loses = wins
+judged-as P now (Some by) o wins loses = loses by
+
+pub judged-by : (P : Outcome → Type 0) (now : Ticks) (o : Outcome) → P (creating now (waiting_no_more o)) → ((by : Bar) → P (barred by (waiting_no_more o))) → P (judged now o)
+judged-by P now o wins loses = judged-as P now (outcome_at now o) (waiting_no_more o) wins loses
+
 -- a deadline that has passed
 pub record OverdueRows (P : Outcome → Type 0) (now : Ticks) (o : Outcome) : Type 0 where
   pub kept : P o
   pub quiet : P (waiting_no_more o)
   pub leader : (revision : ℕ) → o.role ≡ Leader revision → P (leader_out_of_reach now revision (waiting_no_more o))
   pub stray : o.role ≡ Stray → P (stray_out_of_reach now (waiting_no_more o))
+  pub judges : may_create o.role ≡ true → P (judged now o)
 
 out-of-reach-as : (P : Outcome → Type 0) (now : Ticks) (role : RoleFacts) (o : Outcome) → o.role ≡ role → OverdueRows P now o → P (out_of_reach_as now role (waiting_no_more o))
 out-of-reach-as P now (Leader r) o is rows = rows.leader r is
@@ -72,6 +84,7 @@ unanswered-by : (P : Outcome → Type 0) (now : Ticks) (question : Question) (o 
 unanswered-by P now Reading o rows = out-of-reach-as P now o.role o refl rows
 unanswered-by P now Renewing o rows = out-of-reach-as P now o.role o refl rows
 unanswered-by P now Creating o rows = rows.quiet
+unanswered-by P now Asking o rows = if-cases P (may_create o.role) (judged now o) (waiting_no_more o) rows.judges (λ _. rows.quiet)
 
 overdue-for : (P : Outcome → Type 0) (now : Ticks) (waited : Option Waited) (o : Outcome) → OverdueRows P now o → P (overdue_for now waited o)
 overdue-for P now None o rows = rows.kept
@@ -180,6 +193,7 @@ refused-as : (P : Outcome → Type 0) (now : Ticks) (question : Question) (o : O
 refused-as P now Creating o rows = create-refused P now o.role o refl rows
 refused-as P now Renewing o rows = renewal-refused P now o.role o refl rows
 refused-as P now Reading o rows = rows.quiet
+refused-as P now Asking o rows = rows.quiet
 
 refused-for : (P : Outcome → Type 0) (now : Ticks) (sequence : ℕ) (waited : Option Waited) (o : Outcome) → RefusedRows P now o → P (refused_for now sequence waited o)
 refused-for P now sequence None o rows = rows.kept
@@ -211,14 +225,38 @@ repaired-by P leader None o kept repaired = kept
 repaired-by P leader (Some r) o kept repaired = repaired r
 
 -- what it does about a free leader key
-races-by : (P : Outcome → Type 0) (now : Ticks) (bar : Option Bar) (o : Outcome) → ((by : Bar) → P (barred by o)) → P (creating now o) → P (races_unless now bar o)
-races-by P now None o bars creates = creates
-races-by P now (Some by) o bars creates = bars by
+pub record FreeRows (P : Outcome → Type 0) (now : Ticks) (o : Outcome) : Type 0 where
+  pub starts : P (touching (starting_replica now None o))
+  pub bars : (by : Bar) → P (barred by o)
+  pub judges : P (judged now (unheard o))
+  pub asks : P (asking_others now (unheard o))
 
-pub free-by : (P : Outcome → Type 0) (now : Ticks) (o : Outcome) → P (touching (starting_replica now None o)) → ((by : Bar) → P (barred by o)) → P (creating now o) → P (free_key now o)
-free-by P now o starts bars creates =
+races-by : (P : Outcome → Type 0) (now : Ticks) (bar : Option Bar) (o : Outcome) → FreeRows P now o → P (races_unless now bar o)
+races-by P now None o rows = if-cases P (all_answered o.knows.who []) (judged now (unheard o)) (asking_others now (unheard o)) (λ _. rows.judges) (λ _. rows.asks)
+races-by P now (Some by) o rows = rows.bars by
+
+pub free-by : (P : Outcome → Type 0) (now : Ticks) (o : Outcome) → FreeRows P now o → P (free_key now o)
+free-by P now o rows =
     if-cases P (can_start o.machine.server) (touching (starting_replica now None o)) (races_unless now (bar_of now o.knows o.machine) o)
-    (λ _. starts) (λ _. races-by P now (bar_of now o.knows o.machine) o bars creates)
+    (λ _. rows.starts) (λ _. races-by P now (bar_of now o.knows o.machine) o rows)
+
+-- the answer of another member
+pub record AnsweredRows (P : Outcome → Type 0) (now : Ticks) (answer : PeerAnswer) (o : Outcome) : Type 0 where
+  pub kept : P o
+  pub quiet : P (waiting_no_more o)
+  pub keeps : P (keeping answer o)
+  pub judges : may_create o.role ≡ true → P (judged now (keeping answer o))
+
+accepted-answer : (P : Outcome → Type 0) (now : Ticks) (answer : PeerAnswer) (o : Outcome) → AnsweredRows P now answer o → P (accepted_answer now answer o)
+accepted-answer P now answer o rows = if-cases P (may_create o.role) (judged_if_all now (keeping answer o)) (waiting_no_more o)
+    (λ may. if-cases P (all_answered o.knows.who (keeping answer o).knows.answers) (judged now (keeping answer o)) (keeping answer o) (λ _. rows.judges may) (λ _. rows.keeps)) (λ _. rows.quiet)
+
+answered-for : (P : Outcome → Type 0) (now : Ticks) (sequence : ℕ) (answer : PeerAnswer) (waited : Option Waited) (o : Outcome) → AnsweredRows P now answer o → P (answered_for now sequence answer waited o)
+answered-for P now sequence answer None o rows = rows.kept
+answered-for P now sequence answer (Some waited) o rows = if-cases P (awaits_answer waited sequence) (accepted_answer now answer o) o (λ _. accepted-answer P now answer o rows) (λ _. rows.kept)
+
+pub answered-by : (P : Outcome → Type 0) (now : Ticks) (sequence : ℕ) (answer : PeerAnswer) (o : Outcome) → AnsweredRows P now answer o → P (answered now sequence answer o)
+answered-by P now sequence answer o rows = answered-for P now sequence answer o.knows.waited o rows
 
 -- the lease of a request that was granted
 pub record GrantRows (P : Outcome → Type 0) (now ttl : Ticks) (revision : ℕ) (o : Outcome) : Type 0 where

@@ -1,9 +1,11 @@
 -- What an input sends, and by which outputs its server comes to accept writes.
-use Rattle.std.proofs.Common.{◌≡◌, ◌⊎◌, ℕ, ◌+◌, ◌≤◌, ◌<◌, ◌++◌, ◌==◌, ◌&&◌, Bool, true, false, if◌then◌else◌, List, [], ◌∷◌, Option, Some, None, All, refl, sym, subst, ap, ◌∙◌, arith, inl, inr, append_assoc}
+use Rattle.std.proofs.Common.{◌≡◌, ◌⊎◌, ℕ, ◌+◌, ◌≤◌, ◌<◌, ◌++◌, ◌==◌, ◌&&◌, Bool, true, false, if◌then◌else◌, List, [], ◌∷◌, Option, Some, None, All, refl, sym, subst, ap, ◌∙◌, arith, inl, inr, append_assoc, zero, suc}
 use Rattle.std.proofs.lemmas.List.{append-nil}
 use Rattle.std.proofs.lemmas.List.Elements.{All-push, All-weaker, All-head, All-tail}
 use Rattle.std.proofs.lemmas.Bool.Decides.{nat_tests}
+use Rattle.pat_base.specs.MemberId.{member_of}
 use Rattle.pat_base.specs.declared.member_id.MemberId.{MemberId}
+use Rattle.pat_base.specs.declared.peer_answer.PeerAnswer.{PeerAnswer}
 use Rattle.pat_base.specs.declared.server_state.Required.TheVariants.{Nobody}
 use Rattle.pat_base.specs.declared.ticks.Ticks.{Ticks}
 use Rattle.pat_base.specs.ServerState.{live}
@@ -25,6 +27,7 @@ use Rattle.ha_loop.specs.declared.output.Output.{Output}
 use Rattle.ha_loop.specs.declared.output.Output.TheVariants as outputs
 use Rattle.ha_loop.specs.declared.output.Target.TheVariants as targets
 use Rattle.ha_loop.specs.declared.role.Why.{Why}
+use Rattle.ha_loop.specs.declared.who.Who.{Who}
 use Rattle.ha_loop.specs.declared.role.Why.TheVariants.{HandOver, Lost}
 use Rattle.ha_loop.specs.Acting.{armed, fed_until, disarmed, deadline_after, arming, feeding, ending_server, touching, starting_replica, following_server, is_hold_active, is_refusing, waiting_no_more, shutting_down}
 use Rattle.ha_loop.specs.Agents.{RoleFacts, Follower, Holder, Ready, Leader, Ending, Stray, Outcome}
@@ -35,13 +38,16 @@ use Rattle.ha_loop.specs.Outputs.{listed, is_arming, has_one, BeginsOnly, Output
 use Rattle.ha_loop.specs.Powers.{Acts, lease_of}
 use Rattle.ha_loop.specs.Seen.{lease_asked, leader_entry_seen, leader_seen_if}
 use Rattle.ha_loop.specs.Snapshots.{renewing, follows, leader_loses_key, stray_loses_key, read_noted, got, follow_row}
-use Rattle.ha_loop.specs.Racing.{creating, finds_free}
+use Rattle.ha_loop.specs.Racing.{creating, finds_free, judged, asking_others, unheard}
+use Rattle.ha_loop.specs.Answers.{is_other, most_answers, asking_one, asking_first}
+use Rattle.ha_loop.specs.Orders.{IsAsk}
+use Rattle.ha_loop.specs.Peers.{asked, keeping, answered}
 use Rattle.ha_loop.specs.Wake.{reading, turn_noted, overdue, turned, woken}
 use Rattle.ha_loop.proofs.Granting.{take-free, Told, one-last, one-before}
-use Rattle.ha_loop.proofs.Knowing.{IsAlone}
+use Rattle.ha_loop.proofs.Knowing.{IsAlone, overdue-onward}
 use Rattle.ha_loop.proofs.Leaving.{rests-by}
 use Rattle.ha_loop.proofs.Living.{no-way}
-use Rattle.ha_loop.proofs.Rows.{if-cases, before-by, overdue-by, turn-by, wake-by, got-by, refused-by, follow-by, repaired-by, free-by, granted-by}
+use Rattle.ha_loop.proofs.Rows.{if-cases, before-by, overdue-by, turn-by, wake-by, got-by, refused-by, follow-by, repaired-by, free-by, granted-by, judged-by, answered-by}
 
 -- an output that sends nothing, takes no hold, and by which no server comes to accept writes
 abbrev pub IsSilent : Output → Type 0
@@ -72,7 +78,7 @@ pub record SendsNew (G : ℕ → Type 0) (o after : Outcome) (sequence : ℕ) (b
 -- an output of an input
 abbrev pub MayPut : (ℕ → Type 0) → Outcome → Outcome → Output → Type 0
 MayPut G o after (outputs.Send targets.Store sequence body) = SendsNew G o after sequence body
-MayPut G o after (outputs.Send (targets.Member member) sequence body) = ⊥
+MayPut G o after (outputs.Send (targets.Member member) sequence body) = (o.knows.sequence < sequence) × (sequence ≤ after.knows.sequence) × IsAsk body
 MayPut G o after outputs.Begin = (revision : ℕ) × G revision
 MayPut G o after (outputs.HoldTaken until from sequence) = ⊥
 MayPut G o after _ = Unit {0}
@@ -118,6 +124,92 @@ pub data Fronts (o after : Outcome) : Type 0 where
   Released : (revision : ℕ) → (held : lease_of o.role ≡ Some revision) → (alone : after.knows.waited ≡ None) → (role : after.role ≡ Follower) → (ended : live after.machine.server.state ≡ false)
       → (counted : o.knows.sequence + 1 ≤ after.knows.sequence) → (all : All (IsReleaseOr (o.knows.sequence + 1) revision) after.outputs) → Fronts o after
 
+-- a request that needs no more than its number: it tells of the member, or asks for a free leader key
+abbrev pub IsPlain : Txn → Type 0
+IsPlain (txns.Create info ttl failsafe sync) = failsafe ≡ None
+IsPlain (txns.Touch info ttl) = Unit {0}
+IsPlain _ = ⊥
+
+-- so does a question
+abbrev pub IsPlainBody : Body → Type 0
+IsPlainBody bodies.Read = Unit {0}
+IsPlainBody (bodies.Request txn) = IsPlain txn
+IsPlainBody _ = ⊥
+
+-- an output that is silent, or sends such a question, or asks another member, under a number between these
+abbrev pub IsMild : ℕ → ℕ → Output → Type 0
+IsMild low high (outputs.Send targets.Store sequence body) = (low < sequence) × (sequence ≤ high) × IsPlainBody body
+IsMild low high (outputs.Send (targets.Member member) sequence body) = (low < sequence) × (sequence ≤ high) × IsAsk body
+IsMild low high outputs.Begin = ⊥
+IsMild low high (outputs.HoldTaken until from sequence) = ⊥
+IsMild low high _ = Unit {0}
+
+abbrev pub AllMild : ℕ → Outcome → Type 0
+AllMild low o = All (IsMild low o.knows.sequence) o.outputs
+
+plain-may : (G : ℕ → Type 0) (o after : Outcome) (sequence : ℕ) (txn : Txn) → IsPlain txn → MayTransact G o after sequence txn
+plain-may G o after sequence (txns.Create info ttl failsafe sync) e = e
+plain-may G o after sequence (txns.Touch info ttl) e = tt
+plain-may G o after sequence _ e = absurd e
+
+plain-asks : (G : ℕ → Type 0) (o after : Outcome) (sequence : ℕ) (body : Body) → IsPlainBody body → MayAskStore G o after sequence body
+plain-asks G o after sequence bodies.Read e = tt
+plain-asks G o after sequence (bodies.Request txn) e = plain-may G o after sequence txn e
+plain-asks G o after sequence _ e = absurd e
+
+mild-may : (G : ℕ → Type 0) (o after : Outcome) (output : Output) → IsMild o.knows.sequence after.knows.sequence output → MayPut G o after output
+mild-may G o after (outputs.Send targets.Store sequence body) e = record { later = e.0; counted = e.1; asks = plain-asks G o after sequence body e.2 }
+mild-may G o after (outputs.Send (targets.Member member) sequence body) e = e
+mild-may G o after outputs.Begin e = absurd e
+mild-may G o after (outputs.HoldTaken until from sequence) e = e
+mild-may G o after _ e = tt
+
+mild-all : (G : ℕ → Type 0) (o after : Outcome) → AllMild o.knows.sequence after → AllMay G o after
+mild-all G o after all = All-weaker (IsMild o.knows.sequence after.knows.sequence) (MayPut G o after) (mild-may G o after) after.outputs all
+
+silent-mild : (low high : ℕ) (output : Output) → IsSilent output → IsMild low high output
+silent-mild low high (outputs.Send to sequence body) e = absurd e
+silent-mild low high outputs.Begin e = absurd e
+silent-mild low high (outputs.HoldTaken until from sequence) e = e
+silent-mild low high _ e = tt
+
+mild-front : (low high : ℕ) (outs : List Output) → All IsSilent outs → All (IsMild low high) outs
+mild-front low high outs silent = All-weaker IsSilent (IsMild low high) (silent-mild low high) outs silent
+
+up-to : (a b c : ℕ) → a ≤ b → b ≤ c → a ≤ c
+up-to a b c first second = omega (arith, first, second)
+
+more-mild : (low high more : ℕ) → high ≤ more → (output : Output) → IsMild low high output → IsMild low more output
+more-mild low high more less (outputs.Send targets.Store sequence body) e = (e.0, up-to sequence high more e.1 less, e.2)
+more-mild low high more less (outputs.Send (targets.Member member) sequence body) e = (e.0, up-to sequence high more e.1 less, e.2)
+more-mild low high more less outputs.Begin e = e
+more-mild low high more less (outputs.HoldTaken until from sequence) e = e
+more-mild low high more less _ e = tt
+
+-- a race that is judged asks for the leader key, or tells of the member
+judged-mild : (low : ℕ) (now : Ticks) (o : Outcome) → low ≤ o.knows.sequence → All IsSilent o.outputs → AllMild low (judged now o)
+judged-mild low now o less silent =
+    let high : ℕ = o.knows.sequence + 1 in
+    let later : low < high = omega (arith, less) in
+    judged-by (AllMild low) now o
+    (All-push (IsMild low high) o.outputs _ (mild-front low high o.outputs silent) (later, omega arith, refl))
+    (λ bar. All-push (IsMild low high) (listed (outputs.DoesNotRace bar) o.outputs) _ (mild-front low high (listed (outputs.DoesNotRace bar) o.outputs) (silently o.outputs (outputs.DoesNotRace bar) silent tt)) (later, omega arith, tt))
+
+-- so do the asks
+ask-mild : (low high : ℕ) (who : Who) (sequence : ℕ) (member : Option MemberId) (outs : List Output) → low < sequence → sequence ≤ high → All (IsMild low high) outs → All (IsMild low high) (asking_one who sequence member outs)
+ask-mild low high who sequence None outs later less all = all
+ask-mild low high who sequence (Some member) outs later less all =
+    if-cases (λ (l : List Output). All (IsMild low high) l) (is_other who member) (listed (outputs.Send (targets.Member member) sequence bodies.Ask) outs) outs
+    (λ _. All-push (IsMild low high) outs (outputs.Send (targets.Member member) sequence bodies.Ask) all (later, less, tt)) (λ _. all)
+
+asks-mild : (low high : ℕ) (who : Who) (sequence count : ℕ) (outs : List Output) → low < sequence → sequence ≤ high → All (IsMild low high) outs → All (IsMild low high) (asking_first who sequence count outs)
+asks-mild low high who sequence zero outs later less all = all
+asks-mild low high who sequence (suc count) outs later less all = ask-mild low high who sequence (member_of count) (asking_first who sequence count outs) later less (asks-mild low high who sequence count outs later less all)
+
+others-mild : (low : ℕ) (now : Ticks) (o : Outcome) → low ≤ o.knows.sequence → All IsSilent o.outputs → AllMild low (asking_others now o)
+others-mild low now o less silent = let high : ℕ = o.knows.sequence + 1 in
+    asks-mild low high o.knows.who high most_answers o.outputs (omega (arith, less)) (omega arith) (mild-front low high o.outputs silent)
+
 ended-fronts : (why : Why) (held : ℕ) (o : Outcome) → o.role ≡ Ending held why → live o.machine.server.state ≡ false → IsAlone o → All IsSilent o.outputs → Fronts o (has_ended why held o)
 ended-fronts HandOver held o is ended alone silent = Released held (rw is refl) (alone (rw is refl)) refl ended (omega arith)
     (All-push (IsReleaseOr (o.knows.sequence + 1) held) (disarmed o.machine.watchdog.deadline o.outputs) (outputs.Send targets.Store (o.knows.sequence + 1) (bodies.Request (txns.Release held)))
@@ -153,24 +245,28 @@ fronts-may G o after (Released revision held alone role ended counted all) = rel
 pub before-may : (G : ℕ → Type 0) (now : Ticks) (o : Outcome) → IsAlone o → All IsSilent o.outputs → AllMay G o (before now o)
 before-may G now o alone silent = fronts-may G o (before now o) (before-fronts now o alone silent)
 
-overdue-silent : (now : Ticks) (o : Outcome) → All IsSilent o.outputs → All IsSilent (overdue now o).outputs
-overdue-silent now o silent = overdue-by (λ (x : Outcome). All IsSilent x.outputs) now o (record {
-  kept = silent;
-  quiet = silent;
-  leader = λ held _. silently o.outputs (outputs.Stop StoreOutOfReach) silent tt;
-  stray = λ _. silently o.outputs (outputs.Stop StoreOutOfReach) silent tt;
-})
+overdue-mild : (low : ℕ) (now : Ticks) (o : Outcome) → low ≤ o.knows.sequence → All IsSilent o.outputs → AllMild low (overdue now o)
+overdue-mild low now o less silent = let out : ℕ = o.knows.sequence in
+    overdue-by (AllMild low) now o (record {
+      kept = mild-front low out o.outputs silent;
+      quiet = mild-front low out o.outputs silent;
+      leader = λ held _. mild-front low out (listed (outputs.Stop StoreOutOfReach) o.outputs) (silently o.outputs (outputs.Stop StoreOutOfReach) silent tt);
+      stray = λ _. mild-front low out (listed (outputs.Stop StoreOutOfReach) o.outputs) (silently o.outputs (outputs.Stop StoreOutOfReach) silent tt);
+      judges = λ _. judged-mild low now o less silent;
+    })
 
 -- a read is sent under the next number
 reads-new : (G : ℕ → Type 0) (now : Ticks) (o b : Outcome) → o.knows.sequence ≤ b.knows.sequence → SendsNew G o (reading now (record b { knows = turn_noted now b.knows })) (b.knows.sequence + 1) bodies.Read
 reads-new G now o b later = record { later = omega (arith, later); counted = omega arith; asks = tt }
 
-turn-silent : (G : ℕ → Type 0) (now : Ticks) (o b : Outcome) → o.knows.sequence ≤ b.knows.sequence → All IsSilent b.outputs → AllMay G o (turned now b)
-turn-silent G now o b later silent = let noted : Outcome = record b { knows = turn_noted now b.knows } in
+turn-mild : (G : ℕ → Type 0) (now : Ticks) (o b : Outcome) → o.knows.sequence ≤ b.knows.sequence → AllMild o.knows.sequence b → AllMay G o (turned now b)
+turn-mild G now o b later mild = let noted : Outcome = record b { knows = turn_noted now b.knows } in let low : ℕ = o.knows.sequence in let high : ℕ = b.knows.sequence in
     turn-by (AllMay G o) now b (record {
-      kept = front G o b b.outputs silent;
-      quiet = front G o noted b.outputs silent;
-      reads = λ _. push G o (reading now noted) b.outputs (outputs.Send targets.Store (b.knows.sequence + 1) bodies.Read) (front G o (reading now noted) b.outputs silent) (reads-new G now o b later);
+      kept = mild-all G o b mild;
+      quiet = mild-all G o noted mild;
+      reads = λ _. push G o (reading now noted) b.outputs (outputs.Send targets.Store (high + 1) bodies.Read)
+          (All-weaker (IsMild low (high + 1)) (MayPut G o (reading now noted)) (mild-may G o (reading now noted)) b.outputs
+          (All-weaker (IsMild low high) (IsMild low (high + 1)) (more-mild low high (high + 1) (omega arith)) b.outputs mild)) (reads-new G now o b later);
     })
 
 turn-released : (G : ℕ → Type 0) (now : Ticks) (o b : Outcome) (revision : ℕ) → lease_of o.role ≡ Some revision → b.role ≡ Follower → live b.machine.server.state ≡ false → o.knows.sequence + 1 ≤ b.knows.sequence
@@ -183,17 +279,11 @@ turn-released G now o b revision held role ended counted all = let noted : Outco
           (released G o (reading now noted) revision b.outputs held role ended (omega (arith, counted)) all) (reads-new G now o b (omega (arith, counted)));
     })
 
-overdue-none : (now : Ticks) (o : Outcome) → o.knows.waited ≡ None → overdue now o ≡ o
+pub overdue-none : (now : Ticks) (o : Outcome) → o.knows.waited ≡ None → overdue now o ≡ o
 overdue-none now o is = rw is refl
 
-overdue-sequence : (now : Ticks) (o : Outcome) → (overdue now o).knows.sequence ≡ o.knows.sequence
-overdue-sequence now o = overdue-by (λ (x : Outcome). x.knows.sequence ≡ o.knows.sequence) now o (record { kept = refl; quiet = refl; leader = λ _ _. refl; stray = λ _. refl })
-
-at-least : (a b c : ℕ) → a ≤ b → c ≡ b → a ≤ c
-at-least a b c first is = omega (arith, first, is)
-
 turn-fronts : (G : ℕ → Type 0) (now : Ticks) (o b : Outcome) → o.knows.sequence ≤ b.knows.sequence → Fronts o b → AllMay G o (turned now (overdue now b))
-turn-fronts G now o b later (Silent all) = turn-silent G now o (overdue now b) (at-least o.knows.sequence b.knows.sequence (overdue now b).knows.sequence later (overdue-sequence now b)) (overdue-silent now b all)
+turn-fronts G now o b later (Silent all) = turn-mild G now o (overdue now b) (up-to o.knows.sequence b.knows.sequence (overdue now b).knows.sequence later (overdue-onward None now b).last) (overdue-mild o.knows.sequence now b later all)
 turn-fronts G now o b later (Released revision held alone role ended counted all) =
     subst (λ (z : Outcome). AllMay G o (turned now z)) (sym (overdue-none now b alone)) (turn-released G now o b revision held role ended counted all)
 
@@ -239,10 +329,12 @@ follow-may G now leader o b later silent = let x : Outcome = record b { role = F
 
 free-may : (G : ℕ → Type 0) (now : Ticks) (o b : Outcome) → o.knows.sequence ≤ b.knows.sequence → All IsSilent b.outputs → AllMay G o (finds_free now b)
 free-may G now o b later silent = let x : Outcome = record b { role = Follower } in
-    free-by (AllMay G o) now x
-    (touches G o (starting_replica now None x) x.outputs later (silently b.outputs (outputs.StartReplica None) silent tt))
-    (λ bar. touches G o (record x { outputs = listed (outputs.DoesNotRace bar) x.outputs }) x.outputs later (silently b.outputs (outputs.DoesNotRace bar) silent tt))
-    (push G o (creating now x) b.outputs _ (front G o (creating now x) b.outputs silent) (sends G o (creating now x) b.knows.sequence _ later refl refl))
+    free-by (AllMay G o) now x (record {
+      starts = touches G o (starting_replica now None x) x.outputs later (silently b.outputs (outputs.StartReplica None) silent tt);
+      bars = λ bar. touches G o (record x { outputs = listed (outputs.DoesNotRace bar) x.outputs }) x.outputs later (silently b.outputs (outputs.DoesNotRace bar) silent tt);
+      judges = mild-all G o (judged now (unheard x)) (judged-mild o.knows.sequence now (unheard x) later silent);
+      asks = mild-all G o (asking_others now (unheard x)) (others-mild o.knows.sequence now (unheard x) later silent);
+    })
 
 got-silent : (G : ℕ → Type 0) (now : Ticks) (points : List HistoryPoint) (sequence : ℕ) (snapshot : SnapshotFacts) (o b : Outcome) → o.knows.sequence ≤ b.knows.sequence → All IsSilent b.outputs → AllMay G o (got now points sequence snapshot b)
 got-silent G now points sequence snapshot o b later silent = let read : Outcome = record b { knows = read_noted now snapshot b.knows } in
@@ -289,6 +381,30 @@ refused-fronts G now sequence o b (Released revision held alone role ended count
 
 pub refused-may : (G : ℕ → Type 0) (now : Ticks) (sequence : ℕ) (o : Outcome) → IsAlone o → All IsSilent o.outputs → AllMay G o (refused now sequence (before now o))
 refused-may G now sequence o alone silent = refused-fronts G now sequence o (before now o) (before-fronts now o alone silent)
+
+pub answered-none : (now : Ticks) (sequence : ℕ) (answer : PeerAnswer) (o : Outcome) → o.knows.waited ≡ None → answered now sequence answer o ≡ o
+answered-none now sequence answer o is = rw is refl
+
+answered-mild : (low : ℕ) (now : Ticks) (sequence : ℕ) (answer : PeerAnswer) (o : Outcome) → low ≤ o.knows.sequence → All IsSilent o.outputs → AllMild low (answered now sequence answer o)
+answered-mild low now sequence answer o less silent = let same : All (IsMild low o.knows.sequence) o.outputs = mild-front low o.knows.sequence o.outputs silent in
+    answered-by (AllMild low) now sequence answer o (record { kept = same; quiet = same; keeps = same; judges = λ _. judged-mild low now (keeping answer o) less silent })
+
+answered-fronts : (G : ℕ → Type 0) (now : Ticks) (sequence : ℕ) (answer : PeerAnswer) (o b : Outcome) → o.knows.sequence ≤ b.knows.sequence → Fronts o b → AllMay G o (answered now sequence answer b)
+answered-fronts G now sequence answer o b later (Silent all) = mild-all G o (answered now sequence answer b) (answered-mild o.knows.sequence now sequence answer b later all)
+answered-fronts G now sequence answer o b later (Released revision held alone role ended counted all) =
+    subst (λ (z : Outcome). AllMay G o z) (sym (answered-none now sequence answer b alone)) (released G o b revision b.outputs held role ended counted all)
+
+pub answered-may : (G : ℕ → Type 0) (now : Ticks) (sequence : ℕ) (answer : PeerAnswer) (o : Outcome) → IsAlone o → o.knows.sequence ≤ (before now o).knows.sequence → All IsSilent o.outputs → AllMay G o (answered now sequence answer (before now o))
+answered-may G now sequence answer o alone later silent = answered-fronts G now sequence answer o (before now o) later (before-fronts now o alone silent)
+
+-- an answer to another member is silent: the key store isn't asked
+asked-fronts : (from : MemberId) (run sequence : ℕ) (o b : Outcome) → Fronts o b → Fronts o (asked from run sequence b)
+asked-fronts from run sequence o b (Silent all) = Silent (silently b.outputs _ all tt)
+asked-fronts from run sequence o b (Released revision held alone role ended counted all) =
+    Released revision held alone role ended counted (All-push (IsReleaseOr (o.knows.sequence + 1) revision) b.outputs _ all (inl tt))
+
+pub asked-may : (G : ℕ → Type 0) (now : Ticks) (from : MemberId) (run sequence : ℕ) (o : Outcome) → IsAlone o → All IsSilent o.outputs → AllMay G o (asked from run sequence (before now o))
+asked-may G now from run sequence o alone silent = fronts-may G o (asked from run sequence (before now o)) (asked-fronts from run sequence o (before now o) (before-fronts now o alone silent))
 
 renewed-may : (G : ℕ → Type 0) (now ttl : Ticks) (revision : ℕ) (o b : Outcome) → All IsSilent b.outputs → AllMay G o (leader_renewed now ttl revision b)
 renewed-may G now ttl revision o b silent = let fed : Outcome = record (feeding now ttl b) { role = Leader revision } in

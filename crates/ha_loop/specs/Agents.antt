@@ -1,5 +1,5 @@
 -- Where an agent stands.
-use Rattle.std.specs.Prelude.{ℕ, ◌≡◌, ◌≤◌, ◌<◌, ◌^◌, false, List, Option, None}
+use Rattle.std.specs.Prelude.{ℕ, ◌≡◌, ◌≤◌, ◌<◌, ◌^◌, false, List, [], Option, None}
 use Rattle.std.specs.Option.{ForSome}
 use Rattle.pat_base.specs.declared.ticks.Ticks.{Ticks}
 use Rattle.leader_key.specs.Lease.{lease_revision, armed_revision, writer_revision}
@@ -100,6 +100,7 @@ fresh_knowledge who first run = record {
   crashed = None;
   known = record { bits = 0 };
   informed = false;
+  answers = [];
 }
 
 -- what an input has made so far: the agent's role and what it knows, its machine, and all outputs

@@ -22,7 +22,7 @@ pub record IsAskedNow (now : Ticks) (o after : Outcome) (waited : Waited) : Type
   pub sent : waited.sent ≡ now
   pub ttl : (txn : Txn) → Contains after.outputs (outputs.Send targets.Store waited.sequence (bodies.Request txn)) → span_asked (query_of txn) ≡ waited.ttl.0
 
--- an input sends under new numbers that are counted, and the create or the renewal that its agent waits for after it was waited for
+-- an input asks under new numbers that are counted, and the create or the renewal that its agent waits for after it was waited for
 -- before, or is asked in it
 pub record AsksAsWaited (now : Ticks) (o after : Outcome) : Type 0 where
   pub numbered : All (IsNumbered o.knows.sequence after.knows.sequence) after.outputs

@@ -11,7 +11,7 @@ use Rattle.event_book.specs.declared.reason.Reason.TheVariants.{StartTooLong, Wa
 use Rattle.cluster_config.specs.Snapshots.{SnapshotFacts}
 use Rattle.ha_loop.specs.declared.knowledge.Knowledge.{Knowledge}
 use Rattle.ha_loop.specs.declared.knowledge.Question.{Question}
-use Rattle.ha_loop.specs.declared.knowledge.Question.TheVariants.{Reading, Creating, Renewing}
+use Rattle.ha_loop.specs.declared.knowledge.Question.TheVariants.{Reading, Asking, Creating, Renewing}
 use Rattle.ha_loop.specs.declared.knowledge.Waited.{Waited}
 use Rattle.ha_loop.specs.declared.machine.Machine.{Machine}
 use Rattle.ha_loop.specs.declared.output.Output.TheVariants as outputs
@@ -106,6 +106,7 @@ may_create _ = false
 
 -- a question for the leader key belongs to the role
 abbrev pub belongs : Question → RoleFacts → Bool
+belongs Asking role = may_create role
 belongs Creating role = may_create role
 belongs _ role = is_active role
 
@@ -117,6 +118,7 @@ accepted_grant now waited revision snapshot o =
 -- a question that asks for a lease of the leader key
 abbrev pub asks_lease : Question → Bool
 asks_lease Reading = false
+asks_lease Asking = false
 asks_lease _ = true
 
 -- the decision on this request for the leader key is waited for
@@ -158,6 +160,7 @@ abbrev pub refused_as : Ticks → Question → Outcome → Outcome
 refused_as now Creating o = create_refused o
 refused_as now Renewing o = renewal_refused now o.role o
 refused_as now Reading o = o
+refused_as now Asking o = o
 
 -- a refusal, by what is waited for
 abbrev pub refused_for : Ticks → ℕ → Option Waited → Outcome → Outcome

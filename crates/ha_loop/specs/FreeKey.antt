@@ -1,19 +1,26 @@
--- What an answer brings that tells that nobody leads.
-use Rattle.std.specs.Prelude.{ℕ, ◌≡◌, ◌+◌, true, Some, None}
+-- What becomes of a free leader key: who asks for it, who asks the others first, and who stays out.
+use Rattle.std.specs.Prelude.{ℕ, ◌≡◌, ◌+◌, ◌<◌, nat_le, true, [], Some, None, Contains}
+use Rattle.pat_base.specs.declared.member_id.MemberId.{MemberId}
+use Rattle.pat_base.specs.declared.peer_answer.PeerAnswer.{PeerAnswer}
+use Rattle.pat_base.specs.declared.ticks.Ticks.{Ticks}
 use Rattle.lease_store.specs.declared.action.Bar.{Bar}
 use Rattle.lease_store.specs.declared.txn.Txn.TheVariants as txns
 use Rattle.event_book.specs.declared.message.Body.TheVariants as bodies
 use Rattle.cluster_config.specs.Snapshots.{SnapshotFacts, leader_in, settings_in}
-use Rattle.ha_loop.specs.declared.knowledge.Question.TheVariants.{Creating}
+use Rattle.ha_loop.specs.declared.knowledge.Question.TheVariants.{Asking, Creating}
 use Rattle.ha_loop.specs.declared.knowledge.Waited.{Waited}
 use Rattle.ha_loop.specs.declared.output.Output.TheVariants as outputs
 use Rattle.ha_loop.specs.declared.output.Target.TheVariants as targets
 use Rattle.ha_loop.specs.Acting.{lease_span}
 use Rattle.ha_loop.specs.Agents.{Follower, Outcome}
+use Rattle.ha_loop.specs.Answers.{is_other, with_answer, asking_all, all_answered}
 use Rattle.ha_loop.specs.Decisions.{may_create}
 use Rattle.ha_loop.specs.Info.{info_of}
 use Rattle.ha_loop.specs.Outputs.{listed}
+use Rattle.ha_loop.specs.Peers.{is_asking, awaits_answer}
+use Rattle.ha_loop.specs.Racing.{answers_until}
 use Rattle.ha_loop.specs.Snapshots.{awaits_read}
+use Rattle.ha_loop.specs.Wake.{turned}
 
 -- the answer to the read that an agent waits for tells that nobody leads, and the agent is a follower or a holder
 pub record HearsFree (sequence : ℕ) (snapshot : SnapshotFacts) (o : Outcome) : Type 0 where
@@ -34,3 +41,46 @@ pub record AsksForKey (o after : Outcome) : Type 0 where
   pub waits : after.knows.waited ≡ Some waited
   pub asks : waited.question ≡ Creating
   pub outputs_are : after.outputs ≡ listed (outputs.Send targets.Store waited.sequence (bodies.Request (txns.Create (info_of o.knows.who o.machine.server) waited.ttl None None))) o.outputs
+
+-- the agent asks each other member how far its server is, and nobody else, all under one new number. It waits for the answers, of
+-- which it has none yet
+pub record AsksOthers (now : Ticks) (o after : Outcome) : Type 0 where
+  pub waited : Waited
+  pub waits : after.knows.waited ≡ Some waited
+  pub asks : waited.question ≡ Asking
+  pub later : o.knows.sequence < waited.sequence
+  pub until : waited.until ≡ answers_until now
+  pub unheard : after.knows.answers ≡ []
+  pub each : (member : MemberId) → is_other o.knows.who member ≡ true → Contains after.outputs (outputs.Send (targets.Member member) waited.sequence bodies.Ask)
+  pub outputs_are : after.outputs ≡ asking_all o.knows.who waited.sequence o.outputs
+
+-- the agent waits for the answers of the others, and its newest snapshot is this one
+pub record AwaitsAnswers (waited : Waited) (snapshot : SnapshotFacts) (o : Outcome) : Type 0 where
+  pub waits : o.knows.waited ≡ Some waited
+  pub asking : is_asking waited.question ≡ true
+  pub role : may_create o.role ≡ true
+  pub seen : o.knows.seen ≡ Some snapshot
+
+-- this is the last answer that it waits for
+pub record HearsLast (waited : Waited) (sequence : ℕ) (answer : PeerAnswer) (snapshot : SnapshotFacts) (o : Outcome) : Type 0 where
+  pub awaits : AwaitsAnswers waited snapshot o
+  pub number : awaits_answer waited sequence ≡ true
+  pub all : all_answered o.knows.who (with_answer answer o.knows.answers) ≡ true
+
+-- the time for the answers that it waits for is over
+pub record RunsLate (now : Ticks) (waited : Waited) (snapshot : SnapshotFacts) (o : Outcome) : Type 0 where
+  pub awaits : AwaitsAnswers waited snapshot o
+  pub late : nat_le waited.until.0 now.0 ≡ true
+
+-- the agent tells what bars it, and tells of itself. That is all: its role stays, it leaves its machine alone, and waits for nothing
+pub record LosesRace (bar : Bar) (o after : Outcome) : Type 0 where
+  pub role : after.role ≡ o.role
+  pub machine : after.machine ≡ o.machine
+  pub waits : after.knows.waited ≡ None
+  pub outputs_are : after.outputs ≡ listed (outputs.Send targets.Store (o.knows.sequence + 1) (bodies.Request (txns.Touch (info_of o.knows.who o.machine.server) (lease_span o.knows.settings)))) (listed (outputs.DoesNotRace bar) o.outputs)
+
+-- it loses the race, and then a turn begins that is due
+pub record LosesAndTurns (now : Ticks) (bar : Bar) (o after : Outcome) : Type 0 where
+  pub lost : Outcome
+  pub loses : LosesRace bar o lost
+  pub turns : after ≡ turned now lost

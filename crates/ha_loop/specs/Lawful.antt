@@ -66,12 +66,15 @@ pub record HearsGrant (s : State) (m : ℕ) (heard : Option ℕ) (now : Ticks) (
   pub answer : HearsAnswer s m heard sequence snapshot o.knows
   pub lease : (awaited : IsAwaitedLease sequence grant o.knows) → TellsLease now grant snapshot o.machine awaited.waited answer.answer
 
--- what the law hears of what comes to an agent. Of a refusal it needs no more than that its message is gone then
+-- what the law hears of what comes to an agent. Of a refusal, and of what other members ask and answer, it needs no more than that
+-- its message is gone then
 abbrev pub Hears : State → ℕ → Option ℕ → Ticks → Heard → Outcome → Type 0
 Hears s m heard now heards.Wake o = Unit {0}
 Hears s m heard now (heards.Got sequence snapshot) o = HearsAnswer s m heard sequence snapshot o.knows
 Hears s m heard now (heards.Granted sequence grant snapshot) o = HearsGrant s m heard now sequence grant snapshot o
 Hears s m heard now (heards.Mismatch sequence key found) o = Unit {0}
+Hears s m heard now (heards.Asked from run sequence) o = Unit {0}
+Hears s m heard now (heards.Answered sequence answer) o = Unit {0}
 
 -- what the law reads of a question to the key store
 abbrev pub query_in : Body → Option Query

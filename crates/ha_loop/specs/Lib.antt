@@ -1,5 +1,6 @@
 pub mod Acting
 pub mod Agents
+pub mod Answers
 pub mod Asking
 pub mod Before
 pub mod Decisions
@@ -9,6 +10,7 @@ pub mod Info
 pub mod Lawful
 pub mod Orders
 pub mod Outputs
+pub mod Peers
 pub mod Powers
 pub mod Racing
 pub mod Repairs

@@ -2,6 +2,8 @@
 use Rattle.std.specs.Prelude.{◌≡◌, nat_le, if◌then◌else◌, List, [], ◌∷◌, Option, Some, None, All}
 use Rattle.pat_base.specs.declared.ticks.Ticks.{Ticks}
 use Rattle.pg_model.specs.Status.{status_replica_started, status_stopping, status_following}
+use Rattle.event_book.specs.declared.message.Body.{Body}
+use Rattle.event_book.specs.declared.message.Body.TheVariants as bodies
 use Rattle.event_book.specs.Members.{server_id_of}
 use Rattle.pg_model.specs.declared.status.ServerStatus.{ServerStatus}
 use Rattle.ha_loop.specs.declared.machine.Machine.{Machine}
@@ -42,10 +44,15 @@ abbrev pub machine_after_outputs : Ticks → Machine → List Output → Machine
 machine_after_outputs now machine [] = machine
 machine_after_outputs now machine (output ∷ later) = machine_after_outputs now (machine_after_output now machine output) later
 
--- an output that the table makes so far: it takes no hold, and writes to no other member
+-- a question that members ask one another so far
+abbrev pub IsAsk : Body → Type 0
+IsAsk bodies.Ask = Unit {0}
+IsAsk _ = ⊥
+
+-- an output that the table makes so far: it takes no hold, and of another member it only asks how far its server is
 abbrev pub IsOfTable : Output → Type 0
 IsOfTable (outputs.HoldTaken until from sequence) = ⊥
-IsOfTable (outputs.Send (targets.Member member) sequence body) = ⊥
+IsOfTable (outputs.Send (targets.Member member) sequence body) = IsAsk body
 IsOfTable _ = Unit {0}
 
 -- nothing comes behind this output, where a log is repaired by it

@@ -15,12 +15,13 @@ ghost use Rattle.ha_loop.specs.Wake.{due_from, is_due};
 
 use crate::before::before;
 use crate::decisions::{granted, refused};
+use crate::peers::{answered, asked};
 use crate::role::Role;
 use crate::snapshots::got;
-use crate::view::view_of;
+use crate::view::{view_of, word_of};
 use crate::wake::{due_from, is_due, wake};
-use crate::{Heard, Knowledge, Machine, Outputs, Who};
-use cluster_config::{AgentView, RoleWord};
+use crate::{Answers, Heard, Knowledge, Machine, Outputs, Who};
+use cluster_config::AgentView;
 use lease_store::{Config, OperatorAction};
 use pat_base::{MemberSet, State, Ticks};
 use std::marker::Model;
@@ -165,6 +166,7 @@ fn fresh_knowledge(who: Who, first: Ticks, run: u64) -> Knowledge
     ensures sound { IsSound result }
 {
     Knowledge {
+        answers: Answers::none(&who),
         who,
         run,
         waited: None,
@@ -220,18 +222,19 @@ fn hear(
             let role = before(role, knows, machine, out, now);
             refused(role, knows, machine, out, now, sequence)
         }
-    }
-}
-
-fn word_of(role: &Role) -> RoleWord
-    ensures { result ≡ word_of (role_of role.now) }
-{
-    match role {
-        Role::Follower => RoleWord::Follower,
-        Role::Holder(_) => RoleWord::Holder,
-        Role::Ready(_) => RoleWord::Ready,
-        Role::Leader(_) => RoleWord::Leader,
-        Role::Ending(_, _) => RoleWord::Ending,
-        Role::Stray => RoleWord::Stray,
+        Heard::Asked {
+            from,
+            run,
+            sequence,
+        } => {
+            let role = before(role, knows, machine, out, now);
+            asked(knows, machine, out, from, run, sequence);
+            role
+        }
+        Heard::Answered { sequence, answer } => {
+            let role = before(role, knows, machine, out, now);
+            answered(&role, knows, machine, out, now, sequence, answer);
+            role
+        }
     }
 }

@@ -66,7 +66,7 @@ fn asks_lease(question: Question) -> bool
     ensures { result ≡ asks_lease question }
 {
     match question {
-        Question::Reading => false,
+        Question::Reading | Question::Asking => false,
         Question::Creating | Question::Renewing => true,
     }
 }
@@ -83,13 +83,13 @@ fn belongs(question: Question, role: &Role) -> bool
     ensures { result ≡ belongs question (role_of role.now) }
 {
     match question {
-        Question::Creating => may_create(role),
+        Question::Asking | Question::Creating => may_create(role),
         Question::Reading | Question::Renewing => is_active(role),
     }
 }
 
 /// Who may have asked for the leader key while it was absent.
-fn may_create(role: &Role) -> bool
+pub(crate) fn may_create(role: &Role) -> bool
     ensures { result ≡ may_create (role_of role.now) }
 {
     matches!(role, Role::Follower | Role::Holder(_))
@@ -178,7 +178,7 @@ fn refused_as(
     match question {
         Question::Creating => create_refused(role),
         Question::Renewing => renewal_refused(role, machine, out, now),
-        Question::Reading => role,
+        Question::Reading | Question::Asking => role,
     }
 }
 

@@ -2,8 +2,10 @@
 
 use cluster_config::Snapshot;
 use lease_store::{Expected, Granted, Key};
+use pat_base::{MemberId, PeerAnswer};
 
-/// What comes to an agent: a wake, or an answer of the key store to the question of this number in its run.
+/// What comes to an agent: a wake, an answer of the key store or of another member to the question of this number in its run, or
+/// a question of another member.
 #[derive(Debug, Drop)]
 pub enum Heard {
     Wake,
@@ -23,5 +25,16 @@ pub enum Heard {
         sequence: u64,
         key: Key,
         found: Expected,
+    },
+    /// Another member asks how far the server is, under this number of that one's run.
+    Asked {
+        from: MemberId,
+        run: u64,
+        sequence: u64,
+    },
+    /// Another member answers.
+    Answered {
+        sequence: u64,
+        answer: PeerAnswer,
     },
 }

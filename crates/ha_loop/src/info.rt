@@ -43,7 +43,7 @@ fn state_word(state: State, receives: bool) -> Word
     }
 }
 
-fn runs(state: State) -> bool
+pub(crate) fn runs(state: State) -> bool
     ensures { result ≡ runs state }
 {
     matches!(state, State::Replica | State::Primary)

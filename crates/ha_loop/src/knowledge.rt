@@ -1,6 +1,6 @@
 //! All that an agent knows beside its role.
 
-use crate::Who;
+use crate::{Answers, Who};
 use cluster_config::Snapshot;
 use lease_store::Config;
 use pat_base::{MemberSet, Ticks};
@@ -10,6 +10,8 @@ use pat_base::{MemberSet, Ticks};
 pub enum Question {
     /// What does the key store hold?
     Reading,
+    /// How far are the other members' servers?
+    Asking,
     /// May it have the leader key, which is absent?
     Creating,
     /// May it have the leader key for longer?
@@ -53,4 +55,6 @@ pub struct Knowledge {
     /// The members that a failsafe key of a snapshot listed which this run accepted, and whether there was such a key.
     pub known: MemberSet,
     pub informed: bool,
+    /// What other members answered since this one asked them last.
+    pub answers: Answers,
 }

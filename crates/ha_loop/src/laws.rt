@@ -1,5 +1,7 @@
 //! Laws of the decision table.
-ghost use Rattle.std.specs.Prelude.{ℕ, ◌≡◌, List, [], Some, None, false};
+ghost use Rattle.std.specs.Prelude.{ℕ, ◌≡◌, List, [], Some, None, false, true};
+ghost use Rattle.pat_base.specs.declared.member_id.MemberId.{MemberId};
+ghost use Rattle.pat_base.specs.declared.peer_answer.PeerAnswer.{PeerAnswer};
 ghost use Rattle.pat_base.specs.declared.ticks.Ticks.{Ticks};
 ghost use Rattle.pat_base.specs.ServerState.{live};
 ghost use Rattle.lease_store.specs.declared.action.Bar.{Bar};
@@ -9,15 +11,18 @@ ghost use Rattle.lease_store.specs.declared.txn.Expected.{Expected};
 ghost use Rattle.wal_model.specs.declared.entry.HistoryPoint.{HistoryPoint};
 ghost use Rattle.cluster_config.specs.Snapshots.{SnapshotFacts};
 ghost use Rattle.leader_race.specs.Eligibility.{eligibility_of};
+ghost use Rattle.leader_race.specs.Outcome.{outcome_of};
 ghost use Rattle.ha_loop.specs.declared.heard.Heard.{Heard};
 ghost use Rattle.ha_loop.specs.declared.heard.Heard.TheVariants as heard;
 ghost use Rattle.ha_loop.specs.declared.knowledge.Knowledge.{Knowledge};
+ghost use Rattle.ha_loop.specs.declared.knowledge.Waited.{Waited};
 ghost use Rattle.ha_loop.specs.declared.machine.Machine.{Machine};
 ghost use Rattle.ha_loop.specs.Agents.{RoleFacts, IsSoundAgent, Outcome, made};
+ghost use Rattle.ha_loop.specs.Answers.{with_answer, all_answered};
 ghost use Rattle.ha_loop.specs.Asking.{AsksAsWaited};
 ghost use Rattle.ha_loop.specs.Before.{before};
 ghost use Rattle.ha_loop.specs.Fits.{Fits};
-ghost use Rattle.ha_loop.specs.FreeKey.{HearsFree, StaysOut, AsksForKey};
+ghost use Rattle.ha_loop.specs.FreeKey.{HearsFree, StaysOut, AsksForKey, AsksOthers, HearsLast, RunsLate, LosesRace, LosesAndTurns};
 ghost use Rattle.ha_loop.specs.Orders.{IsCarriedOut};
 ghost use Rattle.ha_loop.specs.Powers.{BringsNothing, GrantMay, LeavesMachine};
 ghost use Rattle.ha_loop.specs.Racing.{can_start};
@@ -36,6 +41,8 @@ pub fn only_a_grant_lets_lead()
     ensures wake { (now : Ticks) (points : List HistoryPoint) (o : Outcome) → BringsNothing o (step now points heard.Wake o) }
     ensures read { (now : Ticks) (points : List HistoryPoint) (sequence : ℕ) (snapshot : SnapshotFacts) (o : Outcome) → BringsNothing o (step now points (heard.Got sequence snapshot) o) }
     ensures refusal { (now : Ticks) (points : List HistoryPoint) (sequence : ℕ) (key : Key) (found : Expected) (o : Outcome) → BringsNothing o (step now points (heard.Mismatch sequence key found) o) }
+    ensures ask { (now : Ticks) (points : List HistoryPoint) (from : MemberId) (run sequence : ℕ) (o : Outcome) → BringsNothing o (step now points (heard.Asked from run sequence) o) }
+    ensures answer { (now : Ticks) (points : List HistoryPoint) (sequence : ℕ) (answer : PeerAnswer) (o : Outcome) → BringsNothing o (step now points (heard.Answered sequence answer) o) }
     ensures action { (now : Ticks) (o : Outcome) → BringsNothing o (act now o) }
 {}
 
@@ -45,6 +52,8 @@ pub fn only_a_grant_sets_deadlines()
     ensures wake { (now : Ticks) (points : List HistoryPoint) (o : Outcome) → LeavesMachine o (step now points heard.Wake o) }
     ensures read { (now : Ticks) (points : List HistoryPoint) (sequence : ℕ) (snapshot : SnapshotFacts) (o : Outcome) → LeavesMachine o (step now points (heard.Got sequence snapshot) o) }
     ensures refusal { (now : Ticks) (points : List HistoryPoint) (sequence : ℕ) (key : Key) (found : Expected) (o : Outcome) → LeavesMachine o (step now points (heard.Mismatch sequence key found) o) }
+    ensures ask { (now : Ticks) (points : List HistoryPoint) (from : MemberId) (run sequence : ℕ) (o : Outcome) → LeavesMachine o (step now points (heard.Asked from run sequence) o) }
+    ensures answer { (now : Ticks) (points : List HistoryPoint) (sequence : ℕ) (answer : PeerAnswer) (o : Outcome) → LeavesMachine o (step now points (heard.Answered sequence answer) o) }
     ensures action { (now : Ticks) (o : Outcome) → LeavesMachine o (act now o) }
 {}
 
@@ -74,8 +83,23 @@ pub fn who_is_barred_stays_out()
     ensures { (now : Ticks) (points : List HistoryPoint) (sequence : ℕ) (snapshot : SnapshotFacts) (bar : Bar) (o : Outcome) → HearsFree sequence snapshot (before now o) → can_start (before now o).machine.server ≡ false → eligibility_of (shown now (before now o)) snapshot ≡ Some bar → StaysOut snapshot bar (before now o) (step now points (heard.Got sequence snapshot) o) }
 {}
 
-/// A free leader key is asked for: where the answer to its read tells that nobody leads, an agent that nothing bars asks for
-/// the key, and waits for the answer. Only a running replica is barred by nothing.
+/// A free leader key is raced for: where the answer to its read tells that nobody leads, an agent that nothing bars asks every
+/// other member how far its server is, and waits for the answers. Where there is none, it asks for the key at once, and waits
+/// for the answer. Only a running replica is barred by nothing.
 pub fn a_free_key_is_asked_for()
-    ensures { (now : Ticks) (points : List HistoryPoint) (sequence : ℕ) (snapshot : SnapshotFacts) (o : Outcome) → HearsFree sequence snapshot (before now o) → eligibility_of (shown now (before now o)) snapshot ≡ None → AsksForKey (before now o) (step now points (heard.Got sequence snapshot) o) }
+    ensures others { (now : Ticks) (points : List HistoryPoint) (sequence : ℕ) (snapshot : SnapshotFacts) (o : Outcome) → HearsFree sequence snapshot (before now o) → eligibility_of (shown now (before now o)) snapshot ≡ None → all_answered (before now o).knows.who [] ≡ false → AsksOthers now (before now o) (step now points (heard.Got sequence snapshot) o) }
+    ensures alone { (now : Ticks) (points : List HistoryPoint) (sequence : ℕ) (snapshot : SnapshotFacts) (o : Outcome) → HearsFree sequence snapshot (before now o) → eligibility_of (shown now (before now o)) snapshot ≡ None → all_answered (before now o).knows.who [] ≡ true → AsksForKey (before now o) (step now points (heard.Got sequence snapshot) o) }
+{}
+
+/// A race is judged by the answers of the others, as soon as each of them answered: who wins asks for the key, and waits for the
+/// answer; who loses tells what bars it, tells of itself, and does nothing else.
+pub fn the_last_answer_decides()
+    ensures won { (now : Ticks) (points : List HistoryPoint) (waited : Waited) (sequence : ℕ) (answer : PeerAnswer) (snapshot : SnapshotFacts) (o : Outcome) → HearsLast waited sequence answer snapshot (before now o) → outcome_of (shown now (before now o)) snapshot (with_answer answer (before now o).knows.answers) ≡ None → AsksForKey (before now o) (step now points (heard.Answered sequence answer) o) }
+    ensures lost { (now : Ticks) (points : List HistoryPoint) (waited : Waited) (sequence : ℕ) (answer : PeerAnswer) (snapshot : SnapshotFacts) (bar : Bar) (o : Outcome) → HearsLast waited sequence answer snapshot (before now o) → outcome_of (shown now (before now o)) snapshot (with_answer answer (before now o).knows.answers) ≡ Some bar → LosesRace bar (before now o) (step now points (heard.Answered sequence answer) o) }
+{}
+
+/// Once their time is over, a race is judged by the answers that there are, in the same way.
+pub fn late_answers_are_not_waited_for()
+    ensures won { (now : Ticks) (points : List HistoryPoint) (waited : Waited) (snapshot : SnapshotFacts) (o : Outcome) → RunsLate now waited snapshot (before now o) → outcome_of (shown now (before now o)) snapshot (before now o).knows.answers ≡ None → AsksForKey (before now o) (step now points heard.Wake o) }
+    ensures lost { (now : Ticks) (points : List HistoryPoint) (waited : Waited) (snapshot : SnapshotFacts) (bar : Bar) (o : Outcome) → RunsLate now waited snapshot (before now o) → outcome_of (shown now (before now o)) snapshot (before now o).knows.answers ≡ Some bar → LosesAndTurns now bar (before now o) (step now points heard.Wake o) }
 {}

@@ -3,6 +3,7 @@
 
 mod acting;
 mod agent;
+mod answers;
 mod before;
 mod decisions;
 mod heard;
@@ -12,6 +13,7 @@ mod laws;
 mod machine;
 mod output;
 mod outputs;
+mod peers;
 mod role;
 mod snapshots;
 mod view;
@@ -19,12 +21,14 @@ mod wake;
 mod who;
 
 pub use agent::Agent;
+pub use answers::Answers;
 pub use heard::Heard;
 pub use knowledge::{Knowledge, Question, Waited};
 pub use laws::{
-    a_free_key_is_asked_for, a_grant_feeds_the_watchdog, only_a_grant_lets_lead,
-    only_a_grant_sets_deadlines, outputs_make_the_machine, role_fits_server,
-    what_is_asked_is_waited_for, who_is_barred_stays_out,
+    a_free_key_is_asked_for, a_grant_feeds_the_watchdog, late_answers_are_not_waited_for,
+    only_a_grant_lets_lead, only_a_grant_sets_deadlines, outputs_make_the_machine,
+    role_fits_server, the_last_answer_decides, what_is_asked_is_waited_for,
+    who_is_barred_stays_out,
 };
 pub use machine::Machine;
 pub use output::{Output, Repair, Target};

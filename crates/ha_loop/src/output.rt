@@ -2,7 +2,7 @@
 
 use event_book::{Body, Reason};
 use lease_store::Bar;
-use pat_base::{MemberId, Required, Ticks};
+use pat_base::{MemberId, PeerAnswer, Required, Ticks};
 
 /// Whom an agent writes to.
 #[derive(Clone, Copy, Debug, PartialEq, Eq)]
@@ -28,6 +28,13 @@ pub enum Output {
         to: Target,
         sequence: u64,
         body: Body,
+    },
+    /// What it answers this member, to the ask of this number in that one's run.
+    Answer {
+        to: MemberId,
+        run: u64,
+        sequence: u64,
+        answer: PeerAnswer,
     },
     /// The server begins to accept writes: a replica is promoted, and one that is down and was a primary starts as one again.
     Begin,

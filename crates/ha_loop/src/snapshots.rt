@@ -8,6 +8,7 @@ ghost use Rattle.ha_loop.specs.declared.output.Output.TheVariants as outputs;
 ghost use Rattle.ha_loop.specs.declared.output.Target.TheVariants as targets;
 ghost use Rattle.ha_loop.specs.Acting.{seconds_after, lease_span, counted, waiting, upstream_of, is_hold_active};
 ghost use Rattle.ha_loop.specs.Agents.{IsSound, IsWithin, Follower, role_of, made, latest};
+ghost use Rattle.ha_loop.specs.Answers.{most_answers};
 ghost use Rattle.ha_loop.specs.Info.{info_of};
 ghost use Rattle.ha_loop.specs.Outputs.{listed};
 ghost use Rattle.ha_loop.specs.Snapshots.{known_with, informed, status_told, row_at, missing_point, missing_row, row_told, renewal, turn_start, renewing, finds_own_key, own_key, starts_behind, ends_fork, follows_anew, follow_row, follows, others_key, no_key, led_by, led, is_active, is_read, awaits_read, read_noted, accepted, got};
@@ -45,11 +46,11 @@ pub(crate) fn got(
     requires sound { IsSound knows.old }
     requires server { IsWithin machine.old.server }
     requires numbers { knows.old.sequence < 2 ^ 60 }
-    requires room { 3 ≤ out.old.spare }
+    requires room { most_answers ≤ out.old.spare }
     ensures outcome { made (role_of result) knows.new machine.new out.new.outputs ≡ got now history.now.points sequence snapshot (made (role_of role) knows.old machine.old out.old.outputs) }
     ensures sound { IsSound knows.new }
     ensures numbers { knows.new.sequence ≤ knows.old.sequence + 1 }
-    ensures room { out.old.spare ≤ out.new.spare + 3 }
+    ensures room { out.old.spare ≤ out.new.spare + most_answers }
 {
     if !awaits_read(knows.waited, sequence) {
         return role;
@@ -128,11 +129,11 @@ fn led(
     requires sound { IsSound knows.old }
     requires server { IsWithin machine.old.server }
     requires numbers { knows.old.sequence < 2 ^ 60 }
-    requires room { 3 ≤ out.old.spare }
+    requires room { most_answers ≤ out.old.spare }
     ensures outcome { made (role_of result) knows.new machine.new out.new.outputs ≡ led now history.now.points leader (made (role_of role) knows.old machine.old out.old.outputs) }
     ensures sound { IsSound knows.new }
     ensures numbers { knows.new.sequence ≤ knows.old.sequence + 1 }
-    ensures room { out.old.spare ≤ out.new.spare + 3 }
+    ensures room { out.old.spare ≤ out.new.spare + most_answers }
 {
     match leader {
         None => no_key(role, knows, machine, out, now),
@@ -268,11 +269,11 @@ fn no_key(
     requires sound { IsSound knows.old }
     requires server { IsWithin machine.old.server }
     requires numbers { knows.old.sequence < 2 ^ 60 }
-    requires room { 2 ≤ out.old.spare }
+    requires room { most_answers ≤ out.old.spare }
     ensures outcome { made (role_of result) knows.new machine.new out.new.outputs ≡ no_key now (role_of role) (made (role_of role) knows.old machine.old out.old.outputs) }
     ensures sound { IsSound knows.new }
     ensures numbers { knows.new.sequence ≤ knows.old.sequence + 1 }
-    ensures room { out.old.spare ≤ out.new.spare + 2 }
+    ensures room { out.old.spare ≤ out.new.spare + most_answers }
 {
     match role {
         Role::Leader(writer) => lose(writer, machine, out, now, Reason::LeaderKeyLost),

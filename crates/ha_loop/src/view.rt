@@ -1,7 +1,9 @@
 //! What an agent shows of itself and of its server.
 ghost use Rattle.std.specs.Prelude.{◌≡◌, None, option_copied};
+ghost use Rattle.ha_loop.specs.Agents.{role_of, word_of};
 ghost use Rattle.ha_loop.specs.Views.{view_of};
 
+use crate::role::Role;
 use crate::{Knowledge, Machine};
 use cluster_config::{AgentView, RoleWord};
 use pat_base::Ticks;
@@ -36,5 +38,19 @@ pub(crate) fn view_of<'a>(
         last_turn: knows.last_turn,
         hold: machine.hold,
         waits: false,
+    }
+}
+
+/// The word for a role.
+pub(crate) fn word_of(role: &Role) -> RoleWord
+    ensures { result ≡ word_of (role_of role.now) }
+{
+    match role {
+        Role::Follower => RoleWord::Follower,
+        Role::Holder(_) => RoleWord::Holder,
+        Role::Ready(_) => RoleWord::Ready,
+        Role::Leader(_) => RoleWord::Leader,
+        Role::Ending(_, _) => RoleWord::Ending,
+        Role::Stray => RoleWord::Stray,
     }
 }

@@ -14,6 +14,7 @@ ghost use Rattle.ha_loop.specs.Wake.{finds_ended, is_overdue, has_turn, is_due, 
 
 use crate::acting::{ask, end_server, lose};
 use crate::before::before;
+use crate::peers::judge_if_racing;
 use crate::role::Role;
 use crate::{Knowledge, Machine, Outputs, Question, Waited};
 use event_book::{Body, Reason};
@@ -30,12 +31,12 @@ pub(crate) fn wake(
     requires moment { now.0 ≤ latest }
     requires sound { IsSound knows.old }
     requires server { IsWithin machine.old.server }
-    requires numbers { knows.old.sequence + 2 ≤ 2 ^ 60 }
-    requires room { 4 ≤ out.old.spare }
+    requires numbers { knows.old.sequence + 3 ≤ 2 ^ 60 }
+    requires room { 5 ≤ out.old.spare }
     ensures outcome { made (role_of result) knows.new machine.new out.new.outputs ≡ woken now (made (role_of role) knows.old machine.old out.old.outputs) }
     ensures sound { IsSound knows.new }
-    ensures numbers { knows.new.sequence ≤ knows.old.sequence + 2 }
-    ensures room { out.old.spare ≤ out.new.spare + 4 }
+    ensures numbers { knows.new.sequence ≤ knows.old.sequence + 3 }
+    ensures room { out.old.spare ≤ out.new.spare + 5 }
 {
     let due = is_due(&role, knows, machine, now);
     let role = before(role, knows, machine, out, now);
@@ -109,11 +110,12 @@ fn overdue(
     requires moment { now.0 ≤ latest }
     requires sound { IsSound knows.old }
     requires server { IsWithin machine.old.server }
-    requires room { 1 ≤ out.old.spare }
+    requires numbers { knows.old.sequence < 2 ^ 60 }
+    requires room { 2 ≤ out.old.spare }
     ensures outcome { made (role_of result) knows.new machine.new out.new.outputs ≡ overdue now (made (role_of role) knows.old machine.old out.old.outputs) }
     ensures sound { IsSound knows.new }
-    ensures numbers { knows.new.sequence ≡ knows.old.sequence }
-    ensures room { out.old.spare ≤ out.new.spare + 1 }
+    ensures numbers { knows.new.sequence ≤ knows.old.sequence + 1 }
+    ensures room { out.old.spare ≤ out.new.spare + 2 }
 {
     let Some(waited) = knows.waited else {
         return role;
@@ -136,14 +138,19 @@ fn unanswered(
     requires moment { now.0 ≤ latest }
     requires sound { IsSound knows.old }
     requires server { IsWithin machine.old.server }
-    requires room { 1 ≤ out.old.spare }
+    requires numbers { knows.old.sequence < 2 ^ 60 }
+    requires room { 2 ≤ out.old.spare }
     ensures outcome { made (role_of result) knows.new machine.new out.new.outputs ≡ unanswered now question (made (role_of role) knows.old machine.old out.old.outputs) }
     ensures sound { IsSound knows.new }
-    ensures numbers { knows.new.sequence ≡ knows.old.sequence }
-    ensures room { out.old.spare ≤ out.new.spare + 1 }
+    ensures numbers { knows.new.sequence ≤ knows.old.sequence + 1 }
+    ensures room { out.old.spare ≤ out.new.spare + 2 }
 {
     match question {
         Question::Reading | Question::Renewing => out_of_reach(role, knows, machine, out, now),
+        Question::Asking => {
+            judge_if_racing(&role, knows, machine, out, now);
+            role
+        }
         Question::Creating => {
             knows.waited = None;
             role

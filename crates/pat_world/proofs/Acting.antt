@@ -1,7 +1,9 @@
 -- What an input of an agent brings at most: messages of its run, and outputs.
-use Rattle.std.proofs.Common.{ℕ, ◌+◌, ◌≤◌, List, [], ◌∷◌, All, length, length-append, Option, Some, None, arith}
+use Rattle.std.proofs.Common.{ℕ, ◌+◌, ◌≤◌, List, [], ◌∷◌, All, length, length-append, Option, Some, None, arith, zero, suc}
 use Rattle.std.proofs.lemmas.List.Elements.{All-push}
+use Rattle.pat_base.specs.MemberId.{member_of}
 use Rattle.pat_base.specs.declared.member_id.MemberId.{MemberId}
+use Rattle.pat_base.specs.declared.peer_answer.PeerAnswer.{PeerAnswer}
 use Rattle.pat_base.specs.declared.ticks.Ticks.{Ticks}
 use Rattle.lease_store.specs.declared.granted.Granted.{Granted}
 use Rattle.wal_model.specs.declared.entry.HistoryPoint.{HistoryPoint}
@@ -10,19 +12,24 @@ use Rattle.ha_loop.specs.declared.heard.Heard.{Heard}
 use Rattle.ha_loop.specs.declared.heard.Heard.TheVariants as heards
 use Rattle.ha_loop.specs.declared.output.Output.{Output}
 use Rattle.ha_loop.specs.declared.output.Output.TheVariants as outputs
+use Rattle.ha_loop.specs.declared.output.Target.TheVariants as targets
 use Rattle.ha_loop.specs.declared.role.Why.{Why}
+use Rattle.ha_loop.specs.declared.who.Who.{Who}
+use Rattle.event_book.specs.declared.message.Body.TheVariants as bodies
 use Rattle.ha_loop.specs.declared.role.Why.TheVariants.{HandOver, Lost}
 use Rattle.ha_loop.specs.Acting.{arming, armed, deadline_after, disarmed, fed_until, feeding, is_refusing, touching}
 use Rattle.ha_loop.specs.Agents.{Leader, Follower, Outcome}
 use Rattle.ha_loop.specs.Before.{before, has_ended}
 use Rattle.ha_loop.specs.Decisions.{arms, begins, gives_back, granted, is_start_too_long, leader_renewed, may_take, refused, stray_renewed, takes_key, takes_over}
 use Rattle.ha_loop.specs.Outputs.{listed, most_outputs}
-use Rattle.ha_loop.specs.Racing.{finds_free}
+use Rattle.ha_loop.specs.Racing.{finds_free, judged, unheard}
 use Rattle.ha_loop.specs.Repairs.{repair_of}
 use Rattle.ha_loop.specs.Snapshots.{follow_row, follows, got, informed, read_noted}
 use Rattle.ha_loop.specs.Table.{step}
 use Rattle.ha_loop.specs.Wake.{overdue, turned, woken}
-use Rattle.ha_loop.proofs.Rows.{if-cases, before-by, overdue-by, turn-by, wake-by, got-by, refused-by, granted-by, follow-by, repaired-by, free-by}
+use Rattle.ha_loop.proofs.Rows.{if-cases, before-by, overdue-by, turn-by, wake-by, got-by, refused-by, granted-by, follow-by, repaired-by, free-by, judged-by, answered-by}
+use Rattle.ha_loop.specs.Answers.{is_other, most_answers, asking_one, asking_first}
+use Rattle.ha_loop.specs.Peers.{keeping, answered}
 use Rattle.pat_world.specs.Short.{AsksShortly}
 
 -- from this number of messages and these outputs on there are so many more at most, and each asks shortly if each did before
@@ -30,6 +37,10 @@ record Grows (most sequence later : ℕ) (before after : List Output) : Type 0 w
   numbers : later ≤ sequence + most
   few : length after ≤ length before + most
   short : All AsksShortly before → All AsksShortly after
+
+-- a race asks at most so many others
+more : (sequence later : ℕ) (before after : List Output) → Grows 9 sequence later before after → Grows 16 sequence later before after
+more sequence later before after one = record { numbers = omega (arith, one.numbers); few = omega (arith, one.few); short = one.short }
 
 kept : {sequence : ℕ} {outputs : List Output} → Grows 9 sequence sequence outputs outputs
 kept = record { numbers = omega arith; few = omega arith; short = λ all. all }
@@ -100,12 +111,17 @@ before-row now o = before-by (Row o) now o (record {
   stray = λ _ _. disarmed-row o.knows.sequence o.machine.watchdog.deadline o.outputs;
 })
 
+judged-row : (now : Ticks) (o : Outcome) → Row o (judged now o)
+judged-row now o = judged-by (Row o) now o (said o.knows.sequence (o.knows.sequence + 1) o.outputs _ (omega arith) (omega (arith, o.knows.settings.ttl_range)))
+    (λ bar. said-both o.knows.sequence o.outputs _ _ tt (omega (arith, o.knows.settings.ttl_range)))
+
 overdue-row : (now : Ticks) (o : Outcome) → Row o (overdue now o)
 overdue-row now o = overdue-by (Row o) now o (record {
   kept = kept;
   quiet = kept;
   leader = λ held _. said o.knows.sequence o.knows.sequence o.outputs _ (omega arith) tt;
   stray = λ _. said o.knows.sequence o.knows.sequence o.outputs _ (omega arith) tt;
+  judges = λ _. judged-row now o;
 })
 
 turn-row : (now : Ticks) (o : Outcome) → Row o (turned now o)
@@ -125,26 +141,54 @@ follow-row now leader o =
     repaired-by (Row o) leader (repair_of o.knows.settings leader o.machine.server) row (weaker 2 9 _ _ _ _ (omega arith) told)
     (λ r. grows-then 2 1 9 _ _ _ _ _ _ (omega arith) told (one row.knows.sequence row.knows.sequence row.outputs (outputs.Repair leader r) (omega arith) tt))
 
-free-row : (now : Ticks) (o : Outcome) → Row o (finds_free now o)
-free-row now o = free-by (Row o) now (record o { role = Follower })
-    (said-both o.knows.sequence o.outputs _ _ tt (omega (arith, o.knows.settings.ttl_range)))
-    (λ bar. said-both o.knows.sequence o.outputs _ _ tt (omega (arith, o.knows.settings.ttl_range)))
-    (said o.knows.sequence (o.knows.sequence + 1) o.outputs _ (omega arith) (omega (arith, o.knows.settings.ttl_range)))
+-- the asks of a race
+asked-few : (who : Who) (sequence : ℕ) (member : Option MemberId) (outs : List Output) → length (asking_one who sequence member outs) ≤ length outs + 1
+asked-few who sequence None outs = omega arith
+asked-few who sequence (Some member) outs = if-cases (λ (l : List Output). length l ≤ length outs + 1) (is_other who member) (listed (outputs.Send (targets.Member member) sequence bodies.Ask) outs) outs
+    (λ _. omega (arith, length-append outs (outputs.Send (targets.Member member) sequence bodies.Ask ∷ []))) (λ _. omega arith)
 
-got-row : (now : Ticks) (points : List HistoryPoint) (sequence : ℕ) (snapshot : SnapshotFacts) (o : Outcome) → Row o (got now points sequence snapshot o)
+asks-few : (who : Who) (sequence count : ℕ) (outs : List Output) → length (asking_first who sequence count outs) ≤ length outs + count
+asks-few who sequence zero outs = omega arith
+asks-few who sequence (suc count) outs = omega (arith, asked-few who sequence (member_of count) (asking_first who sequence count outs), asks-few who sequence count outs)
+
+asked-short : (who : Who) (sequence : ℕ) (member : Option MemberId) (outs : List Output) → All AsksShortly outs → All AsksShortly (asking_one who sequence member outs)
+asked-short who sequence None outs all = all
+asked-short who sequence (Some member) outs all = if-cases (λ (l : List Output). All AsksShortly l) (is_other who member) (listed (outputs.Send (targets.Member member) sequence bodies.Ask) outs) outs
+    (λ _. All-push AsksShortly outs (outputs.Send (targets.Member member) sequence bodies.Ask) all tt) (λ _. all)
+
+asks-short : (who : Who) (sequence count : ℕ) (outs : List Output) → All AsksShortly outs → All AsksShortly (asking_first who sequence count outs)
+asks-short who sequence zero outs all = all
+asks-short who sequence (suc count) outs all = asked-short who sequence (member_of count) (asking_first who sequence count outs) (asks-short who sequence count outs all)
+
+asks-row : (who : Who) (sequence count : ℕ) (outs : List Output) → count ≤ 16 → Grows 16 sequence (sequence + 1) outs (asking_first who (sequence + 1) count outs)
+asks-row who sequence count outs most = record { numbers = omega arith; few = omega (arith, most, asks-few who (sequence + 1) count outs); short = asks-short who (sequence + 1) count outs }
+
+free-row : (now : Ticks) (o : Outcome) → Brings 16 o (finds_free now o)
+free-row now o = free-by (Brings 16 o) now (record o { role = Follower }) (record {
+  starts = more _ _ _ _ (said-both o.knows.sequence o.outputs _ _ tt (omega (arith, o.knows.settings.ttl_range)));
+  bars = λ bar. more _ _ _ _ (said-both o.knows.sequence o.outputs _ _ tt (omega (arith, o.knows.settings.ttl_range)));
+  judges = more _ _ _ _ (judged-row now (unheard (record o { role = Follower })));
+  asks = asks-row o.knows.who o.knows.sequence most_answers o.outputs (omega arith);
+})
+
+got-row : (now : Ticks) (points : List HistoryPoint) (sequence : ℕ) (snapshot : SnapshotFacts) (o : Outcome) → Brings 16 o (got now points sequence snapshot o)
 got-row now points sequence snapshot o =
     let read : Outcome = record o { knows = read_noted now snapshot o.knows } in
-    got-by (Row o) now points sequence snapshot o (record {
-      kept = kept;
-      quiet = kept;
-      other = kept;
-      leader = λ held _. said o.knows.sequence o.knows.sequence o.outputs _ (omega arith) tt;
-      stray = λ _. said o.knows.sequence o.knows.sequence o.outputs _ (omega arith) tt;
-      renews = λ leader _ _ _. said o.knows.sequence (o.knows.sequence + 1) o.outputs _ (omega arith) (omega (arith, read.knows.settings.ttl_range));
-      touches = said o.knows.sequence (o.knows.sequence + 1) o.outputs _ (omega arith) (omega (arith, read.knows.settings.ttl_range));
-      follows = λ leader _ _. follow-row now leader.holder read;
+    let still : Grows 16 o.knows.sequence o.knows.sequence o.outputs o.outputs = more _ _ _ _ kept in
+    got-by (Brings 16 o) now points sequence snapshot o (record {
+      kept = still;
+      quiet = still;
+      other = still;
+      leader = λ held _. more _ _ _ _ (said o.knows.sequence o.knows.sequence o.outputs _ (omega arith) tt);
+      stray = λ _. more _ _ _ _ (said o.knows.sequence o.knows.sequence o.outputs _ (omega arith) tt);
+      renews = λ leader _ _ _. more _ _ _ _ (said o.knows.sequence (o.knows.sequence + 1) o.outputs _ (omega arith) (omega (arith, read.knows.settings.ttl_range)));
+      touches = more _ _ _ _ (said o.knows.sequence (o.knows.sequence + 1) o.outputs _ (omega arith) (omega (arith, read.knows.settings.ttl_range)));
+      follows = λ leader _ _. more _ _ _ _ (follow-row now leader.holder read);
       free = λ _ _. free-row now read;
     })
+
+answered-row : (now : Ticks) (sequence : ℕ) (answer : PeerAnswer) (o : Outcome) → Row o (answered now sequence answer o)
+answered-row now sequence answer o = answered-by (Row o) now sequence answer o (record { kept = kept; quiet = kept; keeps = kept; judges = λ _. judged-row now (keeping answer o) })
 
 refused-row : (now : Ticks) (sequence : ℕ) (o : Outcome) → Row o (refused now sequence o)
 refused-row now sequence o = refused-by (Row o) now sequence o (record {
@@ -218,6 +262,8 @@ one-more o mid after one two = small o mid after one (weaker 9 18 _ _ _ _ (omega
 -- so it is with each input
 pub step-small : (now : Ticks) (points : List HistoryPoint) (heard : Heard) (o : Outcome) → IsSmall o (step now points heard o)
 step-small now points heards.Wake o = woken-small now o
-step-small now points (heards.Got sequence snapshot) o = one-more o (before now o) _ (before-row now o) (got-row now points sequence snapshot (before now o))
+step-small now points (heards.Got sequence snapshot) o = small o (before now o) _ (before-row now o) (weaker 16 18 _ _ _ _ (omega arith) (got-row now points sequence snapshot (before now o)))
 step-small now points (heards.Granted sequence grant snapshot) o = one-more o (before now o) _ (before-row now o) (granted-row now sequence grant snapshot (before now o))
 step-small now points (heards.Mismatch sequence key found) o = one-more o (before now o) _ (before-row now o) (refused-row now sequence (before now o))
+step-small now points (heards.Asked from run sequence) o = one-more o (before now o) _ (before-row now o) (said (before now o).knows.sequence (before now o).knows.sequence (before now o).outputs _ (omega arith) tt)
+step-small now points (heards.Answered sequence answer) o = one-more o (before now o) _ (before-row now o) (answered-row now sequence answer (before now o))

@@ -3,6 +3,7 @@ use Rattle.std.proofs.Common.{◌≡◌, ℕ, ◌+◌, ◌*◌, ◌≤◌, List,
 use Rattle.std.specs.Prelude.{option_and_then, option_to_list, slice_get}
 use Rattle.std.proofs.lemmas.List.Elements.{All-head, All-tail}
 use Rattle.pat_base.specs.declared.member_id.MemberId.{MemberId}
+use Rattle.pat_base.specs.declared.peer_answer.PeerAnswer.{PeerAnswer}
 use Rattle.pat_base.specs.declared.ticks.Ticks.{Ticks}
 use Rattle.event_book.specs.declared.event.Event.{Event}
 use Rattle.event_book.specs.declared.event.EventKind.{EventKind}
@@ -70,18 +71,19 @@ carrying-end member heard start cluster had has whole rest c nothing =
     Left-end start cluster had has (each (output_events member heard) start whole) _ outputs_cost (output_cost * length rest) c.left (ap (each (output_events member heard) cluster) nothing)
 
 -- an output that is no message, no feed, and no start or end of a server is an order that brings one event at most
-pub order-same : (cluster : Cluster) (member : Member) (heard : HeardMessage) (output : Output) → ((to : Target) (n : ℕ) (body : Body) → output ≡ outputs.Send to n body → ⊥) → (output ≡ outputs.Begin → ⊥)
+pub order-same : (cluster : Cluster) (member : Member) (heard : HeardMessage) (output : Output) → ((to : Target) (n : ℕ) (body : Body) → output ≡ outputs.Send to n body → ⊥) → ((to : MemberId) (run n : ℕ) (answer : PeerAnswer) → output ≡ outputs.Answer to run n answer → ⊥) → (output ≡ outputs.Begin → ⊥)
     → ((leader : Option MemberId) → output ≡ outputs.StartReplica leader → ⊥) → ((reason : Reason) → output ≡ outputs.Stop reason → ⊥) → ((until : Ticks) → output ≡ outputs.Armed until → ⊥) → ((until : Ticks) → output ≡ outputs.Fed until → ⊥)
     → ((leader : MemberId) (repair : Repair) → output ≡ outputs.Repair leader repair → ⊥)
     → output_events member heard cluster output ≡ events_of cluster (kinds_of (order_kind cluster member heard output))
-order-same cluster member heard (outputs.Send to n body) send begin start stop arm feed mends = absurd (send to n body refl)
-order-same cluster member heard outputs.Begin send begin start stop arm feed mends = absurd (begin refl)
-order-same cluster member heard (outputs.StartReplica leader) send begin start stop arm feed mends = absurd (start leader refl)
-order-same cluster member heard (outputs.Stop reason) send begin start stop arm feed mends = absurd (stop reason refl)
-order-same cluster member heard (outputs.Armed until) send begin start stop arm feed mends = absurd (arm until refl)
-order-same cluster member heard (outputs.Fed until) send begin start stop arm feed mends = absurd (feed until refl)
-order-same cluster member heard (outputs.Repair leader repair) send begin start stop arm feed mends = absurd (mends leader repair refl)
-order-same cluster member heard _ send begin start stop arm feed mends = refl
+order-same cluster member heard (outputs.Send to n body) send reply begin start stop arm feed mends = absurd (send to n body refl)
+order-same cluster member heard (outputs.Answer to run n answer) send reply begin start stop arm feed mends = absurd (reply to run n answer refl)
+order-same cluster member heard outputs.Begin send reply begin start stop arm feed mends = absurd (begin refl)
+order-same cluster member heard (outputs.StartReplica leader) send reply begin start stop arm feed mends = absurd (start leader refl)
+order-same cluster member heard (outputs.Stop reason) send reply begin start stop arm feed mends = absurd (stop reason refl)
+order-same cluster member heard (outputs.Armed until) send reply begin start stop arm feed mends = absurd (arm until refl)
+order-same cluster member heard (outputs.Fed until) send reply begin start stop arm feed mends = absurd (feed until refl)
+order-same cluster member heard (outputs.Repair leader repair) send reply begin start stop arm feed mends = absurd (mends leader repair refl)
+order-same cluster member heard _ send reply begin start stop arm feed mends = refl
 
 -- what an order comes to that brings one event at most
 pub order-took : (cluster after : Cluster) (had has : List Event) (member : Member) (heard : HeardMessage) (output : Output) (found : Option EventKind)

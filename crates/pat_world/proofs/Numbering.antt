@@ -31,6 +31,7 @@ use Rattle.event_book.specs.Flight.{Flight, InFlightFacts, flight_after, in_flig
 use Rattle.event_book.specs.Members.{server_of}
 use Rattle.ha_loop.specs.declared.output.Output.{Output}
 use Rattle.ha_loop.specs.declared.output.Output.TheVariants as outputs
+use Rattle.ha_loop.specs.declared.output.Target.TheVariants as targets
 use Rattle.cluster_model.specs.declared.beginning.Beginning.{Beginning}
 use Rattle.cluster_model.specs.declared.beginning.Beginning.TheVariants as beginnings
 use Rattle.cluster_model.specs.declared.delivery.Delivery.{Delivery}
@@ -44,7 +45,7 @@ use Rattle.cluster_model.specs.Hearing.{heard_from}
 use Rattle.cluster_model.specs.Inputs.{outcome_of_heard, outputs_of}
 use Rattle.cluster_model.specs.Limits.{most_in_flight}
 use Rattle.cluster_model.specs.Losing.{loss_if}
-use Rattle.cluster_model.specs.Messages.{answer_events_by, answer_message, arrival_events_at, decision_body, decision_events, heard_message, lost_at_once, message_events, message_events_by, output_events, receiver_of, send_events, sending_events}
+use Rattle.cluster_model.specs.Messages.{answer_events_by, answer_message, arrival_events_at, decision_body, decision_events, heard_message, lost_at_once, message_events, message_events_by, output_events, receiver_of, send_events, sending_events, replying_events}
 use Rattle.cluster_model.specs.Orders.{arming, declared_member, feed_kinds, feeding, following_of, hold_taken, is_same_required, order_kind, replica_start_kinds, require_of, required_names, server_at, stop_kind, stop_kinds, stop_of, upstream_of, repair_over}
 use Rattle.cluster_model.specs.Parts.{each, events_of, for_some}
 use Rattle.cluster_model.specs.State.{Cluster}
@@ -145,6 +146,10 @@ sending-above last cluster member None to sequence body low = tt
 sending-above last cluster member (Some process) None sequence body low = tt
 sending-above last cluster member (Some process) (Some to) sequence body low = send-above last cluster _ low
 
+replying-above : (last : ℕ) (cluster : Cluster) (member : Member) (to : Option LinkEnd) (run sequence : ℕ) (body : Body) → last ≤ cluster.book.sent → AllAre (IsAbove last) (replying_events cluster member to run sequence body)
+replying-above last cluster member None run sequence body low = tt
+replying-above last cluster member (Some to) run sequence body low = send-above last cluster _ low
+
 loss-above : (last : ℕ) (member : Member) (test : Bool) → AllKinds (IsAbove last) (kinds_of (loss_if member test))
 loss-above last member true = (tt, tt)
 loss-above last member false = tt
@@ -194,6 +199,7 @@ held-above last hold (Some from) all = all from
 
 order-above : (last : ℕ) (cluster : Cluster) (member : Member) (heard : HeardMessage) (output : Output) → HoldsIf (IsAbove last) (order_kind cluster member heard output)
 order-above last cluster member heard (outputs.Send to sequence body) = tt
+order-above last cluster member heard (outputs.Answer to run sequence answer) = tt
 order-above last cluster member heard outputs.Begin = tt
 order-above last cluster member heard (outputs.StartReplica leader) = tt
 order-above last cluster member heard (outputs.Stop reason) = tt
@@ -218,6 +224,7 @@ ordered-above last cluster member heard output =
 
 output-above : (last : ℕ) (cluster : Cluster) (member : Member) (heard : HeardMessage) (output : Output) → last ≤ cluster.book.sent → AllAre (IsAbove last) (output_events member heard cluster output)
 output-above last cluster member heard (outputs.Send to sequence body) low = sending-above last cluster member (slice_get cluster.book.agents member.id.number) (receiver_of cluster.book.members to) sequence body low
+output-above last cluster member heard (outputs.Answer to run sequence answer) low = replying-above last cluster member (receiver_of cluster.book.members (targets.Member to)) run sequence (bodies.Answer answer) low
 output-above last cluster member heard outputs.Begin low = begins-above last cluster member (server_at cluster member)
 output-above last cluster member heard (outputs.Armed until) low = all-kinds (IsAbove last) cluster (feed_kinds member heard (arming member until heard)) (tt, (tt, tt))
 output-above last cluster member heard (outputs.Fed until) low = all-kinds (IsAbove last) cluster (feed_kinds member heard (feeding member until heard)) (tt, (tt, tt))

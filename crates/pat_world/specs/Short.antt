@@ -16,9 +16,10 @@ abbrev pub IsShort : Body → Type 0
 IsShort (bodies.Request txn) = ttl_of txn ≤ 2 ^ 40
 IsShort _ = Unit {0}
 
--- what an agent sends is a question, for leases that the key store can write
+-- what an agent asks: the key store for leases that it can write, and other members
 abbrev pub IsAsked : Body → Type 0
 IsAsked bodies.Read = Unit {0}
+IsAsked bodies.Ask = Unit {0}
 IsAsked (bodies.Request txn) = ttl_of txn ≤ 2 ^ 40
 IsAsked _ = ⊥
 

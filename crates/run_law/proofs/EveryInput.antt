@@ -1,5 +1,5 @@
 -- Each input of an agent keeps the law: whoever is woken, and whatever message comes to one.
-use Rattle.std.proofs.Common.{ℕ, ◌≡◌, ◌≤◌, ◌++◌, ◌==◌, ◌&&◌, ◌||◌, not, Bool, true, false, cond, List, slice_get, slice_set, Option, Some, None, option_and_then, refl, ◌∙◌, ap, sym, subst, arith}
+use Rattle.std.proofs.Common.{[], inr, inl, ◌⊎◌, ℕ, ◌≡◌, ◌≤◌, ◌++◌, ◌==◌, ◌&&◌, ◌||◌, not, Bool, true, false, cond, List, slice_get, slice_set, Option, Some, None, option_and_then, refl, ◌∙◌, ap, sym, subst, arith}
 use Rattle.std.proofs.lemmas.List.{set-get_or}
 use Rattle.std.proofs.lemmas.Option.{get_or_from_slice_get}
 use Rattle.pat_base.specs.Changes.{changed_at, with_changed}
@@ -20,7 +20,7 @@ use Rattle.event_book.specs.Links.{is_cut}
 use Rattle.ha_loop.specs.declared.heard.Heard.{Heard}
 use Rattle.ha_loop.specs.declared.heard.Heard.TheVariants.{Wake}
 use Rattle.ha_loop.specs.declared.machine.Machine.{Machine}
-use Rattle.ha_loop.specs.Agents.{AgentFacts, Outcome}
+use Rattle.ha_loop.specs.Agents.{AgentFacts, Outcome, made}
 use Rattle.cluster_script.specs.Script.{HeadText}
 use Rattle.cluster_model.specs.declared.delivery.Delivery.TheVariants as deliveries
 use Rattle.cluster_model.specs.Cluster.{agent_after, agent_facts_reached, agent_facts_reached_at, agent_facts_with, cluster_after}
@@ -41,9 +41,9 @@ use Rattle.run_law.specs.Declaring.{declared_of}
 use Rattle.run_law.specs.Inputs.{InputsKeep}
 use Rattle.run_law.specs.Kept.{IsKept}
 use Rattle.run_law.specs.Volatile.{agent_now, volatile_of}
-use Rattle.run_law.specs.Waiting.{IsAddressed, IsAnswer}
+use Rattle.run_law.specs.Waiting.{IsAddressed, IsAnswer, IsPeerBody}
 use Rattle.run_law.proofs.Actions.{action-kept, machines-kept}
-use Rattle.run_law.proofs.InputHears.{hears-by}
+use Rattle.run_law.proofs.InputHears.{hears-by, peers-hear}
 use Rattle.run_law.proofs.InputKept.{input-kept}
 use Rattle.run_law.proofs.InputSeen.{found-of}
 use Rattle.run_law.proofs.SameMachine.{machine-same}
@@ -161,12 +161,12 @@ not-not true false is e = absurd (both (sym e))
 not-not false b is e = absurd (both is)
 
 -- from whom it comes
-addressed-to : (from to : LinkEnd) (body : Body) (member : Member) → to ≡ ends.Member member → IsAddressed from to body → (from ≡ ends.Store) × IsAnswer body
+addressed-to : (from to : LinkEnd) (body : Body) (member : Member) → to ≡ ends.Member member → IsAddressed from to body → ((from ≡ ends.Store) × IsAnswer body) ⊎ IsPeerBody body
 addressed-to from to body member is addressed = store-to from body member (subst (λ (end : LinkEnd). IsAddressed from end body) is addressed)
   where
-    store-to : (from : LinkEnd) (body : Body) (member : Member) → IsAddressed from (ends.Member member) body → (from ≡ ends.Store) × IsAnswer body
-    store-to ends.Store body member addressed = (refl, addressed)
-    store-to (ends.Member by) body member addressed = absurd addressed
+    store-to : (from : LinkEnd) (body : Body) (member : Member) → IsAddressed from (ends.Member member) body → ((from ≡ ends.Store) × IsAnswer body) ⊎ IsPeerBody body
+    store-to ends.Store body member addressed = inl (refl, addressed)
+    store-to (ends.Member by) body member addressed = inr addressed
 
 module _ (head : HeadText) (book : List Event) (cluster : Cluster) (number : ℕ) (message : InFlightFacts) (member : Member) (good : Bridged head book cluster)
     (found : in_flight cluster.book.flight number ≡ Some message) (to : message.message.to ≡ ends.Member member) (open_is : delivery_of cluster.book.cuts cluster.book.agents message.message ≡ deliveries.Open) where
@@ -180,18 +180,18 @@ module _ (head : HeadText) (book : List Event) (cluster : Cluster) (number : ℕ
   idle : outcome_of_heard cluster member (heard_from cluster message) ≡ None → IsKept head book cluster (event_of cluster Arrived)
   idle none = idle-arrival head book cluster number good (acted ∙ ap (λ (o : Option Outcome). agent_facts_with cluster.agents member o) none ∙ unchanged cluster.agents member.id.number)
 
-  sender : (message.message.from ≡ ends.Store) × IsAnswer message.message.body
+  sender : ((message.message.from ≡ ends.Store) × IsAnswer message.message.body) ⊎ IsPeerBody message.message.body
   sender = addressed-to message.message.from message.message.to message.message.body member to (good.matched.waiting.carried number message found).addressed
 
   opened : IsOpen message.message (slice_get cluster.book.agents member.id.number)
   opened = open-of message.message (slice_get cluster.book.agents member.id.number) (is_cut cluster.book.cuts (link_of_message message.message))
       (ap (λ (end : LinkEnd). cond (is_cut cluster.book.cuts (link_of_message message.message)) deliveries.Cut (delivery_to cluster.book.agents message.message end)) (sym to) ∙ open_is)
 
-  same-run : (agent : AgentFacts) → slice_get cluster.agents member.id.number ≡ Some (Some agent) → message.message.run ≡ agent.knows.run
-  same-run agent here =
+  same-run : IsAnswer message.message.body → (agent : AgentFacts) → slice_get cluster.agents member.id.number ≡ Some (Some agent) → message.message.run ≡ agent.knows.run
+  same-run answered agent here =
       let knows = good.matched.agents member.id.number agent here in
       let one : knows.found ≡ opened.process = some-is knows.found opened.process (sym knows.is ∙ opened.is) in
-      eq-from message.message.run opened.process.run (not-not (is_answer message.message.body) (message.message.run == opened.process.run) (answers message.message.body sender.1) opened.fresh)
+      eq-from message.message.run opened.process.run (not-not (is_answer message.message.body) (message.message.run == opened.process.run) (answers message.message.body answered) opened.fresh)
       ∙ sym (knows.run ∙ ap (λ (p : AgentProcess). p.run) one)
 
   hear-by : (heard : Heard) (agent : Option AgentFacts) (machine : Option Machine) → heard_from cluster message ≡ Some heard → agent_at cluster.agents member.id.number ≡ agent → machine_of cluster member ≡ machine
@@ -205,8 +205,11 @@ module _ (head : HeadText) (book : List Event) (cluster : Cluster) (number : ℕ
       input-kept head book cluster good member agent machine machine_found here heard (Some number) (heard_message number message) Arrived refl
       (λ n e. let same : number ≡ n = some-is number n e in (same, subst (λ (k : ℕ). k ≤ cluster.book.sent) same flown)) flown
       (acted ∙ ap (λ (o : Option Outcome). agent_facts_with cluster.agents member o) (ap (outcome_of_heard cluster member) h ∙ the-outcome cluster member heard (Some agent) (Some machine) a m))
-      (λ works. hears-by head (past_of book) cluster good.matched (declared_of head) (volatile_of cluster) member agent machine machine_found here (works member.id.number)
-      number message found sender.0 to (same-run agent here) (moment_of cluster) message.message.body refl sender.1 heard h)
+      (λ works. elim sender [
+        | inl store ↦ hears-by head (past_of book) cluster good.matched (declared_of head) (volatile_of cluster) member agent machine machine_found here (works member.id.number)
+            number message found store.0 to (same-run store.1 agent here) (moment_of cluster) message.message.body refl store.1 heard h
+        | inr peer ↦ peers-hear _ member.id.number (Some number) (moment_of cluster) (made agent.role agent.knows machine []) cluster message message.message.body peer heard h
+      ])
 
   heard-by : (heard : Option Heard) → heard_from cluster message ≡ heard
       → IsKept head book cluster (event_of cluster Arrived ++ input_events (cluster_after cluster Arrived) member (heard_message number message) (outcome_of_heard cluster member heard))

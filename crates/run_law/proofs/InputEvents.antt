@@ -13,6 +13,9 @@ use Rattle.event_book.specs.declared.event.ServerEvent.TheVariants as servers
 use Rattle.event_book.specs.declared.link.LinkEnd.TheVariants as ends
 use Rattle.event_book.specs.declared.member.Member.{Member}
 use Rattle.event_book.specs.declared.message.Body.{Body}
+use Rattle.event_book.specs.declared.message.Body.TheVariants as bodies
+use Rattle.pat_base.specs.declared.member_id.MemberId.{MemberId}
+use Rattle.pat_base.specs.declared.peer_answer.PeerAnswer.{PeerAnswer}
 use Rattle.event_book.specs.declared.reason.Basis.TheVariants as bases
 use Rattle.event_book.specs.declared.reason.Reason.{Reason}
 use Rattle.event_book.specs.Links.{CutLinks, is_cut}
@@ -22,7 +25,7 @@ use Rattle.ha_loop.specs.declared.output.Output.TheVariants as outputs
 use Rattle.ha_loop.specs.declared.output.Repair.{Repair}
 use Rattle.ha_loop.specs.declared.output.Repair.TheVariants as repairs
 use Rattle.ha_loop.specs.declared.output.Target.TheVariants as targets
-use Rattle.ha_loop.specs.Orders.{IsOfTable}
+use Rattle.ha_loop.specs.Orders.{IsAsk, IsOfTable}
 use Rattle.cluster_model.specs.declared.beginning.Beginning.{Beginning}
 use Rattle.cluster_model.specs.declared.beginning.Beginning.TheVariants as beginnings
 use Rattle.cluster_model.specs.declared.heard_message.HeardMessage.{HeardMessage}
@@ -32,14 +35,14 @@ use Rattle.cluster_model.specs.Limits.{most_in_flight}
 use Rattle.summary.specs.Lacking.{lacks_in}
 use Rattle.cluster_model.specs.Losing.{loss_if}
 use Rattle.wal_model.specs.declared.entry.Entry.{Entry}
-use Rattle.cluster_model.specs.Messages.{agent_message, lost_at_once, sending_events, output_events}
+use Rattle.cluster_model.specs.Messages.{agent_message, lost_at_once, sending_events, output_events, replying_events}
 use Rattle.cluster_model.specs.Orders.{declared_member, following_of, is_same_required, order_kind, arming, feeding, feed_kinds, replica_start_kinds, require_of, required_names, server_at, stop_kind, stop_kinds, stop_of, upstream_of, copying, repair_by, repair_over, rewinding}
 use Rattle.cluster_model.specs.Parts.{events_of, for_some}
 use Rattle.cluster_model.specs.State.{Cluster}
 use Rattle.cluster_model.specs.Streaming.{link_of_members}
 use Rattle.lease_law.specs.Premises.{AllAre}
 use Rattle.run_law.proofs.Lists.{AllKinds, HoldsIf, all-kinds, one-kind}
-use Rattle.run_law.specs.InputEvents.{IsOfInput}
+use Rattle.run_law.specs.InputEvents.{Asks, AsksPeer, AnswersPeer, IsOfInput}
 
 pub holds-then : {X : Type 0} (P : EventKind → Type 0) (f : X → Option EventKind) (found : Option X) → ((x : X) → HoldsIf P (f x)) → HoldsIf P (option_and_then f found)
 holds-then P f None all = tt
@@ -123,10 +126,31 @@ module _ (member : Member) (run heard : ℕ) (Q : Output → Type 0) where
   sends-mine cluster sequence body None runs is = tt
   sends-mine cluster sequence body (Some process) runs is =
       all-kinds Mine cluster (kinds.Message (Sent (cluster.book.sent + 1) (agent_message member ends.Store process.run sequence body)) ∷ lost_at_once (nat_le most_in_flight (length cluster.book.flight)) (cluster.book.sent + 1))
-      (record { sequence = sequence; body = body; is = ap (λ (r : ℕ). agent_message member ends.Store r sequence body) (runs process refl); from = is }, lost-mine (nat_le most_in_flight (length cluster.book.flight)) (cluster.book.sent + 1))
+      (Asks (record { sequence = sequence; body = body; is = ap (λ (r : ℕ). agent_message member ends.Store r sequence body) (runs process refl); from = is }), lost-mine (nat_le most_in_flight (length cluster.book.flight)) (cluster.book.sent + 1))
+
+  asks-mine : (cluster : Cluster) (id : MemberId) (sequence : ℕ) (found : Option AgentProcess) (peer : Option Member) → ((process : AgentProcess) → found ≡ Some process → process.run ≡ run) → Q (outputs.Send (targets.Member id) sequence bodies.Ask)
+      → AllAre Mine (sending_events cluster member found (option_map (λ (m : Member). ends.Member m) peer) sequence bodies.Ask)
+  asks-mine cluster id sequence None peer runs is = tt
+  asks-mine cluster id sequence (Some process) None runs is = tt
+  asks-mine cluster id sequence (Some process) (Some peer) runs is =
+      all-kinds Mine cluster (kinds.Message (Sent (cluster.book.sent + 1) (agent_message member (ends.Member peer) process.run sequence bodies.Ask)) ∷ lost_at_once (nat_le most_in_flight (length cluster.book.flight)) (cluster.book.sent + 1))
+      (AsksPeer peer id sequence (ap (λ (r : ℕ). agent_message member (ends.Member peer) r sequence bodies.Ask) (runs process refl)) is, lost-mine (nat_le most_in_flight (length cluster.book.flight)) (cluster.book.sent + 1))
+
+  replies-mine : (cluster : Cluster) (id : MemberId) (asked sequence : ℕ) (answer : PeerAnswer) (peer : Option Member) → Q (outputs.Answer id asked sequence answer)
+      → AllAre Mine (replying_events cluster member (option_map (λ (m : Member). ends.Member m) peer) asked sequence (bodies.Answer answer))
+  replies-mine cluster id asked sequence answer None is = tt
+  replies-mine cluster id asked sequence answer (Some peer) is =
+      all-kinds Mine cluster (kinds.Message (Sent (cluster.book.sent + 1) (agent_message member (ends.Member peer) asked sequence (bodies.Answer answer))) ∷ lost_at_once (nat_le most_in_flight (length cluster.book.flight)) (cluster.book.sent + 1))
+      (AnswersPeer peer id asked sequence answer refl is, lost-mine (nat_le most_in_flight (length cluster.book.flight)) (cluster.book.sent + 1))
+
+  member-mine : (cluster : Cluster) (id : MemberId) (sequence : ℕ) (body : Body) (found : Option AgentProcess) (peer : Option Member) → IsAsk body → ((process : AgentProcess) → found ≡ Some process → process.run ≡ run)
+      → Q (outputs.Send (targets.Member id) sequence body) → AllAre Mine (sending_events cluster member found (option_map (λ (m : Member). ends.Member m) peer) sequence body)
+  member-mine cluster id sequence bodies.Ask found peer ask runs is = asks-mine cluster id sequence found peer runs is
+  member-mine cluster id sequence _ found peer ask runs is = absurd ask
 
   order-mine : (cluster : Cluster) (message : HeardMessage) → message.number ≡ heard → (output : Output) → IsOfTable output → Q output → HoldsIf Mine (order_kind cluster member message output)
   order-mine cluster message at (outputs.Send to sequence body) table is = tt
+  order-mine cluster message at (outputs.Answer to asked sequence answer) table is = tt
   order-mine cluster message at outputs.Begin table is = tt
   order-mine cluster message at (outputs.StartReplica leader) table is = tt
   order-mine cluster message at (outputs.Stop reason) table is = tt
@@ -151,7 +175,8 @@ module _ (member : Member) (run heard : ℕ) (Q : Output → Type 0) where
   pub output-mine : (cluster : Cluster) (message : HeardMessage) → message.number ≡ heard → ((process : AgentProcess) → slice_get cluster.book.agents member.id.number ≡ Some process → process.run ≡ run)
       → (output : Output) → IsOfTable output → Q output → AllAre Mine (output_events member message cluster output)
   output-mine cluster message at runs (outputs.Send targets.Store sequence body) table is = sends-mine cluster sequence body (slice_get cluster.book.agents member.id.number) runs is
-  output-mine cluster message at runs (outputs.Send (targets.Member id) sequence body) table is = absurd table
+  output-mine cluster message at runs (outputs.Send (targets.Member id) sequence body) table is = member-mine cluster id sequence body (slice_get cluster.book.agents member.id.number) (slice_get cluster.book.members id.number) table runs is
+  output-mine cluster message at runs (outputs.Answer to asked sequence answer) table is = replies-mine cluster to asked sequence answer (slice_get cluster.book.members to.number) is
   output-mine cluster message at runs outputs.Begin table is = begins-mine cluster (server_at cluster member) is
   output-mine cluster message at runs (outputs.Armed until) table is = all-kinds Mine cluster (feed_kinds member message (arming member until message)) (refl, ((refl, at, is), tt))
   output-mine cluster message at runs (outputs.Fed until) table is = all-kinds Mine cluster (feed_kinds member message (feeding member until message)) (refl, ((refl, ap (λ (n : ℕ). bases.Grant n) at, is), tt))

@@ -22,11 +22,12 @@ use Rattle.ha_loop.specs.declared.heard.Heard.{Heard}
 use Rattle.ha_loop.specs.declared.heard.Heard.TheVariants as heards
 use Rattle.ha_loop.specs.declared.knowledge.Waited.{Waited}
 use Rattle.ha_loop.specs.declared.machine.Machine.{Machine}
-use Rattle.ha_loop.specs.Agents.{AgentFacts, made}
+use Rattle.ha_loop.specs.Agents.{AgentFacts, Outcome, made}
 use Rattle.ha_loop.specs.Decisions.{asks_lease, is_decision, is_lease_of}
 use Rattle.ha_loop.specs.Lawful.{HearsAnswer, HearsGrant, Hears}
 use Rattle.ha_loop.specs.Seen.{leader_entry_seen, failsafe_entry_seen}
-use Rattle.cluster_model.specs.Hearing.{heard_in, snapshot_in}
+use Rattle.pat_base.specs.declared.member_id.MemberId.{MemberId}
+use Rattle.cluster_model.specs.Hearing.{member_at_end, heard_in, snapshot_in}
 use Rattle.cluster_model.specs.State.{Cluster}
 use Rattle.lease_law.specs.Outcomes.{seen_of}
 use Rattle.lease_law.specs.Past.{Past, VolatileState, state_of, lease_span}
@@ -37,7 +38,7 @@ use Rattle.bridge_law.specs.Groups.{grant_if}
 use Rattle.bridge_law.proofs.Hearing.{heard-snapshot, heard-granted}
 use Rattle.run_law.specs.Bridged.{IsMatched}
 use Rattle.run_law.specs.Declaring.{works_of}
-use Rattle.run_law.specs.Waiting.{IsAnswer}
+use Rattle.run_law.specs.Waiting.{IsAnswer, IsPeerBody}
 use Rattle.run_law.proofs.InputSeen.{IsFound, armable-of, has-margin, is-young}
 
 -- ---- the keys of a snapshot, as agents and as the law see them
@@ -176,3 +177,13 @@ module _ (head : HeadText) (past : Past) (cluster : Cluster) (matched : IsMatche
   hears-by (bodies.Refused request key at) body is heard e =
       subst (λ (h : Heard). Hears Law member.id.number (Some number) now h (made agent.role agent.knows machine [])) (some-is _ heard e) tt
   hears-by _ body is heard e = absurd is
+
+-- the law hears nothing of what other members ask and answer
+unheard : (law : State) (m : ℕ) (number : Option ℕ) (now : Ticks) (o : Outcome) (run sequence : ℕ) (from : Option MemberId) (heard : Heard) → option_map (λ by. heards.Asked by run sequence) from ≡ Some heard → Hears law m number now heard o
+unheard law m number now o run sequence None heard e = absurd (none-some heard e)
+unheard law m number now o run sequence (Some by) heard e = subst (λ (h : Heard). Hears law m number now h o) (some-is _ heard e) tt
+
+pub peers-hear : (law : State) (m : ℕ) (number : Option ℕ) (now : Ticks) (o : Outcome) (cluster : Cluster) (carried : InFlightFacts) (body : Body) → IsPeerBody body → (heard : Heard) → heard_in cluster carried body ≡ Some heard → Hears law m number now heard o
+peers-hear law m number now o cluster carried bodies.Ask is heard e = unheard law m number now o carried.message.run carried.message.sequence (member_at_end carried.message.from) heard e
+peers-hear law m number now o cluster carried (bodies.Answer answer) is heard e = subst (λ (h : Heard). Hears law m number now h o) (some-is _ heard e) tt
+peers-hear law m number now o cluster carried _ is heard e = absurd is

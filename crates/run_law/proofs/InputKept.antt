@@ -58,7 +58,7 @@ use Rattle.bridge_law.proofs.Sends.{old-or-sent, heard-gone}
 use Rattle.run_law.proofs.Lists.{all-more}
 use Rattle.run_law.specs.Bridged.{Bridged, IsMatched, KnowThemselves, KnowsItself}
 use Rattle.run_law.specs.Declaring.{declared_of, member_count, works_of}
-use Rattle.run_law.specs.InputEvents.{IsOfInput}
+use Rattle.run_law.specs.InputEvents.{IsMessageOf, Asks, AsksPeer, AnswersPeer, IsOfInput}
 use Rattle.run_law.specs.Kept.{IsKept}
 use Rattle.run_law.specs.Machines.{live_now, run_in, run_now}
 use Rattle.run_law.specs.Questions.{IsQuestion, SendsBetween, AsksAnew}
@@ -99,8 +99,13 @@ opening-sent heard (kinds.Agent (agents.Woken by)) last is = refl
 opening-sent heard (kinds.Message (Delivered number)) last is = refl
 opening-sent heard _ last is = absurd is
 
+sent-addressed : (member : Member) (run : ℕ) (Q : Output → Type 0) → ((sequence : ℕ) (body : Body) → Q (outputs.Send targets.Store sequence body) → IsQuestion body) → (message : Message) → IsMessageOf member run Q message → IsAddressed message.from message.to message.body
+sent-addressed member run Q asks message (Asks is) = subst (λ (x : Message). IsAddressed x.from x.to x.body) (sym is.is) (asks is.sequence is.body is.from)
+sent-addressed member run Q asks message (AsksPeer peer id sequence is from) = subst (λ (x : Message). IsAddressed x.from x.to x.body) (sym is) tt
+sent-addressed member run Q asks message (AnswersPeer peer id asked sequence answer is from) = subst (λ (x : Message). IsAddressed x.from x.to x.body) (sym is) tt
+
 mine-addressed : (member : Member) (run heard : ℕ) (Q : Output → Type 0) → ((sequence : ℕ) (body : Body) → Q (outputs.Send targets.Store sequence body) → IsQuestion body) → (kind : EventKind) → IsOfInput member run heard Q kind → SendsAddressed kind
-mine-addressed member run heard Q asks (kinds.Message (Sent number message)) is = subst (λ (x : Message). IsAddressed x.from x.to x.body) (sym is.is) (asks is.sequence is.body is.from)
+mine-addressed member run heard Q asks (kinds.Message (Sent number message)) is = sent-addressed member run Q asks message is
 mine-addressed member run heard Q asks (kinds.Message (Delivered number)) is = absurd is
 mine-addressed member run heard Q asks (kinds.Message (Lost number)) is = tt
 mine-addressed member run heard Q asks _ is = tt

@@ -30,7 +30,7 @@ use Rattle.lease_law.proofs.Tools.{some-is, decide-eq}
 use Rattle.bridge_law.specs.Groups.{IsMemberEnd, IsOfMembers as IsFromMembers, IsNumberedAbove}
 use Rattle.bridge_law.specs.Sending.{SendsOnly, flying_from}
 use Rattle.bridge_law.proofs.Flights.{asked-there, asked-new, flying-same}
-use Rattle.run_law.specs.InputEvents.{IsOfInput}
+use Rattle.run_law.specs.InputEvents.{IsMessageOf, Asks, AsksPeer, AnswersPeer, IsOfInput}
 use Rattle.run_law.specs.Machines.{IsWithinMembers, IsByGrant}
 
 -- the event with which an input begins: its agent is woken, or a message comes to it
@@ -100,8 +100,13 @@ module _ (member : Member) (run heard : ℕ) (Q : Output → Type 0) where
   mine-taken clock taken (kinds.Watchdog (watchdogs.HoldTaken by until from r sequence)) is = absurd is
   mine-taken clock taken _ is = refl
 
+  sent-from : (message : Message) → IsMessageOf member run Q message → IsMemberEnd message.from
+  sent-from message (Asks question) = subst (λ (x : Message). IsMemberEnd x.from) (sym question.is) tt
+  sent-from message (AsksPeer peer id sequence is from) = subst (λ (x : Message). IsMemberEnd x.from) (sym is) tt
+  sent-from message (AnswersPeer peer id asked sequence answer is from) = subst (λ (x : Message). IsMemberEnd x.from) (sym is) tt
+
   pub mine-from : (kind : EventKind) → Mine kind → IsFromMembers kind
-  mine-from (kinds.Message (Sent number message)) is = subst (λ (x : Message). IsMemberEnd x.from) (sym is.is) tt
+  mine-from (kinds.Message (Sent number message)) is = sent-from message is
   mine-from (kinds.Message (Delivered number)) is = absurd is
   mine-from (kinds.Store happening) is = absurd is
   mine-from _ is = tt
@@ -136,12 +141,26 @@ module _ (member : Member) (run heard : ℕ) (Q : Output → Type 0) where
       no-flying : (flying : Flying) → ◌≡◌ {A = Option Flying} None (Some flying) → ⊥
       no-flying flying e = cc
 
+  -- the law reads nothing that members ask and answer one another
+  unread : (P : Flying → Type 0) (clock : ℕ) (message read : Message) → message ≡ read → flying_from clock read ≡ None → (flying : Flying) → flying_from clock message ≡ Some flying → P flying
+  unread P clock message read is none flying e = absurd (none-flies flying (sym (ap (λ (x : Message). flying_from clock x) is ∙ none) ∙ e))
+    where
+      none-flies : (flying : Flying) → ◌≡◌ {A = Option Flying} None (Some flying) → ⊥
+      none-flies flying e = cc
+
+  sent-flies : (P : Flying → Type 0) (clock : ℕ)
+      → ((sequence : ℕ) (body : Body) (query : Query) → Q (outputs.Send targets.Store sequence body) → query_in body ≡ Some query → P (Requested (record { member = member.id.number; run = run; sequence = sequence; sent = clock; query = query })))
+      → (message : Message) → IsMessageOf member run Q message → (flying : Flying) → flying_from clock message ≡ Some flying → P flying
+  sent-flies P clock may message (Asks is) flying e = flying-by P clock is.sequence is.body (λ query here. may is.sequence is.body query is.from here) flying (ap (λ (x : Message). flying_from clock x) (sym is.is) ∙ e)
+  sent-flies P clock may message (AsksPeer peer id sequence is from) flying e = unread P clock message (agent_message member (ends.Member peer) run sequence bodies.Ask) is refl flying e
+  sent-flies P clock may message (AnswersPeer peer id asked sequence answer is from) flying e = unread P clock message (agent_message member (ends.Member peer) asked sequence (bodies.Answer answer)) is refl flying e
+
   pub mine-sends : (P : Flying → Type 0) (clock : ℕ)
       → ((sequence : ℕ) (body : Body) (query : Query) → Q (outputs.Send targets.Store sequence body) → query_in body ≡ Some query → P (Requested (record { member = member.id.number; run = run; sequence = sequence; sent = clock; query = query })))
       → (kind : EventKind) → Mine kind → SendsOnly P clock kind
   mine-sends P clock may (kinds.Message (Sent number message)) is = (
-    subst (λ (x : Message). IsMemberEnd x.from) (sym is.is) tt,
-    λ flying e. flying-by P clock is.sequence is.body (λ query here. may is.sequence is.body query is.from here) flying (ap (λ (x : Message). flying_from clock x) (sym is.is) ∙ e),
+    sent-from message is,
+    λ flying e. sent-flies P clock may message is flying e,
   )
   mine-sends P clock may (kinds.Message (Delivered number)) is = absurd is
   mine-sends P clock may kinds.Tick is = absurd is

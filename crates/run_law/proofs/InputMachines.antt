@@ -21,9 +21,11 @@ use Rattle.event_book.specs.declared.event.ReplicationEvent.TheVariants as repli
 use Rattle.event_book.specs.declared.event.ServerEvent.TheVariants as servers
 use Rattle.event_book.specs.declared.event.WatchdogEvent.TheVariants as watchdogs
 use Rattle.event_book.specs.declared.event.Note.TheVariants as notes
-use Rattle.event_book.specs.declared.link.LinkEnd.TheVariants as ends
 use Rattle.event_book.specs.declared.member.Member.{Member}
 use Rattle.event_book.specs.declared.message.Body.{Body}
+use Rattle.event_book.specs.declared.message.Body.TheVariants as bodies
+use Rattle.event_book.specs.declared.message.Message.{Message}
+use Rattle.event_book.specs.declared.link.LinkEnd.{LinkEnd}
 use Rattle.event_book.specs.declared.reason.Basis.TheVariants as bases
 use Rattle.event_book.specs.declared.reason.Reason.{Reason}
 use Rattle.event_book.specs.Members.{server_of, server_id_of}
@@ -42,7 +44,7 @@ use Rattle.cluster_model.specs.Cluster.{cluster_after, cluster_over}
 use Rattle.cluster_model.specs.Beginnings.{beginning_in, begin_kinds, kinds_by}
 use Rattle.cluster_model.specs.Commands.{kinds_of}
 use Rattle.cluster_model.specs.Limits.{most_in_flight}
-use Rattle.cluster_model.specs.Messages.{agent_message, lost_at_once, sending_events, output_events}
+use Rattle.cluster_model.specs.Messages.{agent_message, lost_at_once, send_events, sending_events, replying_events, receiver_of, output_events}
 use Rattle.summary.specs.Lacking.{lacks_in}
 use Rattle.cluster_model.specs.Losing.{loss_if}
 use Rattle.cluster_model.specs.Orders.{declared_member, following_of, is_same_required, not_racing, replica_start_kinds, require_of, required_names, server_at, stop_kind, stop_kinds, upstream_of, repair_over, stop_of}
@@ -484,12 +486,20 @@ module _ (member : Member) where
   lost-here cluster machine true number old = unmoved cluster (cluster_after cluster (kinds.Message (Lost number))) member.id.number machine refl refl refl old
   lost-here cluster machine false number old = old
 
-  sends-here : (cluster : Cluster) (machine : Machine) (sequence : ℕ) (body : Body) (found : Option AgentProcess) → Here cluster machine → Here (cluster_over cluster (sending_events cluster member found (Some ends.Store) sequence body)) machine
-  sends-here cluster machine sequence body None old = old
-  sends-here cluster machine sequence body (Some process) old =
-      let sent : EventKind = kinds.Message (Sent (cluster.book.sent + 1) (agent_message member ends.Store process.run sequence body)) in
+  message-here : (cluster : Cluster) (machine : Machine) (message : Message) → Here cluster machine → Here (cluster_over cluster (send_events cluster message)) machine
+  message-here cluster machine message old =
+      let sent : EventKind = kinds.Message (Sent (cluster.book.sent + 1) message) in
       lost-here (cluster_after cluster sent) machine (nat_le most_in_flight (length cluster.book.flight)) (cluster.book.sent + 1)
       (unmoved cluster (cluster_after cluster sent) member.id.number machine refl refl refl old)
+
+  sends-here : (cluster : Cluster) (machine : Machine) (to : Option LinkEnd) (sequence : ℕ) (body : Body) (found : Option AgentProcess) → Here cluster machine → Here (cluster_over cluster (sending_events cluster member found to sequence body)) machine
+  sends-here cluster machine to sequence body None old = old
+  sends-here cluster machine None sequence body (Some process) old = old
+  sends-here cluster machine (Some to) sequence body (Some process) old = message-here cluster machine (agent_message member to process.run sequence body) old
+
+  replies-here : (cluster : Cluster) (machine : Machine) (to : Option LinkEnd) (asked sequence : ℕ) (body : Body) → Here cluster machine → Here (cluster_over cluster (replying_events cluster member to asked sequence body)) machine
+  replies-here cluster machine None asked sequence body old = old
+  replies-here cluster machine (Some to) asked sequence body old = message-here cluster machine (agent_message member to asked sequence body) old
 
   -- it shuts down without a word
   shut-here : (cluster : Cluster) (machine : Machine) → Here cluster machine
@@ -503,8 +513,8 @@ module _ (member : Member) where
       → Here (cluster_over cluster (output_events member message cluster output)) (machine_after_output (record { 0 = cluster.book.clock }) machine output)
   output-here cluster message machine (outputs.Repair leader repair) table none old = absurd none
   output-here cluster message machine outputs.ShutDown table none old = shut-here cluster machine old
-  output-here cluster message machine (outputs.Send targets.Store sequence body) table none old = sends-here cluster machine sequence body (slice_get cluster.book.agents member.id.number) old
-  output-here cluster message machine (outputs.Send (targets.Member id) sequence body) table none old = absurd table
+  output-here cluster message machine (outputs.Send to sequence body) table none old = sends-here cluster machine (receiver_of cluster.book.members to) sequence body (slice_get cluster.book.agents member.id.number) old
+  output-here cluster message machine (outputs.Answer to asked sequence answer) table none old = replies-here cluster machine (receiver_of cluster.book.members (targets.Member to)) asked sequence (bodies.Answer answer) old
   output-here cluster message machine outputs.Begin table none old = begin-here cluster machine old
   output-here cluster message machine (outputs.StartReplica leader) table none old = start-here cluster machine (upstream_id leader) (declared_member cluster.book.members leader) old
   output-here cluster message machine (outputs.Stop reason) table none old = stop-here cluster machine reason old

@@ -12,10 +12,12 @@ use Rattle.event_book.specs.declared.event.EventKind.TheVariants as kinds
 use Rattle.event_book.specs.declared.event.MessageEvent.TheVariants.{Sent, Delivered, Lost}
 use Rattle.event_book.specs.declared.event.ServerEvent.TheVariants as servers
 use Rattle.event_book.specs.declared.event.WatchdogEvent.TheVariants as watchdogs
-use Rattle.event_book.specs.declared.link.LinkEnd.TheVariants as ends
 use Rattle.event_book.specs.declared.member.Member.{Member}
 use Rattle.event_book.specs.declared.member.ServerOf.{ServerOf}
 use Rattle.event_book.specs.declared.message.Body.{Body}
+use Rattle.event_book.specs.declared.message.Body.TheVariants as bodies
+use Rattle.event_book.specs.declared.message.Message.{Message}
+use Rattle.event_book.specs.declared.link.LinkEnd.{LinkEnd}
 use Rattle.event_book.specs.declared.reason.Basis.TheVariants as bases
 use Rattle.event_book.specs.Flight.{sent_after}
 use Rattle.event_book.specs.Writers.{BeginsKind}
@@ -29,7 +31,7 @@ use Rattle.ha_loop.specs.Outputs.{is_arming, is_feeding, has_one, listed, Begins
 use Rattle.cluster_model.specs.declared.heard_message.HeardMessage.{HeardMessage}
 use Rattle.cluster_model.specs.Cluster.{cluster_after, cluster_over}
 use Rattle.cluster_model.specs.Limits.{most_in_flight}
-use Rattle.cluster_model.specs.Messages.{agent_message, lost_at_once, sending_events, output_events}
+use Rattle.cluster_model.specs.Messages.{agent_message, lost_at_once, send_events, sending_events, replying_events, receiver_of, output_events}
 use Rattle.cluster_model.specs.Parts.{each, events_of}
 use Rattle.cluster_model.specs.State.{Cluster}
 use Rattle.lease_law.specs.Claims.{BeginsBehind, IsArmedIn}
@@ -37,7 +39,7 @@ use Rattle.lease_law.specs.Premises.{AllAre, KeepsMomentOf, IsFedBy}
 use Rattle.lease_law.proofs.Runs.{assoc, none-more}
 use Rattle.bridge_law.specs.Groups.{IsNumberedAbove, AreNumberedAbove}
 use Rattle.run_law.proofs.Lists.{all-both, all-front, all-back}
-use Rattle.run_law.specs.InputEvents.{IsOfInput}
+use Rattle.run_law.specs.InputEvents.{IsMessageOf, Asks, AsksPeer, AnswersPeer, IsOfInput}
 use Rattle.run_law.proofs.InputEvents.{output-mine}
 use Rattle.run_law.proofs.InputMachines.{Mirrors, RepairsNone, Resembles, mirrored, output-here, repair-resembles}
 use Rattle.run_law.proofs.InputStays.{Stays, stays-over}
@@ -58,10 +60,16 @@ numbered-both last (x ∷ xs) ys first second = (first.0, numbered-both (sent_af
 -- ---- one event that sends nothing, or feeds nothing
 abbrev no_message : Output → Type 0
 no_message (outputs.Send to sequence body) = ⊥
+no_message (outputs.Answer to asked sequence answer) = ⊥
 no_message _ = Unit {0}
 
+no-sent : (member : Member) (run : ℕ) (message : Message) → IsMessageOf member run no_message message → ⊥
+no-sent member run message (Asks question) = question.from
+no-sent member run message (AsksPeer peer id sequence is from) = from
+no-sent member run message (AnswersPeer peer id asked sequence answer is from) = from
+
 unnumbered : (member : Member) (run heard last : ℕ) (kind : EventKind) → IsOfInput member run heard no_message kind → IsNumberedAbove last kind × (sent_after last kind ≡ last)
-unnumbered member run heard last (kinds.Message (Sent number message)) is = absurd is.from
+unnumbered member run heard last (kinds.Message (Sent number message)) is = absurd (no-sent member run message is)
 unnumbered member run heard last (kinds.Message (Delivered number)) is = absurd is
 unnumbered member run heard last (kinds.Message (Lost number)) is = (tt, refl)
 unnumbered member run heard last _ is = (tt, refl)
@@ -76,7 +84,7 @@ unnumbered-all member run heard last (event ∷ events) all =
 moments-kept : (member : Member) (run heard n : ℕ) (kind : EventKind) → (n < 0 → ⊥) → IsOfInput member run heard no_message kind → KeepsMomentOf n kind
 moments-kept member run heard n kinds.Tick low is = absurd is
 moments-kept member run heard n (kinds.Agent happening) low is = absurd is
-moments-kept member run heard n (kinds.Message (Sent number message)) low is = absurd is.from
+moments-kept member run heard n (kinds.Message (Sent number message)) low is = absurd (no-sent member run message is)
 moments-kept member run heard n _ low is = tt
 
 above-kept : (member : Member) (run heard last n : ℕ) (Q : Output → Type 0) (kind : EventKind) → n ≤ last → IsNumberedAbove last kind → IsOfInput member run heard Q kind → KeepsMomentOf n kind
@@ -124,19 +132,27 @@ module _ (member : Member) (run : ℕ) (message : HeardMessage) where
   lost-numbered cluster true number last = (tt, tt)
   lost-numbered cluster false number last = tt
 
-  send-numbered : (cluster : Cluster) (sequence : ℕ) (body : Body) (found : Option AgentProcess) → AreNumberedAbove cluster.book.sent (sending_events cluster member found (Some ends.Store) sequence body)
-  send-numbered cluster sequence body None = tt
-  send-numbered cluster sequence body (Some process) =
-      let sent : EventKind = kinds.Message (Sent (cluster.book.sent + 1) (agent_message member ends.Store process.run sequence body)) in
+  message-numbered : (cluster : Cluster) (sends : Message) → AreNumberedAbove cluster.book.sent (send_events cluster sends)
+  message-numbered cluster sends =
+      let sent : EventKind = kinds.Message (Sent (cluster.book.sent + 1) sends) in
       (omega arith, lost-numbered (cluster_after cluster sent) (nat_le most_in_flight (length cluster.book.flight)) (cluster.book.sent + 1) (cluster.book.sent + 1))
+
+  send-numbered : (cluster : Cluster) (to : Option LinkEnd) (sequence : ℕ) (body : Body) (found : Option AgentProcess) → AreNumberedAbove cluster.book.sent (sending_events cluster member found to sequence body)
+  send-numbered cluster to sequence body None = tt
+  send-numbered cluster None sequence body (Some process) = tt
+  send-numbered cluster (Some to) sequence body (Some process) = message-numbered cluster (agent_message member to process.run sequence body)
+
+  reply-numbered : (cluster : Cluster) (to : Option LinkEnd) (asked sequence : ℕ) (body : Body) → AreNumberedAbove cluster.book.sent (replying_events cluster member to asked sequence body)
+  reply-numbered cluster None asked sequence body = tt
+  reply-numbered cluster (Some to) asked sequence body = message-numbered cluster (agent_message member to asked sequence body)
 
   other-numbered : (cluster : Cluster) (output : Output) → Runs cluster.book.agents → IsOfTable output → no_message output → AreNumberedAbove cluster.book.sent (Brings cluster output)
   other-numbered cluster output runs table silent =
       unnumbered-all member run message.number cluster.book.sent (Brings cluster output) (output-mine member run message.number no_message cluster message refl runs output table silent)
 
   pub output-numbered : (cluster : Cluster) (output : Output) → Runs cluster.book.agents → IsOfTable output → AreNumberedAbove cluster.book.sent (Brings cluster output)
-  output-numbered cluster (outputs.Send targets.Store sequence body) runs table = send-numbered cluster sequence body (slice_get cluster.book.agents member.id.number)
-  output-numbered cluster (outputs.Send (targets.Member id) sequence body) runs table = absurd table
+  output-numbered cluster (outputs.Send to sequence body) runs table = send-numbered cluster (receiver_of cluster.book.members to) sequence body (slice_get cluster.book.agents member.id.number)
+  output-numbered cluster (outputs.Answer to asked sequence answer) runs table = reply-numbered cluster (receiver_of cluster.book.members (targets.Member to)) asked sequence (bodies.Answer answer)
   output-numbered cluster outputs.Begin runs table = other-numbered cluster outputs.Begin runs table tt
   output-numbered cluster (outputs.StartReplica leader) runs table = other-numbered cluster (outputs.StartReplica leader) runs table tt
   output-numbered cluster (outputs.Stop reason) runs table = other-numbered cluster (outputs.Stop reason) runs table tt

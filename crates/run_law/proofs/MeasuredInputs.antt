@@ -90,6 +90,7 @@ module _ (member : Member) (run : ℕ) (message : HeardMessage) where
   output-measured moments since cluster (outputs.Armed until) runs table heard = (tt, (heard.known, tt))
   output-measured moments since cluster (outputs.Fed until) runs table heard = (tt, (heard.known, tt))
   output-measured moments since cluster (outputs.Send to sequence body) runs table heard = silent moments since cluster (outputs.Send to sequence body) runs table tt
+  output-measured moments since cluster (outputs.Answer to asked sequence answer) runs table heard = silent moments since cluster (outputs.Answer to asked sequence answer) runs table tt
   output-measured moments since cluster outputs.Begin runs table heard = silent moments since cluster outputs.Begin runs table tt
   output-measured moments since cluster (outputs.StartReplica leader) runs table heard = silent moments since cluster (outputs.StartReplica leader) runs table tt
   output-measured moments since cluster (outputs.Stop reason) runs table heard = silent moments since cluster (outputs.Stop reason) runs table tt

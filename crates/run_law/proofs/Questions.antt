@@ -1,7 +1,9 @@
 -- Each input of the decision table asks under new numbers, and waits on as it should.
-use Rattle.std.proofs.Common.{◌≡◌, ◌+◌, ◌++◌, ◌≤◌, ◌<◌, ℕ, true, List, [], ◌∷◌, Option, Some, None, All, refl, ◌∙◌, arith}
+use Rattle.std.proofs.Common.{◌≡◌, ◌+◌, ◌++◌, ◌≤◌, ◌<◌, ℕ, true, false, List, [], ◌∷◌, Option, Some, None, All, refl, sym, ◌∙◌, arith, zero, suc}
 use Rattle.std.proofs.lemmas.List.Elements.{All-push, All-nil}
+use Rattle.pat_base.specs.MemberId.{member_of}
 use Rattle.pat_base.specs.declared.member_id.MemberId.{MemberId}
+use Rattle.pat_base.specs.declared.peer_answer.PeerAnswer.{PeerAnswer}
 use Rattle.pat_base.specs.declared.ticks.Ticks.{Ticks}
 use Rattle.lease_store.specs.declared.config.Config.{Config}
 use Rattle.lease_store.specs.declared.granted.Granted.{Granted}
@@ -12,10 +14,10 @@ use Rattle.event_book.specs.declared.message.Body.{Body}
 use Rattle.event_book.specs.declared.message.Body.TheVariants as bodies
 use Rattle.leader_key.specs.Watchdog.{IsLeaseSpan}
 use Rattle.ha_loop.specs.declared.heard.Heard.{Heard}
-use Rattle.ha_loop.specs.declared.heard.Heard.TheVariants.{Wake, Got, Granted as HeardGranted, Mismatch}
+use Rattle.ha_loop.specs.declared.heard.Heard.TheVariants.{Wake, Got, Granted as HeardGranted, Mismatch, Asked, Answered}
 use Rattle.ha_loop.specs.declared.knowledge.Knowledge.{Knowledge}
 use Rattle.ha_loop.specs.declared.knowledge.Question.{Question}
-use Rattle.ha_loop.specs.declared.knowledge.Question.TheVariants.{Reading, Creating, Renewing}
+use Rattle.ha_loop.specs.declared.knowledge.Question.TheVariants.{Reading, Asking, Creating, Renewing}
 use Rattle.ha_loop.specs.declared.knowledge.Waited.{Waited}
 use Rattle.ha_loop.specs.declared.machine.Machine.{Machine}
 use Rattle.ha_loop.specs.declared.output.Output.{Output}
@@ -23,17 +25,20 @@ use Rattle.ha_loop.specs.declared.output.Output.TheVariants as outputs
 use Rattle.ha_loop.specs.declared.output.Target.TheVariants as targets
 use Rattle.ha_loop.specs.declared.role.Why.{Why}
 use Rattle.ha_loop.specs.declared.role.Why.TheVariants.{HandOver, Lost}
-use Rattle.ha_loop.specs.Acting.{seconds_after, lease_span, counted, arming, feeding, armed, fed_until, disarmed, disarming, sending, asking, touching, starting_replica, following_server, is_refusing, deadline_after}
+use Rattle.ha_loop.specs.Acting.{seconds_after, lease_span, counted, arming, feeding, armed, fed_until, disarmed, disarming, sending, asking, touching, starting_replica, following_server, is_refusing, deadline_after, waiting_no_more}
 use Rattle.ha_loop.specs.Agents.{RoleFacts, Follower, Leader, Outcome, made}
 use Rattle.ha_loop.specs.Before.{has_ended, before}
 use Rattle.ha_loop.specs.Decisions.{asks_lease, is_start_too_long, leader_renewed, takes_over, stray_renewed, may_take, gives_back, begins, arms, takes_key, granted, refused}
 use Rattle.ha_loop.specs.Outputs.{listed}
-use Rattle.ha_loop.specs.Racing.{finds_free}
+use Rattle.ha_loop.specs.Racing.{finds_free, judged, answers_until, asking_others, unheard}
 use Rattle.ha_loop.specs.Repairs.{repair_of}
 use Rattle.ha_loop.specs.Snapshots.{informed, follows, read_noted, got, follow_row}
 use Rattle.ha_loop.specs.Table.{step}
 use Rattle.ha_loop.specs.Wake.{turn_noted, overdue, turned, woken}
-use Rattle.ha_loop.proofs.Rows.{if-cases, before-by, overdue-by, turn-by, wake-by, got-by, refused-by, follow-by, repaired-by, free-by, granted-by}
+use Rattle.ha_loop.proofs.Rows.{if-cases, before-by, overdue-by, turn-by, wake-by, got-by, refused-by, follow-by, repaired-by, free-by, granted-by, judged-by, answered-by}
+use Rattle.ha_loop.specs.declared.who.Who.{Who}
+use Rattle.ha_loop.specs.Answers.{is_other, most_answers, asking_one, asking_first}
+use Rattle.ha_loop.specs.Peers.{keeping, answered}
 use Rattle.run_law.specs.Questions.{IsQuestion, span_asked, SendsBetween, AsksFor, WaitsOn, Same, Nothing, New, AsksAnew}
 
 all-of : {X : Type 0} (P Q : X → Type 0) (xs : List X) → ((x : X) → P x → Q x) → All P xs → All Q xs
@@ -176,6 +181,48 @@ before-reaches now known o r = before-by (Reaches now known) now o (record {
   stray = λ _ _. disarm-reaches now known o r;
 })
 
+is-spanned : (settings : Config) → 0 < (lease_span settings).0
+is-spanned settings = omega (arith, settings.ttl_range.0)
+
+-- the race is judged
+judged-reaches : (now : Ticks) (known : Knowledge) (o : Outcome) → Reaches now known o → Reaches now known (judged now o)
+judged-reaches now known o r =
+    let quiet : Reaches now known (waiting_no_more o) = rests now known o.knows _ o.outputs refl refl refl refl r in
+    judged-by (Reaches now known) now o
+    (ask-reaches now known Creating (seconds_after now o.knows.settings.retry_timeout) _ (waiting_no_more o) (is-spanned o.knows.settings) (λ _. refl) quiet)
+    (λ bar. send-reaches now known _ (record (waiting_no_more o) { outputs = listed (outputs.DoesNotRace bar) o.outputs }) tt (one-more now known (waiting_no_more o).knows o.outputs (outputs.DoesNotRace bar) tt quiet))
+
+-- the asks to other members, all under the next number
+ask-sends : (low high : ℕ) (who : Who) (sequence : ℕ) (member : Option MemberId) (outs : List Output) → low < sequence → sequence ≤ high → All (SendsBetween low high) outs → All (SendsBetween low high) (asking_one who sequence member outs)
+ask-sends low high who sequence None outs later less all = all
+ask-sends low high who sequence (Some member) outs later less all =
+    if-cases (λ (l : List Output). All (SendsBetween low high) l) (is_other who member) (listed (outputs.Send (targets.Member member) sequence bodies.Ask) outs) outs
+    (λ _. All-push (SendsBetween low high) outs (outputs.Send (targets.Member member) sequence bodies.Ask) all (later, less, tt)) (λ _. all)
+
+asks-send : (low high : ℕ) (who : Who) (sequence count : ℕ) (outs : List Output) → low < sequence → sequence ≤ high → All (SendsBetween low high) outs → All (SendsBetween low high) (asking_first who sequence count outs)
+asks-send low high who sequence zero outs later less all = all
+asks-send low high who sequence (suc count) outs later less all = ask-sends low high who sequence (member_of count) (asking_first who sequence count outs) later less (asks-send low high who sequence count outs later less all)
+
+-- they ask for no lease
+asks-none : (waited : Waited) (output : Output) → asks_lease waited.question ≡ false → AsksFor waited output
+asks-none waited (outputs.Send to sequence body) none = λ _ leasing. absurd (no-lease (sym none ∙ leasing))
+  where
+    no-lease : false ≡ true → ⊥
+    no-lease e = cc
+asks-none waited _ none = tt
+
+others-reach : (now : Ticks) (known : Knowledge) (o : Outcome) → Reaches now known o → Reaches now known (asking_others now o)
+others-reach now known o r =
+    let waited : Waited = record { question = Asking; sequence = o.knows.sequence + 1; until = answers_until now; ttl = lease_span o.knows.settings; sent = now } in
+    record {
+      who = r.who;
+      run = r.run;
+      last = omega (arith, r.last);
+      sends = asks-send known.sequence (o.knows.sequence + 1) o.knows.who (o.knows.sequence + 1) most_answers o.outputs (omega (arith, r.last)) (omega arith)
+          (all-of (SendsBetween known.sequence o.knows.sequence) (SendsBetween known.sequence (o.knows.sequence + 1)) o.outputs (between-later known.sequence o.knows.sequence (o.knows.sequence + 1) (omega arith)) r.sends);
+      waits = New waited refl (omega (arith, r.last)) (omega arith) refl (is-lease o.knows.settings) (λ k d h. asks-none waited _ refl);
+    }
+
 overdue-reaches : (now : Ticks) (known : Knowledge) (o : Outcome) → Reaches now known o → Reaches now known (overdue now o)
 overdue-reaches now known o r =
     let quiet : AsksAnew now known (let none : Knowledge = record o.knows { waited = None } in none) o.outputs = rests now known o.knows _ o.outputs refl refl refl refl r in
@@ -184,6 +231,7 @@ overdue-reaches now known o r =
       quiet = quiet;
       leader = λ held _. one-more now known _ o.outputs _ tt quiet;
       stray = λ _. one-more now known _ o.outputs _ tt quiet;
+      judges = λ _. judged-reaches now known o r;
     })
 
 turn-reaches : (now : Ticks) (known : Knowledge) (o : Outcome) → Reaches now known o → Reaches now known (turned now o)
@@ -215,13 +263,23 @@ follow-reaches now known leader o r = let x : Outcome = record o { role = Follow
 
 free-reaches : (now : Ticks) (known : Knowledge) (o : Outcome) → Reaches now known o → Reaches now known (finds_free now o)
 free-reaches now known o r = let x : Outcome = record o { role = Follower } in
-    free-by (Reaches now known) now x
-    (touch-reaches now known (starting_replica now None x) (one-more now known o.knows o.outputs (outputs.StartReplica None) tt r))
-    (λ bar. touch-reaches now known (record x { outputs = listed (outputs.DoesNotRace bar) x.outputs }) (one-more now known o.knows o.outputs (outputs.DoesNotRace bar) tt r))
-    (ask-reaches now known Creating (seconds_after now o.knows.settings.retry_timeout) _ x (is-spanned o.knows.settings) (λ _. refl) r)
-  where
-    is-spanned : (settings : Config) → 0 < (lease_span settings).0
-    is-spanned settings = omega (arith, settings.ttl_range.0)
+    let alone : Reaches now known (unheard x) = goes-on now known o.knows (unheard x).knows o.outputs refl refl refl refl r in
+    free-by (Reaches now known) now x (record {
+      starts = touch-reaches now known (starting_replica now None x) (one-more now known o.knows o.outputs (outputs.StartReplica None) tt r);
+      bars = λ bar. touch-reaches now known (record x { outputs = listed (outputs.DoesNotRace bar) x.outputs }) (one-more now known o.knows o.outputs (outputs.DoesNotRace bar) tt r);
+      judges = judged-reaches now known (unheard x) alone;
+      asks = others-reach now known (unheard x) alone;
+    })
+
+answered-reaches : (now : Ticks) (known : Knowledge) (sequence : ℕ) (answer : PeerAnswer) (o : Outcome) → Reaches now known o → Reaches now known (answered now sequence answer o)
+answered-reaches now known sequence answer o r =
+    let kept : Reaches now known (keeping answer o) = goes-on now known o.knows (keeping answer o).knows o.outputs refl refl refl refl r in
+    answered-by (Reaches now known) now sequence answer o (record {
+      kept = r;
+      quiet = rests now known o.knows _ o.outputs refl refl refl refl r;
+      keeps = kept;
+      judges = λ _. judged-reaches now known (keeping answer o) kept;
+    })
 
 got-reaches : (now : Ticks) (points : List HistoryPoint) (known : Knowledge) (sequence : ℕ) (snapshot : SnapshotFacts) (o : Outcome) → Reaches now known o → Reaches now known (got now points sequence snapshot o)
 got-reaches now points known sequence snapshot o r =
@@ -297,6 +355,8 @@ step-reaches now points Wake known o r = wake-reaches now known o r
 step-reaches now points (Got sequence snapshot) known o r = got-reaches now points known sequence snapshot (before now o) (before-reaches now known o r)
 step-reaches now points (HeardGranted sequence grant snapshot) known o r = granted-reaches now known sequence grant snapshot (before now o) (before-reaches now known o r)
 step-reaches now points (Mismatch sequence key found) known o r = refused-reaches now known sequence (before now o) (before-reaches now known o r)
+step-reaches now points (Asked from run sequence) known o r = one-more now known (before now o).knows (before now o).outputs _ tt (before-reaches now known o r)
+step-reaches now points (Answered sequence answer) known o r = answered-reaches now known sequence answer (before now o) (before-reaches now known o r)
 
 pub step-asks-anew : (now : Ticks) (points : List HistoryPoint) (heard : Heard) (role : RoleFacts) (knows : Knowledge) (machine : Machine)
     → let after = step now points heard (made role knows machine []) in AsksAnew now knows after.knows after.outputs

@@ -7,7 +7,7 @@ use Rattle.wal_model.specs.declared.entry.HistoryPoint.{HistoryPoint}
 use Rattle.ha_loop.specs.declared.heard.Heard.TheVariants.{Wake}
 use Rattle.ha_loop.specs.declared.knowledge.Knowledge.{Knowledge}
 use Rattle.ha_loop.specs.declared.knowledge.Question.{Question}
-use Rattle.ha_loop.specs.declared.knowledge.Question.TheVariants.{Creating, Reading, Renewing}
+use Rattle.ha_loop.specs.declared.knowledge.Question.TheVariants.{Asking, Creating, Reading, Renewing}
 use Rattle.ha_loop.specs.declared.knowledge.Waited.{Waited}
 use Rattle.ha_loop.specs.declared.machine.Machine.{Machine}
 use Rattle.ha_loop.specs.declared.output.Output.{Output}
@@ -16,7 +16,10 @@ use Rattle.ha_loop.specs.declared.role.Why.{Why}
 use Rattle.ha_loop.specs.declared.role.Why.TheVariants.{HandOver, Lost}
 use Rattle.ha_loop.specs.Acting.{disarmed, waiting_no_more}
 use Rattle.ha_loop.specs.Agents.{RoleFacts, Follower, Holder, Ready, Leader, Ending, Stray, Outcome, made}
+use Rattle.ha_loop.proofs.Rows.{judged-by}
 use Rattle.ha_loop.specs.Before.{before, before_as, has_ended}
+use Rattle.ha_loop.specs.Decisions.{may_create}
+use Rattle.ha_loop.specs.Racing.{judged}
 use Rattle.ha_loop.specs.Table.{step}
 use Rattle.ha_loop.specs.Wake.{has_turn, is_due, is_overdue, is_stopping, out_of_reach_as, overdue, overdue_for, turn_as, turn_begins, turn_noted, turned, unanswered, woken}
 
@@ -54,10 +57,14 @@ none-reach now (Leader revision) o all = All-push FeedsNone _ _ all tt
 none-reach now Stray o all = All-push FeedsNone _ _ all tt
 none-reach now _ o all = all
 
+none-judged : (now : Ticks) (o : Outcome) → NoneFed o → NoneFed (judged now o)
+none-judged now o all = judged-by NoneFed now o (All-push FeedsNone _ _ all tt) (λ bar. All-push FeedsNone _ _ (All-push FeedsNone _ _ all tt) tt)
+
 none-unanswered : (now : Ticks) (question : Question) (o : Outcome) → NoneFed o → NoneFed (unanswered now question o)
 none-unanswered now Reading o all = none-reach now o.role (waiting_no_more o) all
 none-unanswered now Renewing o all = none-reach now o.role (waiting_no_more o) all
 none-unanswered now Creating o all = all
+none-unanswered now Asking o all = none-if (may_create o.role) (judged now o) (waiting_no_more o) (none-judged now o all) all
 
 none-overdue : (now : Ticks) (waited : Option Waited) (o : Outcome) → NoneFed o → NoneFed (overdue_for now waited o)
 none-overdue now None o all = all

@@ -1,5 +1,7 @@
 -- What an input of an agent brings, event by event.
 use Rattle.std.specs.Prelude.{ℕ, ◌≡◌}
+use Rattle.pat_base.specs.declared.member_id.MemberId.{MemberId}
+use Rattle.pat_base.specs.declared.peer_answer.PeerAnswer.{PeerAnswer}
 use Rattle.event_book.specs.declared.event.EventKind.{EventKind}
 use Rattle.event_book.specs.declared.event.EventKind.TheVariants as kinds
 use Rattle.event_book.specs.declared.event.LogEvent.TheVariants as logs
@@ -10,6 +12,7 @@ use Rattle.event_book.specs.declared.event.WatchdogEvent.TheVariants as watchdog
 use Rattle.event_book.specs.declared.link.LinkEnd.TheVariants as ends
 use Rattle.event_book.specs.declared.member.Member.{Member}
 use Rattle.event_book.specs.declared.message.Body.{Body}
+use Rattle.event_book.specs.declared.message.Body.TheVariants as bodies
 use Rattle.event_book.specs.declared.message.Message.{Message}
 use Rattle.event_book.specs.declared.reason.Basis.TheVariants as bases
 use Rattle.event_book.specs.Members.{server_of}
@@ -25,9 +28,16 @@ pub record IsQuestionOf (member : Member) (run : ℕ) (Q : Output → Type 0) (m
   pub is : message ≡ agent_message member ends.Store run sequence body
   pub from : Q (outputs.Send targets.Store sequence body)
 
+-- a message of this member that an output with this property sends: a question of its run, to the key store or to another member,
+-- or an answer to another member
+pub data IsMessageOf (member : Member) (run : ℕ) (Q : Output → Type 0) (message : Message) : Type 0 where
+  Asks : (question : IsQuestionOf member run Q message) → IsMessageOf member run Q message
+  AsksPeer : (peer : Member) → (id : MemberId) → (sequence : ℕ) → (is : message ≡ agent_message member (ends.Member peer) run sequence bodies.Ask) → (from : Q (outputs.Send (targets.Member id) sequence bodies.Ask)) → IsMessageOf member run Q message
+  AnswersPeer : (peer : Member) → (id : MemberId) → (asked sequence : ℕ) → (answer : PeerAnswer) → (is : message ≡ agent_message member (ends.Member peer) asked sequence (bodies.Answer answer)) → (from : Q (outputs.Answer id asked sequence answer)) → IsMessageOf member run Q message
+
 -- what an output with this property brings, of an agent of this member in its run that heard the message of this number
 abbrev pub IsOfInput : Member → ℕ → ℕ → (Output → Type 0) → EventKind → Type 0
-IsOfInput member run heard Q (kinds.Message (messages.Sent number message)) = IsQuestionOf member run Q message
+IsOfInput member run heard Q (kinds.Message (messages.Sent number message)) = IsMessageOf member run Q message
 IsOfInput member run heard Q (kinds.Message (messages.Lost number)) = Unit {0}
 IsOfInput member run heard Q (kinds.Server (servers.Began server timeline)) = (server ≡ server_of member) × Q outputs.Begin
 IsOfInput member run heard Q (kinds.Server (servers.StartsAsReplica server)) = server ≡ server_of member

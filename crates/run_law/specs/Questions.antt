@@ -8,7 +8,10 @@ use Rattle.ha_loop.specs.declared.knowledge.Knowledge.{Knowledge}
 use Rattle.ha_loop.specs.declared.knowledge.Waited.{Waited}
 use Rattle.ha_loop.specs.declared.output.Output.{Output}
 use Rattle.ha_loop.specs.declared.output.Output.TheVariants as outputs
+use Rattle.ha_loop.specs.declared.output.Target.{Target}
+use Rattle.ha_loop.specs.declared.output.Target.TheVariants as targets
 use Rattle.ha_loop.specs.Decisions.{asks_lease}
+use Rattle.ha_loop.specs.Orders.{IsAsk}
 use Rattle.lease_law.specs.Past.{lease_span, query_of}
 use Rattle.lease_law.specs.Stores.{IsSpannedTxn}
 
@@ -23,9 +26,14 @@ abbrev pub span_asked : Body → ℕ
 span_asked (bodies.Request txn) = lease_span (query_of txn)
 span_asked _ = 0
 
+-- a question to whom it may be asked
+abbrev pub IsAskedOf : Target → Body → Type 0
+IsAskedOf targets.Store body = IsQuestion body
+IsAskedOf (targets.Member member) body = IsAsk body
+
 -- a message that is sent is a question under a number above the first of these and at most the second
 abbrev pub SendsBetween : ℕ → ℕ → Output → Type 0
-SendsBetween low high (outputs.Send to sequence body) = (low < sequence) × (sequence ≤ high) × IsQuestion body
+SendsBetween low high (outputs.Send to sequence body) = (low < sequence) × (sequence ≤ high) × IsAskedOf to body
 SendsBetween low high _ = Unit {0}
 
 -- a message with the number of what is waited for asks for a lease of the span that is waited for, if one is

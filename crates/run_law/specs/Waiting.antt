@@ -49,11 +49,18 @@ IsAnswer (bodies.Granted request leased) = Unit {0}
 IsAnswer (bodies.Refused request key found) = Unit {0}
 IsAnswer _ = ⊥
 
--- a message is a question of a member to the key store, or an answer of the key store to a member
+-- a question to another member, or an answer to one
+abbrev pub IsPeerBody : Body → Type 0
+IsPeerBody bodies.Ask = Unit {0}
+IsPeerBody (bodies.Answer answer) = Unit {0}
+IsPeerBody _ = ⊥
+
+-- a message is a question of a member to the key store, an answer of the key store to a member, or goes from one member to another
 abbrev pub IsAddressed : LinkEnd → LinkEnd → Body → Type 0
 IsAddressed (ends.Member by) ends.Store body = IsQuestion body
 IsAddressed ends.Store (ends.Member member) body = IsAnswer body
-IsAddressed _ to body = ⊥
+IsAddressed (ends.Member by) (ends.Member member) body = IsPeerBody body
+IsAddressed ends.Store ends.Store body = ⊥
 
 -- what holds of each message in flight: it is one of these, and the leader key of its snapshot has an expiry
 pub record IsCarriedWell (carried : InFlightFacts) : Type 0 where

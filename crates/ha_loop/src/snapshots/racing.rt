@@ -1,30 +1,22 @@
 //! What a member without a lease does about a free leader key: it races for it where nothing bars it.
 ghost use Rattle.std.specs.Prelude.{◌≡◌, ◌≤◌, ◌<◌, ◌+◌, ◌^◌, None};
-ghost use Rattle.lease_store.specs.declared.txn.Txn.TheVariants as txns;
-ghost use Rattle.event_book.specs.declared.message.Body.TheVariants as bodies;
 ghost use Rattle.pg_model.specs.Facts.{is_down};
 ghost use Rattle.pg_model.specs.Status.{status_replica_started};
 ghost use Rattle.leader_race.specs.Eligibility.{eligibility_of};
-ghost use Rattle.ha_loop.specs.declared.knowledge.Question.TheVariants as questions;
-ghost use Rattle.ha_loop.specs.declared.output.Output.TheVariants as outputs;
-ghost use Rattle.ha_loop.specs.declared.output.Target.TheVariants as targets;
-ghost use Rattle.ha_loop.specs.Acting.{seconds_after, lease_span, counted, waiting};
 ghost use Rattle.ha_loop.specs.Agents.{IsSound, IsWithin, Follower, role_of, made, latest};
-ghost use Rattle.ha_loop.specs.Info.{info_of};
-ghost use Rattle.ha_loop.specs.Outputs.{listed};
-ghost use Rattle.ha_loop.specs.Racing.{can_start, bar_by, bar_of, races, barred, races_unless, free_key, finds_free};
+ghost use Rattle.ha_loop.specs.Answers.{most_answers};
+ghost use Rattle.ha_loop.specs.Racing.{can_start, bar_by, bar_of, unheard, asks_or_judged, races, races_unless, free_key, finds_free};
 ghost use Rattle.ha_loop.specs.Views.{view_of};
 
 use super::following::start_replica;
-use crate::acting::{ask, touch};
-use crate::info::info_of;
+use crate::acting::touch;
+use crate::peers::{all_answered, ask_others, judge, stay_out};
 use crate::role::Role;
 use crate::view::view_of;
-use crate::{Knowledge, Machine, Output, Outputs, Question};
+use crate::{Knowledge, Machine, Outputs};
 use cluster_config::RoleWord;
-use event_book::Body;
 use leader_race::may_race;
-use lease_store::{Bar, Txn};
+use lease_store::Bar;
 use pat_base::{State, Ticks};
 use pg_model::ServerStatus;
 
@@ -40,11 +32,11 @@ pub(super) fn finds_free(
     requires sound { IsSound knows.old }
     requires server { IsWithin machine.old.server }
     requires numbers { knows.old.sequence < 2 ^ 60 }
-    requires room { 2 ≤ out.old.spare }
+    requires room { most_answers ≤ out.old.spare }
     ensures outcome { made (role_of result) knows.new machine.new out.new.outputs ≡ finds_free now (made Follower knows.old machine.old out.old.outputs) }
     ensures sound { IsSound knows.new }
     ensures numbers { knows.new.sequence ≤ knows.old.sequence + 1 }
-    ensures room { out.old.spare ≤ out.new.spare + 2 }
+    ensures room { out.old.spare ≤ out.new.spare + most_answers }
 {
     if can_start(&machine.server) {
         start_replica(machine, out, now, None);
@@ -82,11 +74,11 @@ fn race_unless(
     requires moment { now.0 ≤ latest }
     requires sound { IsSound knows.old }
     requires numbers { knows.old.sequence < 2 ^ 60 }
-    requires room { 2 ≤ out.old.spare }
+    requires room { most_answers ≤ out.old.spare }
     ensures outcome { made Follower knows.new machine.now out.new.outputs ≡ races_unless now bar (made Follower knows.old machine.now out.old.outputs) }
     ensures sound { IsSound knows.new }
     ensures numbers { knows.new.sequence ≤ knows.old.sequence + 1 }
-    ensures room { out.old.spare ≤ out.new.spare + 2 }
+    ensures room { out.old.spare ≤ out.new.spare + most_answers }
 {
     match bar {
         None => race(knows, machine, out, now),
@@ -94,55 +86,21 @@ fn race_unless(
     }
 }
 
-/// A member that is barred tells by what, and tells of itself.
-fn stay_out(bar: Bar, knows: &mut Knowledge, machine: &Machine, out: &mut Outputs)
-    requires numbers { knows.old.sequence < 2 ^ 60 }
-    requires room { 2 ≤ out.old.spare }
-    ensures outcome { made Follower knows.new machine.now out.new.outputs ≡ barred bar (made Follower knows.old machine.now out.old.outputs) }
-    ensures room { out.old.spare ≤ out.new.spare + 2 }
-{
-    out.put(Output::DoesNotRace { bar });
-    touch(knows, machine, out);
-}
-
-/// A member that nothing bars races: it asks for the leader key at once.
+/// A member that nothing bars races: it asks the others, or is judged at once where there is none.
 fn race(knows: &mut Knowledge, machine: &Machine, out: &mut Outputs, now: Ticks)
     requires moment { now.0 ≤ latest }
     requires sound { IsSound knows.old }
     requires numbers { knows.old.sequence < 2 ^ 60 }
-    requires room { 1 ≤ out.old.spare }
+    requires room { most_answers ≤ out.old.spare }
     ensures outcome { made Follower knows.new machine.now out.new.outputs ≡ races now (made Follower knows.old machine.now out.old.outputs) }
     ensures sound { IsSound knows.new }
     ensures numbers { knows.new.sequence ≤ knows.old.sequence + 1 }
-    ensures room { out.old.spare ≤ out.new.spare + 1 }
+    ensures room { out.old.spare ≤ out.new.spare + most_answers }
 {
-    create(knows, machine, out, now);
-}
-
-/// Asks for the leader key.
-fn create(knows: &mut Knowledge, machine: &Machine, out: &mut Outputs, now: Ticks)
-    requires moment { now.0 ≤ latest }
-    requires sound { IsSound knows.old }
-    requires numbers { knows.old.sequence < 2 ^ 60 }
-    requires room { 1 ≤ out.old.spare }
-    ensures knows { knows.new ≡ waiting now questions.Creating (seconds_after now knows.old.settings.retry_timeout) (counted knows.old) }
-    ensures out { out.new.outputs ≡ listed (outputs.Send targets.Store (knows.old.sequence + 1) (bodies.Request (txns.Create (info_of knows.old.who machine.now.server) (lease_span knows.old.settings) None None))) out.old.outputs }
-    ensures sound { IsSound knows.new }
-    ensures room { out.old.spare ≤ out.new.spare + 1 }
-{
-    let create = Txn::Create {
-        info: info_of(&knows.who, &machine.server),
-        ttl: knows.settings.ttl_ticks(),
-        failsafe: None,
-        sync: None,
-    };
-    let until = now + knows.settings.retry_timeout_ticks();
-    ask(
-        knows,
-        out,
-        now,
-        Question::Creating,
-        until,
-        Body::Request(create),
-    );
+    knows.answers.forget();
+    if all_answered(&knows.who, &knows.answers) {
+        judge(RoleWord::Follower, knows, machine, out, now);
+    } else {
+        ask_others(knows, out, now);
+    }
 }

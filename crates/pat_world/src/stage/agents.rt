@@ -1,11 +1,11 @@
 //! Agents: how they are woken, hear, and are shown.
-ghost use Rattle.std.specs.Prelude.{◌≡◌, ◌≤◌, ◌+◌, ◌*◌, ◌↔◌, [], Some, OnOk, IfOk, IfSome, IsSome, length, slice_get};
+ghost use Rattle.std.specs.Prelude.{◌≡◌, ◌≤◌, ◌+◌, ◌*◌, ◌↔◌, [], Some, OnOk, IfOk, IfSome, IsSome, length, option_map, slice_get};
 ghost use Rattle.cluster_config.specs.Snapshots.{IsRead};
 ghost use Rattle.ha_loop.specs.declared.heard.Heard.TheVariants as heards;
 ghost use Rattle.ha_loop.specs.Agents.{IsWithin};
 ghost use Rattle.ha_loop.specs.Outputs.{most_outputs};
 ghost use Rattle.cluster_model.specs.Cluster.{agent_facts_with};
-ghost use Rattle.cluster_model.specs.Hearing.{heard_from};
+ghost use Rattle.cluster_model.specs.Hearing.{heard_from, member_at_end};
 ghost use Rattle.cluster_model.specs.Inputs.{moment_of, outcome_of, outcome_of_heard, outputs_of, has_work, is_to_wake, standing_of};
 ghost use Rattle.cluster_model.specs.Machines.{hosts_of, machine_of};
 ghost use Rattle.cluster_model.specs.Messages.{turn_events, wake_events, wake_events_of};
@@ -24,7 +24,7 @@ use crate::streaming::source_of;
 use crate::watchdogs::disarm_at_start;
 use cluster_config::{AgentView, Snapshot};
 use cluster_model::HeardMessage;
-use event_book::{AgentEvent, AgentProcess, Body, Event, EventKind, Member};
+use event_book::{AgentEvent, AgentProcess, Body, Event, EventKind, LinkEnd, Member, Message};
 use ha_loop::{Heard, Machine, Outputs};
 use lease_store::{Key, KeyEntry};
 use pat_base::{MemberId, Ticks};
@@ -218,6 +218,11 @@ impl Stage {
                 key: *key,
                 found: *found,
             })),
+            Body::Ask => Ok(asked_by(message)),
+            Body::Answer(answer) => Ok(Some(Heard::Answered {
+                sequence,
+                answer: *answer,
+            })),
             _ => Ok(None),
         }
     }
@@ -274,5 +279,27 @@ impl Stage {
     {
         let process = self.processes.get(member.id.number as usize)?;
         Some(*process)
+    }
+}
+
+/// What an ask says to an agent: the member that asks, if one does.
+fn asked_by(message: &Message) -> Option<Heard>
+    ensures { result ≡ option_map (λ from. heards.Asked from message.now.run message.now.sequence) (member_at_end message.now.from) }
+{
+    let from = member_at_end(message.from)?;
+    Some(Heard::Asked {
+        from,
+        run: message.run,
+        sequence: message.sequence,
+    })
+}
+
+/// The member at this end of a link, if one is.
+fn member_at_end(end: LinkEnd) -> Option<MemberId>
+    ensures { result ≡ member_at_end end }
+{
+    match end {
+        LinkEnd::Store => None,
+        LinkEnd::Member(member) => Some(member.id),
     }
 }

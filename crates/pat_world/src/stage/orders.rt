@@ -1,7 +1,8 @@
 //! What agents do, carried out.
 ghost use Rattle.std.specs.Prelude.{◌≡◌, ◌≤◌, ◌+◌, ◌*◌, [], All, OnOk, IfOk, IfSome, length, slice_get};
+ghost use Rattle.event_book.specs.declared.message.Body.TheVariants as bodies;
 ghost use Rattle.ha_loop.specs.Outputs.{most_outputs};
-ghost use Rattle.cluster_model.specs.Messages.{output_events, sending_events};
+ghost use Rattle.cluster_model.specs.Messages.{output_events, replying_events, sending_events};
 ghost use Rattle.cluster_model.specs.Orders.{feed_kinds, order_kind};
 ghost use Rattle.cluster_model.specs.Parts.{each, events_of};
 ghost use Rattle.cluster_model.specs.State.{Cluster};
@@ -17,7 +18,8 @@ use crate::orders::{
 };
 use cluster_model::HeardMessage;
 use event_book::{Body, Event, EventKind, LinkEnd, Member, Message, WatchdogEvent};
-use ha_loop::{Output, Outputs};
+use ha_loop::{Output, Outputs, Target};
+use pat_base::PeerAnswer;
 use std::alloc::AllocError;
 
 impl Stage {
@@ -57,6 +59,15 @@ impl Stage {
             Output::Send { to, sequence, body } => {
                 let to = receiver_of(&self.members, to);
                 self.write(member, to, sequence, body, events)
+            }
+            Output::Answer {
+                to,
+                run,
+                sequence,
+                answer,
+            } => {
+                let to = receiver_of(&self.members, Target::Member(to));
+                self.reply(member, to, run, sequence, answer, events)
             }
             Output::Begin => self.begin(member, events),
             Output::Armed { until } => {
@@ -125,6 +136,32 @@ impl Stage {
             run: process.run,
             sequence,
             body,
+        };
+        self.send(message, None, events)
+    }
+
+    /// The agent of a member answers another one, if there is that one, in the run in which it asked.
+    fn reply(
+        &mut self,
+        member: Member,
+        to: Option<LinkEnd>,
+        run: u64,
+        sequence: u64,
+        answer: PeerAnswer,
+        events: &mut Vec<Event>,
+    ) -> Result<(), AllocError>
+        requires room { HasRoom self.old sending_cost }
+        ensures { OnOk result (Emits self.old self.new events.old.items events.new.items (replying_events self.old member to run sequence (bodies.Answer answer)) sending_cost) }
+    {
+        let Some(to) = to else {
+            return Ok(());
+        };
+        let message = Message {
+            from: LinkEnd::Member(member),
+            to,
+            run,
+            sequence,
+            body: Body::Answer(answer),
         };
         self.send(message, None, events)
     }

@@ -1,4 +1,4 @@
-use Rattle.ha_loop.proofs.Bringing.{before-brings, wake-brings, read-brings, refusal-brings}
+use Rattle.ha_loop.proofs.Bringing.{before-brings, wake-brings, read-brings, refusal-brings, asked-brings, answered-brings}
 use Rattle.ha_loop.proofs.laws.only_a_grant_lets_lead.Goals as goal
 
 pub returns-clause-wake : goal.returns-clause-wake
@@ -9,6 +9,12 @@ returns-clause-read c now points sequence snapshot o = read-brings now points se
 
 pub returns-clause-refusal : goal.returns-clause-refusal
 returns-clause-refusal c now points sequence key found o = refusal-brings now sequence o
+
+pub returns-clause-ask : goal.returns-clause-ask
+returns-clause-ask c now points from run sequence o = asked-brings now from run sequence o
+
+pub returns-clause-answer : goal.returns-clause-answer
+returns-clause-answer c now points sequence answer o = answered-brings now sequence answer o
 
 pub returns-clause-action : goal.returns-clause-action
 returns-clause-action c now o = before-brings now o

@@ -1,4 +1,4 @@
-use Rattle.ha_loop.proofs.Leaving.{before-leaves, wake-leaves, read-leaves, refusal-leaves}
+use Rattle.ha_loop.proofs.Leaving.{before-leaves, wake-leaves, read-leaves, refusal-leaves, asked-leaves, answered-leaves}
 use Rattle.ha_loop.proofs.laws.only_a_grant_sets_deadlines.Goals as goal
 
 pub returns-clause-wake : goal.returns-clause-wake
@@ -9,6 +9,12 @@ returns-clause-read c now points sequence snapshot o = read-leaves now points se
 
 pub returns-clause-refusal : goal.returns-clause-refusal
 returns-clause-refusal c now points sequence key found o = refusal-leaves now sequence o
+
+pub returns-clause-ask : goal.returns-clause-ask
+returns-clause-ask c now points from run sequence o = asked-leaves now from run sequence o
+
+pub returns-clause-answer : goal.returns-clause-answer
+returns-clause-answer c now points sequence answer o = answered-leaves now sequence answer o
 
 pub returns-clause-action : goal.returns-clause-action
 returns-clause-action c now o = before-leaves now o
