@@ -13,6 +13,7 @@ pub mod Outputs
 pub mod Peers
 pub mod Powers
 pub mod Racing
+pub mod Replies
 pub mod Seen
 pub mod Snapshots
 pub mod Start
