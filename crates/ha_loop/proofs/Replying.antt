@@ -27,11 +27,12 @@ use Rattle.ha_loop.specs.Decisions.{is_start_too_long, leader_renewed, takes_ove
 use Rattle.ha_loop.specs.Outputs.{listed}
 use Rattle.ha_loop.specs.Peers.{keeping, answered}
 use Rattle.ha_loop.specs.Racing.{judged, unheard, finds_free}
+use Rattle.ha_loop.specs.Repairs.{repair_of}
 use Rattle.ha_loop.specs.Replies.{RepliesTo}
-use Rattle.ha_loop.specs.Snapshots.{follows, read_noted, got, informed}
+use Rattle.ha_loop.specs.Snapshots.{follow_row, follows, read_noted, got, informed}
 use Rattle.ha_loop.specs.Table.{step, act}
 use Rattle.ha_loop.specs.Wake.{overdue, turned, woken}
-use Rattle.ha_loop.proofs.Rows.{if-cases, before-by, overdue-by, turn-by, wake-by, got-by, refused-by, follow-by, free-by, granted-by, judged-by, answered-by}
+use Rattle.ha_loop.proofs.Rows.{if-cases, before-by, overdue-by, turn-by, wake-by, got-by, refused-by, follow-by, repaired-by, free-by, granted-by, judged-by, answered-by}
 
 -- an output that answers nobody
 abbrev NoReply : Output → Type 0
@@ -87,7 +88,10 @@ wake-quiet now o all = let first : Quiet (before now o) = before-quiet now o all
 
 follow-quiet : (now : Ticks) (leader : MemberId) (o : Outcome) → Quiet o → Quiet (follows now leader o)
 follow-quiet now leader o all = let x : Outcome = record o { role = Follower } in
-    follow-by (λ (y : Outcome). Quiet (touching y)) now leader o.machine.server.state x (said o.outputs _ tt all) (said _ _ tt (said o.outputs _ tt all)) (said _ _ tt (said o.outputs _ tt all))
+    let row : Outcome = touching (follow_row now leader o.machine.server.state x) in
+    let told : Quiet row = follow-by (λ (y : Outcome). Quiet (touching y)) now leader o.machine.server.state x (said o.outputs _ tt all) (said _ _ tt (said o.outputs _ tt all)) (said _ _ tt (said o.outputs _ tt all))
+        (said _ _ tt (said o.outputs _ tt all)) in
+    repaired-by Quiet leader (repair_of o.knows.settings leader o.machine.server) row told (λ r. said row.outputs (outputs.Repair leader r) tt told)
 
 free-quiet : (now : Ticks) (o : Outcome) → Quiet o → Quiet (finds_free now o)
 free-quiet now o all = let x : Outcome = record o { role = Follower } in free-by Quiet now x (record {
