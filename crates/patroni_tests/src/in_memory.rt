@@ -84,8 +84,8 @@ pub const FOLLOWED_LINES: &str = "1 a takes the leader key\n\
     1 a accepts writes on timeline 2\n\
     2 b follows a\n";
 
-/// At tick 2, a leads and b follows. Messages 1 to 6 are those of a's turn, and 7 to 10 those of b's. The key store stands at revision
-/// 3, and b hasn't received anything yet.
+/// At tick 2, a leads and b follows. Messages 1 to 6 are those of a's turn, and 7 to 10 those of b's. The key store stands at
+/// revision 3, and b hasn't received anything yet.
 pub const FOLLOWED: Opening = Opening {
     script: "cluster demo\nmember a\nmember b\nrun 2\n",
     lines: FOLLOWED_LINES,
