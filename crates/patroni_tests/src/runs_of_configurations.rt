@@ -102,28 +102,28 @@ const REWINDS: [Run; 4] = [
 /// Without `use_pg_rewind` it is stopped at 661, so that nobody can promote it and it doesn't race.
 const STOPPED_FOR_GOOD: [Run; 1] = [(
     "run 300\nfreeze b\ncommit a 100\nhold a\nrun 260\nrestart a\nrun 140\npromote a\nhold b\n\
-         run 270\n",
+     run 270\n",
     "1 a takes the leader key\n\
-         1 a arms its watchdog until 251\n\
-         1 a accepts writes on timeline 2\n\
-         2 b follows a\n\
-         300 b is frozen\n\
-         300 commit 1 of 100 bytes on a\n\
-         300 commit 1 is acknowledged\n\
-         300 a is held\n\
-         451 a is reset by its watchdog\n\
-         501 the leader key of a expires\n\
-         522 b takes the leader key\n\
-         522 b arms its watchdog until 772\n\
-         522 b accepts writes on timeline 3\n\
-         560 a is started\n\
-         561 a starts as a replica\n\
-         561 a follows b\n\
-         562 a diverges from b at 0/5000000\n\
-         700 b is held\n\
-         852 b is reset by its watchdog\n\
-         902 the leader key of b expires\n\
-         961 a does not race: its server is not a replica\n",
+     1 a arms its watchdog until 251\n\
+     1 a accepts writes on timeline 2\n\
+     2 b follows a\n\
+     300 b is frozen\n\
+     300 commit 1 of 100 bytes on a\n\
+     300 commit 1 is acknowledged\n\
+     300 a is held\n\
+     451 a is reset by its watchdog\n\
+     501 the leader key of a expires\n\
+     522 b takes the leader key\n\
+     522 b arms its watchdog until 772\n\
+     522 b accepts writes on timeline 3\n\
+     560 a is started\n\
+     561 a starts as a replica\n\
+     561 a follows b\n\
+     562 a diverges from b at 0/5000000\n\
+     700 b is held\n\
+     852 b is reset by its watchdog\n\
+     902 the leader key of b expires\n\
+     961 a does not race: its server is not a replica\n",
     Closing {
         end: 970,
         acknowledged: 1,
@@ -314,19 +314,19 @@ const MODES: [Run; 4] = [
 const AN_HOUR: [Run; 1] = [(
     "config {\"loop_wait\":10,\"maximum_lag_on_failover\":1048576,\
      \"postgresql\":{\"parameters\":{\"max_connections\":100},\"use_pg_rewind\":true},\"retry_timeout\":10,\"ttl\":30}\n\
-         member a host=10.0.0.1 watchdog=required\nmember b host=10.0.0.2 watchdog=required\n\
-         member c host=10.0.0.3 watchdog=required\nrun 9000\ncommit a 4096\nrun 9000\ncrash a\n\
-         run 18000\n",
+     member a host=10.0.0.1 watchdog=required\nmember b host=10.0.0.2 watchdog=required\n\
+     member c host=10.0.0.3 watchdog=required\nrun 9000\ncommit a 4096\nrun 9000\ncrash a\n\
+     run 18000\n",
     "1 a takes the leader key\n\
-         1 a arms its watchdog until 251\n\
-         1 a accepts writes on timeline 2\n\
-         2 b follows a\n\
-         3 c follows a\n\
-         9000 commit 1 of 4096 bytes on a\n\
-         9000 commit 1 is acknowledged\n\
-         18000 a crashed\n\
-         18001 a arms its watchdog until 18251\n\
-         18001 a accepts writes on timeline 2\n",
+     1 a arms its watchdog until 251\n\
+     1 a accepts writes on timeline 2\n\
+     2 b follows a\n\
+     3 c follows a\n\
+     9000 commit 1 of 4096 bytes on a\n\
+     9000 commit 1 is acknowledged\n\
+     18000 a crashed\n\
+     18001 a arms its watchdog until 18251\n\
+     18001 a accepts writes on timeline 2\n",
     Closing {
         end: 36000,
         writers: "a",

@@ -297,9 +297,9 @@ const QUESTIONS: [Run; 6] = [
 /// it, and 18 its answer.
 const A_LATE_LEADER: [Run; 1] = [(
     "run 98\ntick 1\nturn a\ndeliver 11\ndeliver 12\ndeliver 13\ntick 80\ndeliver 14\ntick 221\n\
-         turn b\ndeliver 15\ndeliver 16\ndeliver 17\ndeliver 18\n",
+     turn b\ndeliver 15\ndeliver 16\ndeliver 17\ndeliver 18\n",
     "401 the leader key of a expires\n\
-         402 b does not race: a accepts writes\n",
+     402 b does not race: a accepts writes\n",
     Closing {
         end: 402,
         premises: "broken at 181 by a late watchdog of a",
