@@ -24,7 +24,7 @@ const REWINDING: Opening = Opening {
 };
 
 /// The server of the first leader is rewound in its agent's turn, at 661 or later.
-const REWINDS: [Run; 4] = [
+const REWINDS: [Run; 6] = [
     (
         "run 140\n",
         "561 a starts as a replica\n\
@@ -93,6 +93,46 @@ const REWINDS: [Run; 4] = [
             end: 990,
             writers: "a",
             acknowledged: 2,
+            lost: "first at 522",
+            ..QUIET
+        },
+    ),
+    // A server that crashes and starts again finds anew that its log isn't a front of the leader's.
+    (
+        "run 60\ncrash a\nrun 150\n",
+        "561 a starts as a replica\n\
+         561 a follows b\n\
+         562 a diverges from b at 0/5000000\n\
+         620 a crashed\n\
+         661 a starts as a replica\n\
+         661 a follows b\n\
+         662 a diverges from b at 0/5000000\n\
+         761 a is rewound to 0/5000000\n",
+        Closing {
+            end: 770,
+            writers: "b",
+            acknowledged: 1,
+            lost: "first at 522",
+            ..QUIET
+        },
+    ),
+    // Such a log bars nobody: where it couldn't be rewound before the leader was gone, its member may lead.
+    (
+        "run 50\ncut a b\nrun 10\nhold b\nrun 370\n",
+        "561 a starts as a replica\n\
+         561 a follows b\n\
+         562 a diverges from b at 0/5000000\n\
+         610 a and b are cut\n\
+         620 b is held\n\
+         852 b is reset by its watchdog\n\
+         902 the leader key of b expires\n\
+         981 a takes the leader key\n\
+         981 a arms its watchdog until 1231\n\
+         981 a accepts writes on timeline 3\n",
+        Closing {
+            end: 990,
+            writers: "a",
+            acknowledged: 1,
             lost: "first at 522",
             ..QUIET
         },
