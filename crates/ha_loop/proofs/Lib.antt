@@ -15,3 +15,4 @@ pub mod LawfulSteps
 pub mod Asking
 pub mod Waiting
 pub mod FreeKey
+pub mod Replying

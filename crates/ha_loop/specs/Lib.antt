@@ -14,6 +14,7 @@ pub mod Peers
 pub mod Powers
 pub mod Racing
 pub mod Repairs
+pub mod Replies
 pub mod Seen
 pub mod Snapshots
 pub mod Start

@@ -1,5 +1,5 @@
 //! Laws of the decision table.
-ghost use Rattle.std.specs.Prelude.{ℕ, ◌≡◌, List, [], Some, None, false, true};
+ghost use Rattle.std.specs.Prelude.{ℕ, ◌≡◌, List, [], Some, None, All, false, true};
 ghost use Rattle.pat_base.specs.declared.member_id.MemberId.{MemberId};
 ghost use Rattle.pat_base.specs.declared.peer_answer.PeerAnswer.{PeerAnswer};
 ghost use Rattle.pat_base.specs.declared.ticks.Ticks.{Ticks};
@@ -26,6 +26,7 @@ ghost use Rattle.ha_loop.specs.FreeKey.{HearsFree, StaysOut, AsksForKey, AsksOth
 ghost use Rattle.ha_loop.specs.Orders.{IsCarriedOut};
 ghost use Rattle.ha_loop.specs.Powers.{BringsNothing, GrantMay, LeavesMachine};
 ghost use Rattle.ha_loop.specs.Racing.{can_start};
+ghost use Rattle.ha_loop.specs.Replies.{RepliesTo};
 ghost use Rattle.ha_loop.specs.Table.{step, act};
 ghost use Rattle.ha_loop.specs.Views.{shown};
 
@@ -64,17 +65,20 @@ pub fn a_grant_feeds_the_watchdog()
 {}
 
 /// The outputs of an input are all that becomes of its machine: the machine that it leaves is what they, carried out in their
-/// order, make of the machine before. None starts a server as a primary, takes a hold, or writes to another member.
+/// order, make of the machine before. None takes a hold, and of another member none asks more than how far its server is.
 pub fn outputs_make_the_machine()
     ensures step { (now : Ticks) (points : List HistoryPoint) (heard : Heard) (role : RoleFacts) (knows : Knowledge) (machine : Machine) → IsCarriedOut now machine (step now points heard (made role knows machine [])) }
     ensures action { (now : Ticks) (role : RoleFacts) (knows : Knowledge) (machine : Machine) → IsCarriedOut now machine (act now (made role knows machine [])) }
 {}
 
-/// An input sends under new numbers, and the create or the renewal that its agent waits for after it was waited for before, or is
-/// asked in it: at this moment, and for leases of the span that is noted with it.
+/// An input asks under new numbers, and the create or the renewal that its agent waits for after it was waited for before, or is
+/// asked in it: at this moment, and for leases of the span that is noted with it. Who answers another member was asked by that
+/// one, and answers under the number of its ask.
 pub fn what_is_asked_is_waited_for()
     ensures step { (now : Ticks) (points : List HistoryPoint) (heard : Heard) (role : RoleFacts) (knows : Knowledge) (machine : Machine) → IsSoundAgent role knows → AsksAsWaited now (made role knows machine []) (step now points heard (made role knows machine [])) }
     ensures action { (now : Ticks) (role : RoleFacts) (knows : Knowledge) (machine : Machine) → IsSoundAgent role knows → AsksAsWaited now (made role knows machine []) (act now (made role knows machine [])) }
+    ensures answers { (now : Ticks) (points : List HistoryPoint) (heard : Heard) (role : RoleFacts) (knows : Knowledge) (machine : Machine) → All (RepliesTo heard) (step now points heard (made role knows machine [])).outputs }
+    ensures unasked { (now : Ticks) (role : RoleFacts) (knows : Knowledge) (machine : Machine) → All (RepliesTo heard.Wake) (act now (made role knows machine [])).outputs }
 {}
 
 /// Who is barred doesn't ask for a free leader key: where the answer to its read tells that nobody leads, an agent without a

@@ -1,0 +1,173 @@
+-- An input answers another member only where that one asks.
+use Rattle.std.proofs.Common.{ℕ, ◌+◌, List, [], Option, Some, None, All, refl, zero, suc}
+use Rattle.std.proofs.lemmas.List.Elements.{All-push, All-nil, All-weaker}
+use Rattle.pat_base.specs.MemberId.{member_of}
+use Rattle.pat_base.specs.declared.member_id.MemberId.{MemberId}
+use Rattle.pat_base.specs.declared.peer_answer.PeerAnswer.{PeerAnswer}
+use Rattle.pat_base.specs.declared.ticks.Ticks.{Ticks}
+use Rattle.lease_store.specs.declared.granted.Granted.{Granted}
+use Rattle.wal_model.specs.declared.entry.HistoryPoint.{HistoryPoint}
+use Rattle.cluster_config.specs.Snapshots.{SnapshotFacts}
+use Rattle.event_book.specs.declared.message.Body.TheVariants as bodies
+use Rattle.ha_loop.specs.declared.heard.Heard.{Heard}
+use Rattle.ha_loop.specs.declared.heard.Heard.TheVariants.{Wake, Got, Granted as HeardGranted, Mismatch, Asked, Answered}
+use Rattle.ha_loop.specs.declared.knowledge.Knowledge.{Knowledge}
+use Rattle.ha_loop.specs.declared.machine.Machine.{Machine}
+use Rattle.ha_loop.specs.declared.output.Output.{Output}
+use Rattle.ha_loop.specs.declared.output.Output.TheVariants as outputs
+use Rattle.ha_loop.specs.declared.output.Target.TheVariants as targets
+use Rattle.ha_loop.specs.declared.role.Why.{Why}
+use Rattle.ha_loop.specs.declared.role.Why.TheVariants.{HandOver, Lost}
+use Rattle.ha_loop.specs.declared.who.Who.{Who}
+use Rattle.ha_loop.specs.Acting.{arming, feeding, armed, fed_until, disarmed, deadline_after, is_refusing, touching}
+use Rattle.ha_loop.specs.Agents.{RoleFacts, Follower, Leader, Outcome, made}
+use Rattle.ha_loop.specs.Answers.{is_other, most_answers, asking_one, asking_first}
+use Rattle.ha_loop.specs.Before.{has_ended, before}
+use Rattle.ha_loop.specs.Decisions.{is_start_too_long, leader_renewed, takes_over, stray_renewed, may_take, gives_back, begins, arms, takes_key, granted, refused}
+use Rattle.ha_loop.specs.Outputs.{listed}
+use Rattle.ha_loop.specs.Peers.{keeping, answered}
+use Rattle.ha_loop.specs.Racing.{judged, unheard, finds_free}
+use Rattle.ha_loop.specs.Repairs.{repair_of}
+use Rattle.ha_loop.specs.Replies.{RepliesTo}
+use Rattle.ha_loop.specs.Snapshots.{follow_row, follows, read_noted, got, informed}
+use Rattle.ha_loop.specs.Table.{step, act}
+use Rattle.ha_loop.specs.Wake.{overdue, turned, woken}
+use Rattle.ha_loop.proofs.Rows.{if-cases, before-by, overdue-by, turn-by, wake-by, got-by, refused-by, follow-by, repaired-by, free-by, granted-by, judged-by, answered-by}
+
+-- an output that answers nobody
+abbrev NoReply : Output → Type 0
+NoReply (outputs.Answer to run sequence answer) = ⊥
+NoReply _ = Unit {0}
+
+abbrev Quiet : Outcome → Type 0
+Quiet o = All NoReply o.outputs
+
+said : (outs : List Output) (output : Output) → NoReply output → All NoReply outs → All NoReply (listed output outs)
+said outs output none all = All-push NoReply outs output all none
+
+disarmed-quiet : (deadline : Option Ticks) (outs : List Output) → All NoReply outs → All NoReply (disarmed deadline outs)
+disarmed-quiet None outs all = all
+disarmed-quiet (Some deadline) outs all = said outs outputs.Disarmed tt all
+
+armed-quiet : (deadline : Option Ticks) (outs : List Output) → All NoReply outs → All NoReply (armed deadline outs)
+armed-quiet None outs all = all
+armed-quiet (Some deadline) outs all = said outs (outputs.Armed deadline) tt all
+
+fed-quiet : (deadline : Option Ticks) (outs : List Output) → All NoReply outs → All NoReply (fed_until deadline outs)
+fed-quiet None outs all = all
+fed-quiet (Some deadline) outs all = said outs (outputs.Fed deadline) tt all
+
+ended-quiet : (why : Why) (held : ℕ) (o : Outcome) → Quiet o → Quiet (has_ended why held o)
+ended-quiet HandOver held o all = said _ _ tt (disarmed-quiet o.machine.watchdog.deadline o.outputs all)
+ended-quiet Lost held o all = disarmed-quiet o.machine.watchdog.deadline o.outputs all
+
+before-quiet : (now : Ticks) (o : Outcome) → Quiet o → Quiet (before now o)
+before-quiet now o all = let gone : All NoReply (disarmed o.machine.watchdog.deadline o.outputs) = disarmed-quiet o.machine.watchdog.deadline o.outputs all in
+    before-by Quiet now o (record { kept = λ _. all; leader = λ _ _ _. gone; ending = λ held why _ _. ended-quiet why held o all; follower = λ _ _. all; holder = λ _ _ _. all; ready = λ _ _ _. gone; stray = λ _ _. gone })
+
+judged-quiet : (now : Ticks) (o : Outcome) → Quiet o → Quiet (judged now o)
+judged-quiet now o all = judged-by Quiet now o (said o.outputs _ tt all) (λ bar. said _ _ tt (said o.outputs (outputs.DoesNotRace bar) tt all))
+
+ask-quiet : (who : Who) (sequence : ℕ) (member : Option MemberId) (outs : List Output) → All NoReply outs → All NoReply (asking_one who sequence member outs)
+ask-quiet who sequence None outs all = all
+ask-quiet who sequence (Some member) outs all =
+    if-cases (λ (l : List Output). All NoReply l) (is_other who member) (listed (outputs.Send (targets.Member member) sequence bodies.Ask) outs) outs (λ _. said outs (outputs.Send (targets.Member member) sequence bodies.Ask) tt all) (λ _. all)
+
+asks-quiet : (who : Who) (sequence count : ℕ) (outs : List Output) → All NoReply outs → All NoReply (asking_first who sequence count outs)
+asks-quiet who sequence zero outs all = all
+asks-quiet who sequence (suc count) outs all = ask-quiet who sequence (member_of count) (asking_first who sequence count outs) (asks-quiet who sequence count outs all)
+
+overdue-quiet : (now : Ticks) (o : Outcome) → Quiet o → Quiet (overdue now o)
+overdue-quiet now o all = overdue-by Quiet now o (record { kept = all; quiet = all; leader = λ _ _. said o.outputs _ tt all; stray = λ _. said o.outputs _ tt all; judges = λ _. judged-quiet now o all })
+
+turn-quiet : (now : Ticks) (o : Outcome) → Quiet o → Quiet (turned now o)
+turn-quiet now o all = turn-by Quiet now o (record { kept = all; quiet = all; reads = λ _. said o.outputs _ tt all })
+
+wake-quiet : (now : Ticks) (o : Outcome) → Quiet o → Quiet (woken now o)
+wake-quiet now o all = let first : Quiet (before now o) = before-quiet now o all in wake-by Quiet now o first (turn-quiet now (overdue now (before now o)) (overdue-quiet now (before now o) first))
+
+follow-quiet : (now : Ticks) (leader : MemberId) (o : Outcome) → Quiet o → Quiet (follows now leader o)
+follow-quiet now leader o all = let x : Outcome = record o { role = Follower } in
+    let row : Outcome = touching (follow_row now leader o.machine.server.state x) in
+    let told : Quiet row = follow-by (λ (y : Outcome). Quiet (touching y)) now leader o.machine.server.state x (said o.outputs _ tt all) (said _ _ tt (said o.outputs _ tt all)) (said _ _ tt (said o.outputs _ tt all))
+        (said _ _ tt (said o.outputs _ tt all)) in
+    repaired-by Quiet leader (repair_of o.knows.settings leader o.machine.server) row told (λ r. said row.outputs (outputs.Repair leader r) tt told)
+
+free-quiet : (now : Ticks) (o : Outcome) → Quiet o → Quiet (finds_free now o)
+free-quiet now o all = let x : Outcome = record o { role = Follower } in free-by Quiet now x (record {
+  starts = said _ _ tt (said o.outputs _ tt all);
+  bars = λ bar. said _ _ tt (said o.outputs (outputs.DoesNotRace bar) tt all);
+  judges = judged-quiet now (unheard x) all;
+  asks = asks-quiet o.knows.who (o.knows.sequence + 1) most_answers o.outputs all;
+})
+
+got-quiet : (now : Ticks) (points : List HistoryPoint) (sequence : ℕ) (snapshot : SnapshotFacts) (o : Outcome) → Quiet o → Quiet (got now points sequence snapshot o)
+got-quiet now points sequence snapshot o all = let read : Outcome = record o { knows = read_noted now snapshot o.knows } in
+    got-by Quiet now points sequence snapshot o (record {
+      kept = all;
+      quiet = all;
+      other = all;
+      leader = λ _ _. said o.outputs _ tt all;
+      stray = λ _. said o.outputs _ tt all;
+      renews = λ _ _ _ _. said o.outputs _ tt all;
+      touches = said o.outputs _ tt all;
+      follows = λ leader _ _. follow-quiet now leader.holder read all;
+      free = λ _ _. free-quiet now read all;
+    })
+
+refused-quiet : (now : Ticks) (sequence : ℕ) (o : Outcome) → Quiet o → Quiet (refused now sequence o)
+refused-quiet now sequence o all = refused-by Quiet now sequence o (record { kept = all; quiet = all; leader = λ _ _. said o.outputs _ tt all; stray = λ _. said o.outputs _ tt all; follower = λ _ _. all })
+
+renewed-quiet : (now ttl : Ticks) (revision : ℕ) (o : Outcome) → Quiet o → Quiet (leader_renewed now ttl revision o)
+renewed-quiet now ttl revision o all = let fed : Outcome = record (feeding now ttl o) { role = Leader revision } in let told : Quiet fed = fed-quiet (deadline_after now ttl o.machine.watchdog) o.outputs all in
+    if-cases Quiet (is_start_too_long now fed.knows fed.machine.server.state) _ fed (λ _. said fed.outputs _ tt told) (λ _. told)
+
+stray-quiet : (now ttl : Ticks) (revision : ℕ) (o : Outcome) → Quiet o → Quiet (stray_renewed now ttl revision o)
+stray-quiet now ttl revision o all = if-cases Quiet (is_refusing o.machine.watchdog.mode o.machine.watchdog.works) _ (takes_over now revision (arming now ttl o))
+    (λ _. said o.outputs _ tt all) (λ _. armed-quiet (deadline_after now ttl o.machine.watchdog) o.outputs all)
+
+arms-quiet : (now ttl : Ticks) (revision : ℕ) (o : Outcome) → Quiet o → Quiet (arms now ttl revision o)
+arms-quiet now ttl revision o all = if-cases Quiet (is_refusing o.machine.watchdog.mode o.machine.watchdog.works) _ (begins now revision (arming now ttl o))
+    (λ _. said _ _ tt (said o.outputs outputs.CannotArm tt all)) (λ _. said _ outputs.Begin tt (said _ _ tt (armed-quiet (deadline_after now ttl o.machine.watchdog) o.outputs all)))
+
+takes-quiet : (now ttl : Ticks) (revision : ℕ) (o : Outcome) → Quiet o → Quiet (takes_key now ttl revision o)
+takes-quiet now ttl revision o all = if-cases Quiet (may_take now o.knows o.machine) (arms now ttl revision o) (gives_back revision o) (λ _. arms-quiet now ttl revision o all) (λ _. said o.outputs _ tt all)
+
+granted-quiet : (now : Ticks) (sequence : ℕ) (grant : Granted) (snapshot : SnapshotFacts) (o : Outcome) → Quiet o → Quiet (granted now sequence grant snapshot o)
+granted-quiet now sequence grant snapshot o all = let told : Outcome = record o { knows = informed snapshot o.knows } in
+    granted-by Quiet now sequence grant snapshot o all all (λ waited _ _. record {
+      other = all;
+      leader = λ _ _. renewed-quiet now waited.ttl grant.revision told all;
+      stray = λ _. stray-quiet now waited.ttl grant.revision told all;
+      takes = λ _. takes-quiet now waited.ttl grant.revision told all;
+    })
+
+answered-quiet : (now : Ticks) (sequence : ℕ) (answer : PeerAnswer) (o : Outcome) → Quiet o → Quiet (answered now sequence answer o)
+answered-quiet now sequence answer o all = answered-by Quiet now sequence answer o (record { kept = all; quiet = all; keeps = all; judges = λ _. judged-quiet now (keeping answer o) all })
+
+no-reply : (heard : Heard) (output : Output) → NoReply output → RepliesTo heard output
+no-reply heard (outputs.Answer to run sequence answer) none = absurd none
+no-reply heard _ none = tt
+
+none-replies : (heard : Heard) (o : Outcome) → Quiet o → All (RepliesTo heard) o.outputs
+none-replies heard o all = All-weaker NoReply (RepliesTo heard) (no-reply heard) o.outputs all
+
+pub step-replies : (now : Ticks) (points : List HistoryPoint) (heard : Heard) (role : RoleFacts) (knows : Knowledge) (machine : Machine) → All (RepliesTo heard) (step now points heard (made role knows machine [])).outputs
+step-replies now points heard role knows machine = by heard
+  where
+    o : Outcome
+    o = made role knows machine []
+
+    b : Quiet (before now o)
+    b = before-quiet now o (All-nil NoReply)
+
+    by : (heard : Heard) → All (RepliesTo heard) (step now points heard o).outputs
+    by Wake = none-replies Wake (woken now o) (wake-quiet now o (All-nil NoReply))
+    by (Got sequence snapshot) = none-replies (Got sequence snapshot) (got now points sequence snapshot (before now o)) (got-quiet now points sequence snapshot (before now o) b)
+    by (HeardGranted sequence grant snapshot) = none-replies (HeardGranted sequence grant snapshot) (granted now sequence grant snapshot (before now o)) (granted-quiet now sequence grant snapshot (before now o) b)
+    by (Mismatch sequence key found) = none-replies (Mismatch sequence key found) (refused now sequence (before now o)) (refused-quiet now sequence (before now o) b)
+    by (Asked from run sequence) = All-push (RepliesTo (Asked from run sequence)) (before now o).outputs _ (none-replies (Asked from run sequence) (before now o) b) (refl, refl, refl)
+    by (Answered sequence answer) = none-replies (Answered sequence answer) (answered now sequence answer (before now o)) (answered-quiet now sequence answer (before now o) b)
+
+pub act-replies : (now : Ticks) (role : RoleFacts) (knows : Knowledge) (machine : Machine) → All (RepliesTo Wake) (act now (made role knows machine [])).outputs
+act-replies now role knows machine = none-replies Wake (before now (made role knows machine [])) (before-quiet now (made role knows machine []) (All-nil NoReply))
