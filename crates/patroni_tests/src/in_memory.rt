@@ -30,11 +30,12 @@ pub struct Outcome {
     pub err: String,
 }
 
-/// The seven lines that close a run, by what they say of it. No cluster here is synchronous. `end` is a moment in ticks.
+/// The seven lines that close a run, by what they say of it. `end` is a moment in ticks.
 #[derive(Clone, Copy)]
 pub struct Closing {
     pub end: u64,
     pub premises: &'static str,
+    pub synchronous: &'static str,
     pub two_writers: &'static str,
     pub writers: &'static str,
     pub acknowledged: u64,
@@ -45,6 +46,7 @@ pub struct Closing {
 pub const QUIET: Closing = Closing {
     end: 0,
     premises: "met",
+    synchronous: "off",
     two_writers: "never",
     writers: "none",
     acknowledged: 0,
@@ -82,8 +84,8 @@ pub const FOLLOWED_LINES: &str = "1 a takes the leader key\n\
     1 a accepts writes on timeline 2\n\
     2 b follows a\n";
 
-/// At tick 2, a leads and b follows. Messages 1 to 4 are those of a, and 5 to 8 those of b. The key store stands at revision
-/// 3, and b hasn't received anything yet.
+/// At tick 2, a leads and b follows. Messages 1 to 6 are those of a's turn, and 7 to 10 those of b's. The key store stands at
+/// revision 3, and b hasn't received anything yet.
 pub const FOLLOWED: Opening = Opening {
     script: "cluster demo\nmember a\nmember b\nrun 2\n",
     lines: FOLLOWED_LINES,
@@ -183,13 +185,14 @@ pub fn closed(alloc: Global, lines: &str, closing: Closing) -> Result<String, Al
     let Closing {
         end,
         premises,
+        synchronous,
         two_writers,
         writers,
         acknowledged,
         lost,
     } = closing;
     format!(in alloc;
-        "{lines}end at {end}\npremises {premises}\nsynchronous off\ntwo writers {two_writers}\n\
+        "{lines}end at {end}\npremises {premises}\nsynchronous {synchronous}\ntwo writers {two_writers}\n\
          writers {writers}\nacknowledged {acknowledged}\nlost {lost}\n"
     )
 }

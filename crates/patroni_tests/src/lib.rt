@@ -7,7 +7,11 @@ mod in_memory;
 #[cfg(test)]
 mod runs;
 #[cfg(test)]
+mod runs_of_configurations;
+#[cfg(test)]
 mod runs_of_messages;
+#[cfg(test)]
+mod runs_of_races;
 #[cfg(test)]
 mod runs_of_servers;
 #[cfg(test)]

@@ -26,9 +26,9 @@ const ORDINARY_FAILOVER: [Run; 1] = [(
     "50 a is held\n\
      251 a is reset by its watchdog\n\
      301 the leader key of a expires\n\
-     302 b takes the leader key\n\
-     302 b arms its watchdog until 552\n\
-     302 b accepts writes on timeline 3\n",
+     322 b takes the leader key\n\
+     322 b arms its watchdog until 572\n\
+     322 b accepts writes on timeline 3\n",
     Closing {
         end: 360,
         writers: "b",
@@ -96,9 +96,9 @@ const KEY_PASSED_ON: [Run; 5] = [
         "50 a is held\n\
          251 a is reset by its watchdog\n\
          301 the leader key of a expires\n\
-         302 b takes the leader key\n\
-         302 b arms its watchdog until 552\n\
-         302 b accepts writes on timeline 3\n\
+         322 b takes the leader key\n\
+         322 b arms its watchdog until 572\n\
+         322 b accepts writes on timeline 3\n\
          360 a is started\n\
          361 a starts as a replica\n\
          361 a follows b\n",
@@ -114,9 +114,9 @@ const KEY_PASSED_ON: [Run; 5] = [
         "150 a is held\n\
          351 a is reset by its watchdog\n\
          401 the leader key of a expires\n\
-         402 b takes the leader key\n\
-         402 b arms its watchdog until 652\n\
-         402 b accepts writes on timeline 3\n",
+         422 b takes the leader key\n\
+         422 b arms its watchdog until 672\n\
+         422 b accepts writes on timeline 3\n",
         Closing {
             end: 450,
             writers: "b",
@@ -125,7 +125,7 @@ const KEY_PASSED_ON: [Run; 5] = [
     ),
 ];
 
-/// Of two members that stand by, the one that reads first leads.
+/// Of two members that stand by and are as far, the one that reads first leads. Neither has an answer of the leader.
 const THREE_MEMBERS: [Run; 1] = [(
     "member a\nmember b\nmember c\nrun 50\nhold a\nrun 310\n",
     "1 a takes the leader key\n\
@@ -136,10 +136,10 @@ const THREE_MEMBERS: [Run; 1] = [(
      50 a is held\n\
      251 a is reset by its watchdog\n\
      301 the leader key of a expires\n\
-     302 b takes the leader key\n\
-     302 b arms its watchdog until 552\n\
-     302 b accepts writes on timeline 3\n\
-     303 c follows b\n",
+     322 b takes the leader key\n\
+     322 b arms its watchdog until 572\n\
+     322 b accepts writes on timeline 3\n\
+     323 the create of c is refused, leader has revision 9\n",
     Closing {
         end: 360,
         writers: "b",
@@ -208,7 +208,8 @@ const HELD_FROM_THE_START: [Run; 1] = [(
 )];
 
 const TWO_CREATES: [Run; 1] = [(
-    "tick 2\nturn a\nturn b\ndeliver 1\ndeliver 2\ndeliver 3\ndeliver 4\ndeliver 5\ndeliver 6\n",
+    "tick 2\nturn a\nturn b\ndeliver 1\ndeliver 2\ndeliver 3\ndeliver 4\ndeliver 5\ndeliver 6\n\
+     deliver 7\ndeliver 8\ndeliver 9\ndeliver 10\n",
     "2 a takes the leader key\n\
      2 the create of b is refused, leader has revision 2\n",
     Closing { end: 2, ..QUIET },

@@ -12,11 +12,15 @@ const TICKS_AND_TURNS: [Run; 9] = [
          1 message 1 is delivered\n\
          1 message 2 from store to a: snapshot\n\
          1 message 2 is delivered\n\
-         1 message 3 from a to store: create\n\
+         1 message 3 from a to b: ask\n\
          1 message 3 is delivered\n\
-         1 a takes the leader key\n\
-         1 message 4 from store to a: granted\n\
+         1 message 4 from b to a: answer\n\
          1 message 4 is delivered\n\
+         1 message 5 from a to store: create\n\
+         1 message 5 is delivered\n\
+         1 a takes the leader key\n\
+         1 message 6 from store to a: granted\n\
+         1 message 6 is delivered\n\
          1 a arms its watchdog until 251\n\
          1 a accepts writes on timeline 2\n\
          2 b follows a\n",
@@ -31,15 +35,15 @@ const TICKS_AND_TURNS: [Run; 9] = [
         "1 a takes the leader key\n\
          1 a arms its watchdog until 251\n\
          1 a accepts writes on timeline 2\n\
-         2 message 5 from b to store: read\n\
-         2 message 5 is delivered\n\
-         2 message 6 from store to b: snapshot\n\
-         2 message 6 is delivered\n\
-         2 b follows a\n\
-         2 message 7 from b to store: touch\n\
+         2 message 7 from b to store: read\n\
          2 message 7 is delivered\n\
-         2 message 8 from store to b: granted\n\
-         2 message 8 is delivered\n",
+         2 message 8 from store to b: snapshot\n\
+         2 message 8 is delivered\n\
+         2 b follows a\n\
+         2 message 9 from b to store: touch\n\
+         2 message 9 is delivered\n\
+         2 message 10 from store to b: granted\n\
+         2 message 10 is delivered\n",
         Closing {
             end: 2,
             writers: "a",
@@ -55,19 +59,27 @@ const TICKS_AND_TURNS: [Run; 9] = [
          3 message 2 is delivered\n\
          3 message 4 from store to b: snapshot\n\
          3 message 3 is delivered\n\
-         3 message 5 from a to store: create\n\
+         3 message 5 from a to b: ask\n\
          3 message 4 is delivered\n\
-         3 message 6 from b to store: create\n\
+         3 message 6 from b to a: ask\n\
          3 message 5 is delivered\n\
-         3 a takes the leader key\n\
-         3 message 7 from store to a: granted\n\
+         3 message 7 from b to a: answer\n\
          3 message 6 is delivered\n\
-         3 the create of b is refused, leader has revision 2\n\
-         3 message 8 from store to b: refused\n\
+         3 message 8 from a to b: answer\n\
          3 message 7 is delivered\n\
+         3 message 9 from a to store: create\n\
+         3 message 8 is delivered\n\
+         3 message 10 from b to store: create\n\
+         3 message 9 is delivered\n\
+         3 a takes the leader key\n\
+         3 message 11 from store to a: granted\n\
+         3 message 10 is delivered\n\
+         3 the create of b is refused, leader has revision 2\n\
+         3 message 12 from store to b: refused\n\
+         3 message 11 is delivered\n\
          3 a arms its watchdog until 253\n\
          3 a accepts writes on timeline 2\n\
-         3 message 8 is delivered\n",
+         3 message 12 is delivered\n",
         Closing {
             end: 3,
             writers: "a",
@@ -100,14 +112,14 @@ const TICKS_AND_TURNS: [Run; 9] = [
 const TURNS_OF_A_LEADER: [Run; 4] = [
     (
         "run 98\ntrace on\nrun 1\n",
-        "101 message 9 from a to store: read\n\
-         101 message 9 is delivered\n\
-         101 message 10 from store to a: snapshot\n\
-         101 message 10 is delivered\n\
-         101 message 11 from a to store: renewal\n\
+        "101 message 11 from a to store: read\n\
          101 message 11 is delivered\n\
-         101 message 12 from store to a: granted\n\
+         101 message 12 from store to a: snapshot\n\
          101 message 12 is delivered\n\
+         101 message 13 from a to store: renewal\n\
+         101 message 13 is delivered\n\
+         101 message 14 from store to a: granted\n\
+         101 message 14 is delivered\n\
          101 a feeds its watchdog until 351\n",
         Closing {
             end: 101,
@@ -117,7 +129,7 @@ const TURNS_OF_A_LEADER: [Run; 4] = [
     ),
     (
         "trace on\ntick 98\nturn a\ntick 1\nturn a\n",
-        "101 message 9 from a to store: read\n",
+        "101 message 11 from a to store: read\n",
         Closing {
             end: 101,
             writers: "a",
@@ -128,14 +140,14 @@ const TURNS_OF_A_LEADER: [Run; 4] = [
     (
         "run 48\ncrash a\nrun 50\ntrace on\nrun 1\n",
         "50 a crashed\n\
-         101 message 9 from a to store: read\n\
-         101 message 9 is delivered\n\
-         101 message 10 from store to a: snapshot\n\
-         101 message 10 is delivered\n\
-         101 message 11 from a to store: renewal\n\
+         101 message 11 from a to store: read\n\
          101 message 11 is delivered\n\
-         101 message 12 from store to a: granted\n\
+         101 message 12 from store to a: snapshot\n\
          101 message 12 is delivered\n\
+         101 message 13 from a to store: renewal\n\
+         101 message 13 is delivered\n\
+         101 message 14 from store to a: granted\n\
+         101 message 14 is delivered\n\
          101 a arms its watchdog until 351\n\
          101 a accepts writes on timeline 2\n",
         Closing {
@@ -149,13 +161,13 @@ const TURNS_OF_A_LEADER: [Run; 4] = [
         "kill b\nrun 98\ncut a store\ntrace on\nrun 201\n",
         "2 b is killed\n\
          100 a and store are cut\n\
-         101 message 9 from a to store: read\n\
-         101 message 9 is lost\n\
+         101 message 11 from a to store: read\n\
+         101 message 11 is lost\n\
          201 a ends its server: the key store is out of reach\n\
          201 a no longer accepts writes\n\
          301 the leader key of a expires\n\
-         301 message 10 from a to store: read\n\
-         301 message 10 is lost\n",
+         301 message 12 from a to store: read\n\
+         301 message 12 is lost\n",
         Closing { end: 301, ..QUIET },
     ),
 ];
@@ -199,7 +211,7 @@ const MESSAGES: [Run; 20] = [
          1 message 2 cannot be delivered\n\
          1 a resumes\n\
          1 message 2 is delivered\n\
-         1 message 3 from a to store: create\n",
+         1 message 3 from a to b: ask\n",
         Closing { end: 1, ..QUIET },
     ),
     (
@@ -215,20 +227,22 @@ const MESSAGES: [Run; 20] = [
         Closing { end: 1, ..QUIET },
     ),
     (
-        "kill b\ntick 1\nturn a\ndeliver 1\nhold a\ntrace on\nrun 2\nresume a\nrun 1\n",
+        "kill b\ntick 1\nturn a\ndeliver 1\nhold a\ntrace on\nrun 2\nresume a\nrun 21\n",
         "0 b is killed\n\
          1 a is held\n\
          3 a resumes\n\
          4 message 2 is delivered\n\
-         4 message 3 from a to store: create\n\
-         4 message 3 is delivered\n\
-         4 a takes the leader key\n\
-         4 message 4 from store to a: granted\n\
-         4 message 4 is delivered\n\
-         4 a arms its watchdog until 254\n\
-         4 a accepts writes on timeline 2\n",
+         4 message 3 from a to b: ask\n\
+         4 message 3 is lost\n\
+         24 message 4 from a to store: create\n\
+         24 message 4 is delivered\n\
+         24 a takes the leader key\n\
+         24 message 5 from store to a: granted\n\
+         24 message 5 is delivered\n\
+         24 a arms its watchdog until 274\n\
+         24 a accepts writes on timeline 2\n",
         Closing {
-            end: 4,
+            end: 24,
             writers: "a",
             ..QUIET
         },
@@ -286,18 +300,9 @@ const MESSAGES: [Run; 20] = [
          2 message 3 is delivered\n\
          2 message 4 from store to a: snapshot\n\
          2 message 4 is delivered\n\
-         2 message 5 from a to store: create\n\
-         2 message 5 is delivered\n\
-         2 a takes the leader key\n\
-         2 message 6 from store to a: granted\n\
-         2 message 6 is delivered\n\
-         2 a arms its watchdog until 252\n\
-         2 a accepts writes on timeline 2\n",
-        Closing {
-            end: 2,
-            writers: "a",
-            ..QUIET
-        },
+         2 message 5 from a to b: ask\n\
+         2 message 5 is lost\n",
+        Closing { end: 2, ..QUIET },
     ),
     // Loss, the order of deliveries, and a snapshot of the moment of its sending.
     (
@@ -308,7 +313,8 @@ const MESSAGES: [Run; 20] = [
         Closing { end: 1, ..QUIET },
     ),
     (
-        "tick 2\nturn a\nturn b\ndeliver 2\ndeliver 1\ndeliver 3\ndeliver 5\ndeliver 4\ndeliver 7\n",
+        "tick 2\nturn a\nturn b\ndeliver 2\ndeliver 1\ndeliver 3\ndeliver 5\ndeliver 6\ndeliver 7\n\
+         deliver 4\ndeliver 9\ndeliver 10\ndeliver 11\n",
         "2 b takes the leader key\n\
          2 the create of a is refused, leader has revision 2\n",
         Closing { end: 2, ..QUIET },
@@ -316,11 +322,11 @@ const MESSAGES: [Run; 20] = [
     (
         "tick 1\nturn a\ndeliver 1\nhold a\nrun 2\nresume a\nrun 1\n",
         "1 a is held\n\
-         2 b takes the leader key\n\
-         2 b arms its watchdog until 252\n\
-         2 b accepts writes on timeline 2\n\
          3 a resumes\n\
-         4 the create of a is refused, leader has revision 2\n",
+         4 b takes the leader key\n\
+         4 the create of a is refused, leader has revision 2\n\
+         4 b arms its watchdog until 254\n\
+         4 b accepts writes on timeline 2\n",
         Closing {
             end: 4,
             writers: "b",
@@ -373,8 +379,8 @@ const AGENTS_AND_LINKS: [Run; 7] = [
          1 a takes the leader key\n\
          1 a arms its watchdog until 251\n\
          1 a accepts writes on timeline 2\n\
-         2 message 5 from b to store: read\n\
-         2 message 5 is lost\n",
+         2 message 7 from b to store: read\n\
+         2 message 7 is lost\n",
         Closing {
             end: 2,
             writers: "a",
@@ -396,30 +402,30 @@ const LEASES: [Run; 6] = [
     ),
     // A renewal that comes late: still in time, after the expiry, and after another's create. The watchdog waits for none.
     (
-        "run 98\ntick 1\nturn a\ndeliver 9\ndeliver 10\ntick 199\ndeliver 11\ntick 300\n",
+        "run 98\ntick 1\nturn a\ndeliver 11\ndeliver 12\ntick 199\ndeliver 13\ntick 300\n",
         "251 a is reset by its watchdog\n\
          600 the leader key of a expires\n",
         Closing { end: 600, ..QUIET },
     ),
     (
-        "run 98\ntick 1\nturn a\ndeliver 9\ndeliver 10\ntick 200\ndeliver 11\n",
+        "run 98\ntick 1\nturn a\ndeliver 11\ndeliver 12\ntick 200\ndeliver 13\n",
         "251 a is reset by its watchdog\n\
          301 the leader key of a expires\n\
          301 the renewal of a is refused, leader is absent\n",
         Closing { end: 301, ..QUIET },
     ),
     (
-        "run 98\ntick 1\nturn a\ndeliver 9\ndeliver 10\ntick 200\nturn b\n\
-         deliver 12\ndeliver 13\ndeliver 14\ndeliver 11\n",
+        "run 98\ntick 1\nturn a\ndeliver 11\ndeliver 12\ntick 200\nturn b\n\
+         deliver 14\ndeliver 15\ntick 20\nturn b\ndeliver 17\ndeliver 13\n",
         "251 a is reset by its watchdog\n\
          301 the leader key of a expires\n\
-         301 b takes the leader key\n\
-         301 the renewal of a is refused, leader has revision 4\n",
-        Closing { end: 301, ..QUIET },
+         321 b takes the leader key\n\
+         321 the renewal of a is refused, leader has revision 4\n",
+        Closing { end: 321, ..QUIET },
     ),
     // It was asked for while the server was down, and has nothing to end.
     (
-        "run 48\ncrash a\ntick 51\nturn a\ndeliver 9\ndeliver 10\ntick 200\ndeliver 11\ndeliver 12\nrun 1\n",
+        "run 48\ncrash a\ntick 51\nturn a\ndeliver 11\ndeliver 12\ntick 200\ndeliver 13\ndeliver 14\nrun 1\n",
         "50 a crashed\n\
          301 the leader key of a expires\n\
          301 the renewal of a is refused, leader is absent\n\
@@ -435,7 +441,7 @@ const LEASES: [Run; 6] = [
     ),
     // A renewal is waited for from the beginning of its turn.
     (
-        "run 98\ntick 1\nturn a\ndeliver 9\ntick 50\ndeliver 10\ntick 49\nturn a\ntick 1\nturn a\n",
+        "run 98\ntick 1\nturn a\ndeliver 11\ntick 50\ndeliver 12\ntick 49\nturn a\ntick 1\nturn a\n",
         "201 a ends its server: the key store is out of reach\n\
          201 a no longer accepts writes\n",
         Closing { end: 201, ..QUIET },
@@ -454,28 +460,28 @@ const DEADLINES: [Run; 4] = [
     (
         "tick 1\nturn a\ndeliver 1\ntick 100\ntrace on\ndeliver 2\n",
         "101 message 2 is delivered\n\
-         101 message 3 from a to store: create\n",
+         101 message 3 from a to b: ask\n",
         Closing { end: 101, ..QUIET },
     ),
     // The grant of a create that was given up brings nothing, and the next turn finds the key its own.
     (
-        "tick 1\nturn a\ndeliver 1\ndeliver 2\ntick 100\ntrace on\nturn a\n\
-         deliver 3\ndeliver 5\ndeliver 4\ndeliver 6\n",
-        "101 message 4 from a to store: read\n\
-         101 message 3 is delivered\n\
-         101 a takes the leader key\n\
-         101 message 5 from store to a: granted\n\
+        "tick 1\nturn a\ndeliver 1\ndeliver 2\ndeliver 3\ndeliver 4\ntick 100\ntrace on\nturn a\n\
+         deliver 5\ndeliver 7\ndeliver 6\ndeliver 8\n",
+        "101 message 6 from a to store: read\n\
          101 message 5 is delivered\n\
-         101 message 4 is delivered\n\
-         101 message 6 from store to a: snapshot\n\
+         101 a takes the leader key\n\
+         101 message 7 from store to a: granted\n\
+         101 message 7 is delivered\n\
          101 message 6 is delivered\n\
-         101 message 7 from a to store: renewal\n",
+         101 message 8 from store to a: snapshot\n\
+         101 message 8 is delivered\n\
+         101 message 9 from a to store: renewal\n",
         Closing { end: 101, ..QUIET },
     ),
     // A create is waited for from its sending on.
     (
-        "tick 1\nturn a\ndeliver 1\ntick 50\ndeliver 2\ntrace on\ntick 99\nturn a\ntick 1\nturn a\n",
-        "151 message 4 from a to store: read\n",
+        "tick 1\nturn a\ndeliver 1\ntick 50\ndeliver 2\ndeliver 3\ndeliver 4\ntrace on\ntick 99\nturn a\ntick 1\nturn a\n",
+        "151 message 6 from a to store: read\n",
         Closing { end: 151, ..QUIET },
     ),
 ];

@@ -22,6 +22,7 @@ const PROMOTED_BY_HAND: [Run; 2] = [
             writers: "a b",
             acknowledged: 2,
             lost: "first at 5",
+            ..QUIET
         },
     ),
     (
@@ -42,6 +43,7 @@ const PROMOTED_BY_HAND: [Run; 2] = [
             writers: "a",
             acknowledged: 1,
             lost: "first at 5",
+            ..QUIET
         },
     ),
 ];
@@ -166,14 +168,14 @@ const SERVERS: [Run; 9] = [
          50 a is held\n\
          251 a is reset by its watchdog\n\
          301 the leader key of a expires\n\
-         302 b takes the leader key\n\
-         302 b arms its watchdog until 552\n\
-         302 b accepts writes on timeline 2\n",
+         322 b takes the leader key\n\
+         322 b arms its watchdog until 572\n\
+         322 b accepts writes on timeline 2\n",
         Closing {
             end: 360,
             writers: "b",
             acknowledged: 1,
-            lost: "first at 302",
+            lost: "first at 322",
             ..QUIET
         },
     ),
@@ -185,9 +187,9 @@ const SERVERS: [Run; 9] = [
          51 a is held\n\
          251 a is reset by its watchdog\n\
          301 the leader key of a expires\n\
-         302 b takes the leader key\n\
-         302 b arms its watchdog until 552\n\
-         302 b accepts writes on timeline 3\n",
+         322 b takes the leader key\n\
+         322 b arms its watchdog until 572\n\
+         322 b accepts writes on timeline 3\n",
         Closing {
             end: 361,
             writers: "b",
@@ -217,6 +219,7 @@ const SERVERS: [Run; 9] = [
             writers: "a",
             acknowledged: 2,
             lost: "first at 2",
+            ..QUIET
         },
     ),
     // What was received is a front of the upstream's log: 30 bytes of its first commit lie behind the data of 80 MiB.
@@ -242,6 +245,7 @@ const SERVERS: [Run; 9] = [
             writers: "a",
             acknowledged: 3,
             lost: "first at 2",
+            ..QUIET
         },
     ),
 ];
@@ -365,6 +369,7 @@ const SMALL_LOGS: [Run; 1] = [(
         writers: "a",
         acknowledged: 2,
         lost: "first at 2",
+        ..QUIET
     },
 )];
 

@@ -87,8 +87,9 @@ const LATE_GRANTS: [Run; 5] = [
     // The grant of a lease that has ended, while another member leads: two members lead, and are reset in script order.
     (
         "member a\nmember b\n\
-         tick 1\nturn a\ndeliver 1\ndeliver 2\ndeliver 3\ntick 300\nturn b\n\
-         deliver 5\ndeliver 6\ndeliver 7\ndeliver 8\ndeliver 4\ntick 250\n",
+         tick 1\nturn a\ndeliver 1\ndeliver 2\ndeliver 3\ndeliver 4\ndeliver 5\ntick 300\n\
+         turn b\ndeliver 7\ndeliver 8\ndeliver 9\ndeliver 10\ndeliver 11\ndeliver 12\ndeliver 6\n\
+         tick 250\n",
         "1 a takes the leader key\n\
          301 the leader key of a expires\n\
          301 b takes the leader key\n\
@@ -120,8 +121,8 @@ const LATE_GRANTS: [Run; 5] = [
 /// Renewals that are heard late, of one who leads.
 const LATE_RENEWALS: [Run; 3] = [
     (
-        "run 98\ntick 1\nturn a\ndeliver 9\ndeliver 10\ndeliver 11\ntick 50\ntrace on\ndeliver 12\n",
-        "151 message 12 is delivered\n\
+        "run 98\ntick 1\nturn a\ndeliver 11\ndeliver 12\ndeliver 13\ntick 50\ntrace on\ndeliver 14\n",
+        "151 message 14 is delivered\n\
          151 a feeds its watchdog until 401\n",
         Closing {
             end: 151,
@@ -130,8 +131,8 @@ const LATE_RENEWALS: [Run; 3] = [
         },
     ),
     (
-        "run 98\ntick 1\nturn a\ndeliver 9\ndeliver 10\ndeliver 11\ntick 51\ntrace on\ndeliver 12\n",
-        "152 message 12 is delivered\n\
+        "run 98\ntick 1\nturn a\ndeliver 11\ndeliver 12\ndeliver 13\ntick 51\ntrace on\ndeliver 14\n",
+        "152 message 14 is delivered\n\
          152 a feeds its watchdog until 402\n",
         Closing {
             end: 152,
@@ -140,19 +141,20 @@ const LATE_RENEWALS: [Run; 3] = [
             ..QUIET
         },
     ),
-    // The watchdog's deadline then lies behind the end of the lease, and another member leads between the two.
+    // The watchdog's deadline then lies behind the end of the lease, and another member leads between the two, whose
+    // question to the first is lost.
     (
-        "run 98\ntick 1\nturn a\ndeliver 9\ndeliver 10\ndeliver 11\ntick 60\ndeliver 12\ntick 241\n\
-         turn b\ndeliver 13\ndeliver 14\ndeliver 15\ndeliver 16\ntick 9\n",
+        "run 98\ntick 1\nturn a\ndeliver 11\ndeliver 12\ndeliver 13\ntick 80\ndeliver 14\ntick 221\n\
+         turn b\ndeliver 15\ndeliver 16\nlose 17\ntick 20\nturn b\ndeliver 18\ndeliver 19\ntick 9\n",
         "401 the leader key of a expires\n\
-         402 b takes the leader key\n\
-         402 b arms its watchdog until 652\n\
-         402 b accepts writes on timeline 3\n\
-         411 a is reset by its watchdog\n",
+         422 b takes the leader key\n\
+         422 b arms its watchdog until 672\n\
+         422 b accepts writes on timeline 3\n\
+         431 a is reset by its watchdog\n",
         Closing {
-            end: 411,
-            premises: "broken at 161 by a late watchdog of a",
-            two_writers: "first at 402",
+            end: 431,
+            premises: "broken at 181 by a late watchdog of a",
+            two_writers: "first at 422",
             writers: "b",
             ..QUIET
         },
@@ -163,7 +165,7 @@ const LATE_RENEWALS: [Run; 3] = [
 const OPTIONS: [Run; 10] = [
     // The longest and the shortest deadline over a lease.
     (
-        "member a margin=0\nmember b\nrun 50\nhold a\nrun 260\n",
+        "member a margin=0\nmember b\nrun 50\nhold a\nrun 280\n",
         "1 a takes the leader key\n\
          1 a arms its watchdog until 301\n\
          1 a accepts writes on timeline 2\n\
@@ -171,17 +173,17 @@ const OPTIONS: [Run; 10] = [
          50 a is held\n\
          301 a is reset by its watchdog\n\
          301 the leader key of a expires\n\
-         302 b takes the leader key\n\
-         302 b arms its watchdog until 552\n\
-         302 b accepts writes on timeline 3\n",
+         322 b takes the leader key\n\
+         322 b arms its watchdog until 572\n\
+         322 b accepts writes on timeline 3\n",
         Closing {
-            end: 310,
+            end: 330,
             writers: "b",
             ..QUIET
         },
     ),
     (
-        "member a margin=15\nmember b margin=15\nrun 50\nhold a\nrun 260\n",
+        "member a margin=15\nmember b margin=15\nrun 50\nhold a\nrun 280\n",
         "1 a takes the leader key\n\
          1 a arms its watchdog until 151\n\
          1 a accepts writes on timeline 2\n\
@@ -189,11 +191,11 @@ const OPTIONS: [Run; 10] = [
          50 a is held\n\
          151 a is reset by its watchdog\n\
          301 the leader key of a expires\n\
-         302 b takes the leader key\n\
-         302 b arms its watchdog until 452\n\
-         302 b accepts writes on timeline 3\n",
+         322 b takes the leader key\n\
+         322 b arms its watchdog until 472\n\
+         322 b accepts writes on timeline 3\n",
         Closing {
-            end: 310,
+            end: 330,
             writers: "b",
             ..QUIET
         },
@@ -248,9 +250,9 @@ const OPTIONS: [Run; 10] = [
          2 b follows a\n\
          50 a is held\n\
          301 the leader key of a expires\n\
-         302 b takes the leader key\n\
-         302 b arms its watchdog until 552\n\
-         302 b accepts writes on timeline 3\n\
+         322 b takes the leader key\n\
+         322 b arms its watchdog until 572\n\
+         322 b accepts writes on timeline 3\n\
          360 a resumes\n\
          361 a ends its server: the leader key is lost\n\
          361 a no longer accepts writes\n\
@@ -259,7 +261,7 @@ const OPTIONS: [Run; 10] = [
         Closing {
             end: 470,
             premises: "broken at 0 by the watchdog of a",
-            two_writers: "first at 302",
+            two_writers: "first at 322",
             writers: "b",
             ..QUIET
         },
@@ -366,9 +368,9 @@ const DELAYS: [Run; 6] = [
          240 commit 1 is acknowledged\n\
          251 a is reset by its watchdog\n\
          301 the leader key of a expires\n\
-         302 b takes the leader key\n\
-         302 b arms its watchdog until 552\n\
-         302 b accepts writes on timeline 3\n",
+         322 b takes the leader key\n\
+         322 b arms its watchdog until 572\n\
+         322 b accepts writes on timeline 3\n",
         Closing {
             end: 360,
             writers: "b",
@@ -414,14 +416,14 @@ const AGENTS: [Run; 11] = [
         "2 b is killed\n\
          50 a is held\n\
          249 a resumes\n\
-         250 message 9 from a to store: read\n\
-         250 message 9 is delivered\n\
-         250 message 10 from store to a: snapshot\n\
-         250 message 10 is delivered\n\
-         250 message 11 from a to store: renewal\n\
+         250 message 11 from a to store: read\n\
          250 message 11 is delivered\n\
-         250 message 12 from store to a: granted\n\
+         250 message 12 from store to a: snapshot\n\
          250 message 12 is delivered\n\
+         250 message 13 from a to store: renewal\n\
+         250 message 13 is delivered\n\
+         250 message 14 from store to a: granted\n\
+         250 message 14 is delivered\n\
          250 a feeds its watchdog until 500\n",
         Closing {
             end: 310,
@@ -447,15 +449,15 @@ const AGENTS: [Run; 11] = [
     ),
     // A leader's agent that ended feeds no watchdog; a follower's has none.
     (
-        "run 48\nkill a\nrun 260\n",
+        "run 48\nkill a\nrun 280\n",
         "50 a is killed\n\
          251 a is reset by its watchdog\n\
          301 the leader key of a expires\n\
-         302 b takes the leader key\n\
-         302 b arms its watchdog until 552\n\
-         302 b accepts writes on timeline 3\n",
+         322 b takes the leader key\n\
+         322 b arms its watchdog until 572\n\
+         322 b accepts writes on timeline 3\n",
         Closing {
-            end: 310,
+            end: 330,
             writers: "b",
             ..QUIET
         },
@@ -474,14 +476,14 @@ const AGENTS: [Run; 11] = [
         "run 48\nkill a\nrun 10\nrestart a\ntrace on\nrun 1\ntrace off\nrun 239\n",
         "50 a is killed\n\
          60 a is started\n\
-         61 message 9 from a to store: read\n\
-         61 message 9 is delivered\n\
-         61 message 10 from store to a: snapshot\n\
-         61 message 10 is delivered\n\
-         61 message 11 from a to store: renewal\n\
+         61 message 11 from a to store: read\n\
          61 message 11 is delivered\n\
-         61 message 12 from store to a: granted\n\
+         61 message 12 from store to a: snapshot\n\
          61 message 12 is delivered\n\
+         61 message 13 from a to store: renewal\n\
+         61 message 13 is delivered\n\
+         61 message 14 from store to a: granted\n\
+         61 message 14 is delivered\n\
          61 a arms its watchdog until 311\n",
         Closing {
             end: 300,
