@@ -15,4 +15,5 @@ pub mod LawfulSteps
 pub mod Asking
 pub mod Waiting
 pub mod FreeKey
+pub mod Beginning
 pub mod Replying

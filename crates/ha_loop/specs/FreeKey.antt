@@ -1,25 +1,31 @@
 -- What becomes of a free leader key: who asks for it, who asks the others first, and who stays out.
-use Rattle.std.specs.Prelude.{ℕ, ◌≡◌, ◌+◌, ◌<◌, nat_le, true, [], Some, None, Contains}
+use Rattle.std.specs.Prelude.{ℕ, ◌≡◌, ◌+◌, ◌<◌, nat_le, Bool, true, false, [], Some, None, Contains}
 use Rattle.pat_base.specs.declared.member_id.MemberId.{MemberId}
 use Rattle.pat_base.specs.declared.peer_answer.PeerAnswer.{PeerAnswer}
 use Rattle.pat_base.specs.declared.ticks.Ticks.{Ticks}
 use Rattle.lease_store.specs.declared.action.Bar.{Bar}
 use Rattle.lease_store.specs.declared.txn.Txn.TheVariants as txns
+use Rattle.leader_race.specs.Eligibility.{eligibility_of}
+use Rattle.leader_race.specs.Outcome.{outcome_of}
 use Rattle.event_book.specs.declared.message.Body.TheVariants as bodies
 use Rattle.cluster_config.specs.Snapshots.{SnapshotFacts, leader_in, settings_in}
+use Rattle.ha_loop.specs.declared.heard.Heard.{Heard}
+use Rattle.ha_loop.specs.declared.heard.Heard.TheVariants.{Wake, Got, Granted, Answered}
 use Rattle.ha_loop.specs.declared.knowledge.Question.TheVariants.{Asking, Creating}
 use Rattle.ha_loop.specs.declared.knowledge.Waited.{Waited}
 use Rattle.ha_loop.specs.declared.output.Output.TheVariants as outputs
 use Rattle.ha_loop.specs.declared.output.Target.TheVariants as targets
-use Rattle.ha_loop.specs.Acting.{lease_span}
-use Rattle.ha_loop.specs.Agents.{Follower, Outcome}
+use Rattle.ha_loop.specs.Acting.{is_refusing, lease_span, status_begun}
+use Rattle.ha_loop.specs.Agents.{Follower, Leader, Outcome}
 use Rattle.ha_loop.specs.Answers.{is_other, with_answer, asking_all, all_answered}
-use Rattle.ha_loop.specs.Decisions.{may_create}
+use Rattle.ha_loop.specs.Decisions.{may_create, may_take}
 use Rattle.ha_loop.specs.Info.{info_of}
 use Rattle.ha_loop.specs.Outputs.{listed}
 use Rattle.ha_loop.specs.Peers.{is_asking, awaits_answer}
+use Rattle.ha_loop.specs.Powers.{IsAwaitedLease}
 use Rattle.ha_loop.specs.Racing.{answers_until}
-use Rattle.ha_loop.specs.Snapshots.{awaits_read}
+use Rattle.ha_loop.specs.Snapshots.{awaits_read, informed}
+use Rattle.ha_loop.specs.Views.{shown}
 use Rattle.ha_loop.specs.Wake.{turned}
 
 -- the answer to the read that an agent waits for tells that nobody leads, and the agent is a follower or a holder
@@ -84,3 +90,29 @@ pub record LosesAndTurns (now : Ticks) (bar : Bar) (o after : Outcome) : Type 0 
   pub lost : Outcome
   pub loses : LosesRace bar o lost
   pub turns : after ≡ turned now lost
+
+-- an input that finds the leader key free, behind what precedes it: a member that nothing bars asks each other one how far its server is,
+-- and where there is no other asks for the key
+abbrev pub AsksWhereFree : Ticks → Heard → Outcome → Outcome → Type 0
+AsksWhereFree now (Got sequence snapshot) o after = HearsFree sequence snapshot o → eligibility_of (shown now o) snapshot ≡ None → (all_answered o.knows.who [] ≡ false → AsksOthers now o after) × (all_answered o.knows.who [] ≡ true → AsksForKey o after)
+AsksWhereFree now _ o after = Unit {0}
+
+-- an input that judges a race, since the last answer came or the time for them is over: who wins asks for the key
+abbrev pub AsksWhereWon : Ticks → Heard → Outcome → Outcome → Type 0
+AsksWhereWon now (Answered sequence answer) o after = (waited : Waited) (snapshot : SnapshotFacts) → HearsLast waited sequence answer snapshot o → outcome_of (shown now o) snapshot (with_answer answer o.knows.answers) ≡ None → AsksForKey o after
+AsksWhereWon now Wake o after = (waited : Waited) (snapshot : SnapshotFacts) → RunsLate now waited snapshot o → outcome_of (shown now o) snapshot o.knows.answers ≡ None → AsksForKey o after
+AsksWhereWon now _ o after = Unit {0}
+
+-- the agent leads by the lease of this revision, and its server begins to accept writes, at once or when its start is complete
+pub record BeginsOn (now : Ticks) (revision : ℕ) (o after : Outcome) : Type 0 where
+  pub role : after.role ≡ Leader revision
+  pub server : after.machine.server ≡ status_begun now o.machine.server
+  pub begins : Contains after.outputs outputs.Begin
+
+-- an input that hears the grant of the leader key that it waits for: who may take it, and whose watchdog can be armed or isn't needed,
+-- begins
+abbrev pub BeginsWhereGranted : Ticks → Heard → Outcome → Outcome → Type 0
+BeginsWhereGranted now (Granted sequence grant snapshot) o after =
+    IsAwaitedLease sequence grant o.knows → may_create o.role ≡ true → may_take now (informed snapshot o.knows) o.machine ≡ true → is_refusing o.machine.watchdog.mode o.machine.watchdog.works ≡ false
+    → BeginsOn now grant.revision o after
+BeginsWhereGranted now _ o after = Unit {0}

@@ -5,6 +5,8 @@ ghost use Rattle.lease_law.specs.States.{start_machine};
 ghost use Rattle.ha_loop.specs.declared.machine.Machine.{Machine};
 ghost use Rattle.ha_loop.specs.declared.heard.Heard.TheVariants as heards;
 ghost use Rattle.ha_loop.specs.Agents.{AgentFacts, RoleFacts, IsSound, IsWithin, Follower, role_of, word_of, fresh_knowledge, made, latest, most_messages};
+ghost use Rattle.ha_loop.specs.Before.{before};
+ghost use Rattle.ha_loop.specs.FreeKey.{AsksWhereFree, AsksWhereWon, BeginsWhereGranted};
 ghost use Rattle.ha_loop.specs.Lawful.{IsLawfulFrom};
 ghost use Rattle.ha_loop.specs.Outputs.{most_outputs};
 ghost use Rattle.ha_loop.specs.Seen.{machine_with, machine_seen};
@@ -105,6 +107,10 @@ impl Agent {
         requires room { most_outputs ≤ out.old.spare }
         ensures outcome { made result.role result.knows machine.new out.new.outputs ≡ step now history.now.points heard (made self.role self.knows machine.old out.old.outputs) }
         ensures lawful { out.old.outputs ≡ [] → IsLawfulFrom now heard (made self.role self.knows machine.old []) (made result.role result.knows machine.new out.new.outputs) }
+        // A free leader key is asked for, by whom nothing bars and who wins; and whom it is granted to begins.
+        ensures free_key { AsksWhereFree now heard (before now (made self.role self.knows machine.old out.old.outputs)) (made result.role result.knows machine.new out.new.outputs) }
+        ensures won_race { AsksWhereWon now heard (before now (made self.role self.knows machine.old out.old.outputs)) (made result.role result.knows machine.new out.new.outputs) }
+        ensures granted_key { BeginsWhereGranted now heard (before now (made self.role self.knows machine.old out.old.outputs)) (made result.role result.knows machine.new out.new.outputs) }
         ensures numbers { result.knows.sequence ≤ self.knows.sequence + most_outputs }
         ensures room { out.old.spare ≤ out.new.spare + most_outputs }
     {

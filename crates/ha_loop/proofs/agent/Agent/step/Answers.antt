@@ -1,5 +1,9 @@
-use Rattle.std.proofs.Common.{rules}
+use Rattle.std.proofs.Common.{◌≡◌, rules, subst, sym}
 use Rattle.ha_loop.specs.Agents.{role_of, made}
+use Rattle.ha_loop.specs.Before.{before}
+use Rattle.ha_loop.specs.FreeKey.{AsksWhereFree, AsksWhereWon, BeginsWhereGranted}
+use Rattle.ha_loop.specs.Table.{step}
+use Rattle.ha_loop.proofs.Beginning.{step-asks, step-begins, step-wins}
 use Rattle.ha_loop.proofs.LawfulSteps.{input-lawful-as, input-ends-as, input-counts}
 use Rattle.ha_loop.proofs.agent.Agent.step.Goals as goal
 
@@ -15,3 +19,21 @@ invariant_of-result c = record {
 pub returns-clause-lawful : goal.returns-clause-lawful
 returns-clause-lawful c = input-lawful-as c.args.now c.args.history.now.points c.args.heard c.args.self.role c.args.self.knows c.args.machine.now c.args.out.now.outputs
     (made (role_of c.hear-role.result) c.hear-role.new.knows c.hear-role.new.machine c.hear-role.new.out.outputs) (search rules) (search rules)
+
+pub returns-clause-free_key : goal.returns-clause-free_key
+returns-clause-free_key c =
+    let o = made c.args.self.role c.args.self.knows c.args.machine.now c.args.out.now.outputs in
+    subst (AsksWhereFree c.args.now c.args.heard (before c.args.now o)) (sym (let told : made (role_of c.hear-role.result) c.hear-role.new.knows c.hear-role.new.machine c.hear-role.new.out.outputs ≡ step c.args.now c.args.history.now.points c.args.heard o = search rules in told))
+    (step-asks c.args.now c.args.history.now.points c.args.heard o)
+
+pub returns-clause-won_race : goal.returns-clause-won_race
+returns-clause-won_race c =
+    let o = made c.args.self.role c.args.self.knows c.args.machine.now c.args.out.now.outputs in
+    subst (AsksWhereWon c.args.now c.args.heard (before c.args.now o)) (sym (let told : made (role_of c.hear-role.result) c.hear-role.new.knows c.hear-role.new.machine c.hear-role.new.out.outputs ≡ step c.args.now c.args.history.now.points c.args.heard o = search rules in told))
+    (step-wins c.args.now c.args.history.now.points c.args.heard o)
+
+pub returns-clause-granted_key : goal.returns-clause-granted_key
+returns-clause-granted_key c =
+    let o = made c.args.self.role c.args.self.knows c.args.machine.now c.args.out.now.outputs in
+    subst (BeginsWhereGranted c.args.now c.args.heard (before c.args.now o)) (sym (let told : made (role_of c.hear-role.result) c.hear-role.new.knows c.hear-role.new.machine c.hear-role.new.out.outputs ≡ step c.args.now c.args.history.now.points c.args.heard o = search rules in told))
+    (step-begins c.args.now c.args.history.now.points c.args.heard o)

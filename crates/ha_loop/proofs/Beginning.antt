@@ -1,0 +1,97 @@
+-- Who hears the grant of the leader key that it waits for begins, where it may; and an input asks where it is to.
+use Rattle.std.proofs.Common.{◌≡◌, ℕ, ◌&&◌, Bool, true, false, cond, List, [], Option, Some, None, refl, ◌∙◌, ap, sym, subst}
+use Rattle.std.specs.Prelude.{Contains}
+use Rattle.std.proofs.lemmas.List.Elements.{Contains-push}
+use Rattle.pat_base.specs.declared.ticks.Ticks.{Ticks}
+use Rattle.lease_store.specs.declared.granted.Granted.{Granted}
+use Rattle.wal_model.specs.declared.entry.HistoryPoint.{HistoryPoint}
+use Rattle.cluster_config.specs.Snapshots.{SnapshotFacts}
+use Rattle.ha_loop.specs.declared.heard.Heard.{Heard}
+use Rattle.ha_loop.specs.declared.heard.Heard.TheVariants.{Wake, Got, Granted as HeardGranted, Mismatch, Asked, Answered}
+use Rattle.ha_loop.specs.declared.knowledge.Question.{Question}
+use Rattle.ha_loop.specs.declared.knowledge.Question.TheVariants.{Reading, Asking, Creating, Renewing}
+use Rattle.ha_loop.specs.declared.knowledge.Waited.{Waited}
+use Rattle.ha_loop.specs.declared.output.Output.{Output}
+use Rattle.ha_loop.specs.declared.output.Output.TheVariants as outputs
+use Rattle.ha_loop.specs.Acting.{arming, is_refusing, waiting_no_more}
+use Rattle.ha_loop.specs.Agents.{RoleFacts, Follower, Holder, Ready, Leader, Ending, Stray, Outcome}
+use Rattle.ha_loop.specs.Before.{before}
+use Rattle.ha_loop.specs.Decisions.{accepted_grant, arms, asks_lease, begins, belongs, gives_back, granted, granted_for, is_decision, is_lease_of, lease_granted, may_create, may_take, takes_key}
+use Rattle.ha_loop.specs.FreeKey.{AsksWhereFree, AsksWhereWon, BeginsOn, BeginsWhereGranted}
+use Rattle.ha_loop.specs.Outputs.{listed}
+use Rattle.ha_loop.specs.Powers.{IsAwaitedLease}
+use Rattle.ha_loop.specs.Snapshots.{informed}
+use Rattle.ha_loop.specs.Table.{step}
+use Rattle.ha_loop.proofs.FreeKey.{free-alone, free-asks, last-won, late-won}
+
+no-way : false ≡ true → ⊥
+no-way e = cc
+
+both-true : (a b : Bool) → a ≡ true → b ≡ true → a && b ≡ true
+both-true true b first second = second
+both-true false b first second = absurd (no-way first)
+
+first-true : (a b : Bool) → a && b ≡ true → a ≡ true
+first-true true b e = refl
+first-true false b e = absurd (no-way e)
+
+-- who may create the key may use either lease of it
+may-use : (question : Question) (role : RoleFacts) → asks_lease question ≡ true → may_create role ≡ true → belongs question role ≡ true
+may-use Reading role asks may = absurd (no-way asks)
+may-use Asking role asks may = may
+may-use Creating role asks may = may
+may-use Renewing Follower asks may = refl
+may-use Renewing (Holder held) asks may = refl
+may-use Renewing (Ready held) asks may = refl
+may-use Renewing (Leader held) asks may = refl
+may-use Renewing (Ending held why) asks may = absurd (no-way may)
+may-use Renewing Stray asks may = refl
+
+takes-it : (now ttl : Ticks) (revision : ℕ) (role : RoleFacts) (o : Outcome) → may_create role ≡ true → lease_granted now ttl revision role o ≡ takes_key now ttl revision o
+takes-it now ttl revision Follower o may = refl
+takes-it now ttl revision (Holder held) o may = refl
+takes-it now ttl revision (Ready held) o may = absurd (no-way may)
+takes-it now ttl revision (Leader held) o may = absurd (no-way may)
+takes-it now ttl revision (Ending held why) o may = absurd (no-way may)
+takes-it now ttl revision Stray o may = absurd (no-way may)
+
+begins-then : (now : Ticks) (sequence : ℕ) (grant : Granted) (snapshot : SnapshotFacts) (o : Outcome) → (awaited : IsAwaitedLease sequence grant o.knows) → may_create o.role ≡ true → may_take now (informed snapshot o.knows) o.machine ≡ true
+    → is_refusing o.machine.watchdog.mode o.machine.watchdog.works ≡ false → granted now sequence grant snapshot o ≡ begins now grant.revision (arming now awaited.waited.ttl (let told : Outcome = record o { knows = informed snapshot o.knows } in told))
+begins-then now sequence grant snapshot o awaited may take armed =
+    let waited = awaited.waited in
+    let told : Outcome = record o { knows = informed snapshot o.knows } in
+    ap (λ (w : Option Waited). granted_for now sequence grant snapshot w o) awaited.is
+    ∙ ap (λ (b : Bool). cond b (accepted_grant now waited grant.revision snapshot o) o) (both-true (is_decision waited sequence) (is_lease_of o.knows.who.me grant) awaited.decision awaited.mine)
+    ∙ ap (λ (b : Bool). cond b (lease_granted now waited.ttl grant.revision o.role told) (waiting_no_more o)) (may-use waited.question o.role (first-true (asks_lease waited.question) _ awaited.decision) may)
+    ∙ takes-it now waited.ttl grant.revision o.role told may
+    ∙ ap (λ (b : Bool). cond b (arms now waited.ttl grant.revision told) (gives_back grant.revision told)) take
+    ∙ ap (λ (b : Bool). cond b (gives_back grant.revision (let barred : Outcome = record told { outputs = listed outputs.CannotArm told.outputs } in barred)) (begins now grant.revision (arming now waited.ttl told))) armed
+
+granted-begins : (now : Ticks) (sequence : ℕ) (grant : Granted) (snapshot : SnapshotFacts) (o : Outcome) → BeginsWhereGranted now (HeardGranted sequence grant snapshot) o (granted now sequence grant snapshot o)
+granted-begins now sequence grant snapshot o awaited may take armed =
+    subst (BeginsOn now grant.revision o) (sym (begins-then now sequence grant snapshot o awaited may take armed)) (record { role = refl; server = refl; begins = Contains-push _ outputs.Begin })
+
+-- ---- of every input
+pub step-asks : (now : Ticks) (points : List HistoryPoint) (heard : Heard) (o : Outcome) → AsksWhereFree now heard (before now o) (step now points heard o)
+step-asks now points (Got sequence snapshot) o = λ hears is. (free-asks now points sequence snapshot (before now o) hears is, free-alone now points sequence snapshot (before now o) hears is)
+step-asks now points Wake o = tt
+step-asks now points (HeardGranted sequence grant snapshot) o = tt
+step-asks now points (Mismatch sequence key found) o = tt
+step-asks now points (Asked from run sequence) o = tt
+step-asks now points (Answered sequence answer) o = tt
+
+pub step-wins : (now : Ticks) (points : List HistoryPoint) (heard : Heard) (o : Outcome) → AsksWhereWon now heard (before now o) (step now points heard o)
+step-wins now points (Answered sequence answer) o = λ waited snapshot hears is. last-won now waited sequence answer snapshot (before now o) hears is
+step-wins now points Wake o = λ waited snapshot runs is. late-won now waited snapshot o runs is
+step-wins now points (Got sequence snapshot) o = tt
+step-wins now points (HeardGranted sequence grant snapshot) o = tt
+step-wins now points (Mismatch sequence key found) o = tt
+step-wins now points (Asked from run sequence) o = tt
+
+pub step-begins : (now : Ticks) (points : List HistoryPoint) (heard : Heard) (o : Outcome) → BeginsWhereGranted now heard (before now o) (step now points heard o)
+step-begins now points (HeardGranted sequence grant snapshot) o = granted-begins now sequence grant snapshot (before now o)
+step-begins now points Wake o = tt
+step-begins now points (Got sequence snapshot) o = tt
+step-begins now points (Mismatch sequence key found) o = tt
+step-begins now points (Asked from run sequence) o = tt
+step-begins now points (Answered sequence answer) o = tt
