@@ -90,7 +90,7 @@ follow-quiet : (now : Ticks) (leader : MemberId) (o : Outcome) → Quiet o → Q
 follow-quiet now leader o all = let x : Outcome = record o { role = Follower } in
     let row : Outcome = touching (follow_row now leader o.machine.server.state x) in
     let told : Quiet row = follow-by (λ (y : Outcome). Quiet (touching y)) now leader o.machine.server.state x (said o.outputs _ tt all) (said _ _ tt (said o.outputs _ tt all)) (said _ _ tt (said o.outputs _ tt all))
-        (said _ _ tt (said o.outputs _ tt all)) in
+    (said _ _ tt (said o.outputs _ tt all)) in
     repaired-by Quiet leader (repair_of o.knows.settings leader o.machine.server) row told (λ r. said row.outputs (outputs.Repair leader r) tt told)
 
 free-quiet : (now : Ticks) (o : Outcome) → Quiet o → Quiet (finds_free now o)
