@@ -174,7 +174,7 @@ const STOPPED_FOR_GOOD: [Run; 1] = [(
 
 /// Times of a configuration. Before an agent has read one it goes by the defaults: its second turn comes 100 ticks after its
 /// first.
-const TIMES: [Run; 4] = [
+const TIMES: [Run; 6] = [
     // Each lease lasts 400 ticks, and from its second turn on each turn comes 50 ticks after the one before.
     (
         "config {\"ttl\":40,\"loop_wait\":5}\nmember a\nmember b\nrun 170\nhold a\nrun 410\n",
@@ -252,6 +252,67 @@ const TIMES: [Run; 4] = [
         Closing {
             end: 210,
             writers: "b",
+            ..QUIET
+        },
+    ),
+    // So come the turns of one member, and of an agent that is started anew, which has read nothing.
+    (
+        "config {\"loop_wait\":5}\nmember a\nrun 1\ntrace on\nrun 150\n",
+        "1 a takes the leader key\n\
+         1 a arms its watchdog until 251\n\
+         1 a accepts writes on timeline 2\n\
+         101 message 5 from a to store: read\n\
+         101 message 5 is delivered\n\
+         101 message 6 from store to a: snapshot\n\
+         101 message 6 is delivered\n\
+         101 message 7 from a to store: renewal\n\
+         101 message 7 is delivered\n\
+         101 message 8 from store to a: granted\n\
+         101 message 8 is delivered\n\
+         101 a feeds its watchdog until 351\n\
+         151 message 9 from a to store: read\n\
+         151 message 9 is delivered\n\
+         151 message 10 from store to a: snapshot\n\
+         151 message 10 is delivered\n\
+         151 message 11 from a to store: renewal\n\
+         151 message 11 is delivered\n\
+         151 message 12 from store to a: granted\n\
+         151 message 12 is delivered\n\
+         151 a feeds its watchdog until 401\n",
+        Closing {
+            end: 151,
+            writers: "a",
+            ..QUIET
+        },
+    ),
+    (
+        "config {\"loop_wait\":5}\nmember a\nrun 101\nkill a\nrestart a\ntrace on\nrun 101\n",
+        "1 a takes the leader key\n\
+         1 a arms its watchdog until 251\n\
+         1 a accepts writes on timeline 2\n\
+         101 a is killed\n\
+         101 a is started\n\
+         102 message 9 from a to store: read\n\
+         102 message 9 is delivered\n\
+         102 message 10 from store to a: snapshot\n\
+         102 message 10 is delivered\n\
+         102 message 11 from a to store: renewal\n\
+         102 message 11 is delivered\n\
+         102 message 12 from store to a: granted\n\
+         102 message 12 is delivered\n\
+         102 a arms its watchdog until 352\n\
+         202 message 13 from a to store: read\n\
+         202 message 13 is delivered\n\
+         202 message 14 from store to a: snapshot\n\
+         202 message 14 is delivered\n\
+         202 message 15 from a to store: renewal\n\
+         202 message 15 is delivered\n\
+         202 message 16 from store to a: granted\n\
+         202 message 16 is delivered\n\
+         202 a feeds its watchdog until 452\n",
+        Closing {
+            end: 202,
+            writers: "a",
             ..QUIET
         },
     ),

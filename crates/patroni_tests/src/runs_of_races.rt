@@ -232,7 +232,7 @@ const TAGS: [Run; 5] = [
 ];
 
 /// Questions and answers of two members. Message 3 is what a asks b, and message 4 what b answers.
-const QUESTIONS: [Run; 6] = [
+const QUESTIONS: [Run; 10] = [
     // A server that accepts writes bars the others while it does.
     (
         "promote b\nrun 102\n",
@@ -290,6 +290,51 @@ const QUESTIONS: [Run; 6] = [
          1 a is started\n\
          1 message 4 is lost\n",
         Closing { end: 1, ..QUIET },
+    ),
+    // A question waits while the one that is asked is suspended.
+    (
+        "tick 1\nturn a\ndeliver 1\ndeliver 2\nhold b\ndeliver 3\nresume b\ntrace on\ndeliver 3\n",
+        "1 b is held\n\
+         1 message 3 cannot be delivered\n\
+         1 b resumes\n\
+         1 message 3 is delivered\n\
+         1 message 4 from b to a: answer\n",
+        Closing { end: 1, ..QUIET },
+    ),
+    // Over a cut link it is lost, so each of the two finds nothing that bars it, and the key store decides.
+    (
+        "cut a b\nrun 22\n",
+        "0 a and b are cut\n\
+         21 a takes the leader key\n\
+         21 a arms its watchdog until 271\n\
+         21 a accepts writes on timeline 2\n\
+         22 the create of b is refused, leader has revision 2\n",
+        Closing {
+            end: 22,
+            writers: "a",
+            ..QUIET
+        },
+    ),
+    // A server that crashes meanwhile is as far as its log, and its member gives the key back.
+    (
+        "tick 1\nturn a\ndeliver 1\ndeliver 2\ndeliver 3\ncrash a\ndeliver 4\ndeliver 5\ndeliver 6\ndeliver 7\n",
+        "1 a crashed\n\
+         1 a takes the leader key\n\
+         1 a releases the leader key\n",
+        Closing { end: 1, ..QUIET },
+    ),
+    // Whose server accepts writes meanwhile asks for nothing any more.
+    (
+        "tick 1\nturn a\ndeliver 1\ndeliver 2\ndeliver 3\npromote a\ntrace on\ndeliver 4\n",
+        "1 a is promoted by its operator\n\
+         1 a accepts writes on timeline 2\n\
+         1 message 4 is delivered\n",
+        Closing {
+            end: 1,
+            premises: "broken at 1 by an operator on a",
+            writers: "a",
+            ..QUIET
+        },
     ),
 ];
 
