@@ -20,11 +20,13 @@ use Rattle.ha_loop.specs.declared.machine.Machine.{Machine}
 use Rattle.ha_loop.specs.declared.output.Output.{Output}
 use Rattle.ha_loop.specs.declared.output.Output.TheVariants as outputs
 use Rattle.ha_loop.specs.declared.output.Target.TheVariants as targets
-use Rattle.ha_loop.specs.Acting.{touching, starting_replica, arming, feeding, ending_server, is_refusing, waiting_no_more}
+use Rattle.ha_loop.specs.Acting.{requiring, touching, starting_replica, arming, ending_server, is_refusing, waiting_no_more}
 use Rattle.ha_loop.specs.Agents.{RoleFacts, Follower, Leader, Ending, IsSoundAgent, Outcome, made}
 use Rattle.ha_loop.specs.Asking.{IsNumbered, IsAskedNow, AsksAsWaited}
 use Rattle.ha_loop.specs.Before.{before}
-use Rattle.ha_loop.specs.Decisions.{asks_lease, is_start_too_long, leader_renewed, takes_over, stray_renewed, may_take, gives_back, begins, arms, takes_key, granted, refused}
+use Rattle.ha_loop.specs.Claiming.{begins, claims, begins_or_claims, postpones}
+use Rattle.ha_loop.specs.Decisions.{asks_lease, leader_renewed, takes_over, stray_renewed, may_take, gives_back, arms, takes_key, granted, refused}
+use Rattle.ha_loop.specs.Planning.{writing_sync, noting}
 use Rattle.ha_loop.specs.Outputs.{listed}
 use Rattle.ha_loop.specs.Repairs.{repair_of}
 use Rattle.ha_loop.specs.Snapshots.{renewing, follow_row, follows, leader_loses_key, stray_loses_key, read_noted, got}
@@ -37,7 +39,7 @@ use Rattle.ha_loop.proofs.Granting.{Told}
 use Rattle.ha_loop.proofs.Knowing.{IsAlone, alone-of, before-onward}
 use Rattle.ha_loop.proofs.LawfulSteps.{before-waits}
 use Rattle.ha_loop.proofs.Living.{no-way}
-use Rattle.ha_loop.proofs.Rows.{if-cases, overdue-by, turn-by, wake-by, got-by, refused-by, follow-by, repaired-by, free-by, granted-by, judged-by, answered-by}
+use Rattle.ha_loop.proofs.Rows.{led_on, if-cases, renewed-by, begins-or-claims-by, overdue-by, turn-by, wake-by, got-by, refused-by, follow-by, repaired-by, free-by, granted-by, judged-by, answered-by}
 use Rattle.ha_loop.proofs.Sending.{IsSilent, MayPut, AllMay, Fronts, before-fronts, got-none, before-may, wake-may, got-may, refused-may, granted-may, overdue-none, answered-none, answered-may, asked-may}
 use Rattle.ha_loop.proofs.Sending.Fronts.{Silent, Released}
 use Rattle.ha_loop.proofs.Fitting.{before-fits}
@@ -52,7 +54,7 @@ nothing now o after none waited is asks = absurd (none-some waited (sym none ∙
 as-before : (now : Ticks) (o after : Outcome) → after.knows.waited ≡ o.knows.waited → Holds now o after
 as-before now o after same waited is asks = inl (sym same ∙ is)
 
--- a read, and an ask of other members, is no request for a lease
+-- a read, an ask of other members, and a write of the sync key is no request for a lease
 only-reads : (now : Ticks) (o after : Outcome) (read : Waited) → after.knows.waited ≡ Some read → asks_lease read.question ≡ false → Holds now o after
 only-reads now o after read is no-lease waited waits asks = let same : read ≡ waited = some-is read waited (sym is ∙ waits) in
     absurd (no-way (sym no-lease ∙ (ap (λ (w : Waited). asks_lease w.question) same ∙ asks)))
@@ -92,6 +94,7 @@ overdue-silent now o b later same silent = overdue-by (Holds now o) now b (recor
   leader = λ held _. nothing now o (leader_out_of_reach now held (waiting_no_more b)) refl;
   stray = λ _. nothing now o (stray_out_of_reach now (waiting_no_more b)) refl;
   judges = λ _. judged-holds now o b later silent;
+  ready = λ held _. nothing now o (postpones held (waiting_no_more b)) refl;
 })
 
 overdue-holds : (now : Ticks) (o b : Outcome) → o.knows.sequence ≤ b.knows.sequence → b.knows.waited ≡ o.knows.waited → Fronts o b → Holds now o (overdue now b)
@@ -166,20 +169,27 @@ refused-holds now sequence o b same = refused-by (Holds now o) now sequence b (r
   leader = λ held _. nothing now o (leader_loses_key now held (waiting_no_more b)) refl;
   stray = λ _. nothing now o (stray_loses_key now (waiting_no_more b)) refl;
   follower = λ held _. nothing now o (record (waiting_no_more b) { role = Follower }) refl;
+  ready = λ held _. nothing now o (postpones held (waiting_no_more b)) refl;
 })
 
 renewed-holds : (now ttl : Ticks) (revision : ℕ) (o b : Outcome) → b.knows.waited ≡ None → Holds now o (leader_renewed now ttl revision b)
-renewed-holds now ttl revision o b none = let fed : Outcome = record (feeding now ttl b) { role = Leader revision } in let ended : Outcome = record (ending_server now StartTooLong fed) { role = Ending revision HandOver } in
-    if-cases (Holds now o) (is_start_too_long now fed.knows fed.machine.server.state) ended fed (λ _. nothing now o ended none) (λ _. nothing now o fed none)
+renewed-holds now ttl revision o b none = let led : Outcome = led_on now ttl revision b in
+    renewed-by (Holds now o) now ttl revision b (nothing now o (record (ending_server now StartTooLong led) { role = Ending revision HandOver }) none) (record {
+      kept = nothing now o led none;
+      writes = λ settling txn _. only-reads now o (writing_sync now settling txn led) _ refl refl;
+      adds = λ required. nothing now o (requiring required (noting led)) none;
+      drops = λ required. nothing now o (requiring required led) none;
+    })
 
 stray-holds : (now ttl : Ticks) (revision : ℕ) (o b : Outcome) → b.knows.waited ≡ None → Holds now o (stray_renewed now ttl revision b)
 stray-holds now ttl revision o b none = let ended : Outcome = ending_server now WatchdogNotArmed b in let over : Outcome = takes_over now revision (arming now ttl b) in
     if-cases (Holds now o) (is_refusing b.machine.watchdog.mode b.machine.watchdog.works) ended over (λ _. nothing now o ended none) (λ _. nothing now o over none)
 
 takes-holds : (now ttl : Ticks) (revision : ℕ) (o b : Outcome) → b.knows.waited ≡ None → Holds now o (takes_key now ttl revision b)
-takes-holds now ttl revision o b none = let back : Outcome = gives_back revision (record b { outputs = listed outputs.CannotArm b.outputs }) in let begun : Outcome = begins now revision (arming now ttl b) in
+takes-holds now ttl revision o b none = let back : Outcome = gives_back revision (record b { outputs = listed outputs.CannotArm b.outputs }) in let arm : Outcome = arming now ttl b in
     if-cases (Holds now o) (may_take now b.knows b.machine) (arms now ttl revision b) (gives_back revision b)
-    (λ _. if-cases (Holds now o) (is_refusing b.machine.watchdog.mode b.machine.watchdog.works) back begun (λ _. nothing now o back none) (λ _. nothing now o begun none))
+    (λ _. if-cases (Holds now o) (is_refusing b.machine.watchdog.mode b.machine.watchdog.works) back (begins_or_claims now revision arm) (λ _. nothing now o back none)
+    (λ _. begins-or-claims-by (Holds now o) now revision arm (nothing now o (begins now revision arm) none) (only-reads now o (claims now revision arm) _ refl refl)))
     (λ _. nothing now o (gives_back revision b) none)
 
 granted-holds : (now : Ticks) (sequence : ℕ) (grant : Granted) (snapshot : SnapshotFacts) (o b : Outcome) → b.knows.waited ≡ o.knows.waited → Holds now o (granted now sequence grant snapshot b)
@@ -189,6 +199,12 @@ granted-holds now sequence grant snapshot o b same = granted-by (Holds now o) no
       leader = λ held _. renewed-holds now waited.ttl grant.revision o (Told snapshot b) refl;
       stray = λ _. stray-holds now waited.ttl grant.revision o (Told snapshot b) refl;
       takes = λ _. takes-holds now waited.ttl grant.revision o (Told snapshot b) refl;
+    })
+    (record {
+      other = nothing now o (Told snapshot b) refl;
+      begins = λ revision _. nothing now o (begins now revision (Told snapshot b)) refl;
+      postpones = λ revision _. nothing now o (postpones revision (Told snapshot b)) refl;
+      settles = λ required _. nothing now o (requiring required (Told snapshot b)) refl;
     })
 
 answered-silent : (now : Ticks) (sequence : ℕ) (answer : PeerAnswer) (o b : Outcome) → o.knows.sequence ≤ b.knows.sequence → b.knows.waited ≡ o.knows.waited → All IsSilent b.outputs → Holds now o (answered now sequence answer b)
@@ -219,7 +235,7 @@ Any revision = Unit {0}
 step-sends : (now : Ticks) (points : List HistoryPoint) (heard : Heard) (o : Outcome) → IsAlone o → All IsSilent o.outputs → AllMay Any o (step now points heard o)
 step-sends now points Wake o alone silent = wake-may Any now o alone (before-onward None now o).last silent
 step-sends now points (Got sequence snapshot) o alone silent = got-may Any now points sequence snapshot o alone (before-onward None now o).last silent
-step-sends now points (HeardGranted sequence grant snapshot) o alone silent = granted-may Any now sequence grant snapshot o alone (before-onward None now o).last (before-fits now o) (λ _. tt) silent
+step-sends now points (HeardGranted sequence grant snapshot) o alone silent = granted-may Any now sequence grant snapshot o alone (before-onward None now o).last (before-fits now o) (λ _. tt) (λ revision _. tt) silent
 step-sends now points (Mismatch sequence key found) o alone silent = refused-may Any now sequence o alone silent
 step-sends now points (Asked from run sequence) o alone silent = asked-may Any now from run sequence o alone silent
 step-sends now points (Answered sequence answer) o alone silent = answered-may Any now sequence answer o alone (before-onward None now o).last silent

@@ -9,15 +9,16 @@ use Rattle.cluster_config.specs.Snapshots.{SnapshotFacts}
 use Rattle.ha_loop.specs.declared.heard.Heard.{Heard}
 use Rattle.ha_loop.specs.declared.heard.Heard.TheVariants.{Wake, Got, Granted as HeardGranted, Mismatch, Asked, Answered}
 use Rattle.ha_loop.specs.declared.knowledge.Question.{Question}
-use Rattle.ha_loop.specs.declared.knowledge.Question.TheVariants.{Reading, Asking, Creating, Renewing}
+use Rattle.ha_loop.specs.declared.knowledge.Question.TheVariants.{Reading, Asking, Creating, Renewing, Claiming, Syncing}
 use Rattle.ha_loop.specs.declared.knowledge.Waited.{Waited}
 use Rattle.ha_loop.specs.declared.output.Output.{Output}
 use Rattle.ha_loop.specs.declared.output.Output.TheVariants as outputs
 use Rattle.ha_loop.specs.Acting.{arming, is_refusing, waiting_no_more}
-use Rattle.ha_loop.specs.Agents.{RoleFacts, Follower, Holder, Ready, Leader, Ending, Stray, Outcome}
+use Rattle.ha_loop.specs.Agents.{RoleFacts, Follower, Holder, Ready, Leader, Ending, Stray, Outcome, is_ready}
 use Rattle.ha_loop.specs.Before.{before}
-use Rattle.ha_loop.specs.Decisions.{accepted_grant, arms, asks_lease, begins, belongs, gives_back, granted, granted_for, is_decision, is_lease_of, lease_granted, may_create, may_take, takes_key}
-use Rattle.ha_loop.specs.FreeKey.{AsksWhereFree, AsksWhereWon, BeginsOn, BeginsWhereGranted}
+use Rattle.ha_loop.specs.Claiming.{begins, begins_or_claims, can_begin_on_claim, claims, postpones}
+use Rattle.ha_loop.specs.Decisions.{accepted_grant, accepted_sync, arms, asks_lease, asks_sync, belongs, gives_back, granted, granted_for, granted_write, is_decision, is_lease_of, is_sync_decision, is_write_of, lease_granted, may_create, may_take, sync_granted, takes_key}
+use Rattle.ha_loop.specs.FreeKey.{AsksWhereFree, AsksWhereWon, BeginsOn, ClaimsOn, IsAwaitedClaim, BeginsWhereGranted}
 use Rattle.ha_loop.specs.Outputs.{listed}
 use Rattle.ha_loop.specs.Powers.{IsAwaitedLease}
 use Rattle.ha_loop.specs.Snapshots.{informed}
@@ -40,6 +41,8 @@ may-use : (question : Question) (role : RoleFacts) → asks_lease question ≡ t
 may-use Reading role asks may = absurd (no-way asks)
 may-use Asking role asks may = may
 may-use Creating role asks may = may
+may-use Claiming role asks may = absurd (no-way asks)
+may-use (Syncing settling) role asks may = absurd (no-way asks)
 may-use Renewing Follower asks may = refl
 may-use Renewing (Holder held) asks may = refl
 may-use Renewing (Ready held) asks may = refl
@@ -55,21 +58,52 @@ takes-it now ttl revision (Leader held) o may = absurd (no-way may)
 takes-it now ttl revision (Ending held why) o may = absurd (no-way may)
 takes-it now ttl revision Stray o may = absurd (no-way may)
 
-begins-then : (now : Ticks) (sequence : ℕ) (grant : Granted) (snapshot : SnapshotFacts) (o : Outcome) → (awaited : IsAwaitedLease sequence grant o.knows) → may_create o.role ≡ true → may_take now (informed snapshot o.knows) o.machine ≡ true
-    → is_refusing o.machine.watchdog.mode o.machine.watchdog.works ≡ false → granted now sequence grant snapshot o ≡ begins now grant.revision (arming now awaited.waited.ttl (let told : Outcome = record o { knows = informed snapshot o.knows } in told))
-begins-then now sequence grant snapshot o awaited may take armed =
+abbrev Told : SnapshotFacts → Outcome → Outcome
+Told snapshot o = record o { knows = informed snapshot o.knows }
+
+takes-then : (now : Ticks) (sequence : ℕ) (grant : Granted) (snapshot : SnapshotFacts) (o : Outcome) → (awaited : IsAwaitedLease sequence grant o.knows) → may_create o.role ≡ true → may_take now (informed snapshot o.knows) o.machine ≡ true
+    → is_refusing o.machine.watchdog.mode o.machine.watchdog.works ≡ false → granted now sequence grant snapshot o ≡ begins_or_claims now grant.revision (arming now awaited.waited.ttl (Told snapshot o))
+takes-then now sequence grant snapshot o awaited may take armed =
     let waited = awaited.waited in
-    let told : Outcome = record o { knows = informed snapshot o.knows } in
+    let told : Outcome = Told snapshot o in
     ap (λ (w : Option Waited). granted_for now sequence grant snapshot w o) awaited.is
-    ∙ ap (λ (b : Bool). cond b (accepted_grant now waited grant.revision snapshot o) o) (both-true (is_decision waited sequence) (is_lease_of o.knows.who.me grant) awaited.decision awaited.mine)
+    ∙ ap (λ (b : Bool). cond b (accepted_grant now waited grant.revision snapshot o) (granted_write now sequence grant snapshot waited o)) (both-true (is_decision waited sequence) (is_lease_of o.knows.who.me grant) awaited.decision awaited.mine)
     ∙ ap (λ (b : Bool). cond b (lease_granted now waited.ttl grant.revision o.role told) (waiting_no_more o)) (may-use waited.question o.role (first-true (asks_lease waited.question) _ awaited.decision) may)
     ∙ takes-it now waited.ttl grant.revision o.role told may
     ∙ ap (λ (b : Bool). cond b (arms now waited.ttl grant.revision told) (gives_back grant.revision told)) take
-    ∙ ap (λ (b : Bool). cond b (gives_back grant.revision (let barred : Outcome = record told { outputs = listed outputs.CannotArm told.outputs } in barred)) (begins now grant.revision (arming now waited.ttl told))) armed
+    ∙ ap (λ (b : Bool). cond b (gives_back grant.revision (let barred : Outcome = record told { outputs = listed outputs.CannotArm told.outputs } in barred)) (begins_or_claims now grant.revision (arming now waited.ttl told))) armed
+
+lease-begins : (now : Ticks) (sequence : ℕ) (grant : Granted) (snapshot : SnapshotFacts) (o : Outcome) → (awaited : IsAwaitedLease sequence grant o.knows) → granted now sequence grant snapshot o ≡ begins_or_claims now grant.revision (arming now awaited.waited.ttl (Told snapshot o))
+    → (o.knows.turn_settings.synchronous_mode ≡ false → BeginsOn now grant.revision o (granted now sequence grant snapshot o)) × (o.knows.turn_settings.synchronous_mode ≡ true → ClaimsOn grant.revision o (granted now sequence grant snapshot o))
+lease-begins now sequence grant snapshot o awaited is = let arm : Outcome = arming now awaited.waited.ttl (Told snapshot o) in
+    let by : (mode : Bool) → o.knows.turn_settings.synchronous_mode ≡ mode → granted now sequence grant snapshot o ≡ cond mode (claims now grant.revision arm) (begins now grant.revision arm) = λ mode e. is ∙ ap (λ (b : Bool). cond b (claims now grant.revision arm) (begins now grant.revision arm)) e in (
+      (λ off. subst (BeginsOn now grant.revision o) (sym (by false off)) (record { role = refl; server = refl; begins = Contains-push _ outputs.Begin })),
+      (λ on. subst (ClaimsOn grant.revision o) (sym (by true on)) (record { role = refl; server = refl; waited = _; waits = refl; asks = refl; claims = Contains-push arm.outputs _ })),
+    )
+
+first-false : (a b : Bool) → a ≡ false → a && b ≡ false
+first-false true b e = absurd (no-way (sym e))
+first-false false b e = refl
+
+claim-then : (now : Ticks) (sequence : ℕ) (grant : Granted) (snapshot : SnapshotFacts) (o : Outcome) (revision : ℕ) → IsAwaitedClaim sequence grant o.knows → o.role ≡ Ready revision → can_begin_on_claim o.machine.server.was_primary o.machine.server.state ≡ true
+    → granted now sequence grant snapshot o ≡ begins now revision (Told snapshot o)
+claim-then now sequence grant snapshot o revision awaited role can =
+    let waited = awaited.waited in
+    let told : Outcome = Told snapshot o in
+    let unleased : is_decision waited sequence ≡ false = first-false (asks_lease waited.question) _ (ap asks_lease awaited.asks) in
+    ap (λ (w : Option Waited). granted_for now sequence grant snapshot w o) awaited.is
+    ∙ ap (λ (b : Bool). cond b (accepted_grant now waited grant.revision snapshot o) (granted_write now sequence grant snapshot waited o)) (first-false (is_decision waited sequence) (is_lease_of o.knows.who.me grant) unleased)
+    ∙ ap (λ (b : Bool). cond b (accepted_sync now waited snapshot o) o) (both-true (is_sync_decision waited sequence) (is_write_of o.knows.who.me grant) (both-true (asks_sync waited.question) _ (ap asks_sync awaited.asks) awaited.number) awaited.mine)
+    ∙ ap (λ (b : Bool). cond b (sync_granted now waited.question o.role told) (waiting_no_more o)) (ap (λ (q : Question). belongs q o.role) awaited.asks ∙ ap is_ready role)
+    ∙ ap (λ (q : Question). sync_granted now q o.role told) awaited.asks
+    ∙ ap (λ (r : RoleFacts). sync_granted now Claiming r told) role
+    ∙ ap (λ (b : Bool). cond b (begins now revision told) (postpones revision told)) can
 
 granted-begins : (now : Ticks) (sequence : ℕ) (grant : Granted) (snapshot : SnapshotFacts) (o : Outcome) → BeginsWhereGranted now (HeardGranted sequence grant snapshot) o (granted now sequence grant snapshot o)
-granted-begins now sequence grant snapshot o awaited may take armed =
-    subst (BeginsOn now grant.revision o) (sym (begins-then now sequence grant snapshot o awaited may take armed)) (record { role = refl; server = refl; begins = Contains-push _ outputs.Begin })
+granted-begins now sequence grant snapshot o = (
+  (λ awaited may take armed. lease-begins now sequence grant snapshot o awaited (takes-then now sequence grant snapshot o awaited may take armed)),
+  (λ revision awaited role can. subst (BeginsOn now revision o) (sym (claim-then now sequence grant snapshot o revision awaited role can)) (record { role = refl; server = refl; begins = Contains-push _ outputs.Begin })),
+)
 
 -- ---- of every input
 pub step-asks : (now : Ticks) (points : List HistoryPoint) (heard : Heard) (o : Outcome) → AsksWhereFree now heard (before now o) (step now points heard o)

@@ -10,10 +10,12 @@ use Rattle.event_book.specs.Members.{server_id_of}
 use Rattle.ha_loop.specs.declared.role.Why.{Why}
 use Rattle.ha_loop.specs.declared.role.Why.TheVariants.{HandOver, Lost}
 use Rattle.ha_loop.specs.Acting.{disarming, touching, shutting_down, starting_replica, following_server, upstream_of, waiting_no_more}
-use Rattle.ha_loop.specs.Agents.{RoleFacts, Follower, Holder, Ready, Leader, Ending, Stray, Outcome}
+use Rattle.ha_loop.specs.Agents.{RoleFacts, Follower, Holder, Ready, Leader, Ending, Stray, Outcome, is_ready}
 use Rattle.ha_loop.specs.Before.{leader_finds_ended, has_ended, finds_live, stray_finds_ended, before}
+use Rattle.ha_loop.specs.Claiming.{postpones}
 use Rattle.ha_loop.specs.Decisions.{refused}
-use Rattle.ha_loop.specs.Powers.{BringsNothing, lease_of, leads, is_ready}
+use Rattle.pg_model.specs.declared.status.ServerStatus.{ServerStatus}
+use Rattle.ha_loop.specs.Powers.{BringsNothing, lease_of, leads}
 use Rattle.ha_loop.specs.Repairs.{repair_of}
 use Rattle.ha_loop.specs.Snapshots.{leader_loses_key, stray_loses_key, renewing, follow_row, follows, read_noted, got}
 use Rattle.ha_loop.specs.Racing.{creating, barred, finds_free, judged, asking_others, unheard}
@@ -28,7 +30,7 @@ none-some e = cc
 abbrev Lives : Outcome → Outcome → Type 0
 Lives o after = live after.machine.server.state ≡ true → live o.machine.server.state ≡ true
 
-ready-leads : (role : RoleFacts) → is_ready role ≡ true → leads role ≡ true
+pub ready-leads : (role : RoleFacts) → is_ready role ≡ true → leads role ≡ true
 ready-leads (Ready held) e = e
 ready-leads (Leader held) e = refl
 ready-leads Follower e = e
@@ -54,14 +56,24 @@ no-lease o after none rests lives = record {
   lease = λ revision e. absurd (none-some (sym none ∙ e));
 }
 
--- a leader rests with the lease that it had
-keeps-lease : (o after : Outcome) (held : ℕ) → o.role ≡ Leader held → lease_of after.role ≡ Some held → leads after.role ≡ false → Lives o after → BringsNothing o after
+-- who has a lease rests with it
+pub keeps-lease : (o after : Outcome) (held : ℕ) → lease_of o.role ≡ Some held → lease_of after.role ≡ Some held → leads after.role ≡ false → Lives o after → BringsNothing o after
 keeps-lease o after held is same rests lives = record {
   live = lives;
   leads = λ e. absurd (no-way (sym rests ∙ e));
   ready = λ e. absurd (no-way (sym rests ∙ ready-leads after.role e));
-  lease = λ revision e. subst (λ (r : RoleFacts). lease_of r ≡ Some revision) (sym is) (sym same ∙ e);
+  lease = λ revision e. is ∙ (sym same ∙ e);
 }
+
+leader-lease : (o : Outcome) (held : ℕ) → o.role ≡ Leader held → lease_of o.role ≡ Some held
+leader-lease o held is = rw is refl
+
+ready-lease : (o : Outcome) (held : ℕ) → o.role ≡ Ready held → lease_of o.role ≡ Some held
+ready-lease o held is = rw is refl
+
+-- who postpones its promotion keeps the lease
+pub postpones-brings : (o : Outcome) (held : ℕ) (b : Outcome) → o.role ≡ Ready held → b.machine.server ≡ o.machine.server → BringsNothing o (postpones held b)
+postpones-brings o held b is server = keeps-lease o (postpones held b) held (ready-lease o held is) refl refl (λ e. subst (λ (s : ServerStatus). live s.state ≡ true) server e)
 
 pub brings-then : (a b c : Outcome) → BringsNothing a b → BringsNothing b c → BringsNothing a c
 brings-then a b c first second = record {
@@ -78,7 +90,7 @@ ended-brings Lost held o = no-lease o (has_ended Lost held o) refl refl (λ e. e
 pub before-brings : (now : Ticks) (o : Outcome) → BringsNothing o (before now o)
 before-brings now o = before-by (BringsNothing o) now o (record {
   kept = λ _. same-role o o refl (λ e. e);
-  leader = λ held is _. keeps-lease o (leader_finds_ended now held o) held is refl refl (λ e. e);
+  leader = λ held is _. keeps-lease o (leader_finds_ended now held o) held (leader-lease o held is) refl refl (λ e. e);
   ending = λ held why _ _. ended-brings why held o;
   follower = λ _ _. no-lease o (finds_live o) refl refl (λ e. e);
   holder = λ held _ _. no-lease o (finds_live o) refl refl (λ e. e);
@@ -93,9 +105,10 @@ pub overdue-brings : (now : Ticks) (o : Outcome) → BringsNothing o (overdue no
 overdue-brings now o = overdue-by (BringsNothing o) now o (record {
   kept = same-role o o refl (λ e. e);
   quiet = same-role o (waiting_no_more o) refl (λ e. e);
-  leader = λ held is. keeps-lease o (leader_out_of_reach now held (waiting_no_more o)) held is refl refl (stop-live now o.machine.server);
+  leader = λ held is. keeps-lease o (leader_out_of_reach now held (waiting_no_more o)) held (leader-lease o held is) refl refl (stop-live now o.machine.server);
   stray = λ _. same-role o (stray_out_of_reach now (waiting_no_more o)) refl (stop-live now o.machine.server);
   judges = λ _. judged-brings now o;
+  ready = λ held is. postpones-brings o held (waiting_no_more o) is refl;
 })
 
 pub turn-brings : (now : Ticks) (o : Outcome) → BringsNothing o (turned now o)
@@ -140,7 +153,7 @@ got-brings now points sequence snapshot o = let read : Outcome = record o { know
       kept = same-role o o refl (λ e. e);
       quiet = same-role o (waiting_no_more o) refl (λ e. e);
       other = same-role o read refl (λ e. e);
-      leader = λ held is. keeps-lease o (leader_loses_key now held read) held is refl refl (stop-live now o.machine.server);
+      leader = λ held is. keeps-lease o (leader_loses_key now held read) held (leader-lease o held is) refl refl (stop-live now o.machine.server);
       stray = λ _. same-role o (stray_loses_key now read) refl (stop-live now o.machine.server);
       renews = λ _ leader _ _. same-role o (renewing now points leader.revision read) refl (λ e. e);
       touches = same-role o (touching read) refl (λ e. e);
@@ -152,9 +165,10 @@ pub refused-brings : (now : Ticks) (sequence : ℕ) (o : Outcome) → BringsNoth
 refused-brings now sequence o = refused-by (BringsNothing o) now sequence o (record {
   kept = same-role o o refl (λ e. e);
   quiet = same-role o (waiting_no_more o) refl (λ e. e);
-  leader = λ held is. keeps-lease o (leader_loses_key now held (waiting_no_more o)) held is refl refl (stop-live now o.machine.server);
+  leader = λ held is. keeps-lease o (leader_loses_key now held (waiting_no_more o)) held (leader-lease o held is) refl refl (stop-live now o.machine.server);
   stray = λ _. same-role o (stray_loses_key now (waiting_no_more o)) refl (stop-live now o.machine.server);
   follower = λ held _. no-lease o (record (waiting_no_more o) { role = Follower }) refl refl (λ e. e);
+  ready = λ held is. postpones-brings o held (waiting_no_more o) is refl;
 })
 
 -- what the key store held when it answered a read

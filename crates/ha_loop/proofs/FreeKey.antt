@@ -22,7 +22,7 @@ use Rattle.leader_race.specs.Eligibility.{eligibility_of}
 use Rattle.leader_race.specs.Outcome.{unless, outcome_of}
 use Rattle.leader_race.proofs.Winning.{race-replica}
 use Rattle.ha_loop.specs.declared.knowledge.Question.{Question}
-use Rattle.ha_loop.specs.declared.knowledge.Question.TheVariants.{Reading, Asking, Creating, Renewing}
+use Rattle.ha_loop.specs.declared.knowledge.Question.TheVariants.{Reading, Asking, Creating, Renewing, Claiming, Syncing}
 use Rattle.ha_loop.specs.declared.knowledge.Waited.{Waited}
 use Rattle.ha_loop.specs.declared.output.Output.{Output}
 use Rattle.ha_loop.specs.declared.output.Output.TheVariants as outputs
@@ -167,6 +167,8 @@ asking-late now Asking o asking may = if-true (may_create o.role) (judged now o)
 asking-late now Reading o asking may = absurd (no-way asking)
 asking-late now Creating o asking may = absurd (no-way asking)
 asking-late now Renewing o asking may = absurd (no-way asking)
+asking-late now Claiming o asking may = absurd (no-way asking)
+asking-late now (Syncing settling) o asking may = absurd (no-way asking)
 
 either-late : (a b c : Bool) → b ≡ true → a || (b || c) ≡ true
 either-late true b c e = refl

@@ -1,25 +1,32 @@
 -- What a granted request brings an agent.
-use Rattle.std.proofs.Common.{◌≡◌, ℕ, ◌&&◌, ◌||◌, Bool, true, false, not, if◌then◌else◌, List, [], ◌∷◌, Some, None, refl, sym, inl, inr}
+use Rattle.std.proofs.Common.{◌≡◌, ℕ, ◌&&◌, ◌||◌, Bool, true, false, not, if◌then◌else◌, List, [], ◌∷◌, Some, None, refl, sym, ap, ◌∙◌, inl, inr, ◌⊎◌}
 use Rattle.pat_base.specs.declared.ticks.Ticks.{Ticks}
 use Rattle.lease_store.specs.declared.granted.Granted.{Granted}
-use Rattle.leader_key.specs.Watchdog.{is_armable}
-use Rattle.cluster_config.specs.Snapshots.{SnapshotFacts}
+use Rattle.leader_key.specs.Watchdog.{is_armable, fed}
+use Rattle.cluster_config.specs.Snapshots.{SnapshotFacts, failsafe_in}
 use Rattle.event_book.specs.declared.reason.Reason.TheVariants.{StartTooLong, WatchdogNotArmed}
-use Rattle.pat_base.specs.declared.server_state.Required.TheVariants.{Nobody}
+use Rattle.pat_base.specs.ServerState.{live}
 use Rattle.ha_loop.specs.declared.knowledge.Waited.{Waited}
 use Rattle.ha_loop.specs.declared.output.Output.{Output}
 use Rattle.ha_loop.specs.declared.output.Output.TheVariants as outputs
 use Rattle.ha_loop.specs.declared.role.Why.TheVariants.{HandOver}
-use Rattle.ha_loop.specs.Acting.{armed, fed_until, arming, feeding, ending_server, is_hold_active, is_refusing, waiting_no_more}
-use Rattle.ha_loop.specs.Agents.{Leader, Ending, Outcome}
-use Rattle.ha_loop.specs.Decisions.{is_decision, is_lease_of, is_start_too_long, leader_renewed, takes_over, stray_renewed, can_begin, may_take, gives_back, begins, arms, takes_key, granted}
+use Rattle.ha_loop.specs.Acting.{armed, fed_until, arming, ending_server, requiring, is_hold_active, is_refusing, waiting_no_more}
+use Rattle.ha_loop.specs.Agents.{Ready, Leader, Ending, Outcome, is_ready}
+use Rattle.ha_loop.specs.Claiming.{begins_or_claims, postpones}
+use Rattle.ha_loop.specs.Decisions.{is_decision, is_lease_of, leader_renewed, takes_over, stray_renewed, can_begin, may_take, gives_back, arms, takes_key, granted}
+use Rattle.ha_loop.specs.Fits.{Fits}
 use Rattle.ha_loop.specs.Outputs.{listed, is_feeding, has_one}
-use Rattle.ha_loop.specs.Powers.{IsAwaitedLease, GrantMay}
-use Rattle.ha_loop.specs.Powers.GrantMay.{Nothing, Leads}
-use Rattle.ha_loop.specs.Snapshots.{informed}
-use Rattle.ha_loop.proofs.Bringing.{same-role, no-lease}
+use Rattle.ha_loop.specs.Planning.{writing_sync, noting}
+use Rattle.ha_loop.specs.Powers.{IsAwaitedLease, GrantMay, BringsNothing, Acts, lease_of}
+use Rattle.ha_loop.specs.Powers.DeadlineMay.{Kept}
+use Rattle.ha_loop.specs.Powers.GrantMay.{Nothing, Leads, Begins}
+use Rattle.ha_loop.specs.Snapshots.{informed, known_with}
+use Rattle.ha_loop.specs.Synchronous.{may_lead_in_sync, unnamed}
+use Rattle.ha_loop.proofs.Bringing.{same-role, no-lease, postpones-brings}
+use Rattle.ha_loop.proofs.Fitting.{ended-for}
+use Rattle.ha_loop.proofs.Leaving.{ready-is, behind-by, postpones-stays}
 use Rattle.ha_loop.proofs.Living.{no-way, stop-live}
-use Rattle.ha_loop.proofs.Rows.{if-cases, granted-by}
+use Rattle.ha_loop.proofs.Rows.{SyncRows, led_on, if-cases, granted-by, renewed-by, begins-or-claims-by}
 
 pub take-free : (held can : Bool) → not held && can ≡ true → held ≡ false
 take-free true can e = sym e
@@ -54,33 +61,65 @@ armed-told outs until false is = absurd (no-way is)
 abbrev pub Told : SnapshotFacts → Outcome → Outcome
 Told snapshot o = record o { knows = informed snapshot o.knows }
 
+-- whoever acts in a role that isn't about to begin has a live server
+acts-live : (after : Outcome) (X Y : Type 0) → is_ready after.role ≡ false → (live after.machine.server.state ≡ true → X) → Acts after → X ⊎ Y
+acts-live after X Y unready lives (inl acts) = inl (lives acts)
+acts-live after X Y unready lives (inr ready) = absurd (no-way (sym unready ∙ ready))
+
+-- the lease of the grant, with the watchdog fed on it, over a server that was live before if it is after
+leads-live : (now : Ticks) (sequence : ℕ) (grant : Granted) (snapshot : SnapshotFacts) (o after : Outcome) (awaited : IsAwaitedLease sequence grant o.knows) → after.machine.watchdog ≡ fed now.0 awaited.waited.ttl.0 o.machine.watchdog
+    → lease_of after.role ≡ Some grant.revision → is_ready after.role ≡ false → after.knows.known ≡ known_with o.knows.known (failsafe_in snapshot) → (is_armable o.machine.watchdog.mode o.machine.watchdog.works ≡ true → has_one is_feeding after.outputs ≡ true)
+    → (live after.machine.server.state ≡ true → live o.machine.server.state ≡ true) → GrantMay now sequence grant snapshot o after
+leads-live now sequence grant snapshot o after awaited fed-is lease unready known told lives =
+    Leads awaited fed-is lease (λ ready. absurd (no-way (sym unready ∙ ready))) known told (acts-live after _ _ unready lives) (acts-live after _ _ unready lives)
+
 renewed-may : (now : Ticks) (sequence : ℕ) (grant : Granted) (snapshot : SnapshotFacts) (o : Outcome) (awaited : IsAwaitedLease sequence grant o.knows) → GrantMay now sequence grant snapshot o (leader_renewed now awaited.waited.ttl grant.revision (Told snapshot o))
-renewed-may now sequence grant snapshot o awaited = let fed : Outcome = record (feeding now awaited.waited.ttl (Told snapshot o)) { role = Leader grant.revision } in
-    let told : is_armable o.machine.watchdog.mode o.machine.watchdog.works ≡ true → has_one is_feeding fed.outputs ≡ true = fed-told o.outputs _ (is_armable o.machine.watchdog.mode o.machine.watchdog.works) in
-    if-cases (GrantMay now sequence grant snapshot o) (is_start_too_long now fed.knows fed.machine.server.state) (record (ending_server now StartTooLong fed) { role = Ending grant.revision HandOver }) fed
-    (λ _. Leads awaited refl refl refl refl (λ armable. one-before is_feeding fed.outputs (outputs.Stop StartTooLong) (told armable)) (λ lives. inl (stop-live now o.machine.server lives)) (λ lives. inl (stop-live now o.machine.server lives)))
-    (λ _. Leads awaited refl refl refl refl told (λ lives. inl lives) (λ lives. inl lives))
+renewed-may now sequence grant snapshot o awaited = let led : Outcome = led_on now awaited.waited.ttl grant.revision (Told snapshot o) in
+    let told : is_armable o.machine.watchdog.mode o.machine.watchdog.works ≡ true → has_one is_feeding led.outputs ≡ true = fed-told o.outputs _ (is_armable o.machine.watchdog.mode o.machine.watchdog.works) in
+    let ended : Outcome = record (ending_server now StartTooLong led) { role = Ending grant.revision HandOver } in
+    renewed-by (GrantMay now sequence grant snapshot o) now awaited.waited.ttl grant.revision (Told snapshot o)
+    (leads-live now sequence grant snapshot o ended awaited refl refl refl refl (λ armable. one-before is_feeding led.outputs (outputs.Stop StartTooLong) (told armable)) (stop-live now o.machine.server))
+    (record {
+      kept = leads-live now sequence grant snapshot o led awaited refl refl refl refl told (λ e. e);
+      writes = λ settling txn _. leads-live now sequence grant snapshot o (writing_sync now settling txn led) awaited refl refl refl refl (λ armable. one-before is_feeding led.outputs _ (told armable)) (λ e. e);
+      adds = λ required. leads-live now sequence grant snapshot o (requiring required (noting led)) awaited refl refl refl refl (λ armable. one-before is_feeding led.outputs (outputs.Require required) (told armable)) (λ e. e);
+      drops = λ required. leads-live now sequence grant snapshot o (requiring required led) awaited refl refl refl refl (λ armable. one-before is_feeding led.outputs (outputs.Require required) (told armable)) (λ e. e);
+    })
 
 stray-may : (now : Ticks) (sequence : ℕ) (grant : Granted) (snapshot : SnapshotFacts) (o : Outcome) (awaited : IsAwaitedLease sequence grant o.knows) → GrantMay now sequence grant snapshot o (stray_renewed now awaited.waited.ttl grant.revision (Told snapshot o))
-stray-may now sequence grant snapshot o awaited =
-    if-cases (GrantMay now sequence grant snapshot o) (is_refusing o.machine.watchdog.mode o.machine.watchdog.works) (ending_server now WatchdogNotArmed (Told snapshot o)) (takes_over now grant.revision (arming now awaited.waited.ttl (Told snapshot o)))
-    (λ _. Nothing (same-role o (ending_server now WatchdogNotArmed (Told snapshot o)) refl (stop-live now o.machine.server)) refl)
-    (λ _. Leads awaited refl refl refl refl (armed-told o.outputs _ (is_armable o.machine.watchdog.mode o.machine.watchdog.works)) (λ lives. inl lives) (λ lives. inl lives))
+stray-may now sequence grant snapshot o awaited = let over : Outcome = takes_over now grant.revision (arming now awaited.waited.ttl (Told snapshot o)) in
+    if-cases (GrantMay now sequence grant snapshot o) (is_refusing o.machine.watchdog.mode o.machine.watchdog.works) (ending_server now WatchdogNotArmed (Told snapshot o)) over
+    (λ _. Nothing (same-role o (ending_server now WatchdogNotArmed (Told snapshot o)) refl (stop-live now o.machine.server)) (Kept refl))
+    (λ _. leads-live now sequence grant snapshot o over awaited refl refl refl refl (armed-told o.outputs _ (is_armable o.machine.watchdog.mode o.machine.watchdog.works)) (λ e. e))
 
-arms-may : (now : Ticks) (sequence : ℕ) (grant : Granted) (snapshot : SnapshotFacts) (o : Outcome) (awaited : IsAwaitedLease sequence grant o.knows) → is_hold_active now o.machine.hold ≡ false → GrantMay now sequence grant snapshot o (arms now awaited.waited.ttl grant.revision (Told snapshot o))
-arms-may now sequence grant snapshot o awaited free = let back : Outcome = gives_back grant.revision (record (Told snapshot o) { outputs = listed outputs.CannotArm o.outputs }) in
+arms-may : (now : Ticks) (sequence : ℕ) (grant : Granted) (snapshot : SnapshotFacts) (o : Outcome) (awaited : IsAwaitedLease sequence grant o.knows) → live o.machine.server.state ≡ false → is_hold_active now o.machine.hold ≡ false
+    → GrantMay now sequence grant snapshot o (arms now awaited.waited.ttl grant.revision (Told snapshot o))
+arms-may now sequence grant snapshot o awaited ended free = let back : Outcome = gives_back grant.revision (record (Told snapshot o) { outputs = listed outputs.CannotArm o.outputs }) in
     let arm : Outcome = arming now awaited.waited.ttl (Told snapshot o) in
-    if-cases (GrantMay now sequence grant snapshot o) (is_refusing o.machine.watchdog.mode o.machine.watchdog.works) back (begins now grant.revision arm)
-    (λ _. Nothing (no-lease o back refl refl (λ e. e)) refl)
-    (λ ready. Leads awaited refl refl refl refl
-    (λ armable. one-before is_feeding (listed (outputs.Require Nobody) arm.outputs) outputs.Begin (one-before is_feeding arm.outputs (outputs.Require Nobody) (armed-told o.outputs _ (is_armable o.machine.watchdog.mode o.machine.watchdog.works) armable)))
+    let told : is_armable o.machine.watchdog.mode o.machine.watchdog.works ≡ true → has_one is_feeding arm.outputs ≡ true = armed-told o.outputs _ (is_armable o.machine.watchdog.mode o.machine.watchdog.works) in
+    if-cases (GrantMay now sequence grant snapshot o) (is_refusing o.machine.watchdog.mode o.machine.watchdog.works) back (begins_or_claims now grant.revision arm)
+    (λ _. Nothing (no-lease o back refl refl (λ e. e)) (Kept refl))
+    (λ ready. begins-or-claims-by (GrantMay now sequence grant snapshot o) now grant.revision arm
+    (Leads awaited refl refl (λ e. absurd (no-way e)) refl
+    (λ armable. one-before is_feeding (listed (outputs.Require (unnamed arm.knows.turn_settings)) arm.outputs) outputs.Begin (one-before is_feeding arm.outputs (outputs.Require (unnamed arm.knows.turn_settings)) (told armable)))
     (λ _. inr free) (λ _. inr ready))
+    (Leads awaited refl refl (λ _. ended) refl (λ armable. one-before is_feeding arm.outputs _ (told armable)) (λ _. inr free) (λ _. inr ready)))
 
-takes-may : (now : Ticks) (sequence : ℕ) (grant : Granted) (snapshot : SnapshotFacts) (o : Outcome) (awaited : IsAwaitedLease sequence grant o.knows) → GrantMay now sequence grant snapshot o (takes_key now awaited.waited.ttl grant.revision (Told snapshot o))
-takes-may now sequence grant snapshot o awaited = let back : Outcome = gives_back grant.revision (Told snapshot o) in
-    if-cases (GrantMay now sequence grant snapshot o) (may_take now o.knows o.machine) (arms now awaited.waited.ttl grant.revision (Told snapshot o)) back
-    (λ may. arms-may now sequence grant snapshot o awaited (take-free (is_hold_active now o.machine.hold) (can_begin now o.knows o.machine.server o.machine.server.state) may))
-    (λ _. Nothing (no-lease o back refl refl (λ e. e)) refl)
+takes-may : (now : Ticks) (sequence : ℕ) (grant : Granted) (snapshot : SnapshotFacts) (o : Outcome) (awaited : IsAwaitedLease sequence grant o.knows) → live o.machine.server.state ≡ false → GrantMay now sequence grant snapshot o (takes_key now awaited.waited.ttl grant.revision (Told snapshot o))
+takes-may now sequence grant snapshot o awaited ended = let back : Outcome = gives_back grant.revision (Told snapshot o) in
+    if-cases (GrantMay now sequence grant snapshot o) (may_take now (Told snapshot o).knows o.machine) (arms now awaited.waited.ttl grant.revision (Told snapshot o)) back
+    (λ may. arms-may now sequence grant snapshot o awaited ended (take-free (is_hold_active now o.machine.hold) (can_begin now o.knows o.machine.server o.machine.server.state && may_lead_in_sync o.knows) may))
+    (λ _. Nothing (no-lease o back refl refl (λ e. e)) (Kept refl))
+
+-- an agent that was about to begin begins, or keeps its lease
+sync-may : (now : Ticks) (sequence : ℕ) (grant : Granted) (snapshot : SnapshotFacts) (o : Outcome) → Fits o.role (live o.machine.server.state) → SyncRows (GrantMay now sequence grant snapshot o) now (Told snapshot o)
+sync-may now sequence grant snapshot o fits = record {
+  other = Nothing (same-role o (Told snapshot o) refl (λ e. e)) (Kept refl);
+  begins = λ revision is. Begins (ready-is o.role revision is) refl refl (sym (ap lease_of is));
+  postpones = λ revision is. let brings : BringsNothing o (postpones revision (Told snapshot o)) = postpones-brings o revision (Told snapshot o) is refl in
+      Nothing brings (behind-by o o (postpones revision (Told snapshot o)) (Kept refl) (postpones-stays o revision (Told snapshot o) is fits refl).watchdog brings);
+  settles = λ required _. Nothing (same-role o (requiring required (Told snapshot o)) refl (λ e. e)) (Kept refl);
+}
 
 pub both-true : (a b : Bool) → a && b ≡ true → (a ≡ true) × (b ≡ true)
 both-true true b e = (refl, e)
@@ -90,13 +129,14 @@ abbrev pub awaited-lease : (sequence : ℕ) (grant : Granted) (o : Outcome) (wai
 awaited-lease sequence grant o waited is both = let parts : (is_decision waited sequence ≡ true) × (is_lease_of o.knows.who.me grant ≡ true) = both-true (is_decision waited sequence) (is_lease_of o.knows.who.me grant) both in
     record { waited = waited; is = is; decision = parts.0; mine = parts.1 }
 
-pub granted-may : (now : Ticks) (sequence : ℕ) (grant : Granted) (snapshot : SnapshotFacts) (o : Outcome) → GrantMay now sequence grant snapshot o (granted now sequence grant snapshot o)
-granted-may now sequence grant snapshot o = granted-by (GrantMay now sequence grant snapshot o) now sequence grant snapshot o
-    (Nothing (same-role o o refl (λ e. e)) refl)
-    (Nothing (same-role o (waiting_no_more o) refl (λ e. e)) refl)
+pub granted-may : (now : Ticks) (sequence : ℕ) (grant : Granted) (snapshot : SnapshotFacts) (o : Outcome) → Fits o.role (live o.machine.server.state) → GrantMay now sequence grant snapshot o (granted now sequence grant snapshot o)
+granted-may now sequence grant snapshot o fits = granted-by (GrantMay now sequence grant snapshot o) now sequence grant snapshot o
+    (Nothing (same-role o o refl (λ e. e)) (Kept refl))
+    (Nothing (same-role o (waiting_no_more o) refl (λ e. e)) (Kept refl))
     (λ waited is decision. let awaited = awaited-lease sequence grant o waited is decision in record {
-      other = Nothing (same-role o (Told snapshot o) refl (λ e. e)) refl;
+      other = Nothing (same-role o (Told snapshot o) refl (λ e. e)) (Kept refl);
       leader = λ held _. renewed-may now sequence grant snapshot o awaited;
       stray = λ _. stray-may now sequence grant snapshot o awaited;
-      takes = λ _. takes-may now sequence grant snapshot o awaited;
+      takes = λ may. takes-may now sequence grant snapshot o awaited (ended-for o.role (live o.machine.server.state) may fits);
     })
+    (sync-may now sequence grant snapshot o fits)

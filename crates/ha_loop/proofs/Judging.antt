@@ -1,5 +1,5 @@
 -- The race is judged.
-use Rattle.std.proofs.Common.{◌≡◌, Bool, true, false, if◌then◌else◌, List, [], Option, Some, None, refl, sym, subst, ap, ◌∙◌}
+use Rattle.std.proofs.Common.{ℕ, ◌≡◌, Bool, true, false, if◌then◌else◌, List, [], Option, Some, None, refl, sym, subst, ap, ◌∙◌}
 use Rattle.lease_store.specs.declared.action.Bar.{Bar}
 use Rattle.pat_base.specs.declared.peer_answer.PeerAnswer.{PeerAnswer}
 use Rattle.pat_base.specs.declared.ticks.Ticks.{Ticks}
@@ -7,6 +7,11 @@ use Rattle.cluster_config.specs.declared.view.AgentView.{AgentView}
 use Rattle.cluster_config.specs.declared.view.RoleWord.{RoleWord}
 use Rattle.cluster_config.specs.Snapshots.{SnapshotFacts}
 use Rattle.leader_race.specs.Outcome.{outcome_of}
+use Rattle.cluster_config.specs.declared.view.LeaderView.{LeaderView}
+use Rattle.sync_state.specs.declared.steps.Plan.{Plan}
+use Rattle.sync_state.specs.Candidates.{candidates_in}
+use Rattle.sync_state.specs.Plans.{plan_of}
+use Rattle.ha_loop.specs.Planning.{leader_view, planned_as, planned_on, planned}
 use Rattle.ha_loop.specs.Acting.{waiting_no_more, touching, starting_replica}
 use Rattle.ha_loop.specs.Agents.{Outcome, word_of}
 use Rattle.ha_loop.specs.Answers.{all_answered}
@@ -43,3 +48,14 @@ unless-by now o after bar by same is = is ∙ ap (λ (b : Option Bar). races_unl
 pub free-by : (now : Ticks) (o after : Outcome) (bar : Option Bar) → can_start o.machine.server ≡ false → bar ≡ bar_of now o.knows o.machine → after ≡ races_unless now bar o → after ≡ free_key now o
 free-by now o after bar down same is =
     is ∙ ap (λ (b : Option Bar). races_unless now b o) same ∙ sym (if-false (can_start o.machine.server) (touching (starting_replica now None o)) (races_unless now (bar_of now o.knows o.machine) o) down)
+
+-- the plan doesn't read the snapshot that a view holds
+plan-shown : (view : LeaderView) (snapshot : SnapshotFacts) → plan_of view snapshot ≡ plan_of (record view { view = record view.view { seen = None } }) snapshot
+unfolding candidates_in
+plan-shown view snapshot = refl
+
+-- the step that a leader takes is the plan's for what it shows, beside which the newest snapshot stands
+pub step-shown : (now : Ticks) (revision : ℕ) (view : LeaderView) (snapshot : SnapshotFacts) (plan : Plan) (o after : Outcome) → ◌≡◌ {A = LeaderView} (record view { view = record view.view { seen = None } }) (leader_view now o.knows o.machine) → o.knows.seen ≡ Some snapshot
+    → plan ≡ plan_of view snapshot → after ≡ planned_as now revision plan o → after ≡ planned now revision o
+step-shown now revision view snapshot plan o after shown there is made-is =
+    made-is ∙ ap (λ (p : Plan). planned_as now revision p o) (is ∙ plan-shown view snapshot ∙ ap (λ (v : LeaderView). plan_of v snapshot) shown) ∙ ap (λ (s : Option SnapshotFacts). planned_on now revision s o) (sym there)

@@ -23,10 +23,12 @@ use Rattle.ha_loop.specs.declared.knowledge.Waited.{Waited}
 use Rattle.ha_loop.specs.declared.output.Output.TheVariants as outputs
 use Rattle.ha_loop.specs.declared.role.Why.{Why}
 use Rattle.ha_loop.specs.declared.role.Why.TheVariants.{HandOver, Lost}
-use Rattle.ha_loop.specs.Acting.{disarming, arming, feeding, ending_server, shutting_down, touching, starting_replica, following_server, is_refusing, waiting_no_more}
+use Rattle.ha_loop.specs.Acting.{disarming, arming, ending_server, requiring, shutting_down, touching, starting_replica, following_server, is_refusing, waiting_no_more}
 use Rattle.ha_loop.specs.Agents.{EndsAlone, HasCounted, RoleFacts, Follower, Holder, Ready, Leader, Ending, Stray, Outcome}
 use Rattle.ha_loop.specs.Before.{leader_finds_ended, has_ended, finds_live, stray_finds_ended, before}
-use Rattle.ha_loop.specs.Decisions.{may_create, is_start_too_long, leader_renewed, takes_over, stray_renewed, may_take, gives_back, begins, arms, takes_key, granted, refused}
+use Rattle.ha_loop.specs.Decisions.{may_create, leader_renewed, takes_over, stray_renewed, may_take, gives_back, arms, takes_key, granted, refused}
+use Rattle.ha_loop.specs.Claiming.{begins, claims, begins_or_claims, postpones}
+use Rattle.ha_loop.specs.Planning.{writing_sync, noting}
 use Rattle.ha_loop.specs.Outputs.{listed}
 use Rattle.ha_loop.specs.Seen.{lease_asked, leader_seen_if, failsafe_listed, failsafe_entry_seen, failsafe_seen_if}
 use Rattle.ha_loop.specs.Repairs.{repair_of, repairing}
@@ -37,7 +39,7 @@ use Rattle.ha_loop.specs.Table.{step}
 use Rattle.ha_loop.specs.Wake.{reading, turn_noted, leader_out_of_reach, stray_out_of_reach, overdue, turned, woken}
 use Rattle.ha_loop.proofs.Granting.{Told}
 use Rattle.ha_loop.proofs.Living.{no-way}
-use Rattle.ha_loop.proofs.Rows.{if-cases, before-by, overdue-by, turn-by, wake-by, got-by, refused-by, follow-by, repaired-by, free-by, granted-by, judged-by, answered-by}
+use Rattle.ha_loop.proofs.Rows.{led_on, if-cases, renewed-by, begins-or-claims-by, before-by, overdue-by, turn-by, wake-by, got-by, refused-by, follow-by, repaired-by, free-by, granted-by, judged-by, answered-by}
 
 -- who ends its server waits for nothing
 abbrev pub IsAlone : Outcome → Type 0
@@ -230,6 +232,7 @@ overdue-onward told now o = overdue-by (Onward told o) now o (record {
   leader = λ held _. rests told o (leader_out_of_reach now held (waiting_no_more o)) refl refl refl refl refl (omega arith) refl refl;
   stray = λ _. rests told o (stray_out_of_reach now (waiting_no_more o)) refl refl refl refl refl (omega arith) refl refl;
   judges = λ may. judged-onward told now o may;
+  ready = λ held _. rests told o (postpones held (waiting_no_more o)) refl refl refl refl refl (omega arith) refl refl;
 })
 
 pub turn-onward : (told : Option SnapshotFacts) (now : Ticks) (o : Outcome) → Onward told o (turned now o)
@@ -303,13 +306,24 @@ refused-onward told now sequence o = refused-by (Onward told o) now sequence o (
   leader = λ held _. rests told o (leader_loses_key now held (waiting_no_more o)) refl refl refl refl refl (omega arith) refl refl;
   stray = λ _. rests told o (stray_loses_key now (waiting_no_more o)) refl refl refl refl refl (omega arith) refl refl;
   follower = λ held _. rests told o (record (waiting_no_more o) { role = Follower }) refl refl refl refl refl (omega arith) refl refl;
+  ready = λ held _. rests told o (postpones held (waiting_no_more o)) refl refl refl refl refl (omega arith) refl refl;
 })
 
+-- a row behind it that asks for another write
+writes-told : (snapshot : SnapshotFacts) (o after : Outcome) → after.knows.who ≡ o.knows.who → after.knows.run ≡ o.knows.run → after.knows.seen ≡ Some snapshot → after.knows.known ≡ (Told snapshot o).knows.known → after.knows.informed ≡ (Told snapshot o).knows.informed
+    → o.knows.sequence ≤ after.knows.sequence → lease_asked after.knows.waited ≡ None → after.machine.hold ≡ o.machine.hold → is_active after.role ≡ true → (asked : Waited) → after.knows.waited ≡ Some asked → asked.sequence ≡ after.knows.sequence → Onward (Some snapshot) o after
+writes-told snapshot o after who run seen known inform last none hold active asked is number =
+    onward-then (Some snapshot) o (Told snapshot o) after (tells snapshot o) (asks-on (Some snapshot) (Told snapshot o) after who run seen known inform last (λ n e. absurd (none-some _ (sym none ∙ e))) hold active asked is number)
+
 renewed-onward : (now ttl : Ticks) (revision : ℕ) (snapshot : SnapshotFacts) (o : Outcome) → Onward (Some snapshot) o (leader_renewed now ttl revision (Told snapshot o))
-renewed-onward now ttl revision snapshot o = let fed : Outcome = record (feeding now ttl (Told snapshot o)) { role = Leader revision } in
-    let ended : Outcome = record (ending_server now StartTooLong fed) { role = Ending revision HandOver } in
-    if-cases (Onward (Some snapshot) o) (is_start_too_long now fed.knows fed.machine.server.state) ended fed
-    (λ _. quiet-told snapshot o ended refl refl refl refl refl (omega arith) refl refl) (λ _. quiet-told snapshot o fed refl refl refl refl refl (omega arith) refl refl)
+renewed-onward now ttl revision snapshot o = let led : Outcome = led_on now ttl revision (Told snapshot o) in
+    let ended : Outcome = record (ending_server now StartTooLong led) { role = Ending revision HandOver } in
+    renewed-by (Onward (Some snapshot) o) now ttl revision (Told snapshot o) (quiet-told snapshot o ended refl refl refl refl refl (omega arith) refl refl) (record {
+      kept = quiet-told snapshot o led refl refl refl refl refl (omega arith) refl refl;
+      writes = λ settling txn _. writes-told snapshot o (writing_sync now settling txn led) refl refl refl refl refl (omega arith) refl refl refl _ refl refl;
+      adds = λ required. quiet-told snapshot o (requiring required (noting led)) refl refl refl refl refl (omega arith) refl refl;
+      drops = λ required. quiet-told snapshot o (requiring required led) refl refl refl refl refl (omega arith) refl refl;
+    })
 
 stray-onward : (now ttl : Ticks) (revision : ℕ) (snapshot : SnapshotFacts) (o : Outcome) → Onward (Some snapshot) o (stray_renewed now ttl revision (Told snapshot o))
 stray-onward now ttl revision snapshot o = let over : Outcome = takes_over now revision (arming now ttl (Told snapshot o)) in let ended : Outcome = ending_server now WatchdogNotArmed (Told snapshot o) in
@@ -317,13 +331,15 @@ stray-onward now ttl revision snapshot o = let over : Outcome = takes_over now r
     (λ _. quiet-told snapshot o ended refl refl refl refl refl (omega arith) refl refl) (λ _. quiet-told snapshot o over refl refl refl refl refl (omega arith) refl refl)
 
 arms-onward : (now ttl : Ticks) (revision : ℕ) (snapshot : SnapshotFacts) (o : Outcome) → Onward (Some snapshot) o (arms now ttl revision (Told snapshot o))
-arms-onward now ttl revision snapshot o = let back : Outcome = gives_back revision (record (Told snapshot o) { outputs = listed outputs.CannotArm o.outputs }) in let begun : Outcome = begins now revision (arming now ttl (Told snapshot o)) in
-    if-cases (Onward (Some snapshot) o) (is_refusing o.machine.watchdog.mode o.machine.watchdog.works) back begun
-    (λ _. quiet-told snapshot o back refl refl refl refl refl (omega arith) refl refl) (λ _. quiet-told snapshot o begun refl refl refl refl refl (omega arith) refl refl)
+arms-onward now ttl revision snapshot o = let back : Outcome = gives_back revision (record (Told snapshot o) { outputs = listed outputs.CannotArm o.outputs }) in let arm : Outcome = arming now ttl (Told snapshot o) in
+    if-cases (Onward (Some snapshot) o) (is_refusing o.machine.watchdog.mode o.machine.watchdog.works) back (begins_or_claims now revision arm)
+    (λ _. quiet-told snapshot o back refl refl refl refl refl (omega arith) refl refl)
+    (λ _. begins-or-claims-by (Onward (Some snapshot) o) now revision arm (quiet-told snapshot o (begins now revision arm) refl refl refl refl refl (omega arith) refl refl)
+    (writes-told snapshot o (claims now revision arm) refl refl refl refl refl (omega arith) refl refl refl _ refl refl))
 
 takes-onward : (now ttl : Ticks) (revision : ℕ) (snapshot : SnapshotFacts) (o : Outcome) → Onward (Some snapshot) o (takes_key now ttl revision (Told snapshot o))
 takes-onward now ttl revision snapshot o = let back : Outcome = gives_back revision (Told snapshot o) in
-    if-cases (Onward (Some snapshot) o) (may_take now o.knows o.machine) (arms now ttl revision (Told snapshot o)) back
+    if-cases (Onward (Some snapshot) o) (may_take now (Told snapshot o).knows o.machine) (arms now ttl revision (Told snapshot o)) back
     (λ _. arms-onward now ttl revision snapshot o) (λ _. quiet-told snapshot o back refl refl refl refl refl (omega arith) refl refl)
 
 pub granted-onward : (now : Ticks) (sequence : ℕ) (grant : Granted) (snapshot : SnapshotFacts) (o : Outcome) → Onward (Some snapshot) o (granted now sequence grant snapshot o)
@@ -335,6 +351,12 @@ granted-onward now sequence grant snapshot o = granted-by (Onward (Some snapshot
       leader = λ held _. renewed-onward now waited.ttl grant.revision snapshot o;
       stray = λ _. stray-onward now waited.ttl grant.revision snapshot o;
       takes = λ _. takes-onward now waited.ttl grant.revision snapshot o;
+    })
+    (record {
+      other = tells snapshot o;
+      begins = λ revision _. quiet-told snapshot o (begins now revision (Told snapshot o)) refl refl refl refl refl (omega arith) refl refl;
+      postpones = λ revision _. quiet-told snapshot o (postpones revision (Told snapshot o)) refl refl refl refl refl (omega arith) refl refl;
+      settles = λ required _. quiet-told snapshot o (requiring required (Told snapshot o)) refl refl refl refl refl (omega arith) refl refl;
     })
 
 pub answered-onward : (told : Option SnapshotFacts) (now : Ticks) (sequence : ℕ) (answer : PeerAnswer) (o : Outcome) → Onward told o (answered now sequence answer o)

@@ -19,13 +19,14 @@ use Rattle.ha_loop.specs.declared.output.Output.{Output}
 use Rattle.ha_loop.specs.declared.output.Output.TheVariants as outputs
 use Rattle.ha_loop.specs.declared.output.Target.TheVariants as targets
 use Rattle.ha_loop.specs.declared.who.Who.{Who}
-use Rattle.ha_loop.specs.Agents.{RoleFacts, Follower, Holder, Ready, Leader, Ending, Stray, Outcome}
+use Rattle.ha_loop.specs.Agents.{RoleFacts, Follower, Holder, Ready, Leader, Ending, Stray, Outcome, is_ready}
 use Rattle.ha_loop.specs.Fits.{Fits}
 use Rattle.ha_loop.specs.Lawful.{StandsIn, query_in, IsSentBy, IsInputOf}
-use Rattle.ha_loop.specs.Powers.{Acts, BringsNothing, LeavesMachine, is_ready, leads, lease_of}
+use Rattle.ha_loop.specs.Powers.{Acts, BringsNothing, LeavesMachine, leads, lease_of}
 use Rattle.ha_loop.specs.Powers.DeadlineMay.{Kept as DeadlineKept, Removed as DeadlineRemoved, Undone as DeadlineUndone}
 use Rattle.ha_loop.specs.Seen.{leader_seen_if, failsafe_seen_if, agent_seen, moment_seen, hold_seen, machine_seen}
 use Rattle.ha_loop.proofs.Knowing.{Onward}
+use Rattle.ha_loop.proofs.Fitting.{ready-ended}
 use Rattle.ha_loop.proofs.Leaving.{acts-before}
 use Rattle.ha_loop.proofs.Living.{no-way}
 use Rattle.ha_loop.proofs.Sending.{MayTransact, MayAskStore, SendsNew, MayPut, AllMay}
@@ -120,12 +121,17 @@ lawful-of s m runs input now told G o after stands is p = record {
   waits = p.onward.waits;
 }
 
+-- a watchdog that stays, where who acts after the input acted before
+pub watchdog-kept : (s : State) (m runs : ℕ) (input : AgentInput) (now : Ticks) (o after : Outcome) → StandsIn s m runs now o → IsInputOf s m runs o after input → after.machine.watchdog ≡ o.machine.watchdog → (LawActs input.machine → LawActs (s.members m))
+    → WatchdogMay s m input (was_of o) (was_of after)
+watchdog-kept s m runs input now o after stands is same acts =
+    Kept (ap (λ (x : MachineSeen). x.deadline) is.machine ∙ (ap (λ (w : WatchdogFacts). moment_seen w.deadline) same ∙ sym (ap (λ (x : MachineSeen). x.deadline) stands.member)))
+    (ap (λ (x : MachineSeen). x.by_failsafe) is.machine ∙ sym (ap (λ (x : MachineSeen). x.by_failsafe) stands.member)) acts
+
 -- what an input without a grant does to its watchdog
 pub watchdog-leaves : (s : State) (m runs : ℕ) (input : AgentInput) (now : Ticks) (o after : Outcome) → StandsIn s m runs now o → IsInputOf s m runs o after input → LeavesMachine o after → BringsNothing o after → WatchdogMay s m input (was_of o) (was_of after)
 watchdog-leaves s m runs input now o after stands is leaves brings = elim leaves.deadline [
-  | DeadlineKept same ↦ Kept (ap (λ (x : MachineSeen). x.deadline) is.machine ∙ (ap (λ (w : WatchdogFacts). moment_seen w.deadline) same ∙ sym (ap (λ (x : MachineSeen). x.deadline) stands.member)))
-      (ap (λ (x : MachineSeen). x.by_failsafe) is.machine ∙ sym (ap (λ (x : MachineSeen). x.by_failsafe) stands.member))
-      (λ acts. seen-acts (s.members m) runs o stands.member (acts-before o after brings (acts-seen input.machine runs after is.machine acts)))
+  | DeadlineKept same ↦ watchdog-kept s m runs input now o after stands is same (λ acts. seen-acts (s.members m) runs o stands.member (acts-before o after brings (acts-seen input.machine runs after is.machine acts)))
   | DeadlineRemoved gone rests ↦ Removed (λ acts. rests (acts-seen input.machine runs after is.machine acts))
   | DeadlineUndone gone ready lives ↦ Undone (ap (λ (x : MachineSeen). law_ready x.agent) stands.member ∙ ready) (ap (λ (x : MachineSeen). x.live) stands.member ∙ lives)
 ]
@@ -133,14 +139,6 @@ watchdog-leaves s m runs input now o after stands is leaves brings = elim leaves
 not-true : (b : Bool) → (b ≡ true → ⊥) → b ≡ false
 not-true true never = absurd (never refl)
 not-true false never = refl
-
-ready-ended : (role : RoleFacts) (lives : Bool) → is_ready role ≡ true → Fits role lives → lives ≡ false
-ready-ended (Ready held) lives ready fits = fits
-ready-ended Follower lives ready fits = fits
-ready-ended (Holder held) lives ready fits = fits
-ready-ended (Leader held) lives ready fits = absurd (no-way ready)
-ready-ended (Ending held why) lives ready fits = absurd (no-way ready)
-ready-ended Stray lives ready fits = absurd (no-way ready)
 
 -- nobody is Ready over a live server
 pub parted-by : (b after : Outcome) → Fits b.role (live b.machine.server.state) → BringsNothing b after → is_ready after.role ≡ true → live after.machine.server.state ≡ false

@@ -26,26 +26,27 @@ use Rattle.ha_loop.specs.declared.output.Output.{Output}
 use Rattle.ha_loop.specs.declared.role.Why.{Why}
 use Rattle.ha_loop.specs.declared.role.Why.TheVariants.{HandOver, Lost}
 use Rattle.ha_loop.specs.declared.who.Who.{Who}
-use Rattle.ha_loop.specs.Agents.{RoleFacts, EndsAlone, HasCounted, IsSoundAgent, Outcome, made}
+use Rattle.ha_loop.specs.Agents.{RoleFacts, EndsAlone, HasCounted, IsSoundAgent, Outcome, made, is_ready}
 use Rattle.ha_loop.specs.Before.{has_ended, before}
 use Rattle.ha_loop.specs.Decisions.{is_lease_of, granted, refused}
 use Rattle.ha_loop.specs.Lawful.{StandsIn, HearsAnswer, TellsLease, HearsGrant, IsInputOf, MayPromote, IsLawfulAnd, IsLawfulFrom}
-use Rattle.ha_loop.specs.Powers.{BringsNothing, LeavesMachine, IsAwaitedLease, GrantMay, is_ready, leads, lease_of}
-use Rattle.ha_loop.specs.Powers.GrantMay.{Nothing, Leads}
+use Rattle.ha_loop.specs.Powers.{BringsNothing, LeavesMachine, IsAwaitedLease, GrantMay, leads, lease_of}
+use Rattle.ha_loop.specs.Powers.GrantMay.{Nothing, Leads, Begins}
 use Rattle.ha_loop.specs.Seen.{leader_seen_if, failsafe_seen_if}
 use Rattle.ha_loop.specs.Peers.{asked, answered}
 use Rattle.ha_loop.specs.Snapshots.{got}
 use Rattle.ha_loop.specs.Table.{step, act}
 use Rattle.ha_loop.specs.Wake.{overdue, turned, woken}
-use Rattle.ha_loop.proofs.Bringing.{brings-then, before-brings, overdue-brings, turn-brings, wake-brings, got-brings, refused-brings, answer-brings, read-brings, refusal-brings, asked-brings, answered-brings}
-use Rattle.ha_loop.proofs.Fitting.{before-fits}
+use Rattle.ha_loop.proofs.Bringing.{ready-leads, brings-then, before-brings, overdue-brings, turn-brings, wake-brings, got-brings, refused-brings, answer-brings, read-brings, refusal-brings, asked-brings, answered-brings}
+use Rattle.ha_loop.proofs.Fitting.{before-fits, ready-same}
 use Rattle.ha_loop.proofs.Granting.{awaited-lease, granted-may as grant-may}
 use Rattle.ha_loop.proofs.Knowing.{IsAlone, alone-of, ends-of, Onward, before-onward, wake-onward, got-onward, refused-onward, granted-onward, answered-onward, asked-onward, onward-then, step-onward}
-use Rattle.ha_loop.proofs.Lawful.{was_of, acts-seen, seen-acts, watchdog-leaves, parted-by, lawful-of}
+use Rattle.ha_loop.proofs.Lawful.{was_of, acts-seen, seen-acts, watchdog-kept, watchdog-leaves, parted-by, lawful-of}
 use Rattle.ha_loop.proofs.LawfulGrants.{heard-leader, heard-failsafe, hears-grant, fed-of, entry-known, armable-before, new-deadline, free-of}
-use Rattle.ha_loop.proofs.Leaving.{behind, before-leaves, wake-leaves, read-leaves, refusal-leaves, asked-leaves, answered-leaves}
+use Rattle.ha_loop.proofs.Leaving.{leaves-then, before-leaves, wake-leaves, read-leaves, refusal-leaves, asked-leaves, answered-leaves}
 use Rattle.ha_loop.proofs.Living.{no-way}
 use Rattle.ha_loop.proofs.Rows.{before-by, wake-by}
+use Rattle.ha_loop.proofs.Sending.BeginsOn.{WasReady, OnLease}
 use Rattle.ha_loop.proofs.Sending.{IsSilent, AllMay, Decides, BeginsOn, before-may, wake-may, got-may, refused-may, granted-may as granted-sends, asked-may, answered-may, nobody-begins, grant-begins, begins-weaker}
 
 -- no revision is granted
@@ -109,9 +110,9 @@ AsksLeases knows = ForSome knows.waited (λ waited. IsLeaseSpan waited.ttl.0)
 span-of : (knows : Knowledge) (waited : Waited) → AsksLeases knows → knows.waited ≡ Some waited → IsLeaseSpan waited.ttl.0
 span-of knows waited asks is = asks waited is
 
--- a revision that the grant gives which is waited for
+-- a revision that the grant gives which is waited for, or that of the agent's lease
 abbrev Gives : ℕ → Granted → Outcome → ℕ → Type 0
-Gives sequence grant b revision = Decides sequence grant b × (grant.revision ≡ revision)
+Gives sequence grant b revision = (Decides sequence grant b × (grant.revision ≡ revision)) ⊎ (lease_of b.role ≡ Some revision)
 
 awaited-by : (sequence : ℕ) (grant : Granted) (now : Ticks) (o : Outcome) → Decides sequence grant (before now o) → IsAwaitedLease sequence grant o.knows
 awaited-by sequence grant now o decides =
@@ -129,24 +130,23 @@ record Brought (s : State) (m : ℕ) (input : AgentInput) (o after : Outcome) : 
   leads_by : leads after.role ≡ true → (leads o.role ≡ true) ⊎ FedKnown s m input (was_of after)
   lease : (revision : ℕ) → lease_of after.role ≡ Some revision → Owns s m input.heard (was_of o) revision
 
--- whoever comes to act on it heard it while no hold is active
-acts-free : (s : State) (m runs : ℕ) (input : AgentInput) (now : Ticks) (o after : Outcome) → StandsIn s m runs now o → IsInputOf s m runs o after input → is_ready after.role ≡ false
-    → (live after.machine.server.state ≡ true → (live o.machine.server.state ≡ true) ⊎ ((s.members m).hold ≤ s.clock)) → LawActs input.machine → LawActs (s.members m) ⊎ ((s.members m).hold ≤ s.clock)
-acts-free s m runs input now o after stands is unready free acts = elim (acts-seen input.machine runs after is.machine acts) [
-  | inl lives ↦ elim (free lives) [ inl was ↦ inl (seen-acts (s.members m) runs o stands.member (inl was)) | inr over ↦ inr over ]
-  | inr ready ↦ absurd (no-way (sym unready ∙ ready))
-]
-
 leads-brought : (s : State) (m runs sequence : ℕ) (input : AgentInput) (now : Ticks) (grant : Granted) (snapshot : SnapshotFacts) (o after : Outcome) → AsksLeases o.knows → StandsIn s m runs now o → HearsGrant s m input.heard now sequence grant snapshot o → IsInputOf s m runs o after input
     → GrantMay now sequence grant snapshot (before now o) after → after.machine.hold ≡ (before now o).machine.hold → Brought s m input o after
-leads-brought s m runs sequence input now grant snapshot o after sound stands hears is (Nothing brings same) hold =
+leads-brought s m runs sequence input now grant snapshot o after sound stands hears is (Nothing brings deadline) hold =
     let all : BringsNothing o after = brings-then o (before now o) after (before-brings now o) brings in record {
-      watchdog = watchdog-leaves s m runs input now o after stands is (behind o (before now o) after (before-leaves now o) (record { watchdog = same; hold = hold }) brings) all;
+      watchdog = watchdog-leaves s m runs input now o after stands is (leaves-then o (before now o) after (before-leaves now o) (before-fits now o) (record { deadline = deadline; hold = hold }) brings) all;
       parted = parted-by (before now o) after (before-fits now o) brings;
       leads_by = λ e. inl (all.leads e);
       lease = λ revision e. inl (all.lease revision e);
     }
-leads-brought s m runs sequence input now grant snapshot o after sound stands hears is (Leads later fed lease unready known told free armed) hold =
+leads-brought s m runs sequence input now grant snapshot o after sound stands hears is (Begins was-ready ready same lease) hold =
+    let ready-before : is_ready o.role ≡ true = (before-brings now o).ready was-ready in record {
+      watchdog = watchdog-kept s m runs input now o after stands is (same ∙ ready-same now o was-ready) (λ _. seen-acts (s.members m) runs o stands.member (inr ready-before));
+      parted = λ e. absurd (no-way (sym ready ∙ e));
+      leads_by = λ _. inl (ready-leads o.role ready-before);
+      lease = λ revision e. inl ((before-brings now o).lease revision (sym lease ∙ e));
+    }
+leads-brought s m runs sequence input now grant snapshot o after sound stands hears is (Leads later fed lease parted known told free armed) hold =
     let b : Outcome = before now o in
     let awaited : IsAwaitedLease sequence grant o.knows = awaited-before sequence grant o b (before-waits now o) (before-onward None now o).who later in
     let tells : TellsLease now grant snapshot o.machine awaited.waited hears.answer.answer = hears.lease awaited in
@@ -157,8 +157,8 @@ leads-brought s m runs sequence input now grant snapshot o after sound stands he
       known = λ key e p listed. ap (λ (set : MemberSet). set_members set p) known ∙ entry-known b.knows.known (entry_in keys.Failsafe snapshot) key (sym tells.failsafe ∙ e) p listed;
     } in record {
       watchdog = SetByGrant knows-it (ap (λ (x : MachineSeen). x.deadline) is.machine ∙ new-deadline now awaited.waited.ttl.0 o b after (before-leaves now o) tells.armable fed) refl
-          (acts-free s m runs input now o after stands is unready (λ lives. elim (free lives) [ inl was ↦ inl ((before-brings now o).live was) | inr over ↦ inr (free-of s m runs now o b stands (before-leaves now o) over) ]));
-      parted = λ ready. absurd (no-way (sym unready ∙ ready));
+          (λ acts. elim (free (acts-seen input.machine runs after is.machine acts)) [ inl was ↦ inl (seen-acts (s.members m) runs o stands.member (inl ((before-brings now o).live was))) | inr over ↦ inr (free-of s m runs now o b stands (before-leaves now o) over) ]);
+      parted = parted;
       leads_by = λ e. inr knows-it;
       lease = λ revision e. gives-owns s m runs sequence input now grant snapshot o stands hears awaited revision (some-is grant.revision revision (sym lease ∙ e));
     }
@@ -203,26 +203,30 @@ asked-lawful s m runs input now from run sequence o alone silent stands is = let
 
 may-promote : (s : State) (m runs sequence : ℕ) (input : AgentInput) (now : Ticks) (grant : Granted) (snapshot : SnapshotFacts) (o : Outcome) → AsksLeases o.knows → StandsIn s m runs now o → HearsGrant s m input.heard now sequence grant snapshot o
     → (outs : List Output) → BeginsOn now sequence grant (before now o) outs → MayPromote s m input outs
-may-promote s m runs sequence input now grant snapshot o sound stands hears outs begin = let awaited : IsAwaitedLease sequence grant o.knows = awaited-by sequence grant now o begin.decides in record {
+may-promote s m runs sequence input now grant snapshot o sound stands hears outs (WasReady ready) = inl (seen-acts (s.members m) runs o stands.member (inr ((before-brings now o).ready ready)))
+may-promote s m runs sequence input now grant snapshot o sound stands hears outs (OnLease decides free armed) = let awaited : IsAwaitedLease sequence grant o.knows = awaited-by sequence grant now o decides in inr (record {
   fed = fed-of s m runs sequence input.heard now grant snapshot o stands hears awaited (span-of o.knows awaited.waited sound awaited.is);
-  free = free-of s m runs now o (before now o) stands (before-leaves now o) begin.free;
-  armed = begin.armed_is;
-}
+  free = free-of s m runs now o (before now o) stands (before-leaves now o) free;
+  armed = armed;
+})
 
 grant-lawful : (s : State) (m runs : ℕ) (input : AgentInput) (now : Ticks) (sequence : ℕ) (grant : Granted) (snapshot : SnapshotFacts) (o : Outcome) → AsksLeases o.knows → IsAlone o → All IsSilent o.outputs → StandsIn s m runs now o
     → HearsGrant s m input.heard now sequence grant snapshot o → IsInputOf s m runs o (granted now sequence grant snapshot (before now o)) input → IsLawfulAnd s m (granted now sequence grant snapshot (before now o)) input
 grant-lawful s m runs input now sequence grant snapshot o sound alone silent stands hears is =
     let b : Outcome = before now o in
     let after : Outcome = granted now sequence grant snapshot b in
-    let gives : (revision : ℕ) → Gives sequence grant b revision → Owns s m input.heard (was_of o) revision = λ revision e. gives-owns s m runs sequence input now grant snapshot o stands hears (awaited-by sequence grant now o e.0) revision e.1 in
+    let gives : (revision : ℕ) → Gives sequence grant b revision → Owns s m input.heard (was_of o) revision = λ revision e. elim e [
+      | inl given ↦ gives-owns s m runs sequence input now grant snapshot o stands hears (awaited-by sequence grant now o given.0) revision given.1
+      | inr held ↦ inl ((before-brings now o).lease revision held)
+    ] in
     let onward : Onward (Some snapshot) b after = granted-onward now sequence grant snapshot b in
-    let brought : Brought s m input o after = leads-brought s m runs sequence input now grant snapshot o after sound stands hears is (grant-may now sequence grant snapshot b) onward.hold in
+    let brought : Brought s m input o after = leads-brought s m runs sequence input now grant snapshot o after sound stands hears is (grant-may now sequence grant snapshot b (before-fits now o)) onward.hold in
     record {
       lawful = lawful-of s m runs input now (Some snapshot) (Gives sequence grant b) o after stands is (record {
         onward = onward-then (Some snapshot) o b after (before-onward (Some snapshot) now o) onward;
         watchdog = brought.watchdog;
         parted = brought.parted;
-        sends = granted-sends (Gives sequence grant b) now sequence grant snapshot o alone (before-onward None now o).last (before-fits now o) (λ decides. (decides, refl)) silent;
+        sends = granted-sends (Gives sequence grant b) now sequence grant snapshot o alone (before-onward None now o).last (before-fits now o) (λ decides. inl (decides, refl)) (λ revision ready. inr (rw ready refl)) silent;
         owns = gives;
         leads_by = brought.leads_by;
         lease = brought.lease;

@@ -1,5 +1,5 @@
 -- What an input without a grant does to the watchdog and the hold.
-use Rattle.std.proofs.Common.{◌≡◌, ℕ, true, false, List, refl, sym, ◌∙◌, inl, inr}
+use Rattle.std.proofs.Common.{◌≡◌, ℕ, Bool, true, false, List, None, refl, sym, subst, ap, ◌∙◌, inl, inr}
 use Rattle.pat_base.specs.declared.member_id.MemberId.{MemberId}
 use Rattle.pat_base.specs.declared.peer_answer.PeerAnswer.{PeerAnswer}
 use Rattle.pat_base.specs.declared.ticks.Ticks.{Ticks}
@@ -9,11 +9,17 @@ use Rattle.cluster_config.specs.Snapshots.{SnapshotFacts}
 use Rattle.ha_loop.specs.Repairs.{repair_of}
 use Rattle.ha_loop.specs.declared.role.Why.{Why}
 use Rattle.ha_loop.specs.declared.role.Why.TheVariants.{HandOver, Lost}
-use Rattle.ha_loop.specs.Acting.{touching}
-use Rattle.ha_loop.specs.Agents.{RoleFacts, Follower, Ready, Outcome}
+use Rattle.leader_key.specs.Watchdog.{WatchdogFacts}
+use Rattle.pat_base.specs.declared.server_state.State.{State}
+use Rattle.ha_loop.specs.declared.machine.Machine.{Machine}
+use Rattle.ha_loop.specs.Acting.{touching, waiting_no_more}
+use Rattle.ha_loop.specs.Claiming.{postpones}
+use Rattle.ha_loop.specs.Fits.{Fits}
+use Rattle.ha_loop.proofs.Fitting.{before-fits, ready-ended}
+use Rattle.ha_loop.specs.Agents.{RoleFacts, Follower, Ready, Outcome, is_ready}
 use Rattle.ha_loop.specs.Before.{leader_finds_ended, has_ended, stray_finds_ended, before}
 use Rattle.ha_loop.specs.Decisions.{refused}
-use Rattle.ha_loop.specs.Powers.{BringsNothing, LeavesMachine, Acts, is_ready}
+use Rattle.ha_loop.specs.Powers.{BringsNothing, LeavesMachine, DeadlineMay, Acts}
 use Rattle.ha_loop.specs.Powers.DeadlineMay.{Kept, Removed, Undone}
 use Rattle.ha_loop.specs.Snapshots.{follows, read_noted, got, follow_row}
 use Rattle.ha_loop.specs.Racing.{finds_free, judged, unheard}
@@ -23,13 +29,18 @@ use Rattle.ha_loop.proofs.Bringing.{same-role, overdue-brings, turn-brings, got-
 use Rattle.ha_loop.proofs.Living.{no-way}
 use Rattle.ha_loop.proofs.Rows.{before-by, overdue-by, turn-by, wake-by, got-by, refused-by, follow-by, free-by, repaired-by, judged-by, answered-by}
 
--- neither changes
+-- a watchdog stays, or loses its deadline where an agent in this role, over a server in this state, doesn't act
+pub data WatchdogStays (was after : WatchdogFacts) (state : State) (role : RoleFacts) : Type 0 where
+  Same : (is : after ≡ was) → WatchdogStays was after state role
+  Gone : (is : after ≡ record was { deadline = None }) → (ended : live state ≡ false) → (unready : is_ready role ≡ false) → WatchdogStays was after state role
+
+-- so it does in an input, and the hold stays
 pub record Stays (o after : Outcome) : Type 0 where
-  pub watchdog : after.machine.watchdog ≡ o.machine.watchdog
+  pub watchdog : WatchdogStays o.machine.watchdog after.machine.watchdog after.machine.server.state after.role
   pub hold : after.machine.hold ≡ o.machine.hold
 
 stays : {o : Outcome} → Stays o o
-stays = record { watchdog = refl; hold = refl }
+stays = record { watchdog = Same refl; hold = refl }
 
 -- nobody acts whose server isn't live and who isn't about to begin
 pub rests-by : (o : Outcome) → live o.machine.server.state ≡ false → is_ready o.role ≡ false → Acts o → ⊥
@@ -41,21 +52,43 @@ acts-before o after brings (inl lives) = inl (brings.live lives)
 acts-before o after brings (inr ready) = inr (brings.ready ready)
 
 -- what comes behind leaves them as they are
+same-behind : (o middle after : Outcome) → DeadlineMay o middle → after.machine.watchdog ≡ middle.machine.watchdog → BringsNothing middle after → DeadlineMay o after
+same-behind o middle after (Kept same) stay brings = Kept (stay ∙ same)
+same-behind o middle after (Removed is rests) stay brings = Removed (stay ∙ is) (λ acts. rests (acts-before middle after brings acts))
+same-behind o middle after (Undone is ready lives) stay brings = Undone (stay ∙ is) ready lives
+
+-- a watchdog without its deadline
+abbrev cleared : WatchdogFacts → WatchdogFacts
+cleared watchdog = record watchdog { deadline = None }
+
+without-deadline : (o middle : Outcome) → DeadlineMay o middle → ◌≡◌ {A = WatchdogFacts} (record middle.machine.watchdog { deadline = None }) (record o.machine.watchdog { deadline = None })
+without-deadline o middle (Kept same) = ap cleared same
+without-deadline o middle (Removed is rests) = ap cleared is
+without-deadline o middle (Undone is ready lives) = ap cleared is
+
+pub behind-by : (o middle after : Outcome) → DeadlineMay o middle → WatchdogStays middle.machine.watchdog after.machine.watchdog after.machine.server.state after.role → BringsNothing middle after → DeadlineMay o after
+behind-by o middle after may (Same is) brings = same-behind o middle after may is brings
+behind-by o middle after may (Gone is ended unready) brings = Removed (is ∙ without-deadline o middle may) (rests-by after ended unready)
+
 pub behind : (o middle after : Outcome) → LeavesMachine o middle → Stays middle after → BringsNothing middle after → LeavesMachine o after
-behind o middle after leaves stay brings = record {
-  deadline = elim leaves.deadline [
-    | Kept same ↦ Kept (stay.watchdog ∙ same)
-    | Removed is rests ↦ Removed (stay.watchdog ∙ is) (λ acts. rests (acts-before middle after brings acts))
-    | Undone is ready lives ↦ Undone (stay.watchdog ∙ is) ready lives
+behind o middle after leaves stay brings = record { deadline = behind-by o middle after leaves.deadline stay.watchdog brings; hold = stay.hold ∙ leaves.hold }
+
+-- what comes behind may do as much as an input without a grant, where the role fits the server before it
+pub leaves-then : (o middle after : Outcome) → LeavesMachine o middle → Fits middle.role (live middle.machine.server.state) → LeavesMachine middle after → BringsNothing middle after → LeavesMachine o after
+leaves-then o middle after leaves fits more brings = record {
+  deadline = elim more.deadline [
+    | Kept same ↦ same-behind o middle after leaves.deadline same brings
+    | Removed is rests ↦ Removed (is ∙ without-deadline o middle leaves.deadline) rests
+    | Undone is ready lives ↦ absurd (no-way (sym (ready-ended middle.role (live middle.machine.server.state) ready fits) ∙ lives))
   ];
-  hold = stay.hold ∙ leaves.hold;
+  hold = more.hold ∙ leaves.hold;
 }
 
 ended-leaves : (why : Why) (held : ℕ) (o : Outcome) → live o.machine.server.state ≡ false → LeavesMachine o (has_ended why held o)
 ended-leaves HandOver held o ended = record { deadline = Removed refl (rests-by (has_ended HandOver held o) ended refl); hold = refl }
 ended-leaves Lost held o ended = record { deadline = Removed refl (rests-by (has_ended Lost held o) ended refl); hold = refl }
 
-ready-is : (role : RoleFacts) (held : ℕ) → role ≡ Ready held → is_ready role ≡ true
+pub ready-is : (role : RoleFacts) (held : ℕ) → role ≡ Ready held → is_ready role ≡ true
 ready-is role held is = rw is refl
 
 pub before-leaves : (now : Ticks) (o : Outcome) → LeavesMachine o (before now o)
@@ -70,29 +103,36 @@ before-leaves now o = before-by (LeavesMachine o) now o (record {
 })
 
 judged-stays : (now : Ticks) (o : Outcome) → Stays o (judged now o)
-judged-stays now o = judged-by (Stays o) now o (record { watchdog = refl; hold = refl }) (λ bar. record { watchdog = refl; hold = refl })
+judged-stays now o = judged-by (Stays o) now o (record { watchdog = Same refl; hold = refl }) (λ bar. record { watchdog = Same refl; hold = refl })
 
-overdue-stays : (now : Ticks) (o : Outcome) → Stays o (overdue now o)
-overdue-stays now o = overdue-by (Stays o) now o (record { kept = stays; quiet = record { watchdog = refl; hold = refl }; leader = λ held _. record { watchdog = refl; hold = refl }; stray = λ _. record { watchdog = refl; hold = refl }; judges = λ _. judged-stays now o })
+-- a promotion that is postponed leaves nobody who acts
+pub postpones-stays : (o : Outcome) (held : ℕ) (b : Outcome) → o.role ≡ Ready held → Fits o.role (live o.machine.server.state) → b.machine ≡ o.machine → Stays o (postpones held b)
+postpones-stays o held b is fits same = record {
+  watchdog = Gone (ap (λ (m : Machine). cleared m.watchdog) same) (ap (λ (m : Machine). live m.server.state) same ∙ ready-ended o.role (live o.machine.server.state) (ready-is o.role held is) fits) refl;
+  hold = ap (λ (m : Machine). m.hold) same;
+}
+
+overdue-stays : (now : Ticks) (o : Outcome) → Fits o.role (live o.machine.server.state) → Stays o (overdue now o)
+overdue-stays now o fits = overdue-by (Stays o) now o (record { ready = λ held is. postpones-stays o held (waiting_no_more o) is fits refl; kept = stays; quiet = record { watchdog = Same refl; hold = refl }; leader = λ held _. record { watchdog = Same refl; hold = refl }; stray = λ _. record { watchdog = Same refl; hold = refl }; judges = λ _. judged-stays now o })
 
 turn-stays : (now : Ticks) (o : Outcome) → Stays o (turned now o)
-turn-stays now o = turn-by (Stays o) now o (record { kept = stays; quiet = record { watchdog = refl; hold = refl }; reads = λ _. record { watchdog = refl; hold = refl } })
+turn-stays now o = turn-by (Stays o) now o (record { kept = stays; quiet = record { watchdog = Same refl; hold = refl }; reads = λ _. record { watchdog = Same refl; hold = refl } })
 
 pub wake-leaves : (now : Ticks) (o : Outcome) → LeavesMachine o (woken now o)
 wake-leaves now o = wake-by (LeavesMachine o) now o (before-leaves now o)
     (behind o (overdue now (before now o)) (turned now (overdue now (before now o)))
-    (behind o (before now o) (overdue now (before now o)) (before-leaves now o) (overdue-stays now (before now o)) (overdue-brings now (before now o)))
+    (behind o (before now o) (overdue now (before now o)) (before-leaves now o) (overdue-stays now (before now o) (before-fits now o)) (overdue-brings now (before now o)))
     (turn-stays now (overdue now (before now o))) (turn-brings now (overdue now (before now o))))
 
 follow-stays : (now : Ticks) (leader : MemberId) (o : Outcome) → Stays o (follows now leader o)
 follow-stays now leader o = let x : Outcome = record o { role = Follower } in
-    let row = follow-by (Stays o) now leader o.machine.server.state x (record { watchdog = refl; hold = refl }) (record { watchdog = refl; hold = refl }) (record { watchdog = refl; hold = refl }) (record { watchdog = refl; hold = refl }) in
+    let row = follow-by (Stays o) now leader o.machine.server.state x (record { watchdog = Same refl; hold = refl }) (record { watchdog = Same refl; hold = refl }) (record { watchdog = Same refl; hold = refl }) (record { watchdog = Same refl; hold = refl }) in
     let told : Stays o (touching (follow_row now leader o.machine.server.state x)) = record { watchdog = row.watchdog; hold = row.hold } in
     repaired-by (Stays o) leader (repair_of o.knows.settings leader o.machine.server) (touching (follow_row now leader o.machine.server.state x)) told (λ r. record { watchdog = told.watchdog; hold = told.hold })
 
 free-stays : (now : Ticks) (o : Outcome) → Stays o (finds_free now o)
 free-stays now o = let x : Outcome = record o { role = Follower } in let race : Stays (unheard x) (judged now (unheard x)) = judged-stays now (unheard x) in
-    free-by (Stays o) now x (record { starts = record { watchdog = refl; hold = refl }; bars = λ bar. record { watchdog = refl; hold = refl }; judges = record { watchdog = race.watchdog; hold = race.hold }; asks = record { watchdog = refl; hold = refl } })
+    free-by (Stays o) now x (record { starts = record { watchdog = Same refl; hold = refl }; bars = λ bar. record { watchdog = Same refl; hold = refl }; judges = record { watchdog = race.watchdog; hold = race.hold }; asks = record { watchdog = Same refl; hold = refl } })
 
 stays-read : (now : Ticks) (snapshot : SnapshotFacts) (o after : Outcome) → Stays (record o { knows = read_noted now snapshot o.knows }) after → Stays o after
 stays-read now snapshot o after stay = record { watchdog = stay.watchdog; hold = stay.hold }
@@ -101,37 +141,38 @@ got-stays : (now : Ticks) (points : List HistoryPoint) (sequence : ℕ) (snapsho
 got-stays now points sequence snapshot o = let read : Outcome = record o { knows = read_noted now snapshot o.knows } in
     got-by (Stays o) now points sequence snapshot o (record {
       kept = stays;
-      quiet = record { watchdog = refl; hold = refl };
-      other = record { watchdog = refl; hold = refl };
-      leader = λ held _. record { watchdog = refl; hold = refl };
-      stray = λ _. record { watchdog = refl; hold = refl };
-      renews = λ _ leader _ _. record { watchdog = refl; hold = refl };
-      touches = record { watchdog = refl; hold = refl };
+      quiet = record { watchdog = Same refl; hold = refl };
+      other = record { watchdog = Same refl; hold = refl };
+      leader = λ held _. record { watchdog = Same refl; hold = refl };
+      stray = λ _. record { watchdog = Same refl; hold = refl };
+      renews = λ _ leader _ _. record { watchdog = Same refl; hold = refl };
+      touches = record { watchdog = Same refl; hold = refl };
       follows = λ leader _ _. stays-read now snapshot o (follows now leader.holder read) (follow-stays now leader.holder read);
       free = λ _ _. stays-read now snapshot o (finds_free now read) (free-stays now read);
     })
 
-refused-stays : (now : Ticks) (sequence : ℕ) (o : Outcome) → Stays o (refused now sequence o)
-refused-stays now sequence o = refused-by (Stays o) now sequence o (record {
+refused-stays : (now : Ticks) (sequence : ℕ) (o : Outcome) → Fits o.role (live o.machine.server.state) → Stays o (refused now sequence o)
+refused-stays now sequence o fits = refused-by (Stays o) now sequence o (record {
+  ready = λ held is. postpones-stays o held (waiting_no_more o) is fits refl;
   kept = stays;
-  quiet = record { watchdog = refl; hold = refl };
-  leader = λ held _. record { watchdog = refl; hold = refl };
-  stray = λ _. record { watchdog = refl; hold = refl };
-  follower = λ held _. record { watchdog = refl; hold = refl };
+  quiet = record { watchdog = Same refl; hold = refl };
+  leader = λ held _. record { watchdog = Same refl; hold = refl };
+  stray = λ _. record { watchdog = Same refl; hold = refl };
+  follower = λ held _. record { watchdog = Same refl; hold = refl };
 })
 
 pub read-leaves : (now : Ticks) (points : List HistoryPoint) (sequence : ℕ) (snapshot : SnapshotFacts) (o : Outcome) → LeavesMachine o (got now points sequence snapshot (before now o))
 read-leaves now points sequence snapshot o = behind o (before now o) (got now points sequence snapshot (before now o)) (before-leaves now o) (got-stays now points sequence snapshot (before now o)) (got-brings now points sequence snapshot (before now o))
 
 pub refusal-leaves : (now : Ticks) (sequence : ℕ) (o : Outcome) → LeavesMachine o (refused now sequence (before now o))
-refusal-leaves now sequence o = behind o (before now o) (refused now sequence (before now o)) (before-leaves now o) (refused-stays now sequence (before now o)) (refused-brings now sequence (before now o))
+refusal-leaves now sequence o = behind o (before now o) (refused now sequence (before now o)) (before-leaves now o) (refused-stays now sequence (before now o) (before-fits now o)) (refused-brings now sequence (before now o))
 
 answer-stays : (now : Ticks) (sequence : ℕ) (answer : PeerAnswer) (o : Outcome) → Stays o (answered now sequence answer o)
 answer-stays now sequence answer o = let race : Stays (keeping answer o) (judged now (keeping answer o)) = judged-stays now (keeping answer o) in
-    answered-by (Stays o) now sequence answer o (record { kept = stays; quiet = record { watchdog = refl; hold = refl }; keeps = record { watchdog = refl; hold = refl }; judges = λ _. record { watchdog = race.watchdog; hold = race.hold } })
+    answered-by (Stays o) now sequence answer o (record { kept = stays; quiet = record { watchdog = Same refl; hold = refl }; keeps = record { watchdog = Same refl; hold = refl }; judges = λ _. record { watchdog = race.watchdog; hold = race.hold } })
 
 pub answered-leaves : (now : Ticks) (sequence : ℕ) (answer : PeerAnswer) (o : Outcome) → LeavesMachine o (answered now sequence answer (before now o))
 answered-leaves now sequence answer o = behind o (before now o) (answered now sequence answer (before now o)) (before-leaves now o) (answer-stays now sequence answer (before now o)) (answer-brings now sequence answer (before now o))
 
 pub asked-leaves : (now : Ticks) (from : MemberId) (run sequence : ℕ) (o : Outcome) → LeavesMachine o (asked from run sequence (before now o))
-asked-leaves now from run sequence o = behind o (before now o) (asked from run sequence (before now o)) (before-leaves now o) (record { watchdog = refl; hold = refl }) (same-role (before now o) (asked from run sequence (before now o)) refl (λ e. e))
+asked-leaves now from run sequence o = behind o (before now o) (asked from run sequence (before now o)) (before-leaves now o) (record { watchdog = Same refl; hold = refl }) (same-role (before now o) (asked from run sequence (before now o)) refl (λ e. e))

@@ -1,7 +1,7 @@
 mod Missing
 pub mod Rows
-pub mod Fitting
 pub mod Living
+pub mod Fitting
 pub mod Bringing
 pub mod Leaving
 pub mod Granting

@@ -25,17 +25,21 @@ use Rattle.ha_loop.specs.declared.output.Output.TheVariants as outputs
 use Rattle.ha_loop.specs.declared.output.Target.TheVariants as targets
 use Rattle.ha_loop.specs.declared.role.Why.{Why}
 use Rattle.ha_loop.specs.declared.role.Why.TheVariants.{HandOver, Lost}
-use Rattle.ha_loop.specs.Acting.{arming, feeding, armed, fed_until, disarmed, without_deadline, disarming, sending, touching, ending_server, starting_replica, following_server, is_refusing, shutting_down, waiting_no_more}
-use Rattle.ha_loop.specs.Agents.{RoleFacts, Follower, Leader, Outcome, made}
+use Rattle.ha_loop.specs.Acting.{arming, requiring, feeding, armed, fed_until, disarmed, without_deadline, disarming, sending, touching, ending_server, starting_replica, following_server, is_refusing, shutting_down, waiting_no_more}
+use Rattle.ha_loop.specs.Agents.{RoleFacts, Follower, Outcome, made}
 use Rattle.ha_loop.specs.Before.{has_ended, before}
-use Rattle.ha_loop.specs.Decisions.{is_start_too_long, leader_renewed, takes_over, stray_renewed, may_take, gives_back, begins, arms, takes_key, granted, refused}
+use Rattle.ha_loop.specs.Claiming.{begins, begins_or_claims, postpones}
+use Rattle.ha_loop.specs.Decisions.{leader_renewed, takes_over, stray_renewed, may_take, gives_back, arms, takes_key, granted, refused}
+use Rattle.ha_loop.specs.Planning.{noting}
+use Rattle.ha_loop.specs.Synchronous.{unnamed}
+use Rattle.pat_base.specs.declared.server_state.Required.{Required}
 use Rattle.ha_loop.specs.Orders.{IsAsk, machine_after_output, machine_after_outputs, IsOfTable, IsCarriedOut, EndsRepairing, RepairsLast}
 use Rattle.ha_loop.specs.Outputs.{listed}
 use Rattle.ha_loop.specs.Snapshots.{informed, follows, read_noted, got, follow_row, leader_loses_key, stray_loses_key, renewing}
 use Rattle.ha_loop.specs.Racing.{finds_free, judged, unheard}
 use Rattle.ha_loop.specs.Table.{step, act}
 use Rattle.ha_loop.specs.Wake.{overdue, turned, woken}
-use Rattle.ha_loop.proofs.Rows.{if-cases, before-by, overdue-by, turn-by, wake-by, got-by, refused-by, follow-by, free-by, granted-by, repaired-by, judged-by, answered-by}
+use Rattle.ha_loop.proofs.Rows.{led_on, if-cases, renewed-by, begins-or-claims-by, before-by, overdue-by, turn-by, wake-by, got-by, refused-by, follow-by, free-by, granted-by, repaired-by, judged-by, answered-by}
 use Rattle.ha_loop.specs.Answers.{is_other, most_answers, asking_one, asking_first}
 use Rattle.ha_loop.specs.Peers.{keeping, answered}
 use Rattle.ha_loop.specs.declared.who.Who.{Who}
@@ -163,6 +167,12 @@ asks-reach : (now : Ticks) (start machine : Machine) (who : Who) (sequence count
 asks-reach now start machine who sequence zero outs r = r
 asks-reach now start machine who sequence (suc count) outs r = ask-reaches now start machine who sequence (member_of count) (asking_first who sequence count outs) (asks-reach now start machine who sequence count outs r)
 
+require-reaches : (now : Ticks) (start : Machine) (required : Required) (o : Outcome) → Reaches now start o → Reaches now start (requiring required o)
+require-reaches now start required o r = one-more now start o.machine o.outputs (outputs.Require required) tt r
+
+postpone-reaches : (now : Ticks) (start : Machine) (held : ℕ) (o : Outcome) → Reaches now start o → Reaches now start (postpones held o)
+postpone-reaches now start held o r = one-more now start (disarming o).machine (disarming o).outputs outputs.PostponesPromotion tt (disarm-reaches now start o r)
+
 overdue-reaches : (now : Ticks) (start : Machine) (o : Outcome) → Reaches now start o → Reaches now start (overdue now o)
 overdue-reaches now start o r = overdue-by (Reaches now start) now o (record {
   kept = r;
@@ -170,6 +180,7 @@ overdue-reaches now start o r = overdue-by (Reaches now start) now o (record {
   leader = λ held _. end-reaches now start StoreOutOfReach o r;
   stray = λ _. end-reaches now start StoreOutOfReach o r;
   judges = λ _. judged-reaches now start o r;
+  ready = λ held _. postpone-reaches now start held (waiting_no_more o) r;
 })
 
 turn-reaches : (now : Ticks) (start : Machine) (o : Outcome) → Reaches now start o → Reaches now start (turned now o)
@@ -222,12 +233,18 @@ refused-reaches now start sequence o r = refused-by (Reaches now start) now sequ
   leader = λ held _. end-reaches now start LeaderKeyLost o r;
   stray = λ _. end-reaches now start LeaderKeyLost o r;
   follower = λ held _. r;
+  ready = λ held _. postpone-reaches now start held (waiting_no_more o) r;
 })
 
 renewed-reaches : (now ttl : Ticks) (start : Machine) (revision : ℕ) (o : Outcome) → Reaches now start o → Reaches now start (leader_renewed now ttl revision o)
-renewed-reaches now ttl start revision o r = let fed : Outcome = record (feeding now ttl o) { role = Leader revision } in
-    if-cases (Reaches now start) (is_start_too_long now fed.knows fed.machine.server.state) _ fed
-    (λ _. end-reaches now start StartTooLong fed (feed-reaches now ttl start o r)) (λ _. feed-reaches now ttl start o r)
+renewed-reaches now ttl start revision o r = let led : Outcome = led_on now ttl revision o in
+    let fed : Reaches now start led = feed-reaches now ttl start o r in
+    renewed-by (Reaches now start) now ttl revision o (end-reaches now start StartTooLong led fed) (record {
+      kept = fed;
+      writes = λ settling txn _. send-reaches now start _ led fed;
+      adds = λ required. require-reaches now start required (noting led) fed;
+      drops = λ required. require-reaches now start required led fed;
+    })
 
 stray-reaches : (now ttl : Ticks) (start : Machine) (revision : ℕ) (o : Outcome) → Reaches now start o → Reaches now start (stray_renewed now ttl revision o)
 stray-reaches now ttl start revision o r =
@@ -235,13 +252,14 @@ stray-reaches now ttl start revision o r =
     (λ _. end-reaches now start WatchdogNotArmed o r) (λ _. arm-reaches now ttl start o r)
 
 begin-reaches : (now : Ticks) (start : Machine) (revision : ℕ) (o : Outcome) → Reaches now start o → Reaches now start (begins now revision o)
-begin-reaches now start revision o r = one-more now start o.machine _ outputs.Begin tt (one-more now start o.machine o.outputs _ tt r)
+begin-reaches now start revision o r = let waits : Outcome = requiring (unnamed o.knows.turn_settings) o in one-more now start waits.machine waits.outputs outputs.Begin tt (require-reaches now start (unnamed o.knows.turn_settings) o r)
 
 arms-reaches : (now ttl : Ticks) (start : Machine) (revision : ℕ) (o : Outcome) → Reaches now start o → Reaches now start (arms now ttl revision o)
 arms-reaches now ttl start revision o r =
-    if-cases (Reaches now start) (is_refusing o.machine.watchdog.mode o.machine.watchdog.works) _ (begins now revision (arming now ttl o))
+    if-cases (Reaches now start) (is_refusing o.machine.watchdog.mode o.machine.watchdog.works) _ (begins_or_claims now revision (arming now ttl o))
     (λ _. send-reaches now start (bodies.Request (txns.Release revision)) (record o { outputs = listed outputs.CannotArm o.outputs }) (one-more now start o.machine o.outputs outputs.CannotArm tt r))
-    (λ _. begin-reaches now start revision (arming now ttl o) (arm-reaches now ttl start o r))
+    (λ _. let arm : Outcome = arming now ttl o in let fed : Reaches now start arm = arm-reaches now ttl start o r in
+    begins-or-claims-by (Reaches now start) now revision arm (begin-reaches now start revision arm fed) (send-reaches now start _ arm fed))
 
 takes-reaches : (now ttl : Ticks) (start : Machine) (revision : ℕ) (o : Outcome) → Reaches now start o → Reaches now start (takes_key now ttl revision o)
 takes-reaches now ttl start revision o r =
@@ -256,6 +274,12 @@ granted-reaches now start sequence grant snapshot o r = let told : Outcome = rec
       leader = λ held _. renewed-reaches now waited.ttl start grant.revision told r;
       stray = λ _. stray-reaches now waited.ttl start grant.revision told r;
       takes = λ _. takes-reaches now waited.ttl start grant.revision told r;
+    })
+    (record {
+      other = r;
+      begins = λ revision _. begin-reaches now start revision told r;
+      postpones = λ revision _. postpone-reaches now start revision told r;
+      settles = λ required _. require-reaches now start required told r;
     })
 
 step-carries : (now : Ticks) (points : List HistoryPoint) (heard : Heard) (start : Machine) (o : Outcome) → Reaches now start o → IsCarriedOut now start (step now points heard o)

@@ -19,11 +19,12 @@ use Rattle.ha_loop.specs.declared.output.Target.TheVariants as targets
 use Rattle.ha_loop.specs.declared.role.Why.{Why}
 use Rattle.ha_loop.specs.declared.role.Why.TheVariants.{HandOver, Lost}
 use Rattle.ha_loop.specs.declared.who.Who.{Who}
-use Rattle.ha_loop.specs.Acting.{arming, feeding, armed, fed_until, disarmed, deadline_after, is_refusing, touching}
-use Rattle.ha_loop.specs.Agents.{RoleFacts, Follower, Leader, Outcome, made}
+use Rattle.ha_loop.specs.Acting.{arming, waiting_no_more, armed, fed_until, disarmed, deadline_after, is_refusing, touching}
+use Rattle.ha_loop.specs.Agents.{RoleFacts, Follower, Outcome, made}
 use Rattle.ha_loop.specs.Answers.{is_other, most_answers, asking_one, asking_first}
 use Rattle.ha_loop.specs.Before.{has_ended, before}
-use Rattle.ha_loop.specs.Decisions.{is_start_too_long, leader_renewed, takes_over, stray_renewed, may_take, gives_back, begins, arms, takes_key, granted, refused}
+use Rattle.ha_loop.specs.Claiming.{begins, begins_or_claims, postpones}
+use Rattle.ha_loop.specs.Decisions.{leader_renewed, takes_over, stray_renewed, may_take, gives_back, arms, takes_key, granted, refused}
 use Rattle.ha_loop.specs.Outputs.{listed}
 use Rattle.ha_loop.specs.Peers.{keeping, answered}
 use Rattle.ha_loop.specs.Racing.{judged, unheard, finds_free}
@@ -32,7 +33,7 @@ use Rattle.ha_loop.specs.Replies.{RepliesTo}
 use Rattle.ha_loop.specs.Snapshots.{follow_row, follows, read_noted, got, informed}
 use Rattle.ha_loop.specs.Table.{step, act}
 use Rattle.ha_loop.specs.Wake.{overdue, turned, woken}
-use Rattle.ha_loop.proofs.Rows.{if-cases, before-by, overdue-by, turn-by, wake-by, got-by, refused-by, follow-by, repaired-by, free-by, granted-by, judged-by, answered-by}
+use Rattle.ha_loop.proofs.Rows.{led_on, if-cases, renewed-by, begins-or-claims-by, before-by, overdue-by, turn-by, wake-by, got-by, refused-by, follow-by, repaired-by, free-by, granted-by, judged-by, answered-by}
 
 -- an output that answers nobody
 abbrev NoReply : Output → Type 0
@@ -77,8 +78,11 @@ asks-quiet : (who : Who) (sequence count : ℕ) (outs : List Output) → All NoR
 asks-quiet who sequence zero outs all = all
 asks-quiet who sequence (suc count) outs all = ask-quiet who sequence (member_of count) (asking_first who sequence count outs) (asks-quiet who sequence count outs all)
 
+postpones-quiet : (held : ℕ) (o : Outcome) → Quiet o → Quiet (postpones held o)
+postpones-quiet held o all = said (disarmed o.machine.watchdog.deadline o.outputs) outputs.PostponesPromotion tt (disarmed-quiet o.machine.watchdog.deadline o.outputs all)
+
 overdue-quiet : (now : Ticks) (o : Outcome) → Quiet o → Quiet (overdue now o)
-overdue-quiet now o all = overdue-by Quiet now o (record { kept = all; quiet = all; leader = λ _ _. said o.outputs _ tt all; stray = λ _. said o.outputs _ tt all; judges = λ _. judged-quiet now o all })
+overdue-quiet now o all = overdue-by Quiet now o (record { kept = all; quiet = all; leader = λ _ _. said o.outputs _ tt all; stray = λ _. said o.outputs _ tt all; judges = λ _. judged-quiet now o all; ready = λ held _. postpones-quiet held (waiting_no_more o) all })
 
 turn-quiet : (now : Ticks) (o : Outcome) → Quiet o → Quiet (turned now o)
 turn-quiet now o all = turn-by Quiet now o (record { kept = all; quiet = all; reads = λ _. said o.outputs _ tt all })
@@ -116,19 +120,28 @@ got-quiet now points sequence snapshot o all = let read : Outcome = record o { k
     })
 
 refused-quiet : (now : Ticks) (sequence : ℕ) (o : Outcome) → Quiet o → Quiet (refused now sequence o)
-refused-quiet now sequence o all = refused-by Quiet now sequence o (record { kept = all; quiet = all; leader = λ _ _. said o.outputs _ tt all; stray = λ _. said o.outputs _ tt all; follower = λ _ _. all })
+refused-quiet now sequence o all = refused-by Quiet now sequence o (record { kept = all; quiet = all; leader = λ _ _. said o.outputs _ tt all; stray = λ _. said o.outputs _ tt all; follower = λ _ _. all; ready = λ held _. postpones-quiet held (waiting_no_more o) all })
 
 renewed-quiet : (now ttl : Ticks) (revision : ℕ) (o : Outcome) → Quiet o → Quiet (leader_renewed now ttl revision o)
-renewed-quiet now ttl revision o all = let fed : Outcome = record (feeding now ttl o) { role = Leader revision } in let told : Quiet fed = fed-quiet (deadline_after now ttl o.machine.watchdog) o.outputs all in
-    if-cases Quiet (is_start_too_long now fed.knows fed.machine.server.state) _ fed (λ _. said fed.outputs _ tt told) (λ _. told)
+renewed-quiet now ttl revision o all = let led : Outcome = led_on now ttl revision o in let told : Quiet led = fed-quiet (deadline_after now ttl o.machine.watchdog) o.outputs all in
+    renewed-by Quiet now ttl revision o (said led.outputs _ tt told) (record {
+      kept = told;
+      writes = λ settling txn _. said led.outputs _ tt told;
+      adds = λ required. said led.outputs (outputs.Require required) tt told;
+      drops = λ required. said led.outputs (outputs.Require required) tt told;
+    })
 
 stray-quiet : (now ttl : Ticks) (revision : ℕ) (o : Outcome) → Quiet o → Quiet (stray_renewed now ttl revision o)
 stray-quiet now ttl revision o all = if-cases Quiet (is_refusing o.machine.watchdog.mode o.machine.watchdog.works) _ (takes_over now revision (arming now ttl o))
     (λ _. said o.outputs _ tt all) (λ _. armed-quiet (deadline_after now ttl o.machine.watchdog) o.outputs all)
 
+begins-quiet : (now : Ticks) (revision : ℕ) (o : Outcome) → Quiet o → Quiet (begins now revision o)
+begins-quiet now revision o all = said _ outputs.Begin tt (said o.outputs _ tt all)
+
 arms-quiet : (now ttl : Ticks) (revision : ℕ) (o : Outcome) → Quiet o → Quiet (arms now ttl revision o)
-arms-quiet now ttl revision o all = if-cases Quiet (is_refusing o.machine.watchdog.mode o.machine.watchdog.works) _ (begins now revision (arming now ttl o))
-    (λ _. said _ _ tt (said o.outputs outputs.CannotArm tt all)) (λ _. said _ outputs.Begin tt (said _ _ tt (armed-quiet (deadline_after now ttl o.machine.watchdog) o.outputs all)))
+arms-quiet now ttl revision o all = if-cases Quiet (is_refusing o.machine.watchdog.mode o.machine.watchdog.works) _ (begins_or_claims now revision (arming now ttl o))
+    (λ _. said _ _ tt (said o.outputs outputs.CannotArm tt all)) (λ _. begins-or-claims-by Quiet now revision (arming now ttl o) (begins-quiet now revision (arming now ttl o) (armed-quiet (deadline_after now ttl o.machine.watchdog) o.outputs all))
+    (said _ _ tt (armed-quiet (deadline_after now ttl o.machine.watchdog) o.outputs all)))
 
 takes-quiet : (now ttl : Ticks) (revision : ℕ) (o : Outcome) → Quiet o → Quiet (takes_key now ttl revision o)
 takes-quiet now ttl revision o all = if-cases Quiet (may_take now o.knows o.machine) (arms now ttl revision o) (gives_back revision o) (λ _. arms-quiet now ttl revision o all) (λ _. said o.outputs _ tt all)
@@ -141,6 +154,7 @@ granted-quiet now sequence grant snapshot o all = let told : Outcome = record o 
       stray = λ _. stray-quiet now waited.ttl grant.revision told all;
       takes = λ _. takes-quiet now waited.ttl grant.revision told all;
     })
+    (record { other = all; begins = λ revision _. begins-quiet now revision told all; postpones = λ revision _. postpones-quiet revision told all; settles = λ required _. said o.outputs (outputs.Require required) tt all })
 
 answered-quiet : (now : Ticks) (sequence : ℕ) (answer : PeerAnswer) (o : Outcome) → Quiet o → Quiet (answered now sequence answer o)
 answered-quiet now sequence answer o all = answered-by Quiet now sequence answer o (record { kept = all; quiet = all; keeps = all; judges = λ _. judged-quiet now (keeping answer o) all })

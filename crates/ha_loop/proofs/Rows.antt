@@ -1,5 +1,5 @@
 -- The rows of the decision table, one by one: what holds of each row that applies holds of the whole.
-use Rattle.std.proofs.Common.{◌≡◌, ℕ, ◌==◌, ◌&&◌, nat_le, Bool, true, false, if◌then◌else◌, Option, Some, None, List, refl, subst, not, []}
+use Rattle.std.proofs.Common.{◌≡◌, ℕ, ◌==◌, ◌&&◌, nat_le, Bool, true, false, if◌then◌else◌, Option, Some, None, List, refl, subst, ap, ◌∙◌, not, []}
 use Rattle.lease_store.specs.declared.action.Bar.{Bar}
 use Rattle.lease_store.specs.declared.granted.Granted.{Granted}
 use Rattle.wal_model.specs.declared.entry.HistoryPoint.{HistoryPoint}
@@ -14,13 +14,29 @@ use Rattle.pat_base.specs.ServerState.{live}
 use Rattle.ha_loop.specs.declared.output.Repair.{Repair}
 use Rattle.ha_loop.specs.Repairs.{is_upstream, repairing, repaired_if}
 use Rattle.ha_loop.specs.declared.knowledge.Question.{Question}
-use Rattle.ha_loop.specs.declared.knowledge.Question.TheVariants.{Reading, Asking, Creating, Renewing}
+use Rattle.ha_loop.specs.declared.knowledge.Question.TheVariants.{Reading, Asking, Creating, Renewing, Claiming, Syncing}
+use Rattle.ha_loop.specs.declared.knowledge.Settling.{Settling}
+use Rattle.ha_loop.specs.declared.knowledge.Settling.TheVariants.{Stays, Lists, Empties}
+use Rattle.ha_loop.specs.declared.knowledge.SyncRead.{SyncRead}
 use Rattle.ha_loop.specs.declared.knowledge.Waited.{Waited}
+use Rattle.ha_loop.specs.Synchronous.{sync_read_if, expected_of, waiting_for}
+use Rattle.pat_base.specs.declared.server_state.Required.{Required}
+use Rattle.pat_base.specs.declared.server_state.Required.TheVariants.{Nobody, All}
+use Rattle.lease_store.specs.declared.txn.Txn.{Txn}
+use Rattle.lease_store.specs.declared.txn.Txn.TheVariants as txns
+use Rattle.lease_store.specs.Writes.{nobody}
+use Rattle.sync_state.specs.declared.steps.Plan.{Plan}
+use Rattle.sync_state.specs.declared.steps.Plan.TheVariants as plans
+use Rattle.sync_state.specs.Plans.{plan_of}
+use Rattle.ha_loop.specs.declared.role.Why.TheVariants.{HandOver}
+use Rattle.event_book.specs.declared.reason.Reason.TheVariants.{StartTooLong}
 use Rattle.ha_loop.specs.declared.role.Why.{Why}
-use Rattle.ha_loop.specs.Acting.{disarming, waiting_no_more, touching, starting_replica, following_server, is_hold_active, shutting_down}
-use Rattle.ha_loop.specs.Agents.{RoleFacts, Follower, Holder, Ready, Leader, Ending, Stray, Outcome}
+use Rattle.ha_loop.specs.Acting.{disarming, feeding, ending_server, requiring, waiting_no_more, touching, starting_replica, following_server, is_hold_active, shutting_down}
+use Rattle.ha_loop.specs.Agents.{RoleFacts, Follower, Holder, Ready, Leader, Ending, Stray, Outcome, is_leader}
 use Rattle.ha_loop.specs.Before.{leader_finds_ended, has_ended, finds_live, stray_finds_ended, before_as, before}
-use Rattle.ha_loop.specs.Decisions.{may_create, leader_renewed, stray_renewed, takes_key, lease_granted, belongs, accepted_grant, is_lease_of, granted_for, granted, is_decision, follower_for, renewal_refused, refused_as, refused_for, refused}
+use Rattle.ha_loop.specs.Decisions.{may_create, leader_renewed, judges_start, is_start_too_long, stray_renewed, takes_key, lease_granted, belongs, accepted_grant, is_lease_of, granted_write, granted_for, granted, is_decision, is_sync_decision, awaits_decision, is_write_of, sync_granted, accepted_sync, follower_for, renewal_refused, refused_as, refused_for, refused}
+use Rattle.ha_loop.specs.Claiming.{begins, claims, begins_or_claims, postpones, claim_fails_as, claim_fails, can_begin_on_claim, claim_granted}
+use Rattle.ha_loop.specs.Planning.{leader_view, writing_sync, switching_off, noting, planned_as, planned_on, planned, settled}
 use Rattle.ha_loop.specs.Fits.{Fits}
 use Rattle.ha_loop.specs.Snapshots.{leader_loses_key, stray_loses_key, renewing, finds_own_key, own_key, starts_behind, follow_row, follows, others_key, no_key, led, is_active, awaits_read, read_noted, informed, accepted, got, ends_fork}
 use Rattle.ha_loop.specs.Racing.{can_start, bar_of, creating, barred, races_unless, free_key, finds_free, outcome_at, judged_as, judged, asking_others, unheard}
@@ -64,6 +80,14 @@ judged-as P now (Some by) o wins loses = loses by
 pub judged-by : (P : Outcome → Type 0) (now : Ticks) (o : Outcome) → P (creating now (waiting_no_more o)) → ((by : Bar) → P (barred by (waiting_no_more o))) → P (judged now o)
 judged-by P now o wins loses = judged-as P now (outcome_at now o) (waiting_no_more o) wins loses
 
+-- a claim of the sync key fails
+claim-fails-as : (P : Outcome → Type 0) (role : RoleFacts) (o : Outcome) → o.role ≡ role → P o → ((revision : ℕ) → o.role ≡ Ready revision → P (postpones revision o)) → P (claim_fails_as role o)
+claim-fails-as P (Ready revision) o is kept postponed = postponed revision is
+claim-fails-as P _ o is kept postponed = kept
+
+claim-fails-by : (P : Outcome → Type 0) (o : Outcome) → P o → ((revision : ℕ) → o.role ≡ Ready revision → P (postpones revision o)) → P (claim_fails o)
+claim-fails-by P o kept postponed = claim-fails-as P o.role o refl kept postponed
+
 -- a deadline that has passed
 pub record OverdueRows (P : Outcome → Type 0) (now : Ticks) (o : Outcome) : Type 0 where
   pub kept : P o
@@ -71,6 +95,7 @@ pub record OverdueRows (P : Outcome → Type 0) (now : Ticks) (o : Outcome) : Ty
   pub leader : (revision : ℕ) → o.role ≡ Leader revision → P (leader_out_of_reach now revision (waiting_no_more o))
   pub stray : o.role ≡ Stray → P (stray_out_of_reach now (waiting_no_more o))
   pub judges : may_create o.role ≡ true → P (judged now o)
+  pub ready : (revision : ℕ) → o.role ≡ Ready revision → P (postpones revision (waiting_no_more o))
 
 out-of-reach-as : (P : Outcome → Type 0) (now : Ticks) (role : RoleFacts) (o : Outcome) → o.role ≡ role → OverdueRows P now o → P (out_of_reach_as now role (waiting_no_more o))
 out-of-reach-as P now (Leader r) o is rows = rows.leader r is
@@ -84,6 +109,8 @@ unanswered-by : (P : Outcome → Type 0) (now : Ticks) (question : Question) (o 
 unanswered-by P now Reading o rows = out-of-reach-as P now o.role o refl rows
 unanswered-by P now Renewing o rows = out-of-reach-as P now o.role o refl rows
 unanswered-by P now Creating o rows = rows.quiet
+unanswered-by P now Claiming o rows = claim-fails-by P (waiting_no_more o) rows.quiet rows.ready
+unanswered-by P now (Syncing settling) o rows = rows.quiet
 unanswered-by P now Asking o rows = if-cases P (may_create o.role) (judged now o) (waiting_no_more o) rows.judges (λ _. rows.quiet)
 
 overdue-for : (P : Outcome → Type 0) (now : Ticks) (waited : Option Waited) (o : Outcome) → OverdueRows P now o → P (overdue_for now waited o)
@@ -172,6 +199,7 @@ pub record RefusedRows (P : Outcome → Type 0) (now : Ticks) (o : Outcome) : Ty
   pub leader : (held : ℕ) → o.role ≡ Leader held → P (leader_loses_key now held (waiting_no_more o))
   pub stray : o.role ≡ Stray → P (stray_loses_key now (waiting_no_more o))
   pub follower : (held : ℕ) → o.role ≡ Holder held → P (record (waiting_no_more o) { role = Follower })
+  pub ready : (held : ℕ) → o.role ≡ Ready held → P (postpones held (waiting_no_more o))
 
 renewal-refused : (P : Outcome → Type 0) (now : Ticks) (role : RoleFacts) (o : Outcome) → o.role ≡ role → RefusedRows P now o → P (renewal_refused now role (waiting_no_more o))
 renewal-refused P now (Leader held) o is rows = rows.leader held is
@@ -192,12 +220,14 @@ create-refused P now Stray o is rows = subst (λ (r : RoleFacts). P (record (wai
 refused-as : (P : Outcome → Type 0) (now : Ticks) (question : Question) (o : Outcome) → RefusedRows P now o → P (refused_as now question (waiting_no_more o))
 refused-as P now Creating o rows = create-refused P now o.role o refl rows
 refused-as P now Renewing o rows = renewal-refused P now o.role o refl rows
+refused-as P now Claiming o rows = claim-fails-by P (waiting_no_more o) rows.quiet rows.ready
 refused-as P now Reading o rows = rows.quiet
 refused-as P now Asking o rows = rows.quiet
+refused-as P now (Syncing settling) o rows = rows.quiet
 
 refused-for : (P : Outcome → Type 0) (now : Ticks) (sequence : ℕ) (waited : Option Waited) (o : Outcome) → RefusedRows P now o → P (refused_for now sequence waited o)
 refused-for P now sequence None o rows = rows.kept
-refused-for P now sequence (Some waited) o rows = if-cases P (is_decision waited sequence) (refused_as now waited.question (waiting_no_more o)) o (λ _. refused-as P now waited.question o rows) (λ _. rows.kept)
+refused-for P now sequence (Some waited) o rows = if-cases P (awaits_decision waited sequence) (refused_as now waited.question (waiting_no_more o)) o (λ _. refused-as P now waited.question o rows) (λ _. rows.kept)
 
 pub refused-by : (P : Outcome → Type 0) (now : Ticks) (sequence : ℕ) (o : Outcome) → RefusedRows P now o → P (refused now sequence o)
 refused-by P now sequence o rows = refused-for P now sequence o.knows.waited o rows
@@ -273,16 +303,93 @@ lease-granted P now ttl revision (Holder held) o is rows = rows.takes (rw is ref
 lease-granted P now ttl revision (Ready held) o is rows = rows.other
 lease-granted P now ttl revision (Ending held why) o is rows = rows.other
 
+-- a request for a write of the sync key that a leader's plan makes
+abbrev pub WritesSync : Txn → Type 0
+WritesSync (txns.SetSync revision sync standbys) = Unit {0}
+WritesSync (txns.DropSync revision sync) = Unit {0}
+WritesSync _ = ⊥
+
+-- a leader whose watchdog was fed on the grant of this revision
+abbrev pub led_on : Ticks → Ticks → ℕ → Outcome → Outcome
+led_on now ttl revision o = record (feeding now ttl o) { role = Leader revision }
+
+-- a leader's step with its standbys
+pub record PlanRows (P : Outcome → Type 0) (now : Ticks) (o : Outcome) : Type 0 where
+  pub kept : P o
+  pub writes : (settling : Settling) (txn : Txn) → WritesSync txn → P (writing_sync now settling txn o)
+  pub adds : (required : Required) → P (requiring required (noting o))
+  pub drops : (required : Required) → P (requiring required o)
+
+switching-off : (P : Outcome → Type 0) (now : Ticks) (revision : ℕ) (read : Option SyncRead) (o : Outcome) → PlanRows P now o → P (switching_off now revision read o)
+switching-off P now revision None o rows = rows.kept
+switching-off P now revision (Some read) o rows = rows.writes Empties (txns.DropSync revision read.revision) tt
+
+planned-as : (P : Outcome → Type 0) (now : Ticks) (revision : ℕ) (plan : Plan) (o : Outcome) → PlanRows P now o → P (planned_as now revision plan o)
+planned-as P now revision plans.Keep o rows = rows.kept
+planned-as P now revision plans.SwitchOff o rows = switching-off P now revision (sync_read_if o.knows.seen) o rows
+planned-as P now revision plans.Mark o rows = rows.writes (Lists nobody) (txns.SetSync revision (expected_of (sync_read_if o.knows.seen)) nobody) tt
+planned-as P now revision (plans.Withdraw standbys) o rows = rows.writes (Lists standbys) (txns.SetSync revision (expected_of (sync_read_if o.knows.seen)) standbys) tt
+planned-as P now revision (plans.AddRequired members) o rows = rows.adds (All members)
+planned-as P now revision (plans.Publish standbys) o rows = rows.writes Stays (txns.SetSync revision (expected_of (sync_read_if o.knows.seen)) standbys) tt
+planned-as P now revision (plans.DropRequired members) o rows = rows.drops (waiting_for o.knows.settings members)
+
+planned-on : (P : Outcome → Type 0) (now : Ticks) (revision : ℕ) (seen : Option SnapshotFacts) (o : Outcome) → PlanRows P now o → P (planned_on now revision seen o)
+planned-on P now revision None o rows = rows.kept
+planned-on P now revision (Some snapshot) o rows = planned-as P now revision (plan_of (leader_view now o.knows o.machine) snapshot) o rows
+
+pub planned-by : (P : Outcome → Type 0) (now : Ticks) (revision : ℕ) (o : Outcome) → PlanRows P now o → P (planned now revision o)
+planned-by P now revision o rows = planned-on P now revision o.knows.seen o rows
+
+-- a leader whose lease is renewed
+pub renewed-by : (P : Outcome → Type 0) (now ttl : Ticks) (revision : ℕ) (o : Outcome) → P (record (ending_server now StartTooLong (led_on now ttl revision o)) { role = Ending revision HandOver }) → PlanRows P now (led_on now ttl revision o) → P (leader_renewed now ttl revision o)
+renewed-by P now ttl revision o ends rows = let fed : Outcome = led_on now ttl revision o in
+    if-cases P (is_start_too_long now fed.knows fed.machine.server.state) (record (ending_server now StartTooLong fed) { role = Ending revision HandOver }) (planned now revision fed)
+    (λ _. ends) (λ _. planned-by P now revision fed rows)
+
+-- a member that takes the leader key behind an armed watchdog
+pub begins-or-claims-by : (P : Outcome → Type 0) (now : Ticks) (revision : ℕ) (o : Outcome) → P (begins now revision o) → P (claims now revision o) → P (begins_or_claims now revision o)
+begins-or-claims-by P now revision o begin claim = if-cases P o.knows.turn_settings.synchronous_mode (claims now revision o) (begins now revision o) (λ _. claim) (λ _. begin)
+
+-- a write of the sync key that was granted
+pub record SyncRows (P : Outcome → Type 0) (now : Ticks) (o : Outcome) : Type 0 where
+  pub other : P o
+  pub begins : (revision : ℕ) → o.role ≡ Ready revision → P (begins now revision o)
+  pub postpones : (revision : ℕ) → o.role ≡ Ready revision → P (postpones revision o)
+  pub settles : (required : Required) → is_leader o.role ≡ true → P (requiring required o)
+
+settled-by : (P : Outcome → Type 0) (settling : Settling) (o : Outcome) → P o → ((required : Required) → P (requiring required o)) → P (settled settling o)
+settled-by P Stays o kept requires = kept
+settled-by P (Lists standbys) o kept requires = requires (waiting_for o.knows.settings standbys)
+settled-by P Empties o kept requires = requires Nobody
+
+sync-granted : (P : Outcome → Type 0) (now : Ticks) (question : Question) (role : RoleFacts) (o : Outcome) → o.role ≡ role → belongs question role ≡ true → SyncRows P now o → P (sync_granted now question role o)
+sync-granted P now Claiming (Ready revision) o is fits rows =
+    if-cases P (can_begin_on_claim o.machine.server.was_primary o.machine.server.state) (begins now revision o) (postpones revision o) (λ _. rows.begins revision is) (λ _. rows.postpones revision is)
+sync-granted P now Claiming Follower o is fits rows = rows.other
+sync-granted P now Claiming (Holder held) o is fits rows = rows.other
+sync-granted P now Claiming (Leader held) o is fits rows = rows.other
+sync-granted P now Claiming (Ending held why) o is fits rows = rows.other
+sync-granted P now Claiming Stray o is fits rows = rows.other
+sync-granted P now (Syncing settling) role o is fits rows = settled-by P settling o rows.other (λ required. rows.settles required (ap is_leader is ∙ fits))
+sync-granted P now Reading role o is fits rows = rows.other
+sync-granted P now Asking role o is fits rows = rows.other
+sync-granted P now Creating role o is fits rows = rows.other
+sync-granted P now Renewing role o is fits rows = rows.other
+
 granted-for : (P : Outcome → Type 0) (now : Ticks) (sequence : ℕ) (grant : Granted) (snapshot : SnapshotFacts) (waited : Option Waited) (o : Outcome) → o.knows.waited ≡ waited → P o → P (waiting_no_more o)
-    → ((asked : Waited) → o.knows.waited ≡ Some asked → is_decision asked sequence && is_lease_of o.knows.who.me grant ≡ true → GrantRows P now asked.ttl grant.revision (record o { knows = informed snapshot o.knows })) → P (granted_for now sequence grant snapshot waited o)
-granted-for P now sequence grant snapshot None o is kept quiet rows = kept
-granted-for P now sequence grant snapshot (Some waited) o is kept quiet rows =
-    if-cases P (is_decision waited sequence && is_lease_of o.knows.who.me grant) (accepted_grant now waited grant.revision snapshot o) o
-    (λ decision. if-cases P (belongs waited.question o.role) (lease_granted now waited.ttl grant.revision o.role (record o { knows = informed snapshot o.knows })) (waiting_no_more o)
-    (λ _. lease-granted P now waited.ttl grant.revision o.role (record o { knows = informed snapshot o.knows }) refl (rows waited is decision)) (λ _. quiet))
-    (λ _. kept)
+    → ((asked : Waited) → o.knows.waited ≡ Some asked → is_decision asked sequence && is_lease_of o.knows.who.me grant ≡ true → GrantRows P now asked.ttl grant.revision (record o { knows = informed snapshot o.knows }))
+    → SyncRows P now (record o { knows = informed snapshot o.knows }) → P (granted_for now sequence grant snapshot waited o)
+granted-for P now sequence grant snapshot None o is kept quiet rows syncs = kept
+granted-for P now sequence grant snapshot (Some waited) o is kept quiet rows syncs = let told : Outcome = record o { knows = informed snapshot o.knows } in
+    if-cases P (is_decision waited sequence && is_lease_of o.knows.who.me grant) (accepted_grant now waited grant.revision snapshot o) (granted_write now sequence grant snapshot waited o)
+    (λ decision. if-cases P (belongs waited.question o.role) (lease_granted now waited.ttl grant.revision o.role told) (waiting_no_more o)
+    (λ _. lease-granted P now waited.ttl grant.revision o.role told refl (rows waited is decision)) (λ _. quiet))
+    (λ _. if-cases P (is_sync_decision waited sequence && is_write_of o.knows.who.me grant) (accepted_sync now waited snapshot o) o
+    (λ _. if-cases P (belongs waited.question o.role) (sync_granted now waited.question o.role told) (waiting_no_more o)
+    (λ fits. sync-granted P now waited.question o.role told refl fits syncs) (λ _. quiet)) (λ _. kept))
 
 -- a request was granted
 pub granted-by : (P : Outcome → Type 0) (now : Ticks) (sequence : ℕ) (grant : Granted) (snapshot : SnapshotFacts) (o : Outcome) → P o → P (waiting_no_more o)
-    → ((asked : Waited) → o.knows.waited ≡ Some asked → is_decision asked sequence && is_lease_of o.knows.who.me grant ≡ true → GrantRows P now asked.ttl grant.revision (record o { knows = informed snapshot o.knows })) → P (granted now sequence grant snapshot o)
-granted-by P now sequence grant snapshot o kept quiet rows = granted-for P now sequence grant snapshot o.knows.waited o refl kept quiet rows
+    → ((asked : Waited) → o.knows.waited ≡ Some asked → is_decision asked sequence && is_lease_of o.knows.who.me grant ≡ true → GrantRows P now asked.ttl grant.revision (record o { knows = informed snapshot o.knows }))
+    → SyncRows P now (record o { knows = informed snapshot o.knows }) → P (granted now sequence grant snapshot o)
+granted-by P now sequence grant snapshot o kept quiet rows syncs = granted-for P now sequence grant snapshot o.knows.waited o refl kept quiet rows syncs

@@ -6,7 +6,6 @@ use Rattle.std.proofs.lemmas.Bool.Decides.{nat_tests}
 use Rattle.pat_base.specs.MemberId.{member_of}
 use Rattle.pat_base.specs.declared.member_id.MemberId.{MemberId}
 use Rattle.pat_base.specs.declared.peer_answer.PeerAnswer.{PeerAnswer}
-use Rattle.pat_base.specs.declared.server_state.Required.TheVariants.{Nobody}
 use Rattle.pat_base.specs.declared.ticks.Ticks.{Ticks}
 use Rattle.pat_base.specs.ServerState.{live}
 use Rattle.lease_store.specs.declared.granted.Granted.{Granted}
@@ -22,6 +21,7 @@ use Rattle.leader_key.specs.Watchdog.{is_armable}
 use Rattle.lease_law.specs.Leases.{LeaderSeen}
 use Rattle.ha_loop.specs.declared.output.Repair.{Repair}
 use Rattle.ha_loop.specs.Repairs.{repair_of, repairing}
+use Rattle.ha_loop.specs.declared.knowledge.Settling.{Settling}
 use Rattle.ha_loop.specs.declared.knowledge.Waited.{Waited}
 use Rattle.ha_loop.specs.declared.output.Output.{Output}
 use Rattle.ha_loop.specs.declared.output.Output.TheVariants as outputs
@@ -29,13 +29,16 @@ use Rattle.ha_loop.specs.declared.output.Target.TheVariants as targets
 use Rattle.ha_loop.specs.declared.role.Why.{Why}
 use Rattle.ha_loop.specs.declared.who.Who.{Who}
 use Rattle.ha_loop.specs.declared.role.Why.TheVariants.{HandOver, Lost}
-use Rattle.ha_loop.specs.Acting.{armed, fed_until, disarmed, deadline_after, arming, feeding, ending_server, touching, starting_replica, following_server, is_hold_active, is_refusing, waiting_no_more, shutting_down}
-use Rattle.ha_loop.specs.Agents.{RoleFacts, Follower, Holder, Ready, Leader, Ending, Stray, Outcome}
+use Rattle.ha_loop.specs.Acting.{armed, fed_until, disarmed, deadline_after, arming, ending_server, requiring, touching, starting_replica, following_server, is_hold_active, is_refusing, waiting_no_more, shutting_down}
+use Rattle.ha_loop.specs.Agents.{Follower, Ready, Ending, Outcome, is_ready}
 use Rattle.ha_loop.specs.Before.{has_ended, before}
-use Rattle.ha_loop.specs.Decisions.{is_decision, is_lease_of, may_create, is_start_too_long, leader_renewed, takes_over, stray_renewed, can_begin, may_take, gives_back, begins, arms, takes_key, granted, refused}
+use Rattle.ha_loop.specs.Claiming.{begins, claims, begins_or_claims, postpones}
+use Rattle.ha_loop.specs.Decisions.{is_decision, is_lease_of, may_create, leader_renewed, takes_over, stray_renewed, can_begin, may_take, gives_back, arms, takes_key, granted, refused}
 use Rattle.ha_loop.specs.Fits.{Fits}
 use Rattle.ha_loop.specs.Outputs.{listed, is_arming, has_one, BeginsOnly, OutputsBeginBehind}
+use Rattle.ha_loop.specs.Planning.{writing_sync, noting}
 use Rattle.ha_loop.specs.Powers.{Acts, lease_of}
+use Rattle.ha_loop.specs.Synchronous.{unnamed, may_lead_in_sync}
 use Rattle.ha_loop.specs.Seen.{lease_asked, leader_entry_seen, leader_seen_if}
 use Rattle.ha_loop.specs.Snapshots.{renewing, follows, leader_loses_key, stray_loses_key, read_noted, got, follow_row}
 use Rattle.ha_loop.specs.Racing.{creating, finds_free, judged, asking_others, unheard}
@@ -45,9 +48,10 @@ use Rattle.ha_loop.specs.Peers.{asked, keeping, answered}
 use Rattle.ha_loop.specs.Wake.{reading, turn_noted, overdue, turned, woken}
 use Rattle.ha_loop.proofs.Granting.{take-free, Told, one-last, one-before}
 use Rattle.ha_loop.proofs.Knowing.{IsAlone, overdue-onward}
-use Rattle.ha_loop.proofs.Leaving.{rests-by}
+use Rattle.ha_loop.proofs.Fitting.{ended-for}
+use Rattle.ha_loop.proofs.Leaving.{rests-by, ready-is}
 use Rattle.ha_loop.proofs.Living.{no-way}
-use Rattle.ha_loop.proofs.Rows.{if-cases, before-by, overdue-by, turn-by, wake-by, got-by, refused-by, follow-by, repaired-by, free-by, granted-by, judged-by, answered-by}
+use Rattle.ha_loop.proofs.Rows.{WritesSync, led_on, if-cases, renewed-by, begins-or-claims-by, before-by, overdue-by, turn-by, wake-by, got-by, refused-by, follow-by, repaired-by, free-by, granted-by, judged-by, answered-by}
 
 -- an output that sends nothing, takes no hold, and by which no server comes to accept writes
 abbrev pub IsSilent : Output → Type 0
@@ -245,6 +249,10 @@ fronts-may G o after (Released revision held alone role ended counted all) = rel
 pub before-may : (G : ℕ → Type 0) (now : Ticks) (o : Outcome) → IsAlone o → All IsSilent o.outputs → AllMay G o (before now o)
 before-may G now o alone silent = fronts-may G o (before now o) (before-fronts now o alone silent)
 
+-- a promotion that is postponed sends nothing
+postpones-silent : (held : ℕ) (o : Outcome) → All IsSilent o.outputs → All IsSilent (postpones held o).outputs
+postpones-silent held o silent = silently (disarmed o.machine.watchdog.deadline o.outputs) outputs.PostponesPromotion (silent-disarmed o.machine.watchdog.deadline o.outputs silent) tt
+
 overdue-mild : (low : ℕ) (now : Ticks) (o : Outcome) → low ≤ o.knows.sequence → All IsSilent o.outputs → AllMild low (overdue now o)
 overdue-mild low now o less silent = let out : ℕ = o.knows.sequence in
     overdue-by (AllMild low) now o (record {
@@ -253,6 +261,7 @@ overdue-mild low now o less silent = let out : ℕ = o.knows.sequence in
       leader = λ held _. mild-front low out (listed (outputs.Stop StoreOutOfReach) o.outputs) (silently o.outputs (outputs.Stop StoreOutOfReach) silent tt);
       stray = λ _. mild-front low out (listed (outputs.Stop StoreOutOfReach) o.outputs) (silently o.outputs (outputs.Stop StoreOutOfReach) silent tt);
       judges = λ _. judged-mild low now o less silent;
+      ready = λ held _. mild-front low out (postpones held (waiting_no_more o)).outputs (postpones-silent held (waiting_no_more o) silent);
     })
 
 -- a read is sent under the next number
@@ -369,6 +378,7 @@ refused-silent now sequence o silent = refused-by (λ (x : Outcome). All IsSilen
   leader = λ held _. silently o.outputs (outputs.Stop LeaderKeyLost) silent tt;
   stray = λ _. silently o.outputs (outputs.Stop LeaderKeyLost) silent tt;
   follower = λ held _. silent;
+  ready = λ held _. postpones-silent held (waiting_no_more o) silent;
 })
 
 refused-none : (now : Ticks) (sequence : ℕ) (o : Outcome) → o.knows.waited ≡ None → refused now sequence o ≡ o
@@ -406,12 +416,26 @@ asked-fronts from run sequence o b (Released revision held alone role ended coun
 pub asked-may : (G : ℕ → Type 0) (now : Ticks) (from : MemberId) (run sequence : ℕ) (o : Outcome) → IsAlone o → All IsSilent o.outputs → AllMay G o (asked from run sequence (before now o))
 asked-may G now from run sequence o alone silent = fronts-may G o (asked from run sequence (before now o)) (asked-fronts from run sequence o (before now o) (before-fronts now o alone silent))
 
-renewed-may : (G : ℕ → Type 0) (now ttl : Ticks) (revision : ℕ) (o b : Outcome) → All IsSilent b.outputs → AllMay G o (leader_renewed now ttl revision b)
-renewed-may G now ttl revision o b silent = let fed : Outcome = record (feeding now ttl b) { role = Leader revision } in
-    let ended : Outcome = record (ending_server now StartTooLong fed) { role = Ending revision HandOver } in
-    let rest : All IsSilent fed.outputs = silent-fed (deadline_after now ttl b.machine.watchdog) b.outputs silent in
-    if-cases (AllMay G o) (is_start_too_long now fed.knows fed.machine.server.state) ended fed
-    (λ _. front G o ended ended.outputs (silently fed.outputs (outputs.Stop StartTooLong) rest tt)) (λ _. front G o fed fed.outputs rest)
+-- a write of the sync key is sent under the next number
+writes-ask : (G : ℕ → Type 0) (o after : Outcome) (sequence : ℕ) (txn : Txn) → WritesSync txn → MayTransact G o after sequence txn
+writes-ask G o after sequence (txns.SetSync revision sync standbys) e = tt
+writes-ask G o after sequence (txns.DropSync revision sync) e = tt
+writes-ask G o after sequence _ e = absurd e
+
+writes-may : (G : ℕ → Type 0) (now : Ticks) (settling : Settling) (txn : Txn) (o b : Outcome) → WritesSync txn → o.knows.sequence ≤ b.knows.sequence → All IsSilent b.outputs → AllMay G o (writing_sync now settling txn b)
+writes-may G now settling txn o b writes later silent = let after : Outcome = writing_sync now settling txn b in
+    push G o after b.outputs _ (front G o after b.outputs silent) (sends G o after b.knows.sequence _ later refl (writes-ask G o after (b.knows.sequence + 1) txn writes))
+
+renewed-may : (G : ℕ → Type 0) (now ttl : Ticks) (revision : ℕ) (o b : Outcome) → o.knows.sequence ≤ b.knows.sequence → All IsSilent b.outputs → AllMay G o (leader_renewed now ttl revision b)
+renewed-may G now ttl revision o b later silent = let led : Outcome = led_on now ttl revision b in
+    let ended : Outcome = record (ending_server now StartTooLong led) { role = Ending revision HandOver } in
+    let rest : All IsSilent led.outputs = silent-fed (deadline_after now ttl b.machine.watchdog) b.outputs silent in
+    renewed-by (AllMay G o) now ttl revision b (front G o ended ended.outputs (silently led.outputs (outputs.Stop StartTooLong) rest tt)) (record {
+      kept = front G o led led.outputs rest;
+      writes = λ settling txn writes. writes-may G now settling txn o led writes later rest;
+      adds = λ required. front G o (requiring required (noting led)) _ (silently led.outputs (outputs.Require required) rest tt);
+      drops = λ required. front G o (requiring required led) _ (silently led.outputs (outputs.Require required) rest tt);
+    })
 
 stray-may : (G : ℕ → Type 0) (now ttl : Ticks) (revision : ℕ) (o b : Outcome) → All IsSilent b.outputs → AllMay G o (stray_renewed now ttl revision b)
 stray-may G now ttl revision o b silent = let over : Outcome = takes_over now revision (arming now ttl b) in let ended : Outcome = ending_server now WatchdogNotArmed b in
@@ -424,56 +448,62 @@ gives-back-may G revision o b later ended given silent = let back : Outcome = gi
     push G o back b.outputs _ (front G o back b.outputs silent) (sends G o back b.knows.sequence _ later refl (rests-by back ended refl, inr given))
 
 begins-may : (G : ℕ → Type 0) (now : Ticks) (revision : ℕ) (o b : Outcome) → G revision → All IsSilent b.outputs → AllMay G o (begins now revision b)
-begins-may G now revision o b given silent = let begun : Outcome = begins now revision b in
-    push G o begun (listed (outputs.Require Nobody) b.outputs) outputs.Begin (front G o begun (listed (outputs.Require Nobody) b.outputs) (silently b.outputs (outputs.Require Nobody) silent tt)) (revision, given)
+begins-may G now revision o b given silent = let begun : Outcome = begins now revision b in let required : Output = outputs.Require (unnamed b.knows.turn_settings) in
+    push G o begun (listed required b.outputs) outputs.Begin (front G o begun (listed required b.outputs) (silently b.outputs required silent tt)) (revision, given)
+
+claims-may : (G : ℕ → Type 0) (now : Ticks) (revision : ℕ) (o b : Outcome) → o.knows.sequence ≤ b.knows.sequence → All IsSilent b.outputs → AllMay G o (claims now revision b)
+claims-may G now revision o b later silent = let after : Outcome = claims now revision b in
+    push G o after b.outputs _ (front G o after b.outputs silent) (sends G o after b.knows.sequence _ later refl tt)
 
 arms-may : (G : ℕ → Type 0) (now ttl : Ticks) (revision : ℕ) (o b : Outcome) → o.knows.sequence ≤ b.knows.sequence → live b.machine.server.state ≡ false → G revision → All IsSilent b.outputs → AllMay G o (arms now ttl revision b)
 arms-may G now ttl revision o b later ended given silent = let cannot : Outcome = record b { outputs = listed outputs.CannotArm b.outputs } in let arm : Outcome = arming now ttl b in
-    if-cases (AllMay G o) (is_refusing b.machine.watchdog.mode b.machine.watchdog.works) (gives_back revision cannot) (begins now revision arm)
+    let rest : All IsSilent arm.outputs = silent-armed (deadline_after now ttl b.machine.watchdog) b.outputs silent in
+    if-cases (AllMay G o) (is_refusing b.machine.watchdog.mode b.machine.watchdog.works) (gives_back revision cannot) (begins_or_claims now revision arm)
     (λ _. gives-back-may G revision o cannot later ended given (silently b.outputs outputs.CannotArm silent tt))
-    (λ _. begins-may G now revision o arm given (silent-armed (deadline_after now ttl b.machine.watchdog) b.outputs silent))
+    (λ _. begins-or-claims-by (AllMay G o) now revision arm (begins-may G now revision o arm given rest) (claims-may G now revision o arm later rest))
 
 takes-may : (G : ℕ → Type 0) (now ttl : Ticks) (revision : ℕ) (o b : Outcome) → o.knows.sequence ≤ b.knows.sequence → live b.machine.server.state ≡ false → G revision → All IsSilent b.outputs → AllMay G o (takes_key now ttl revision b)
 takes-may G now ttl revision o b later ended given silent =
     if-cases (AllMay G o) (may_take now b.knows b.machine) (arms now ttl revision b) (gives_back revision b)
     (λ _. arms-may G now ttl revision o b later ended given silent) (λ _. gives-back-may G revision o b later ended given silent)
 
--- who may have asked for the leader key while it was absent has no live server
-ended-for : (role : RoleFacts) (lives : Bool) → may_create role ≡ true → Fits role lives → lives ≡ false
-ended-for Follower lives may fits = fits
-ended-for (Holder held) lives may fits = fits
-ended-for (Ready held) lives may fits = fits
-ended-for (Leader held) lives may fits = absurd (no-way may)
-ended-for (Ending held why) lives may fits = absurd (no-way may)
-ended-for Stray lives may fits = absurd (no-way may)
-
 -- the decision is waited for, and grants this member the leader key
 abbrev pub Decides : ℕ → Granted → Outcome → Type 0
 Decides sequence grant o = (waited : Waited) × (o.knows.waited ≡ Some waited) × (is_decision waited sequence && is_lease_of o.knows.who.me grant ≡ true)
 
+-- of whom the leader key is, G holds where the agent is about to begin on it
+abbrev pub HoldsOfReady : (ℕ → Type 0) → Outcome → Type 0
+HoldsOfReady G b = (revision : ℕ) → b.role ≡ Ready revision → G revision
+
 granted-silent : (G : ℕ → Type 0) (now : Ticks) (sequence : ℕ) (grant : Granted) (snapshot : SnapshotFacts) (o b : Outcome) → o.knows.sequence ≤ b.knows.sequence → Fits b.role (live b.machine.server.state)
-    → (Decides sequence grant b → G grant.revision) → All IsSilent b.outputs → AllMay G o (granted now sequence grant snapshot b)
-granted-silent G now sequence grant snapshot o b later fits gives silent =
+    → (Decides sequence grant b → G grant.revision) → HoldsOfReady G b → All IsSilent b.outputs → AllMay G o (granted now sequence grant snapshot b)
+granted-silent G now sequence grant snapshot o b later fits gives readies silent =
     granted-by (AllMay G o) now sequence grant snapshot b (front G o b b.outputs silent) (front G o (waiting_no_more b) b.outputs silent)
     (λ waited is decision. record {
       other = front G o (Told snapshot b) b.outputs silent;
-      leader = λ held _. renewed-may G now waited.ttl grant.revision o (Told snapshot b) silent;
+      leader = λ held _. renewed-may G now waited.ttl grant.revision o (Told snapshot b) later silent;
       stray = λ _. stray-may G now waited.ttl grant.revision o (Told snapshot b) silent;
       takes = λ may. takes-may G now waited.ttl grant.revision o (Told snapshot b) later (ended-for b.role (live b.machine.server.state) may fits) (gives (waited, is, decision)) silent;
+    })
+    (record {
+      other = front G o (Told snapshot b) b.outputs silent;
+      begins = λ revision is. begins-may G now revision o (Told snapshot b) (readies revision is) silent;
+      postpones = λ revision _. front G o (postpones revision (Told snapshot b)) _ (postpones-silent revision (Told snapshot b) silent);
+      settles = λ required _. front G o (requiring required (Told snapshot b)) _ (silently b.outputs (outputs.Require required) silent tt);
     })
 
 granted-none : (now : Ticks) (sequence : ℕ) (grant : Granted) (snapshot : SnapshotFacts) (o : Outcome) → o.knows.waited ≡ None → granted now sequence grant snapshot o ≡ o
 granted-none now sequence grant snapshot o is = rw is refl
 
 granted-fronts : (G : ℕ → Type 0) (now : Ticks) (sequence : ℕ) (grant : Granted) (snapshot : SnapshotFacts) (o b : Outcome) → o.knows.sequence ≤ b.knows.sequence → Fits b.role (live b.machine.server.state)
-    → (Decides sequence grant b → G grant.revision) → Fronts o b → AllMay G o (granted now sequence grant snapshot b)
-granted-fronts G now sequence grant snapshot o b later fits gives (Silent all) = granted-silent G now sequence grant snapshot o b later fits gives all
-granted-fronts G now sequence grant snapshot o b later fits gives (Released revision held alone role ended counted all) =
+    → (Decides sequence grant b → G grant.revision) → HoldsOfReady G b → Fronts o b → AllMay G o (granted now sequence grant snapshot b)
+granted-fronts G now sequence grant snapshot o b later fits gives readies (Silent all) = granted-silent G now sequence grant snapshot o b later fits gives readies all
+granted-fronts G now sequence grant snapshot o b later fits gives readies (Released revision held alone role ended counted all) =
     subst (λ (z : Outcome). AllMay G o z) (sym (granted-none now sequence grant snapshot b alone)) (released G o b revision b.outputs held role ended counted all)
 
 pub granted-may : (G : ℕ → Type 0) (now : Ticks) (sequence : ℕ) (grant : Granted) (snapshot : SnapshotFacts) (o : Outcome) → IsAlone o → o.knows.sequence ≤ (before now o).knows.sequence → Fits (before now o).role (live (before now o).machine.server.state)
-    → (Decides sequence grant (before now o) → G grant.revision) → All IsSilent o.outputs → AllMay G o (granted now sequence grant snapshot (before now o))
-granted-may G now sequence grant snapshot o alone later fits gives silent = granted-fronts G now sequence grant snapshot o (before now o) later fits gives (before-fronts now o alone silent)
+    → (Decides sequence grant (before now o) → G grant.revision) → HoldsOfReady G (before now o) → All IsSilent o.outputs → AllMay G o (granted now sequence grant snapshot (before now o))
+granted-may G now sequence grant snapshot o alone later fits gives readies silent = granted-fronts G now sequence grant snapshot o (before now o) later fits gives readies (before-fronts now o alone silent)
 
 -- where nothing is granted no server comes to accept writes
 unbegun : (o after : Outcome) (output : Output) → MayPut (λ r. ⊥) o after output → BeginsOnly ⊥ output
@@ -498,11 +528,11 @@ behind-push P before-it [] output begin last = (last before-it (sym (append-nil 
 behind-push P before-it (one ∷ outs) output begin last =
     (begin.0, behind-push P (listed one before-it) outs output begin.1 (λ all is. last all (is ∙ append_assoc before-it (one ∷ []) outs)))
 
--- who may begin by this grant, behind these outputs: no hold is active, and the watchdog was armed
-pub record BeginsOn (now : Ticks) (sequence : ℕ) (grant : Granted) (o : Outcome) (before-it : List Output) : Type 0 where
-  pub decides : Decides sequence grant o
-  pub free : is_hold_active now o.machine.hold ≡ false
-  pub armed_is : has_one is_arming before-it ≡ true
+-- who may begin by this grant, behind these outputs: it was about to; or the leader key is granted, no hold is active, and the
+-- watchdog was armed
+pub data BeginsOn (now : Ticks) (sequence : ℕ) (grant : Granted) (o : Outcome) (before-it : List Output) : Type 0 where
+  WasReady : (ready : is_ready o.role ≡ true) → BeginsOn now sequence grant o before-it
+  OnLease : (decides : Decides sequence grant o) → (free : is_hold_active now o.machine.hold ≡ false) → (armed_is : has_one is_arming before-it ≡ true) → BeginsOn now sequence grant o before-it
 
 armed-first : (outs : List Output) (until : Ticks) (armable : Bool) → armable ≡ true → has_one is_arming (armed (if armable then Some until else None) outs) ≡ true
 armed-first outs until true is = one-last is_arming outs (outputs.Armed until) refl
@@ -518,40 +548,59 @@ silent-begins P outs silent = never P [] outs (All-weaker IsSilent (BeginsOnly �
 gives-back-begins : (P : List Output → Type 0) (revision : ℕ) (b : Outcome) → All IsSilent b.outputs → OutputsBeginBehind P [] (gives_back revision b).outputs
 gives-back-begins P revision b silent = behind-push P [] b.outputs (outputs.Send targets.Store (b.knows.sequence + 1) (bodies.Request (txns.Release revision))) (silent-begins P b.outputs silent) (λ all is. tt)
 
+-- a member that begins does so behind silent outputs and the order of whom its commits wait for
+begins-begins : (P : List Output → Type 0) (now : Ticks) (revision : ℕ) (b : Outcome) → All IsSilent b.outputs → ((all : List Output) → all ≡ [] ++ listed (outputs.Require (unnamed b.knows.turn_settings)) b.outputs → P all) → OutputsBeginBehind P [] (begins now revision b).outputs
+begins-begins P now revision b silent last = let required : Output = outputs.Require (unnamed b.knows.turn_settings) in
+    behind-push P [] (listed required b.outputs) outputs.Begin (silent-begins P (listed required b.outputs) (silently b.outputs required silent tt)) last
+
 arms-begins : (now ttl : Ticks) (sequence : ℕ) (grant : Granted) (revision : ℕ) (o b : Outcome) → Decides sequence grant o → is_hold_active now o.machine.hold ≡ false → is_armable b.machine.watchdog.mode b.machine.watchdog.works ≡ true → All IsSilent b.outputs
     → OutputsBeginBehind (BeginsOn now sequence grant o) [] (arms now ttl revision b).outputs
 arms-begins now ttl sequence grant revision o b decides free armable silent =
     let cannot : Outcome = record b { outputs = listed outputs.CannotArm b.outputs } in
     let arm : Outcome = arming now ttl b in
     let told : has_one is_arming arm.outputs ≡ true = armed-first b.outputs _ (is_armable b.machine.watchdog.mode b.machine.watchdog.works) armable in
-    if-cases (λ (x : Outcome). OutputsBeginBehind (BeginsOn now sequence grant o) [] x.outputs) (is_refusing b.machine.watchdog.mode b.machine.watchdog.works) (gives_back revision cannot) (begins now revision arm)
+    let rest : All IsSilent arm.outputs = silent-armed (deadline_after now ttl b.machine.watchdog) b.outputs silent in
+    if-cases (λ (x : Outcome). OutputsBeginBehind (BeginsOn now sequence grant o) [] x.outputs) (is_refusing b.machine.watchdog.mode b.machine.watchdog.works) (gives_back revision cannot) (begins_or_claims now revision arm)
     (λ _. gives-back-begins (BeginsOn now sequence grant o) revision cannot (silently b.outputs outputs.CannotArm silent tt))
-    (λ _. behind-push (BeginsOn now sequence grant o) [] (listed (outputs.Require Nobody) arm.outputs) outputs.Begin
-    (silent-begins (BeginsOn now sequence grant o) (listed (outputs.Require Nobody) arm.outputs) (silently arm.outputs (outputs.Require Nobody) (silent-armed (deadline_after now ttl b.machine.watchdog) b.outputs silent) tt))
-    (λ all is. record { decides = decides; free = free; armed_is = subst (λ (l : List Output). has_one is_arming l ≡ true) (sym is) (one-before is_arming arm.outputs (outputs.Require Nobody) told) }))
+    (λ _. begins-or-claims-by (λ (x : Outcome). OutputsBeginBehind (BeginsOn now sequence grant o) [] x.outputs) now revision arm
+    (begins-begins (BeginsOn now sequence grant o) now revision arm rest
+    (λ all is. OnLease decides free (subst (λ (l : List Output). has_one is_arming l ≡ true) (sym is) (one-before is_arming arm.outputs (outputs.Require (unnamed arm.knows.turn_settings)) told))))
+    (behind-push (BeginsOn now sequence grant o) [] arm.outputs _ (silent-begins (BeginsOn now sequence grant o) arm.outputs rest) (λ all is. tt)))
 
 takes-begins : (now ttl : Ticks) (sequence : ℕ) (grant : Granted) (revision : ℕ) (o b : Outcome) → Decides sequence grant o → b.machine.hold ≡ o.machine.hold → is_armable b.machine.watchdog.mode b.machine.watchdog.works ≡ true → All IsSilent b.outputs
     → OutputsBeginBehind (BeginsOn now sequence grant o) [] (takes_key now ttl revision b).outputs
 takes-begins now ttl sequence grant revision o b decides hold armable silent =
     if-cases (λ (x : Outcome). OutputsBeginBehind (BeginsOn now sequence grant o) [] x.outputs) (may_take now b.knows b.machine) (arms now ttl revision b) (gives_back revision b)
-    (λ may. arms-begins now ttl sequence grant revision o b decides (subst (λ (h : Option Ticks). is_hold_active now h ≡ false) hold (take-free (is_hold_active now b.machine.hold) (can_begin now b.knows b.machine.server b.machine.server.state) may)) armable silent)
+    (λ may. arms-begins now ttl sequence grant revision o b decides (subst (λ (h : Option Ticks). is_hold_active now h ≡ false) hold (take-free (is_hold_active now b.machine.hold) (can_begin now b.knows b.machine.server b.machine.server.state && may_lead_in_sync b.knows) may)) armable silent)
     (λ _. gives-back-begins (BeginsOn now sequence grant o) revision b silent)
 
 granted-begins : (now : Ticks) (sequence : ℕ) (grant : Granted) (snapshot : SnapshotFacts) (b : Outcome) → (Decides sequence grant b → is_armable b.machine.watchdog.mode b.machine.watchdog.works ≡ true) → All IsSilent b.outputs
     → OutputsBeginBehind (BeginsOn now sequence grant b) [] (granted now sequence grant snapshot b).outputs
 granted-begins now sequence grant snapshot b armable silent =
     let told : Outcome = Told snapshot b in
-    granted-by (λ (x : Outcome). OutputsBeginBehind (BeginsOn now sequence grant b) [] x.outputs) now sequence grant snapshot b
+    let Mine : List Output → Type 0 = BeginsOn now sequence grant b in
+    granted-by (λ (x : Outcome). OutputsBeginBehind Mine [] x.outputs) now sequence grant snapshot b
     (silent-begins (BeginsOn now sequence grant b) b.outputs silent) (silent-begins (BeginsOn now sequence grant b) b.outputs silent)
-    (λ waited is decision. let fed : Outcome = record (feeding now waited.ttl told) { role = Leader grant.revision } in let over : Outcome = takes_over now grant.revision (arming now waited.ttl told) in
-    let rest : All IsSilent fed.outputs = silent-fed (deadline_after now waited.ttl b.machine.watchdog) b.outputs silent in record {
-      other = silent-begins (BeginsOn now sequence grant b) b.outputs silent;
-      leader = λ held _. if-cases (λ (x : Outcome). OutputsBeginBehind (BeginsOn now sequence grant b) [] x.outputs) (is_start_too_long now fed.knows fed.machine.server.state) (record (ending_server now StartTooLong fed) { role = Ending grant.revision HandOver }) fed
-          (λ _. silent-begins (BeginsOn now sequence grant b) (listed (outputs.Stop StartTooLong) fed.outputs) (silently fed.outputs (outputs.Stop StartTooLong) rest tt)) (λ _. silent-begins (BeginsOn now sequence grant b) fed.outputs rest);
-      stray = λ _. if-cases (λ (x : Outcome). OutputsBeginBehind (BeginsOn now sequence grant b) [] x.outputs) (is_refusing b.machine.watchdog.mode b.machine.watchdog.works) (ending_server now WatchdogNotArmed told) over
-          (λ _. silent-begins (BeginsOn now sequence grant b) (listed (outputs.Stop WatchdogNotArmed) b.outputs) (silently b.outputs (outputs.Stop WatchdogNotArmed) silent tt))
-          (λ _. silent-begins (BeginsOn now sequence grant b) over.outputs (silent-armed (deadline_after now waited.ttl b.machine.watchdog) b.outputs silent));
+    (λ waited is decision. let led : Outcome = led_on now waited.ttl grant.revision told in let over : Outcome = takes_over now grant.revision (arming now waited.ttl told) in
+    let rest : All IsSilent led.outputs = silent-fed (deadline_after now waited.ttl b.machine.watchdog) b.outputs silent in record {
+      other = silent-begins Mine b.outputs silent;
+      leader = λ held _. renewed-by (λ (x : Outcome). OutputsBeginBehind Mine [] x.outputs) now waited.ttl grant.revision told
+          (silent-begins Mine (listed (outputs.Stop StartTooLong) led.outputs) (silently led.outputs (outputs.Stop StartTooLong) rest tt)) (record {
+            kept = silent-begins Mine led.outputs rest;
+            writes = λ settling txn _. behind-push Mine [] led.outputs _ (silent-begins Mine led.outputs rest) (λ all is. tt);
+            adds = λ required. silent-begins Mine (listed (outputs.Require required) led.outputs) (silently led.outputs (outputs.Require required) rest tt);
+            drops = λ required. silent-begins Mine (listed (outputs.Require required) led.outputs) (silently led.outputs (outputs.Require required) rest tt);
+          });
+      stray = λ _. if-cases (λ (x : Outcome). OutputsBeginBehind Mine [] x.outputs) (is_refusing b.machine.watchdog.mode b.machine.watchdog.works) (ending_server now WatchdogNotArmed told) over
+          (λ _. silent-begins Mine (listed (outputs.Stop WatchdogNotArmed) b.outputs) (silently b.outputs (outputs.Stop WatchdogNotArmed) silent tt))
+          (λ _. silent-begins Mine over.outputs (silent-armed (deadline_after now waited.ttl b.machine.watchdog) b.outputs silent));
       takes = λ _. takes-begins now waited.ttl sequence grant grant.revision b told (waited, is, decision) refl (armable (waited, is, decision)) silent;
+    })
+    (record {
+      other = silent-begins Mine b.outputs silent;
+      begins = λ revision is. begins-begins Mine now revision told silent (λ all _. WasReady (ready-is b.role revision is));
+      postpones = λ revision _. silent-begins Mine (postpones revision told).outputs (postpones-silent revision told silent);
+      settles = λ required _. silent-begins Mine (listed (outputs.Require required) b.outputs) (silently b.outputs (outputs.Require required) silent tt);
     })
 
 release-never : (sequence revision : ℕ) (output : Output) → IsReleaseOr sequence revision output → BeginsOnly ⊥ output

@@ -2,6 +2,7 @@
 use Rattle.std.specs.Prelude.{ℕ, ◌+◌, ◌*◌, nat_lt, if◌then◌else◌, not, Bool, false, List, Option, Some, None}
 use Rattle.pat_base.specs.declared.member_id.MemberId.{MemberId}
 use Rattle.pat_base.specs.declared.server_id.ServerId.{ServerId}
+use Rattle.pat_base.specs.declared.server_state.Required.{Required}
 use Rattle.pat_base.specs.declared.ticks.Ticks.{Ticks}
 use Rattle.lease_store.specs.declared.config.Config.{Config}
 use Rattle.lease_store.specs.declared.txn.Txn.TheVariants as txns
@@ -12,7 +13,7 @@ use Rattle.event_book.specs.declared.message.Body.TheVariants as bodies
 use Rattle.event_book.specs.declared.reason.Reason.{Reason}
 use Rattle.event_book.specs.Members.{server_id_of}
 use Rattle.leader_key.specs.declared.watchdog.Mode.{Mode}
-use Rattle.leader_key.specs.declared.watchdog.Mode.TheVariants.{Required}
+use Rattle.leader_key.specs.declared.watchdog.Mode.TheVariants as modes
 use Rattle.leader_key.specs.Watchdog.{WatchdogFacts, fed, is_armable, timeout_of}
 use Rattle.ha_loop.specs.declared.knowledge.Knowledge.{Knowledge}
 use Rattle.ha_loop.specs.declared.knowledge.Question.{Question}
@@ -90,6 +91,14 @@ status_begun now s = status_primary_started now (status_promoted s)
 abbrev pub beginning : Ticks → Outcome → Outcome
 beginning now o = record o { machine = record o.machine { server = status_begun now o.machine.server }; outputs = listed outputs.Begin o.outputs }
 
+-- the server's commits wait for these
+abbrev pub with_required : Required → Machine → Machine
+with_required required machine = record machine { replication = record machine.replication { required = required } }
+
+-- the server's commits wait for these from now on
+abbrev pub requiring : Required → Outcome → Outcome
+requiring required o = record o { machine = with_required required o.machine; outputs = listed (outputs.Require required) o.outputs }
+
 -- the machine with no deadline of its watchdog
 abbrev pub without_deadline : Machine → Machine
 without_deadline machine = record machine { watchdog = record machine.watchdog { deadline = None } }
@@ -113,7 +122,7 @@ with_feed now ttl machine = record machine { watchdog = fed now.0 ttl.0 machine.
 
 -- whether the member needs a watchdog whose device doesn't work
 abbrev pub is_refusing : Mode → Bool → Bool
-is_refusing Required works = not works
+is_refusing modes.Required works = not works
 is_refusing _ works = false
 
 -- a first deadline is told, if there is one

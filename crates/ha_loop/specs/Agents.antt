@@ -1,5 +1,5 @@
 -- Where an agent stands.
-use Rattle.std.specs.Prelude.{ℕ, ◌≡◌, ◌≤◌, ◌<◌, ◌^◌, false, List, [], Option, None}
+use Rattle.std.specs.Prelude.{ℕ, ◌≡◌, ◌≤◌, ◌<◌, ◌^◌, Bool, true, false, List, [], Option, None}
 use Rattle.std.specs.Option.{ForSome}
 use Rattle.pat_base.specs.declared.ticks.Ticks.{Ticks}
 use Rattle.leader_key.specs.Lease.{lease_revision, armed_revision, writer_revision}
@@ -43,6 +43,16 @@ word_of (Ready revision) = words.Ready
 word_of (Leader revision) = words.Leader
 word_of (Ending revision why) = words.Ending
 word_of Stray = words.Stray
+
+-- an agent is about to begin
+abbrev pub is_ready : RoleFacts → Bool
+is_ready (Ready revision) = true
+is_ready _ = false
+
+-- an agent leads
+abbrev pub is_leader : RoleFacts → Bool
+is_leader (Leader revision) = true
+is_leader _ = false
 
 -- where an agent stands: its role, and all that it knows beside it
 pub record AgentFacts : Type 0 where
@@ -96,6 +106,8 @@ fresh_knowledge who first run = record {
   seen = None;
   settings = default_config;
   turn_settings = default_config;
+  turn_sync = None;
+  noted = None;
   begun = None;
   crashed = None;
   known = record { bits = 0 };

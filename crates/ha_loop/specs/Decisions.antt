@@ -1,7 +1,6 @@
 -- What an agent does once the key store has decided on its request for the leader key.
-use Rattle.std.specs.Prelude.{ℕ, ◌-◌, ◌*◌, ◌==◌, ◌&&◌, nat_le, nat_lt, if◌then◌else◌, not, Bool, true, false, Option, Some, None}
+use Rattle.std.specs.Prelude.{ℕ, ◌-◌, ◌*◌, ◌==◌, ◌&&◌, ◌||◌, nat_le, nat_lt, if◌then◌else◌, not, Bool, true, false, Option, Some, None}
 use Rattle.pat_base.specs.declared.member_id.MemberId.{MemberId}
-use Rattle.pat_base.specs.declared.server_state.Required.TheVariants.{Nobody}
 use Rattle.pat_base.specs.declared.server_state.State.{State}
 use Rattle.pat_base.specs.declared.server_state.State.TheVariants as states
 use Rattle.pat_base.specs.declared.ticks.Ticks.{Ticks}
@@ -11,14 +10,17 @@ use Rattle.event_book.specs.declared.reason.Reason.TheVariants.{StartTooLong, Wa
 use Rattle.cluster_config.specs.Snapshots.{SnapshotFacts}
 use Rattle.ha_loop.specs.declared.knowledge.Knowledge.{Knowledge}
 use Rattle.ha_loop.specs.declared.knowledge.Question.{Question}
-use Rattle.ha_loop.specs.declared.knowledge.Question.TheVariants.{Reading, Asking, Creating, Renewing}
+use Rattle.ha_loop.specs.declared.knowledge.Question.TheVariants.{Asking, Creating, Renewing, Claiming, Syncing}
 use Rattle.ha_loop.specs.declared.knowledge.Waited.{Waited}
 use Rattle.ha_loop.specs.declared.machine.Machine.{Machine}
 use Rattle.ha_loop.specs.declared.output.Output.TheVariants as outputs
 use Rattle.ha_loop.specs.declared.role.Why.TheVariants.{HandOver}
-use Rattle.ha_loop.specs.Acting.{waiting_no_more, releasing, ending_server, beginning, arming, feeding, is_refusing, is_hold_active}
-use Rattle.ha_loop.specs.Agents.{RoleFacts, Follower, Holder, Leader, Ending, Stray, Outcome}
+use Rattle.ha_loop.specs.Acting.{waiting_no_more, releasing, ending_server, arming, feeding, is_refusing, is_hold_active}
+use Rattle.ha_loop.specs.Agents.{RoleFacts, Follower, Holder, Ready, Leader, Ending, Stray, Outcome, is_ready, is_leader}
+use Rattle.ha_loop.specs.Claiming.{begins_or_claims, claim_fails, claim_granted}
 use Rattle.ha_loop.specs.Outputs.{listed}
+use Rattle.ha_loop.specs.Planning.{planned, settled}
+use Rattle.ha_loop.specs.Synchronous.{may_lead_in_sync}
 use Rattle.ha_loop.specs.Snapshots.{informed, is_active, leader_loses_key, stray_loses_key}
 
 -- so many ticks have passed since this run began the server, or took it over
@@ -31,18 +33,19 @@ abbrev pub is_start_too_long : Ticks → Knowledge → State → Bool
 is_start_too_long now knows (states.Starting as_primary at) = has_lasted now (10 * knows.settings.primary_start_timeout) knows.begun
 is_start_too_long now knows _ = false
 
--- then another member is to lead
+-- then another member is to lead; else the leader takes a step with its synchronous standbys
 abbrev pub judges_start : Ticks → ℕ → Outcome → Outcome
 judges_start now revision o =
-    if is_start_too_long now o.knows o.machine.server.state then record (ending_server now StartTooLong o) { role = Ending revision HandOver } else o
+    if is_start_too_long now o.knows o.machine.server.state then record (ending_server now StartTooLong o) { role = Ending revision HandOver } else planned now revision o
 
 -- the lease of a leader is renewed: its watchdog is fed
 abbrev pub leader_renewed : Ticks → Ticks → ℕ → Outcome → Outcome
 leader_renewed now ttl revision o = judges_start now revision (record (feeding now ttl o) { role = Leader revision })
 
--- an agent leads from now on with the server that is live already
+-- an agent leads from now on with the server that is live already. What was acknowledged before is known to no agent any more, so the
+-- end of the log is noted, which covers it
 abbrev pub takes_over : Ticks → ℕ → Outcome → Outcome
-takes_over now revision o = record o { role = Leader revision; knows = record o.knows { begun = Some now } }
+takes_over now revision o = record o { role = Leader revision; knows = record o.knows { begun = Some now; noted = o.machine.server.end } }
 
 -- an agent whose server is live without a lease gets one: it leads, once its watchdog is armed
 abbrev pub stray_renewed : Ticks → Ticks → ℕ → Outcome → Outcome
@@ -66,25 +69,18 @@ can_begin now knows server states.Stopped = may_start_again now knows server
 can_begin now knows server states.Crashed = may_start_again now knows server
 can_begin now knows server _ = false
 
--- a member may take the leader key: no hold is active, and its server can begin
+-- a member may take the leader key: no hold is active, its server can begin, and in synchronous mode it lacks no acknowledged commit
 abbrev pub may_take : Ticks → Knowledge → Machine → Bool
-may_take now knows machine = not (is_hold_active now machine.hold) && can_begin now knows machine.server machine.server.state
+may_take now knows machine = not (is_hold_active now machine.hold) && (can_begin now knows machine.server machine.server.state && may_lead_in_sync knows)
 
 -- the leader key is given back
 abbrev pub gives_back : ℕ → Outcome → Outcome
 gives_back revision o = record (releasing revision o) { role = Follower }
 
--- the member begins: commits wait for nobody, and the server begins to accept writes
-abbrev pub begins : Ticks → ℕ → Outcome → Outcome
-begins now revision o = record (beginning now (record o { outputs = listed (outputs.Require Nobody) o.outputs })) {
-  role = Leader revision;
-  knows = record o.knows { begun = Some now; crashed = None };
-}
-
 -- nobody begins without an armed watchdog, where the member needs one
 abbrev pub arms : Ticks → Ticks → ℕ → Outcome → Outcome
 arms now ttl revision o =
-    if is_refusing o.machine.watchdog.mode o.machine.watchdog.works then gives_back revision (record o { outputs = listed outputs.CannotArm o.outputs }) else begins now revision (arming now ttl o)
+    if is_refusing o.machine.watchdog.mode o.machine.watchdog.works then gives_back revision (record o { outputs = listed outputs.CannotArm o.outputs }) else begins_or_claims now revision (arming now ttl o)
 
 -- an agent that isn't leading gets a lease
 abbrev pub takes_key : Ticks → Ticks → ℕ → Outcome → Outcome
@@ -104,10 +100,12 @@ may_create Follower = true
 may_create (Holder revision) = true
 may_create _ = false
 
--- a question for the leader key belongs to the role
+-- a question belongs to the role: its answer is used
 abbrev pub belongs : Question → RoleFacts → Bool
 belongs Asking role = may_create role
 belongs Creating role = may_create role
+belongs Claiming role = is_ready role
+belongs (Syncing settling) role = is_leader role
 belongs _ role = is_active role
 
 -- a grant that is waited for is used where its question belongs to the role; its snapshot is then the newest
@@ -117,9 +115,15 @@ accepted_grant now waited revision snapshot o =
 
 -- a question that asks for a lease of the leader key
 abbrev pub asks_lease : Question → Bool
-asks_lease Reading = false
-asks_lease Asking = false
-asks_lease _ = true
+asks_lease Creating = true
+asks_lease Renewing = true
+asks_lease _ = false
+
+-- a question that asks for a write of the sync key
+abbrev pub asks_sync : Question → Bool
+asks_sync Claiming = true
+asks_sync (Syncing settling) = true
+asks_sync _ = false
 
 -- the decision on this request for the leader key is waited for
 abbrev pub is_decision : Waited → ℕ → Bool
@@ -129,11 +133,33 @@ is_decision waited sequence = asks_lease waited.question && waited.sequence == s
 abbrev pub is_lease_of : MemberId → Granted → Bool
 is_lease_of me grant = grant.leased && grant.by.number == me.number
 
+-- the decision on this write of the sync key is waited for
+abbrev pub is_sync_decision : Waited → ℕ → Bool
+is_sync_decision waited sequence = asks_sync waited.question && waited.sequence == sequence
+
+-- the grant is one of another write, to this member
+abbrev pub is_write_of : MemberId → Granted → Bool
+is_write_of me grant = not grant.leased && grant.by.number == me.number
+
+-- a write of the sync key is granted that was asked by this question, to a role that asks it
+abbrev pub sync_granted : Ticks → Question → RoleFacts → Outcome → Outcome
+sync_granted now Claiming (Ready revision) o = claim_granted now revision o
+sync_granted now (Syncing settling) role o = settled settling o
+sync_granted now _ role o = o
+
+-- such a grant is used where its question belongs to the role; its snapshot is then the newest
+abbrev pub accepted_sync : Ticks → Waited → SnapshotFacts → Outcome → Outcome
+accepted_sync now waited snapshot o = if belongs waited.question o.role then sync_granted now waited.question o.role (record o { knows = informed snapshot o.knows }) else waiting_no_more o
+
+-- a grant of another write than that of the leader key
+abbrev pub granted_write : Ticks → ℕ → Granted → SnapshotFacts → Waited → Outcome → Outcome
+granted_write now sequence grant snapshot waited o = if is_sync_decision waited sequence && is_write_of o.knows.who.me grant then accepted_sync now waited snapshot o else o
+
 -- a grant, by what is waited for
 abbrev pub granted_for : Ticks → ℕ → Granted → SnapshotFacts → Option Waited → Outcome → Outcome
 granted_for now sequence grant snapshot None o = o
 granted_for now sequence grant snapshot (Some waited) o =
-    if is_decision waited sequence && is_lease_of o.knows.who.me grant then accepted_grant now waited grant.revision snapshot o else o
+    if is_decision waited sequence && is_lease_of o.knows.who.me grant then accepted_grant now waited grant.revision snapshot o else granted_write now sequence grant snapshot waited o
 
 -- a request was granted: what is waited for is used, and any other dropped
 abbrev pub granted : Ticks → ℕ → Granted → SnapshotFacts → Outcome → Outcome
@@ -159,13 +185,17 @@ renewal_refused now _ o = o
 abbrev pub refused_as : Ticks → Question → Outcome → Outcome
 refused_as now Creating o = create_refused o
 refused_as now Renewing o = renewal_refused now o.role o
-refused_as now Reading o = o
-refused_as now Asking o = o
+refused_as now Claiming o = claim_fails o
+refused_as now _ o = o
+
+-- the decision on this request is waited for
+abbrev pub awaits_decision : Waited → ℕ → Bool
+awaits_decision waited sequence = is_decision waited sequence || is_sync_decision waited sequence
 
 -- a refusal, by what is waited for
 abbrev pub refused_for : Ticks → ℕ → Option Waited → Outcome → Outcome
 refused_for now sequence None o = o
-refused_for now sequence (Some waited) o = if is_decision waited sequence then refused_as now waited.question (waiting_no_more o) else o
+refused_for now sequence (Some waited) o = if awaits_decision waited sequence then refused_as now waited.question (waiting_no_more o) else o
 
 -- a request was refused: what is waited for is used, and any other dropped
 abbrev pub refused : Ticks → ℕ → Outcome → Outcome

@@ -1,30 +1,34 @@
 -- What becomes of a free leader key: who asks for it, who asks the others first, and who stays out.
-use Rattle.std.specs.Prelude.{ℕ, ◌≡◌, ◌+◌, ◌<◌, nat_le, Bool, true, false, [], Some, None, Contains}
+use Rattle.std.specs.Prelude.{ℕ, ◌≡◌, ◌+◌, ◌<◌, ◌==◌, nat_le, Bool, true, false, [], Some, None, Contains}
 use Rattle.pat_base.specs.declared.member_id.MemberId.{MemberId}
 use Rattle.pat_base.specs.declared.peer_answer.PeerAnswer.{PeerAnswer}
 use Rattle.pat_base.specs.declared.ticks.Ticks.{Ticks}
 use Rattle.lease_store.specs.declared.action.Bar.{Bar}
+use Rattle.lease_store.specs.declared.granted.Granted.{Granted}
 use Rattle.lease_store.specs.declared.txn.Txn.TheVariants as txns
 use Rattle.leader_race.specs.Eligibility.{eligibility_of}
 use Rattle.leader_race.specs.Outcome.{outcome_of}
 use Rattle.event_book.specs.declared.message.Body.TheVariants as bodies
 use Rattle.cluster_config.specs.Snapshots.{SnapshotFacts, leader_in, settings_in}
 use Rattle.ha_loop.specs.declared.heard.Heard.{Heard}
-use Rattle.ha_loop.specs.declared.heard.Heard.TheVariants.{Wake, Got, Granted, Answered}
-use Rattle.ha_loop.specs.declared.knowledge.Question.TheVariants.{Asking, Creating}
+use Rattle.ha_loop.specs.declared.heard.Heard.TheVariants.{Wake, Got, Granted as HeardGranted, Answered}
+use Rattle.ha_loop.specs.declared.knowledge.Knowledge.{Knowledge}
+use Rattle.ha_loop.specs.declared.knowledge.Question.TheVariants.{Asking, Creating, Claiming}
 use Rattle.ha_loop.specs.declared.knowledge.Waited.{Waited}
 use Rattle.ha_loop.specs.declared.output.Output.TheVariants as outputs
 use Rattle.ha_loop.specs.declared.output.Target.TheVariants as targets
 use Rattle.ha_loop.specs.Acting.{is_refusing, lease_span, status_begun}
-use Rattle.ha_loop.specs.Agents.{Follower, Leader, Outcome}
+use Rattle.ha_loop.specs.Agents.{Follower, Ready, Leader, Outcome}
 use Rattle.ha_loop.specs.Answers.{is_other, with_answer, asking_all, all_answered}
-use Rattle.ha_loop.specs.Decisions.{may_create, may_take}
+use Rattle.ha_loop.specs.Claiming.{can_begin_on_claim}
+use Rattle.ha_loop.specs.Decisions.{may_create, may_take, is_write_of}
 use Rattle.ha_loop.specs.Info.{info_of}
 use Rattle.ha_loop.specs.Outputs.{listed}
 use Rattle.ha_loop.specs.Peers.{is_asking, awaits_answer}
 use Rattle.ha_loop.specs.Powers.{IsAwaitedLease}
 use Rattle.ha_loop.specs.Racing.{answers_until}
 use Rattle.ha_loop.specs.Snapshots.{awaits_read, informed}
+use Rattle.ha_loop.specs.Synchronous.{expected_of}
 use Rattle.ha_loop.specs.Views.{shown}
 use Rattle.ha_loop.specs.Wake.{turned}
 
@@ -109,10 +113,29 @@ pub record BeginsOn (now : Ticks) (revision : ℕ) (o after : Outcome) : Type 0 
   pub server : after.machine.server ≡ status_begun now o.machine.server
   pub begins : Contains after.outputs outputs.Begin
 
+-- the agent is about to begin, over its server as it was: it claims the sync key as its turn read it, and waits for the answer
+pub record ClaimsOn (revision : ℕ) (o after : Outcome) : Type 0 where
+  pub role : after.role ≡ Ready revision
+  pub server : after.machine.server ≡ o.machine.server
+  pub waited : Waited
+  pub waits : after.knows.waited ≡ Some waited
+  pub asks : waited.question ≡ Claiming
+  pub claims : Contains after.outputs (outputs.Send targets.Store waited.sequence (bodies.Request (txns.Claim revision (expected_of o.knows.turn_sync))))
+
+-- the answer of this number grants this member the claim that it waits for
+pub record IsAwaitedClaim (sequence : ℕ) (grant : Granted) (knows : Knowledge) : Type 0 where
+  pub waited : Waited
+  pub is : knows.waited ≡ Some waited
+  pub asks : waited.question ≡ Claiming
+  pub number : waited.sequence == sequence ≡ true
+  pub mine : is_write_of knows.who.me grant ≡ true
+
 -- an input that hears the grant of the leader key that it waits for: who may take it, and whose watchdog can be armed or isn't needed,
--- begins
+-- begins, or in synchronous mode claims the sync key. One that hears the grant of that claim: who is about to begin begins, where its
+-- server still can
 abbrev pub BeginsWhereGranted : Ticks → Heard → Outcome → Outcome → Type 0
-BeginsWhereGranted now (Granted sequence grant snapshot) o after =
-    IsAwaitedLease sequence grant o.knows → may_create o.role ≡ true → may_take now (informed snapshot o.knows) o.machine ≡ true → is_refusing o.machine.watchdog.mode o.machine.watchdog.works ≡ false
-    → BeginsOn now grant.revision o after
+BeginsWhereGranted now (HeardGranted sequence grant snapshot) o after =
+    (IsAwaitedLease sequence grant o.knows → may_create o.role ≡ true → may_take now (informed snapshot o.knows) o.machine ≡ true → is_refusing o.machine.watchdog.mode o.machine.watchdog.works ≡ false
+    → (o.knows.turn_settings.synchronous_mode ≡ false → BeginsOn now grant.revision o after) × (o.knows.turn_settings.synchronous_mode ≡ true → ClaimsOn grant.revision o after))
+    × ((revision : ℕ) → IsAwaitedClaim sequence grant o.knows → o.role ≡ Ready revision → can_begin_on_claim o.machine.server.was_primary o.machine.server.state ≡ true → BeginsOn now revision o after)
 BeginsWhereGranted now _ o after = Unit {0}

@@ -7,7 +7,7 @@ use Rattle.event_book.specs.declared.message.Body.{Body}
 use Rattle.event_book.specs.declared.message.Body.TheVariants as bodies
 use Rattle.leader_key.specs.Watchdog.{HasMargin, is_armable}
 use Rattle.lease_law.specs.Leases.{Query, Read, Grant, Answer, Flying, Requested, Answered}
-use Rattle.lease_law.specs.States.{State}
+use Rattle.lease_law.specs.States.{State, Acts}
 use Rattle.lease_law.specs.Inputs.{AgentInput, Fed, IsLawful}
 use Rattle.lease_law.specs.Past.{query_of}
 use Rattle.ha_loop.specs.declared.heard.Heard.{Heard}
@@ -100,11 +100,15 @@ pub record IsInputOf (s : State) (m runs : ℕ) (o after : Outcome) (input : Age
   pub gone : (number : ℕ) → input.heard ≡ Some number → input.flight number ≡ None
   pub flight : (i : ℕ) (flying : Flying) → input.flight i ≡ Some flying → (s.flight i ≡ Some flying) ⊎ IsSentBy m o.knows.run s.clock after.outputs flying
 
--- whose server comes to accept writes behind these outputs may: it heard a grant, no hold is active, and the watchdog was armed
-pub record MayPromote (s : State) (m : ℕ) (input : AgentInput) (before : List Output) : Type 0 where
+-- whose server comes to accept writes behind these outputs heard a grant, no hold is active, and the watchdog was armed
+pub record PromotesArmed (s : State) (m : ℕ) (input : AgentInput) (before : List Output) : Type 0 where
   pub fed : Fed s m input.heard
   pub free : (s.members m).hold ≤ s.clock
   pub armed : has_one is_arming before ≡ true
+
+-- so it may, or the member acted before
+abbrev pub MayPromote : State → ℕ → AgentInput → List Output → Type 0
+MayPromote s m input before = Acts (s.members m) ⊎ PromotesArmed s m input before
 
 -- an input of the law is lawful, and the server comes to accept writes only behind outputs after which it may
 pub record IsLawfulAnd (s : State) (m : ℕ) (after : Outcome) (input : AgentInput) : Type 0 where

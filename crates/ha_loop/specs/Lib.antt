@@ -3,6 +3,7 @@ pub mod Agents
 pub mod Answers
 pub mod Asking
 pub mod Before
+pub mod Claiming
 pub mod Decisions
 pub mod Fits
 pub mod FreeKey
@@ -11,6 +12,7 @@ pub mod Lawful
 pub mod Orders
 pub mod Outputs
 pub mod Peers
+pub mod Planning
 pub mod Powers
 pub mod Racing
 pub mod Repairs
@@ -18,6 +20,7 @@ pub mod Replies
 pub mod Seen
 pub mod Snapshots
 pub mod Start
+pub mod Synchronous
 pub mod Table
 pub mod Views
 pub mod Wake

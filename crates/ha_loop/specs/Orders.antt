@@ -10,7 +10,7 @@ use Rattle.ha_loop.specs.declared.machine.Machine.{Machine}
 use Rattle.ha_loop.specs.declared.output.Output.{Output}
 use Rattle.ha_loop.specs.declared.output.Output.TheVariants as outputs
 use Rattle.ha_loop.specs.declared.output.Target.TheVariants as targets
-use Rattle.ha_loop.specs.Acting.{status_begun, upstream_of, without_deadline}
+use Rattle.ha_loop.specs.Acting.{status_begun, upstream_of, without_deadline, with_required}
 use Rattle.ha_loop.specs.Agents.{Outcome}
 
 -- the machine with this server
@@ -36,6 +36,7 @@ machine_after_output now machine (outputs.Follow leader) = with_server (status_f
 machine_after_output now machine (outputs.Armed until) = with_deadline until machine
 machine_after_output now machine (outputs.Fed until) = with_deadline until machine
 machine_after_output now machine outputs.Disarmed = without_deadline machine
+machine_after_output now machine (outputs.Require required) = with_required required machine
 machine_after_output now machine (outputs.HoldTaken until from sequence) = record machine { hold = Some (later_hold until machine.hold) }
 machine_after_output now machine _ = machine
 

@@ -8,7 +8,7 @@ use Rattle.cluster_config.specs.Snapshots.{SnapshotFacts, failsafe_in}
 use Rattle.ha_loop.specs.declared.knowledge.Knowledge.{Knowledge}
 use Rattle.ha_loop.specs.declared.knowledge.Waited.{Waited}
 use Rattle.ha_loop.specs.Acting.{is_hold_active, is_refusing}
-use Rattle.ha_loop.specs.Agents.{RoleFacts, Holder, Ready, Leader, Ending, Outcome}
+use Rattle.ha_loop.specs.Agents.{RoleFacts, Holder, Ready, Leader, Ending, Outcome, is_ready}
 use Rattle.ha_loop.specs.Decisions.{is_decision, is_lease_of}
 use Rattle.ha_loop.specs.Outputs.{is_feeding, has_one}
 use Rattle.ha_loop.specs.Snapshots.{known_with}
@@ -26,11 +26,6 @@ abbrev pub leads : RoleFacts → Bool
 leads (Ready revision) = true
 leads (Leader revision) = true
 leads _ = false
-
--- an agent is about to begin
-abbrev pub is_ready : RoleFacts → Bool
-is_ready (Ready revision) = true
-is_ready _ = false
 
 -- the server accepts writes or will, or the agent is about to begin
 abbrev pub Acts : Outcome → Type 0
@@ -65,12 +60,13 @@ pub record IsAwaitedLease (sequence : ℕ) (grant : Granted) (knows : Knowledge)
 
 -- what a granted request may bring an agent: nothing; or the lease of its revision, where it is waited for: the watchdog is fed on
 -- it for the span that was asked for and an output tells that, if this member needs one then with a device that works, and the
--- members of the snapshot's failsafe key are known. Whose server wasn't live has no active hold
+-- members of the snapshot's failsafe key are known. Who comes to act has no active hold. Or an agent that was about to begin does so
 pub data GrantMay (now : Ticks) (sequence : ℕ) (grant : Granted) (snapshot : SnapshotFacts) (o after : Outcome) : Type 0 where
-  Nothing : (brings : BringsNothing o after) → (same : after.machine.watchdog ≡ o.machine.watchdog) → GrantMay now sequence grant snapshot o after
-  Leads : (awaited : IsAwaitedLease sequence grant o.knows) → (fed : after.machine.watchdog ≡ fed now.0 awaited.waited.ttl.0 o.machine.watchdog) → (lease : lease_of after.role ≡ Some grant.revision) → (unready : is_ready after.role ≡ false)
+  Nothing : (brings : BringsNothing o after) → (deadline : DeadlineMay o after) → GrantMay now sequence grant snapshot o after
+  Leads : (awaited : IsAwaitedLease sequence grant o.knows) → (fed : after.machine.watchdog ≡ fed now.0 awaited.waited.ttl.0 o.machine.watchdog) → (lease : lease_of after.role ≡ Some grant.revision) → (parted : is_ready after.role ≡ true → live after.machine.server.state ≡ false)
       → (known : after.knows.known ≡ known_with o.knows.known (failsafe_in snapshot))
       → (told : is_armable o.machine.watchdog.mode o.machine.watchdog.works ≡ true → has_one is_feeding after.outputs ≡ true)
-      → (free : live after.machine.server.state ≡ true → (live o.machine.server.state ≡ true) ⊎ (is_hold_active now o.machine.hold ≡ false))
-      → (armed : live after.machine.server.state ≡ true → (live o.machine.server.state ≡ true) ⊎ (is_refusing o.machine.watchdog.mode o.machine.watchdog.works ≡ false))
+      → (free : Acts after → (live o.machine.server.state ≡ true) ⊎ (is_hold_active now o.machine.hold ≡ false))
+      → (armed : Acts after → (live o.machine.server.state ≡ true) ⊎ (is_refusing o.machine.watchdog.mode o.machine.watchdog.works ≡ false))
       → GrantMay now sequence grant snapshot o after
+  Begins : (was_ready : is_ready o.role ≡ true) → (ready : is_ready after.role ≡ false) → (same : after.machine.watchdog ≡ o.machine.watchdog) → (lease : lease_of after.role ≡ lease_of o.role) → GrantMay now sequence grant snapshot o after

@@ -13,9 +13,9 @@ use Rattle.lease_law.specs.States.{Agent as AgentSeen, Machine as MachineSeen}
 use Rattle.ha_loop.specs.declared.knowledge.Knowledge.{Knowledge}
 use Rattle.ha_loop.specs.declared.knowledge.Waited.{Waited}
 use Rattle.ha_loop.specs.declared.machine.Machine.{Machine}
-use Rattle.ha_loop.specs.Agents.{RoleFacts}
+use Rattle.ha_loop.specs.Agents.{RoleFacts, is_ready}
 use Rattle.ha_loop.specs.Decisions.{asks_lease}
-use Rattle.ha_loop.specs.Powers.{lease_of, leads, is_ready}
+use Rattle.ha_loop.specs.Powers.{lease_of, leads}
 
 -- the number of what is waited for, if that is a create or a renewal
 abbrev pub lease_asked : Option Waited → Option ℕ

@@ -28,6 +28,7 @@ use Rattle.ha_loop.specs.Agents.{RoleFacts, Follower, Holder, Leader, Ending, St
 use Rattle.ha_loop.specs.Info.{info_of}
 use Rattle.ha_loop.specs.Repairs.{is_upstream, repair_of, repaired_if}
 use Rattle.ha_loop.specs.Racing.{finds_free}
+use Rattle.ha_loop.specs.Synchronous.{sync_read_in}
 
 -- the members that are known, with those that a failsafe key lists
 abbrev pub known_with : MemberSet → Option MemberSet → MemberSet
@@ -163,9 +164,9 @@ abbrev pub awaits_read : Option Waited → ℕ → Bool
 awaits_read None sequence = false
 awaits_read (Some waited) sequence = is_read waited.question && waited.sequence == sequence
 
--- a read was answered at this moment, with this snapshot: what this turn asks for is judged by its settings
+-- a read was answered at this moment, with this snapshot: what this turn asks for is judged by its settings and its sync key
 abbrev pub read_noted : Ticks → SnapshotFacts → Knowledge → Knowledge
-read_noted now snapshot knows = record (informed snapshot knows) { last_read = Some now; turn_settings = settings_in knows.settings snapshot }
+read_noted now snapshot knows = record (informed snapshot knows) { last_read = Some now; turn_settings = settings_in knows.settings snapshot; turn_sync = sync_read_in snapshot }
 
 -- the answer to a read that is waited for is used by a role that reads
 abbrev pub accepted : Ticks → List HistoryPoint → SnapshotFacts → Outcome → Outcome

@@ -8,13 +8,14 @@ use Rattle.event_book.specs.declared.message.Body.TheVariants as bodies
 use Rattle.event_book.specs.declared.reason.Reason.TheVariants.{StoreOutOfReach}
 use Rattle.ha_loop.specs.declared.knowledge.Knowledge.{Knowledge}
 use Rattle.ha_loop.specs.declared.knowledge.Question.{Question}
-use Rattle.ha_loop.specs.declared.knowledge.Question.TheVariants.{Reading, Asking, Creating, Renewing}
+use Rattle.ha_loop.specs.declared.knowledge.Question.TheVariants.{Reading, Asking, Creating, Renewing, Claiming, Syncing}
 use Rattle.ha_loop.specs.declared.knowledge.Waited.{Waited}
 use Rattle.ha_loop.specs.declared.machine.Machine.{Machine}
 use Rattle.ha_loop.specs.declared.role.Why.TheVariants.{Lost}
 use Rattle.ha_loop.specs.Acting.{seconds_after, asking, waiting_no_more, ending_server}
 use Rattle.ha_loop.specs.Agents.{RoleFacts, Leader, Ending, Stray, Outcome}
 use Rattle.ha_loop.specs.Before.{before}
+use Rattle.ha_loop.specs.Claiming.{claim_fails}
 use Rattle.ha_loop.specs.Peers.{judged_if_racing}
 
 -- an agent that ends its server can find that it has ended
@@ -67,6 +68,8 @@ abbrev pub unanswered : Ticks → Question → Outcome → Outcome
 unanswered now Reading o = out_of_reach now o
 unanswered now Renewing o = out_of_reach now o
 unanswered now Creating o = waiting_no_more o
+unanswered now Claiming o = claim_fails (waiting_no_more o)
+unanswered now (Syncing settling) o = waiting_no_more o
 unanswered now Asking o = judged_if_racing now o
 
 -- a deadline that has passed, by what is waited for

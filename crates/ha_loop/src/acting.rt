@@ -10,7 +10,7 @@ ghost use Rattle.leader_key.specs.Watchdog.{IsLeaseSpan, is_armable};
 ghost use Rattle.ha_loop.specs.declared.output.Output.TheVariants as outputs;
 ghost use Rattle.ha_loop.specs.declared.output.Target.TheVariants as targets;
 ghost use Rattle.ha_loop.specs.declared.role.Why.TheVariants as whys;
-ghost use Rattle.ha_loop.specs.Acting.{counted, waiting, lease_span, without_deadline, disarmed, deadline_after, with_feed, is_refusing, armed, fed_until, is_hold_active};
+ghost use Rattle.ha_loop.specs.Acting.{with_required, counted, waiting, lease_span, without_deadline, disarmed, deadline_after, with_feed, is_refusing, armed, fed_until, is_hold_active};
 ghost use Rattle.ha_loop.specs.Agents.{IsSound, IsWithin, Ending, role_of, latest};
 ghost use Rattle.ha_loop.specs.Info.{info_of};
 ghost use Rattle.ha_loop.specs.Outputs.{listed};
@@ -21,7 +21,7 @@ use crate::{Knowledge, Machine, Output, Outputs, Question, Target, Waited, Why};
 use event_book::{Body, Reason};
 use leader_key::{Armed, Lease, Mode, NotArmed, Watchdog, Writer};
 use lease_store::{Granted, Txn};
-use pat_base::Ticks;
+use pat_base::{Required, Ticks};
 
 /// Sends this to the key store, and doesn't wait for the answer.
 pub(crate) fn send(knows: &mut Knowledge, out: &mut Outputs, body: Body)
@@ -123,6 +123,17 @@ pub(crate) fn lose(
 {
     end_server(machine, out, now, reason);
     Role::Ending(writer, Why::Lost)
+}
+
+/// The server's commits wait for these from now on.
+pub(crate) fn require(machine: &mut Machine, out: &mut Outputs, required: Required)
+    requires { 1 ≤ out.old.spare }
+    ensures machine { machine.new ≡ with_required required machine.old }
+    ensures out { out.new.outputs ≡ listed (outputs.Require required) out.old.outputs }
+    ensures room { out.old.spare ≤ out.new.spare + 1 }
+{
+    machine.replication.required = required;
+    out.put(Output::Require { required });
 }
 
 /// Removes the watchdog's deadline.

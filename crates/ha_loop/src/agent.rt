@@ -183,6 +183,8 @@ fn fresh_knowledge(who: Who, first: Ticks, run: u64) -> Knowledge
         seen: None,
         settings: Config::defaults(),
         turn_settings: Config::defaults(),
+        turn_sync: None,
+        noted: None,
         begun: None,
         crashed: None,
         known: MemberSet::empty(),

@@ -5,11 +5,13 @@ ghost use Rattle.leader_key.specs.Watchdog.{IsLeaseSpan};
 ghost use Rattle.ha_loop.specs.declared.knowledge.Knowledge.{Knowledge};
 ghost use Rattle.ha_loop.specs.Acting.{is_refusing, is_hold_active, waiting_no_more};
 ghost use Rattle.ha_loop.specs.Agents.{IsSound, IsWithin, Follower, Leader, Stray, role_of, made, latest};
-ghost use Rattle.ha_loop.specs.Decisions.{has_lasted, is_start_too_long, judges_start, leader_renewed, takes_over, stray_renewed, may_take, gives_back, begins, arms, takes_key, lease_granted, may_create, belongs, accepted_grant, asks_lease, is_decision, is_lease_of, granted_for, granted, follower_for, create_refused, renewal_refused, refused_as, refused_for, refused};
+ghost use Rattle.ha_loop.specs.Decisions.{has_lasted, is_start_too_long, judges_start, leader_renewed, takes_over, stray_renewed, may_take, gives_back, arms, takes_key, lease_granted, may_create, belongs, accepted_grant, asks_lease, is_decision, is_lease_of, is_sync_decision, asks_sync, is_write_of, accepted_sync, awaits_decision, granted_for, granted, follower_for, create_refused, renewal_refused, refused_as, refused_for, refused};
 
 mod leading;
 
 use crate::acting::{end_server, lose};
+use crate::claiming::{claim_fails, claim_granted};
+use crate::planning::settle;
 use crate::role::Role;
 use crate::snapshots::{inform, is_active};
 use crate::{Knowledge, Machine, Outputs, Question, Waited};
@@ -44,15 +46,78 @@ pub(crate) fn granted(
     let Some(waited) = knows.waited else {
         return role;
     };
-    if !is_decision(waited, sequence) || !is_lease_of(knows.who.me, &grant) {
-        return role;
+    if is_decision(waited, sequence) && is_lease_of(knows.who.me, &grant) {
+        return accept_grant(waited, role, knows, machine, out, now, grant, snapshot);
     }
+    if is_sync_decision(waited, sequence) && is_write_of(knows.who.me, &grant) {
+        return accept_sync(waited, role, knows, machine, out, now, snapshot);
+    }
+    role
+}
+
+/// A grant of the leader key that is waited for is used where its question belongs to the role; its snapshot is then the newest.
+fn accept_grant(
+    waited: Waited,
+    role: Role,
+    knows: &mut Knowledge,
+    machine: &mut Machine,
+    out: &mut Outputs,
+    now: Ticks,
+    grant: Granted,
+    snapshot: Snapshot,
+) -> Role
+    requires moment { now.0 ≤ latest }
+    requires span { IsLeaseSpan waited.ttl.0 }
+    requires leased { grant.leased ≡ true }
+    requires sound { IsSound knows.old }
+    requires server { IsWithin machine.old.server }
+    requires numbers { knows.old.sequence < 2 ^ 60 }
+    requires room { 3 ≤ out.old.spare }
+    ensures outcome { made (role_of result) knows.new machine.new out.new.outputs ≡ accepted_grant now waited grant.revision snapshot (made (role_of role) knows.old machine.old out.old.outputs) }
+    ensures sound { IsSound knows.new }
+    ensures numbers { knows.new.sequence ≤ knows.old.sequence + 1 }
+    ensures room { out.old.spare ≤ out.new.spare + 3 }
+{
     if !belongs(waited.question, &role) {
         knows.waited = None;
         return role;
     }
     inform(knows, snapshot);
     lease_granted(role, knows, machine, out, now, waited.ttl, grant)
+}
+
+/// So is the grant of a write of the sync key.
+fn accept_sync(
+    waited: Waited,
+    role: Role,
+    knows: &mut Knowledge,
+    machine: &mut Machine,
+    out: &mut Outputs,
+    now: Ticks,
+    snapshot: Snapshot,
+) -> Role
+    requires moment { now.0 ≤ latest }
+    requires sound { IsSound knows.old }
+    requires server { IsWithin machine.old.server }
+    requires room { 2 ≤ out.old.spare }
+    ensures outcome { made (role_of result) knows.new machine.new out.new.outputs ≡ accepted_sync now waited snapshot (made (role_of role) knows.old machine.old out.old.outputs) }
+    ensures sound { IsSound knows.new }
+    ensures numbers { knows.new.sequence ≡ knows.old.sequence }
+    ensures room { out.old.spare ≤ out.new.spare + 2 }
+{
+    if !belongs(waited.question, &role) {
+        knows.waited = None;
+        return role;
+    }
+    inform(knows, snapshot);
+    match (waited.question, role) {
+        (Question::Claiming, Role::Ready(armed)) => claim_granted(armed, knows, machine, out, now),
+        (Question::Syncing(settling), role) => {
+            settle(settling, knows, machine, out);
+            role
+        }
+        (_, role) => role,
+    }
 }
 
 /// The decision on this request for the leader key is waited for.
@@ -65,10 +130,27 @@ fn is_decision(waited: Waited, sequence: u64) -> bool
 fn asks_lease(question: Question) -> bool
     ensures { result ≡ asks_lease question }
 {
-    match question {
-        Question::Reading | Question::Asking => false,
-        Question::Creating | Question::Renewing => true,
-    }
+    matches!(question, Question::Creating | Question::Renewing)
+}
+
+/// The decision on this write of the sync key is waited for.
+fn is_sync_decision(waited: Waited, sequence: u64) -> bool
+    ensures { result ≡ is_sync_decision waited sequence }
+{
+    asks_sync(waited.question) && waited.sequence == sequence
+}
+
+fn asks_sync(question: Question) -> bool
+    ensures { result ≡ asks_sync question }
+{
+    matches!(question, Question::Claiming | Question::Syncing(_))
+}
+
+/// The grant is one of another write, to this member.
+fn is_write_of(me: MemberId, grant: &Granted) -> bool
+    ensures { result ≡ is_write_of me grant.now }
+{
+    !grant.leased() && grant.by().number == me.number
 }
 
 /// The grant is one of the leader key, to this member.
@@ -84,6 +166,8 @@ fn belongs(question: Question, role: &Role) -> bool
 {
     match question {
         Question::Asking | Question::Creating => may_create(role),
+        Question::Claiming => matches!(role, Role::Ready(_)),
+        Question::Syncing(_) => matches!(role, Role::Leader(_)),
         Question::Reading | Question::Renewing => is_active(role),
     }
 }
@@ -141,16 +225,16 @@ pub(crate) fn refused(
     requires moment { now.0 ≤ latest }
     requires sound { IsSound knows.old }
     requires server { IsWithin machine.old.server }
-    requires room { 1 ≤ out.old.spare }
+    requires room { 2 ≤ out.old.spare }
     ensures outcome { made (role_of result) knows.new machine.new out.new.outputs ≡ refused now sequence (made (role_of role) knows.old machine.old out.old.outputs) }
     ensures sound { IsSound knows.new }
     ensures numbers { knows.new.sequence ≡ knows.old.sequence }
-    ensures room { out.old.spare ≤ out.new.spare + 1 }
+    ensures room { out.old.spare ≤ out.new.spare + 2 }
 {
     let Some(waited) = knows.waited else {
         return role;
     };
-    if !is_decision(waited, sequence) {
+    if !is_decision(waited, sequence) && !is_sync_decision(waited, sequence) {
         return role;
     }
     refused_as(waited.question, role, knows, machine, out, now)
@@ -168,17 +252,18 @@ fn refused_as(
     requires moment { now.0 ≤ latest }
     requires sound { IsSound knows.old }
     requires server { IsWithin machine.old.server }
-    requires room { 1 ≤ out.old.spare }
+    requires room { 2 ≤ out.old.spare }
     ensures outcome { made (role_of result) knows.new machine.new out.new.outputs ≡ refused_as now question (waiting_no_more (made (role_of role) knows.old machine.old out.old.outputs)) }
     ensures sound { IsSound knows.new }
     ensures numbers { knows.new.sequence ≡ knows.old.sequence }
-    ensures room { out.old.spare ≤ out.new.spare + 1 }
+    ensures room { out.old.spare ≤ out.new.spare + 2 }
 {
     knows.waited = None;
     match question {
         Question::Creating => create_refused(role),
         Question::Renewing => renewal_refused(role, machine, out, now),
-        Question::Reading | Question::Asking => role,
+        Question::Claiming => claim_fails(role, knows, machine, out),
+        Question::Reading | Question::Asking | Question::Syncing(_) => role,
     }
 }
 

@@ -2,8 +2,19 @@
 
 use crate::{Answers, Who};
 use cluster_config::Snapshot;
-use lease_store::Config;
-use pat_base::{MemberSet, Ticks};
+use lease_store::{Config, SyncKey};
+use pat_base::{Lsn, MemberSet, Ticks};
+
+/// What a leader's required list becomes once its write of the sync key is granted.
+#[derive(Clone, Copy, Debug, PartialEq, Eq)]
+pub enum Settling {
+    /// It stays.
+    Stays,
+    /// It names these standbys alone.
+    Lists(MemberSet),
+    /// It waits for nobody.
+    Empties,
+}
 
 /// A question whose answer an agent may wait for.
 #[derive(Clone, Copy, Debug, PartialEq, Eq)]
@@ -16,6 +27,17 @@ pub enum Question {
     Creating,
     /// May it have the leader key for longer?
     Renewing,
+    /// May it lead the synchronous replication?
+    Claiming,
+    /// May it name the synchronous standbys, so that its required list becomes this?
+    Syncing(Settling),
+}
+
+/// A sync key that was read, with its revision.
+#[derive(Clone, Copy, Debug, PartialEq, Eq)]
+pub struct SyncRead {
+    pub key: SyncKey,
+    pub revision: u64,
 }
 
 /// What an agent waits for: the question, its number in the agent's run, the moment at which waiting ends, the span of the
@@ -46,8 +68,12 @@ pub struct Knowledge {
     /// The newest snapshot, and the settings of its configuration.
     pub seen: Option<Snapshot>,
     pub settings: Config,
-    /// The settings that the last turn read: what it asked for is judged by them.
+    /// The settings and the sync key that the last turn read: what it asked for is judged by them.
     pub turn_settings: Config,
+    pub turn_sync: Option<SyncRead>,
+    /// Where its log ended when a standby was last added to the required list, or the server taken over: who becomes a
+    /// standby must have confirmed this position.
+    pub noted: Option<Lsn>,
     /// When this run began the server, or took it over.
     pub begun: Option<Ticks>,
     /// When a leader was first found without its server.

@@ -5,6 +5,7 @@ mod acting;
 mod agent;
 mod answers;
 mod before;
+mod claiming;
 mod decisions;
 mod heard;
 mod info;
@@ -14,8 +15,10 @@ mod machine;
 mod output;
 mod outputs;
 mod peers;
+mod planning;
 mod role;
 mod snapshots;
+mod synchronous;
 mod view;
 mod wake;
 mod who;
@@ -23,14 +26,14 @@ mod who;
 pub use agent::Agent;
 pub use answers::Answers;
 pub use heard::Heard;
-pub use knowledge::{Knowledge, Question, Waited};
+pub use knowledge::{Knowledge, Question, Settling, SyncRead, Waited};
 pub use laws::{
     a_free_key_is_asked_for, a_grant_feeds_the_watchdog, late_answers_are_not_waited_for,
     only_a_grant_lets_lead, only_a_grant_sets_deadlines, outputs_make_the_machine,
     role_fits_server, the_last_answer_decides, what_is_asked_is_waited_for,
     who_is_barred_stays_out,
 };
-pub use machine::Machine;
+pub use machine::{Machine, Replication};
 pub use output::{Output, Repair, Target};
 pub use outputs::Outputs;
 pub use role::Why;

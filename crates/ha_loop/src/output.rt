@@ -73,6 +73,8 @@ pub enum Output {
     Disarmed,
     /// The member needs a watchdog, and its device doesn't work.
     CannotArm,
+    /// The member keeps the leader key without beginning: its claim of the sync key failed.
+    PostponesPromotion,
     /// The member doesn't race for the free leader key, since this bars it.
     DoesNotRace {
         bar: Bar,

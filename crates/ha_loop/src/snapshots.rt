@@ -21,6 +21,7 @@ mod repairing;
 
 use crate::acting::{end_server, is_hold_active, lose, touch};
 use crate::role::Role;
+use crate::synchronous::sync_read_in;
 use crate::{Knowledge, Machine, Outputs, Question, Waited};
 use cluster_config::{LeaderEntry, Snapshot};
 use event_book::Reason;
@@ -60,6 +61,7 @@ pub(crate) fn got(
         return role;
     }
     let leader = snapshot.leader();
+    knows.turn_sync = sync_read_in(&snapshot);
     inform(knows, snapshot);
     knows.last_read = Some(now);
     knows.turn_settings = knows.settings;

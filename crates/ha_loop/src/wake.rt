@@ -14,6 +14,7 @@ ghost use Rattle.ha_loop.specs.Wake.{finds_ended, is_overdue, has_turn, is_due, 
 
 use crate::acting::{ask, end_server, lose};
 use crate::before::before;
+use crate::claiming::claim_fails;
 use crate::peers::judge_if_racing;
 use crate::role::Role;
 use crate::{Knowledge, Machine, Outputs, Question, Waited};
@@ -151,7 +152,11 @@ fn unanswered(
             judge_if_racing(&role, knows, machine, out, now);
             role
         }
-        Question::Creating => {
+        Question::Claiming => {
+            knows.waited = None;
+            claim_fails(role, knows, machine, out)
+        }
+        Question::Creating | Question::Syncing(_) => {
             knows.waited = None;
             role
         }

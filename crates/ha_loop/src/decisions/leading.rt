@@ -4,21 +4,24 @@ ghost use Rattle.leader_key.specs.Lease.{lease_revision, armed_revision, writer_
 ghost use Rattle.leader_key.specs.Watchdog.{IsLeaseSpan};
 ghost use Rattle.ha_loop.specs.Acting.{is_refusing, is_hold_active, arming, feeding};
 ghost use Rattle.ha_loop.specs.Agents.{IsSound, IsWithin, Follower, Leader, Stray, role_of, made, latest};
-ghost use Rattle.ha_loop.specs.Decisions.{has_lasted, is_start_too_long, judges_start, leader_renewed, takes_over, stray_renewed, since_crash, may_start_again, can_begin, may_take, gives_back, begins, arms, takes_key};
+ghost use Rattle.ha_loop.specs.Decisions.{has_lasted, is_start_too_long, judges_start, leader_renewed, takes_over, stray_renewed, since_crash, may_start_again, can_begin, may_take, gives_back, arms, takes_key};
 
 use crate::acting::{arm, end_server, feed, is_hold_active, release};
+use crate::claiming::begin_or_claim;
+use crate::planning::take_step;
 use crate::role::Role;
+use crate::synchronous::may_lead_in_sync;
 use crate::{Knowledge, Machine, Output, Outputs, Why};
 use event_book::Reason;
 use leader_key::{Armed, Lease, Writer};
 use lease_store::Granted;
-use pat_base::{Required, State, Ticks};
+use pat_base::{State, Ticks};
 use pg_model::ServerStatus;
 
 /// The lease of a leader is renewed: its watchdog is fed.
 pub(super) fn leader_renewed(
     writer: Writer,
-    knows: &Knowledge,
+    knows: &mut Knowledge,
     machine: &mut Machine,
     out: &mut Outputs,
     now: Ticks,
@@ -28,33 +31,43 @@ pub(super) fn leader_renewed(
     requires moment { now.0 ≤ latest }
     requires span { IsLeaseSpan ttl.0 }
     requires leased { grant.leased ≡ true }
+    requires sound { IsSound knows.old }
     requires server { IsWithin machine.old.server }
+    requires numbers { knows.old.sequence < 2 ^ 60 }
     requires room { 2 ≤ out.old.spare }
-    ensures outcome { made (role_of result) knows.now machine.new out.new.outputs ≡ leader_renewed now ttl grant.revision (made (Leader (writer_revision writer)) knows.now machine.old out.old.outputs) }
+    ensures outcome { made (role_of result) knows.new machine.new out.new.outputs ≡ leader_renewed now ttl grant.revision (made (Leader (writer_revision writer)) knows.old machine.old out.old.outputs) }
+    ensures sound { IsSound knows.new }
+    ensures numbers { knows.new.sequence ≤ knows.old.sequence + 1 }
     ensures room { out.old.spare ≤ out.new.spare + 2 }
 {
     let writer = feed(writer, machine, out, now, ttl, grant);
     judge_start(writer, knows, machine, out, now)
 }
 
-/// Where the start of a primary takes longer than it may, another member is to lead.
+/// Where the start of a primary takes longer than it may, another member is to lead; else the leader takes a step with its
+/// synchronous standbys.
 fn judge_start(
     writer: Writer,
-    knows: &Knowledge,
+    knows: &mut Knowledge,
     machine: &mut Machine,
     out: &mut Outputs,
     now: Ticks,
 ) -> Role
     requires moment { now.0 ≤ latest }
+    requires sound { IsSound knows.old }
     requires server { IsWithin machine.old.server }
+    requires numbers { knows.old.sequence < 2 ^ 60 }
     requires room { 1 ≤ out.old.spare }
-    ensures outcome { made (role_of result) knows.now machine.new out.new.outputs ≡ judges_start now (writer_revision writer) (made (Leader (writer_revision writer)) knows.now machine.old out.old.outputs) }
+    ensures outcome { made (role_of result) knows.new machine.new out.new.outputs ≡ judges_start now (writer_revision writer) (made (Leader (writer_revision writer)) knows.old machine.old out.old.outputs) }
+    ensures sound { IsSound knows.new }
+    ensures numbers { knows.new.sequence ≤ knows.old.sequence + 1 }
     ensures room { out.old.spare ≤ out.new.spare + 1 }
 {
     if is_start_too_long(now, knows, machine.server.state) {
         end_server(machine, out, now, Reason::StartTooLong);
         Role::Ending(writer, Why::HandOver)
     } else {
+        take_step(writer.revision(), knows, machine, out, now);
         Role::Leader(writer)
     }
 }
@@ -104,6 +117,7 @@ pub(super) fn stray_renewed(
     match arm(lease, machine, out, now, ttl) {
         Ok(armed) => {
             knows.begun = Some(now);
+            knows.noted = machine.server.end;
             Role::Leader(Writer::begin(armed))
         }
         Err(lease) => {
@@ -139,7 +153,7 @@ pub(super) fn take_key(
         return Role::Follower;
     }
     match arm(lease, machine, out, now, ttl) {
-        Ok(armed) => begin(armed, knows, machine, out, now),
+        Ok(armed) => begin_or_claim(armed, knows, machine, out, now),
         Err(lease) => {
             out.put(Output::CannotArm);
             release(lease, knows, out);
@@ -148,11 +162,13 @@ pub(super) fn take_key(
     }
 }
 
-/// A member may take the leader key: no hold is active, and its server can begin.
+/// A member may take the leader key: no hold is active, its server can begin, and in synchronous mode the sync key names it.
 fn may_take(now: Ticks, knows: &Knowledge, machine: &Machine) -> bool
     ensures { result ≡ may_take now knows.now machine.now }
 {
-    !is_hold_active(now, machine.hold) && can_begin(now, knows, &machine.server)
+    !is_hold_active(now, machine.hold)
+        && can_begin(now, knows, &machine.server)
+        && may_lead_in_sync(knows)
 }
 
 /// The server can begin to accept writes: a replica, or one that is down and may start as a primary again.
@@ -183,32 +199,4 @@ fn since_crash(now: Ticks, crashed: Option<Ticks>) -> u64
         None => 0,
         Some(crashed) => now.0.saturating_sub(crashed.0),
     }
-}
-
-/// The member begins: commits wait for nobody, and the server begins to accept writes.
-fn begin(
-    armed: Armed,
-    knows: &mut Knowledge,
-    machine: &mut Machine,
-    out: &mut Outputs,
-    now: Ticks,
-) -> Role
-    requires sound { IsSound knows.old }
-    requires moment { now.0 ≤ latest }
-    requires server { IsWithin machine.old.server }
-    requires room { 2 ≤ out.old.spare }
-    ensures outcome { made (role_of result) knows.new machine.new out.new.outputs ≡ begins now (armed_revision armed) (made Follower knows.old machine.old out.old.outputs) }
-    ensures sound { IsSound knows.new }
-    ensures numbers { knows.new.sequence ≡ knows.old.sequence }
-    ensures room { out.old.spare ≤ out.new.spare + 2 }
-{
-    knows.begun = Some(now);
-    knows.crashed = None;
-    out.put(Output::Require {
-        required: Required::Nobody,
-    });
-    out.put(Output::Begin);
-    machine.server.promote();
-    machine.server.start_primary(now);
-    Role::Leader(Writer::begin(armed))
 }

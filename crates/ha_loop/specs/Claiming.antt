@@ -1,0 +1,52 @@
+-- How a member begins that has the leader key: in synchronous mode it claims the sync key first (Patroni, "Replication modes").
+use Rattle.std.specs.Prelude.{ℕ, if◌then◌else◌, Bool, true, false, Some, None}
+use Rattle.pat_base.specs.declared.server_state.State.{State}
+use Rattle.pat_base.specs.declared.server_state.State.TheVariants as states
+use Rattle.pat_base.specs.declared.ticks.Ticks.{Ticks}
+use Rattle.lease_store.specs.declared.txn.Txn.TheVariants as txns
+use Rattle.event_book.specs.declared.message.Body.TheVariants as bodies
+use Rattle.ha_loop.specs.declared.knowledge.Question.TheVariants.{Claiming}
+use Rattle.ha_loop.specs.declared.output.Output.TheVariants as outputs
+use Rattle.ha_loop.specs.Acting.{seconds_after, asking, disarming, beginning, requiring}
+use Rattle.ha_loop.specs.Agents.{RoleFacts, Holder, Ready, Leader, Outcome}
+use Rattle.ha_loop.specs.Outputs.{listed}
+use Rattle.ha_loop.specs.Synchronous.{expected_of, unnamed}
+
+-- the member begins: its commits wait for no named standby, and the server begins to accept writes
+abbrev pub begins : Ticks → ℕ → Outcome → Outcome
+begins now revision o = record (beginning now (requiring (unnamed o.knows.turn_settings) o)) {
+  role = Leader revision;
+  knows = record o.knows { begun = Some now; crashed = None };
+}
+
+-- the agent claims the sync key, as its turn read it, and is about to begin
+abbrev pub claims : Ticks → ℕ → Outcome → Outcome
+claims now revision o = record (asking now Claiming (seconds_after now o.knows.settings.retry_timeout) (bodies.Request (txns.Claim revision (expected_of o.knows.turn_sync))) o) { role = Ready revision }
+
+-- an agent with an armed watchdog begins; in synchronous mode it claims the sync key first
+abbrev pub begins_or_claims : Ticks → ℕ → Outcome → Outcome
+begins_or_claims now revision o = if o.knows.turn_settings.synchronous_mode then claims now revision o else begins now revision o
+
+-- the member keeps the leader key, and its promotion is postponed: what was armed is given up
+abbrev pub postpones : ℕ → Outcome → Outcome
+postpones revision o = let undone = disarming o in record undone { role = Holder revision; outputs = listed outputs.PostponesPromotion undone.outputs }
+
+-- a claim of the sync key fails: who is about to begin on it doesn't
+abbrev pub claim_fails_as : RoleFacts → Outcome → Outcome
+claim_fails_as (Ready revision) o = postpones revision o
+claim_fails_as _ o = o
+
+-- so it does for who claimed
+abbrev pub claim_fails : Outcome → Outcome
+claim_fails o = claim_fails_as o.role o
+
+-- a server can begin on a granted claim, by its state: a replica, or one that is down and was a primary
+abbrev pub can_begin_on_claim : Bool → State → Bool
+can_begin_on_claim was_primary states.Replica = true
+can_begin_on_claim was_primary states.Stopped = was_primary
+can_begin_on_claim was_primary states.Crashed = was_primary
+can_begin_on_claim was_primary _ = false
+
+-- the claim is granted: the member begins, where its server still can
+abbrev pub claim_granted : Ticks → ℕ → Outcome → Outcome
+claim_granted now revision o = if can_begin_on_claim o.machine.server.was_primary o.machine.server.state then begins now revision o else postpones revision o

@@ -1,0 +1,168 @@
+//! How a member begins that has the leader key: in synchronous mode it claims the sync key first (Patroni documentation,
+//! "Replication modes").
+ghost use Rattle.std.specs.Prelude.{◌≡◌, ◌≤◌, ◌<◌, ◌+◌, ◌^◌};
+ghost use Rattle.leader_key.specs.Lease.{armed_revision};
+ghost use Rattle.lease_store.specs.declared.txn.Txn.TheVariants as txns;
+ghost use Rattle.event_book.specs.declared.message.Body.TheVariants as bodies;
+ghost use Rattle.ha_loop.specs.declared.knowledge.Question.TheVariants as questions;
+ghost use Rattle.ha_loop.specs.declared.output.Output.TheVariants as outputs;
+ghost use Rattle.ha_loop.specs.declared.output.Target.TheVariants as targets;
+ghost use Rattle.ha_loop.specs.Acting.{seconds_after, waiting, counted, without_deadline, disarmed};
+ghost use Rattle.ha_loop.specs.Agents.{IsSound, IsWithin, Follower, Holder, Ready, role_of, made, latest};
+ghost use Rattle.ha_loop.specs.Outputs.{listed};
+ghost use Rattle.ha_loop.specs.Synchronous.{expected_of};
+ghost use Rattle.ha_loop.specs.Claiming.{begins, begins_or_claims, claim_fails, can_begin_on_claim, claim_granted};
+
+use crate::acting::{ask, require, undo};
+use crate::role::Role;
+use crate::synchronous::{expected_of, unnamed};
+use crate::{Knowledge, Machine, Output, Outputs, Question};
+use event_book::Body;
+use leader_key::{Armed, Writer};
+use lease_store::Txn;
+use pat_base::{State, Ticks};
+
+/// An agent with an armed watchdog begins; in synchronous mode it claims the sync key first.
+pub(crate) fn begin_or_claim(
+    armed: Armed,
+    knows: &mut Knowledge,
+    machine: &mut Machine,
+    out: &mut Outputs,
+    now: Ticks,
+) -> Role
+    requires sound { IsSound knows.old }
+    requires moment { now.0 ≤ latest }
+    requires server { IsWithin machine.old.server }
+    requires numbers { knows.old.sequence < 2 ^ 60 }
+    requires room { 2 ≤ out.old.spare }
+    ensures outcome { made (role_of result) knows.new machine.new out.new.outputs ≡ begins_or_claims now (armed_revision armed) (made Follower knows.old machine.old out.old.outputs) }
+    ensures sound { IsSound knows.new }
+    ensures numbers { knows.new.sequence ≤ knows.old.sequence + 1 }
+    ensures room { out.old.spare ≤ out.new.spare + 2 }
+{
+    if knows.turn_settings.synchronous_mode {
+        claim(armed, knows, out, now)
+    } else {
+        begin(armed, knows, machine, out, now)
+    }
+}
+
+/// The agent claims the sync key, as its turn read it, and is about to begin.
+fn claim(armed: Armed, knows: &mut Knowledge, out: &mut Outputs, now: Ticks) -> Role
+    requires moment { now.0 ≤ latest }
+    requires sound { IsSound knows.old }
+    requires numbers { knows.old.sequence < 2 ^ 60 }
+    requires room { 1 ≤ out.old.spare }
+    ensures role { role_of result ≡ Ready (armed_revision armed) }
+    ensures knows { knows.new ≡ waiting now questions.Claiming (seconds_after now knows.old.settings.retry_timeout) (counted knows.old) }
+    ensures out { out.new.outputs ≡ listed (outputs.Send targets.Store (knows.old.sequence + 1) (bodies.Request (txns.Claim (armed_revision armed) (expected_of knows.old.turn_sync)))) out.old.outputs }
+    ensures sound { IsSound knows.new }
+    ensures numbers { knows.new.sequence ≡ knows.old.sequence + 1 }
+    ensures room { out.old.spare ≤ out.new.spare + 1 }
+{
+    let claim = Txn::Claim {
+        revision: armed.revision(),
+        sync: expected_of(knows.turn_sync),
+    };
+    let until = now + knows.settings.retry_timeout_ticks();
+    ask(
+        knows,
+        out,
+        now,
+        Question::Claiming,
+        until,
+        Body::Request(claim),
+    );
+    Role::Ready(armed)
+}
+
+/// The member begins: its commits wait for no named standby, and the server begins to accept writes.
+fn begin(
+    armed: Armed,
+    knows: &mut Knowledge,
+    machine: &mut Machine,
+    out: &mut Outputs,
+    now: Ticks,
+) -> Role
+    requires sound { IsSound knows.old }
+    requires moment { now.0 ≤ latest }
+    requires server { IsWithin machine.old.server }
+    requires room { 2 ≤ out.old.spare }
+    ensures outcome { made (role_of result) knows.new machine.new out.new.outputs ≡ begins now (armed_revision armed) (made Follower knows.old machine.old out.old.outputs) }
+    ensures sound { IsSound knows.new }
+    ensures numbers { knows.new.sequence ≡ knows.old.sequence }
+    ensures room { out.old.spare ≤ out.new.spare + 2 }
+{
+    knows.begun = Some(now);
+    knows.crashed = None;
+    require(machine, out, unnamed(&knows.turn_settings));
+    out.put(Output::Begin);
+    machine.server.promote();
+    machine.server.start_primary(now);
+    Role::Leader(Writer::begin(armed))
+}
+
+/// The claim is granted: the member begins, where its server still can.
+pub(crate) fn claim_granted(
+    armed: Armed,
+    knows: &mut Knowledge,
+    machine: &mut Machine,
+    out: &mut Outputs,
+    now: Ticks,
+) -> Role
+    requires sound { IsSound knows.old }
+    requires moment { now.0 ≤ latest }
+    requires server { IsWithin machine.old.server }
+    requires room { 2 ≤ out.old.spare }
+    ensures outcome { made (role_of result) knows.new machine.new out.new.outputs ≡ claim_granted now (armed_revision armed) (made (Ready (armed_revision armed)) knows.old machine.old out.old.outputs) }
+    ensures sound { IsSound knows.new }
+    ensures numbers { knows.new.sequence ≡ knows.old.sequence }
+    ensures room { out.old.spare ≤ out.new.spare + 2 }
+{
+    if can_begin_on_claim(machine.server.was_primary, machine.server.state) {
+        begin(armed, knows, machine, out, now)
+    } else {
+        postpone(armed, machine, out)
+    }
+}
+
+/// A server can begin on a granted claim: a replica, or one that is down and was a primary.
+fn can_begin_on_claim(was_primary: bool, state: State) -> bool
+    ensures { result ≡ can_begin_on_claim was_primary state }
+{
+    match state {
+        State::Replica => true,
+        State::Stopped | State::Crashed => was_primary,
+        _ => false,
+    }
+}
+
+/// A claim of the sync key fails: who is about to begin on it doesn't.
+pub(crate) fn claim_fails(
+    role: Role,
+    knows: &Knowledge,
+    machine: &mut Machine,
+    out: &mut Outputs,
+) -> Role
+    requires { 2 ≤ out.old.spare }
+    ensures outcome { made (role_of result) knows.now machine.new out.new.outputs ≡ claim_fails (made (role_of role) knows.now machine.old out.old.outputs) }
+    ensures room { out.old.spare ≤ out.new.spare + 2 }
+{
+    match role {
+        Role::Ready(armed) => postpone(armed, machine, out),
+        role => role,
+    }
+}
+
+/// The member keeps the leader key, and its promotion is postponed: what was armed is given up.
+fn postpone(armed: Armed, machine: &mut Machine, out: &mut Outputs) -> Role
+    requires { 2 ≤ out.old.spare }
+    ensures role { role_of result ≡ Holder (armed_revision armed) }
+    ensures machine { machine.new ≡ without_deadline machine.old }
+    ensures out { out.new.outputs ≡ listed outputs.PostponesPromotion (disarmed machine.old.watchdog.deadline out.old.outputs) }
+    ensures room { out.old.spare ≤ out.new.spare + 2 }
+{
+    let lease = undo(armed, machine, out);
+    out.put(Output::PostponesPromotion);
+    Role::Holder(lease)
+}
