@@ -1,5 +1,9 @@
 -- The machines of members, as their agents find them.
-use Rattle.std.specs.Prelude.{ℕ, ◌*◌, Bool, is_some, List, [], Option, Some, None, map, slice_get, length}
+use Rattle.std.specs.Prelude.{ℕ, ◌+◌, ◌*◌, ◌==◌, Bool, false, is_some, if◌then◌else◌, List, [], ◌∷◌, Option, Some, None, option_map, map, replicate, slice_get, length}
+use Rattle.pat_base.specs.declared.lsn.Lsn.{Lsn}
+use Rattle.pat_base.specs.ServerState.{writes}
+use Rattle.event_book.specs.Links.{CutLinks}
+use Rattle.ha_loop.specs.declared.machine.Replication.{Replication}
 use Rattle.pat_base.specs.declared.host.Host.{Host}
 use Rattle.pat_base.specs.declared.name.Name.{Name}
 use Rattle.pat_base.specs.declared.ticks.Ticks.{Ticks}
@@ -23,16 +27,42 @@ ticks_of_second = 10
 abbrev pub watchdog_of : MemberOptions → Option Ticks → WatchdogFacts
 watchdog_of options deadline = record { mode = options.watchdog; works = options.device_works; margin = Some (record { 0 = ticks_of_second * options.margin.seconds }); deadline = deadline }
 
+-- this member is the one from which another one receives, if there is such a one
+abbrev pub is_source : Member → Option Member → Bool
+is_source member None = false
+is_source member (Some from) = from.id.number == member.id.number
+
+-- the server of the member of this number is connected to that of this one: it receives from it
+abbrev pub is_connected : List Member → List ServerFacts → CutLinks → Member → Option Member → Bool
+is_connected members servers cuts member None = false
+is_connected members servers cuts member (Some other) = is_source member (source_of members servers cuts other)
+
+-- of positions that members confirmed, from this number on, those of connected members
+abbrev pub connected_ends : List Member → List ServerFacts → CutLinks → Member → ℕ → List (Option Lsn) → List (Option Lsn)
+connected_ends members servers cuts member number [] = []
+connected_ends members servers cuts member number (end ∷ ends) =
+    (if is_connected members servers cuts member (slice_get members number) then end else None) ∷ connected_ends members servers cuts member (number + 1) ends
+
+-- nobody has confirmed a position, by member number
+abbrev pub nothing_confirmed : List (Option Lsn)
+nothing_confirmed = replicate 16 None
+
+-- synchronous replication on this server of a member: whom its commits wait for, and how far each connected member has confirmed. To a
+-- server that accepts no writes nobody is connected
+abbrev pub replication_of : List Member → List ServerFacts → CutLinks → Member → ServerFacts → Replication
+replication_of members servers cuts member s = record { required = s.required; connected = if writes s.state then connected_ends members servers cuts member 0 s.confirmed else nothing_confirmed }
+
 -- a machine of these parts; its server receives, or not
-abbrev pub machine_from : Bool → Option MemberOptions → Option (Option Ticks) → Option (Option Ticks) → Option ServerFacts → Option Machine
-machine_from receives (Some options) (Some deadline) (Some hold) (Some s) = Some (record { server = record (status_of s) { receives = receives }; watchdog = watchdog_of options deadline; hold = hold })
-machine_from receives _ _ _ _ = None
+abbrev pub machine_from : Bool → Option Replication → Option MemberOptions → Option (Option Ticks) → Option (Option Ticks) → Option ServerFacts → Option Machine
+machine_from receives (Some replication) (Some options) (Some deadline) (Some hold) (Some s) =
+    Some (record { server = record (status_of s) { receives = receives }; replication = replication; watchdog = watchdog_of options deadline; hold = hold })
+machine_from receives _ _ _ _ _ = None
 
 -- the machine of a member. A replica receives where its upstream accepts writes, the link to that is joined, and its log didn't
 -- diverge
 abbrev pub machine_of : Cluster → Member → Option Machine
 machine_of cluster member =
-    machine_from (is_some (source_of cluster.book.members cluster.book.servers cluster.book.cuts member))
+    machine_from (is_some (source_of cluster.book.members cluster.book.servers cluster.book.cuts member)) (option_map (replication_of cluster.book.members cluster.book.servers cluster.book.cuts member) (slice_get cluster.book.servers member.id.number))
     (slice_get cluster.options member.id.number) (slice_get cluster.book.deadlines member.id.number) (slice_get cluster.book.holds member.id.number) (slice_get cluster.book.servers member.id.number)
 
 -- the history of a server, none where there is no server

@@ -1,8 +1,11 @@
 -- What messages bring: how they are sent, come, and are decided on.
 use Rattle.std.specs.Prelude.{ℕ, ◌+◌, nat_le, Bool, true, false, if◌then◌else◌, List, [], ◌∷◌, Option, Some, None, option_and_then, option_map, length, slice_get}
 use Rattle.lease_store.specs.declared.txn.Txn.{Txn}
+use Rattle.lease_store.specs.declared.txn.Txn.TheVariants as txns
 use Rattle.lease_store.specs.Decision.{Decision, Grant, Refusal, decision_on}
 use Rattle.lease_store.specs.TxnKinds.{txn_kind_of}
+use Rattle.pat_base.specs.declared.name.Name.{Name}
+use Rattle.event_book.specs.NameLists.{names_of}
 use Rattle.lease_store.specs.Writes.{is_lease}
 use Rattle.event_book.specs.declared.agent_process.AgentProcess.{AgentProcess}
 use Rattle.event_book.specs.declared.event.AgentEvent.TheVariants.{Woken}
@@ -130,10 +133,15 @@ wake_events cluster member = for_some (slice_get cluster.book.agents member.id.n
 abbrev pub answer_message : Message → Body → Message
 answer_message message body = record { from = link_ends.Store; to = message.from; run = message.run; sequence = message.sequence; body = body }
 
--- the key store's decision on the request that a message carries, as an event. No request names standbys yet
-abbrev pub decision_kind : ℕ → Member → Txn → Decision → EventKind
-decision_kind number by txn Grant = kinds.Store (stores.Granted number by txn [])
-decision_kind number by txn (Refusal key found) = kinds.Store (stores.Refused number by (txn_kind_of txn) key found)
+-- the names of the standbys that a request publishes
+abbrev pub published_names : List Member → Txn → List Name
+published_names members (txns.SetSync revision sync standbys) = names_of standbys members
+published_names members _ = []
+
+-- the key store's decision on the request that a message carries, as an event, among these members
+abbrev pub decision_kind : List Member → ℕ → Member → Txn → Decision → EventKind
+decision_kind members number by txn Grant = kinds.Store (stores.Granted number by txn (published_names members txn))
+decision_kind members number by txn (Refusal key found) = kinds.Store (stores.Refused number by (txn_kind_of txn) key found)
 
 -- and what the key store answers
 abbrev pub decision_body : ℕ → Txn → Decision → Body
@@ -144,7 +152,7 @@ decision_body number txn (Refusal key found) = bodies.Refused number key found
 abbrev pub decision_events : Cluster → ℕ → Message → Txn → Decision → LinkEnd → List Event
 decision_events cluster number message txn decision link_ends.Store = []
 decision_events cluster number message txn decision (link_ends.Member by) =
-    events_then cluster (event_of cluster (decision_kind number by txn decision)) (λ later. send_events later (answer_message message (decision_body number txn decision)))
+    events_then cluster (event_of cluster (decision_kind cluster.book.members number by txn decision)) (λ later. send_events later (answer_message message (decision_body number txn decision)))
 
 -- what the key store answers to a message that says this
 abbrev pub answer_events_by : Cluster → ℕ → Message → Body → List Event

@@ -136,10 +136,11 @@ declared_name members id = option_map (λ member. member.name) (declared_member 
 abbrev pub not_racing : List Member → Member → Bar → EventKind
 not_racing members member bar = kinds.Note (notes.DoesNotRace member bar (declared_name members (barring bar)))
 
--- what an agent tells of its watchdog, but for its feeds
+-- what an agent tells of its watchdog, but for its feeds, and of its promotion
 abbrev pub told_of : Member → Output → Option EventKind
 told_of member outputs.Disarmed = Some (kinds.Watchdog (watchdogs.Disarmed member))
 told_of member outputs.CannotArm = Some (kinds.Note (notes.CannotArm member))
+told_of member outputs.PostponesPromotion = Some (kinds.Note (notes.PostponesPromotion member))
 told_of member _ = None
 
 -- what an order comes to that brings one event at most, at the member's server, on the message that was heard
