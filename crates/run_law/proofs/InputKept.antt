@@ -329,7 +329,8 @@ module _ (head : HeadText) (book : List Event) (cluster : Cluster) (good : Bridg
     )
 
     makes : (outs : List Output) (before : List Event) → MayPromote S M Theirs outs → (has_one is_arming outs ≡ true → IsArmedIn M message.number before) → May before M
-    makes outs before may armed = (
+    makes outs before (inl acts) armed = (refl, inl acts)
+    makes outs before (inr may) armed = (
       refl,
       inr (record {
         fed = may.fed;

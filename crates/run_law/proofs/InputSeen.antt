@@ -13,7 +13,8 @@ use Rattle.ha_loop.specs.Agents.{AgentFacts}
 use Rattle.ha_loop.specs.Lawful.{IsYoung}
 use Rattle.ha_loop.specs.Seen.{moment_seen, hold_seen, machine_seen}
 use Rattle.ha_loop.specs.declared.knowledge.Waited.{Waited}
-use Rattle.cluster_model.specs.Machines.{machine_from, machine_of, ticks_of_second}
+use Rattle.cluster_model.specs.Machines.{machine_from, machine_of, replication_of, ticks_of_second}
+use Rattle.ha_loop.specs.declared.machine.Replication.{Replication}
 use Rattle.cluster_model.specs.State.{Cluster}
 use Rattle.cluster_model.specs.Streaming.{source_of}
 use Rattle.lease_law.specs.Past.{Past}
@@ -34,10 +35,11 @@ pub record IsFound (cluster : Cluster) (member : Member) (machine : Machine) : T
   pub works : machine.watchdog.works ≡ options.device_works
   pub margin : machine.watchdog.margin ≡ Some (record { 0 = ticks_of_second * options.margin.seconds })
 
-found-by : (cluster : Cluster) (member : Member) (receives : Bool) (machine : Machine) (options : Option MemberOptions) (deadline hold : Option (Option Ticks)) (s : Option ServerFacts)
+found-by : (cluster : Cluster) (member : Member) (receives : Bool) (replication : Option Replication) (machine : Machine) (options : Option MemberOptions) (deadline hold : Option (Option Ticks)) (s : Option ServerFacts)
     → slice_get cluster.options member.id.number ≡ options → slice_get cluster.book.deadlines member.id.number ≡ deadline → slice_get cluster.book.holds member.id.number ≡ hold → slice_get cluster.book.servers member.id.number ≡ s
-    → machine_from receives options deadline hold s ≡ Some machine → IsFound cluster member machine
-found-by cluster member receives machine (Some options) (Some deadline) (Some hold) (Some s) a b c d e =
+    → machine_from receives replication options deadline hold s ≡ Some machine → IsFound cluster member machine
+found-by cluster member receives None machine options deadline hold s a b c d e = absurd (none-some machine e)
+found-by cluster member receives (Some replication) machine (Some options) (Some deadline) (Some hold) (Some s) a b c d e =
     subst (IsFound cluster member) (some-is _ machine e) (record {
       options = options;
       options_is = a;
@@ -46,14 +48,15 @@ found-by cluster member receives machine (Some options) (Some deadline) (Some ho
       works = refl;
       margin = refl;
     })
-found-by cluster member receives machine None deadline hold s a b c d e = absurd (none-some machine e)
-found-by cluster member receives machine (Some options) None hold s a b c d e = absurd (none-some machine e)
-found-by cluster member receives machine (Some options) (Some deadline) None s a b c d e = absurd (none-some machine e)
-found-by cluster member receives machine (Some options) (Some deadline) (Some hold) None a b c d e = absurd (none-some machine e)
+found-by cluster member receives (Some replication) machine None deadline hold s a b c d e = absurd (none-some machine e)
+found-by cluster member receives (Some replication) machine (Some options) None hold s a b c d e = absurd (none-some machine e)
+found-by cluster member receives (Some replication) machine (Some options) (Some deadline) None s a b c d e = absurd (none-some machine e)
+found-by cluster member receives (Some replication) machine (Some options) (Some deadline) (Some hold) None a b c d e = absurd (none-some machine e)
 
 pub found-of : (cluster : Cluster) (member : Member) (machine : Machine) → machine_of cluster member ≡ Some machine → IsFound cluster member machine
 found-of cluster member machine e =
-    found-by cluster member (is_some (source_of cluster.book.members cluster.book.servers cluster.book.cuts member)) machine
+    found-by cluster member (is_some (source_of cluster.book.members cluster.book.servers cluster.book.cuts member))
+    (option_map (replication_of cluster.book.members cluster.book.servers cluster.book.cuts member) (slice_get cluster.book.servers member.id.number)) machine
     (slice_get cluster.options member.id.number) (slice_get cluster.book.deadlines member.id.number) (slice_get cluster.book.holds member.id.number) (slice_get cluster.book.servers member.id.number) refl refl refl refl e
 
 -- ---- what the law sees of it
