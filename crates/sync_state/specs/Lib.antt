@@ -1,0 +1,5 @@
+pub mod Candidates
+pub mod Plans
+pub mod Published
+pub mod Sets
+pub mod Standbys
