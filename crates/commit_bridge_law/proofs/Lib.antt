@@ -1,0 +1,4 @@
+pub mod Keys
+pub mod Flights
+pub mod Deciding
+pub mod Groups

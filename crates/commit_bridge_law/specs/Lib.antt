@@ -1,0 +1,5 @@
+pub mod Deliveries
+pub mod Flights
+pub mod Hearing
+pub mod Keys
+pub mod Waiting
