@@ -274,7 +274,13 @@ pub flight-by : (past : Past) (facts : Facts) (kind : EventKind) → IsCausal pa
 flight-by past facts (kinds.Message e) causal same old = flight-message past facts e causal same old
 flight-by past facts _ causal same old = record { same = old.same; order = old.order; flown = old.flown; asked = old.asked; kept = old.kept; grants = old.grants; answers = old.answers }
 
--- ---- what is in flight was asked
+-- ---- what is in flight, and that it was asked
+pub heard : (past : Past) (facts : Facts) (i : ℕ) (carried : InFlightFacts) (message : Message) → IsSameFlight past facts → in_flight facts.flight i ≡ Some carried → carried.message ≡ message
+    → past.flight i ≡ flying_of (past_at_sending past.asked carried) message.from message.to message.run message.sequence message.body
+heard past facts i carried message same here is =
+    same.same i ∙ ap (λ (o : Option InFlightFacts). flying_if past.asked o) here
+    ∙ ap (λ (m : Message). flying_of (past_at_sending past.asked carried) m.from m.to m.run m.sequence m.body) is
+
 pub request-asked : (past : Past) (facts : Facts) (i : ℕ) (carried : InFlightFacts) (by : Member) (run sequence : ℕ) (txn : Txn) → IsSameFlight past facts → in_flight facts.flight i ≡ Some carried
     → carried.message ≡ record { from = ends.Member by; to = ends.Store; run = run; sequence = sequence; body = bodies.Request txn }
     → past.asked i ≡ query_of by.id.number run sequence txn
@@ -346,3 +352,8 @@ pub requested-asked : (past : Past) (facts : Facts) (i : ℕ) (request : SyncReq
 requested-asked past facts i request same at =
     let found = asked-if past.asked (in_flight facts.flight i) request (sym (same.same i) ∙ at) in
     same.kept i found.0 found.1.0 ∙ found.1.1
+
+pub request-flying : (past : Past) (facts : Facts) (i : ℕ) (carried : InFlightFacts) (by : Member) (run sequence : ℕ) (txn : Txn) → IsSameFlight past facts → in_flight facts.flight i ≡ Some carried
+    → carried.message ≡ record { from = ends.Member by; to = ends.Store; run = run; sequence = sequence; body = bodies.Request txn }
+    → past.flight i ≡ query_in_flight_of (query_of by.id.number run sequence txn)
+request-flying past facts i carried by run sequence txn same here is = heard past facts i carried (record { from = ends.Member by; to = ends.Store; run = run; sequence = sequence; body = bodies.Request txn }) same here is

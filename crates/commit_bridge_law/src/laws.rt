@@ -1,6 +1,7 @@
 //! Laws of every book: what the law of kept commits reads of it, and what it leaves by itself.
-ghost use Rattle.std.specs.Prelude.{ℕ, ◌≡◌, ◌<◌, ◌++◌, Bool, true, false, List, Option, Some, None};
+ghost use Rattle.std.specs.Prelude.{ℕ, ◌≡◌, ◌<◌, ◌++◌, Bool, true, false, List, [], ◌∷◌, Option, Some, None};
 ghost use Rattle.pat_base.specs.declared.lsn.Lsn.{Lsn};
+ghost use Rattle.pat_base.specs.declared.member_set.MemberSet.{MemberSet};
 ghost use Rattle.pat_base.specs.declared.name.Name.{Name};
 ghost use Rattle.pat_base.specs.declared.server_state.Required.{Required};
 ghost use Rattle.pat_base.specs.declared.ticks.Ticks.{Ticks};
@@ -9,6 +10,7 @@ ghost use Rattle.lease_store.specs.Settings.{Settings};
 ghost use Rattle.lease_store.specs.declared.key.Key.{Key};
 ghost use Rattle.lease_store.specs.declared.txn.Expected.{Expected};
 ghost use Rattle.lease_store.specs.declared.txn.Txn.{Txn};
+ghost use Rattle.lease_store.specs.declared.txn.Txn.TheVariants.{Claim, SetSync};
 ghost use Rattle.lease_store.specs.declared.txn_kind.TxnKind.{TxnKind};
 ghost use Rattle.event_book.specs.declared.event.Event.{Event};
 ghost use Rattle.event_book.specs.declared.event.EventKind.{EventKind};
@@ -20,11 +22,14 @@ ghost use Rattle.event_book.specs.Facts.{Facts, facts_after, facts_over, start_o
 ghost use Rattle.event_book.specs.Logs.{Logs};
 ghost use Rattle.lease_law.specs.Premises.{AllAre};
 ghost use Rattle.lease_law.specs.Showing.{granted_events, refused_events, read_events};
-ghost use Rattle.lease_law.specs.Stores.{IsSpanned, IsSpannedTxn};
+ghost use Rattle.lease_law.specs.Stores.{IsSpanned, IsSpannedTxn, is_granted as is_grant};
 ghost use Rattle.bridge_law.specs.Groups.{IsOfMembers, AreNumberedAbove};
+ghost use Rattle.commit_law.specs.Actions.{Action, IsAllowed, SendSnapshot, is_granted};
 ghost use Rattle.commit_law.specs.Flights.{SyncRequest, Requested};
-ghost use Rattle.commit_law.specs.Past.{Past, SyncQuery, first_past, past_after, past_over};
+ghost use Rattle.commit_law.specs.Past.{Past, Setup, VolatileState, SyncQuery, claim_request, first_past, is_keyless, is_leaderless, leader_revision, past_after, past_over, publish_request, state_of};
+ghost use Rattle.commit_bridge_law.specs.Deliveries.{ComparesNoSync, IsDelivered, MayBeGranted, granted_actions, refused_action, transition_of};
 ghost use Rattle.commit_bridge_law.specs.Flights.{AreCausal, IsCausal, IsSameBook};
+ghost use Rattle.commit_bridge_law.specs.Keys.{IsSameKeys};
 
 /// A book leaves the same keys and the same messages in flight as commits read them: each event keeps it, if a leader key that it creates
 /// isn't absent at once, a message is sent under a new number, and a grant of the key store answers a request that was asked and granted last.
@@ -51,4 +56,45 @@ pub fn same_book()
     ensures members { (past : Past) (facts : Facts) (events : List Event) → AllAre IsOfMembers events → AreNumberedAbove facts.sent events → AreCausal past facts events }
     // What commits read of a request in flight is what was asked.
     ensures asked { (past : Past) (facts : Facts) (i : ℕ) (request : SyncRequest) → IsSameBook past facts → past.flight i ≡ Some (Requested request) → past.asked i ≡ SyncQuery request }
+{}
+
+/// The key store's decision on a claim, or on a write of the sync key, is the law's: it grants what the law grants, and nothing else.
+pub fn decisions()
+    ensures claim { (past : Past) (facts : Facts) (m run sequence revision : ℕ) (sync : Expected) → IsSameKeys past facts
+        → is_grant (decision_on facts.keys facts.clock (Claim revision sync)) ≡ is_granted (leader_revision past.leader) past.sync (claim_request m run sequence revision sync) }
+    ensures publish { (past : Past) (facts : Facts) (m run sequence revision : ℕ) (sync : Expected) (standbys : MemberSet) → IsSameKeys past facts
+        → is_grant (decision_on facts.keys facts.clock (SetSync revision sync standbys)) ≡ is_granted (leader_revision past.leader) past.sync (publish_request m run sequence revision sync standbys) }
+{}
+
+/// A delivery to the key store of a message that the book has in flight is an action, which is allowed and shown by its events, or such an
+/// action and the sending of its answer; and it leaves the same book. In synchronous mode: creates compare no sync key, and nobody removes it.
+pub fn deliveries()
+    // A claim, a write of the sync key, a release and other writes need nothing beside; creates and renewals a number that was given.
+    ensures granted { (setup : Setup) (past : Past) (facts : Facts) (volatile_states : ℕ → VolatileState) (tick : Ticks) (i j : ℕ) (carried : InFlightFacts) (by : Member) (run sequence : ℕ) (txn : Txn) (standbys : List Name)
+        → setup.creates_compare ≡ false
+        → IsSameBook past facts
+        → in_flight facts.flight i ≡ Some carried
+        → carried.message ≡ record { from = ToMember by; to = Store; run = run; sequence = sequence; body = bodies.Request txn }
+        → facts.sent < j → IsSpannedTxn txn
+        → decision_on facts.keys facts.clock txn ≡ Grants
+        → MayBeGranted (state_of setup past volatile_states) by.id.number run sequence txn
+        → IsDelivered setup past facts volatile_states (granted_events tick i j by run sequence txn standbys) (granted_actions volatile_states tick i j by run sequence txn standbys) }
+    ensures refused { (setup : Setup) (past : Past) (facts : Facts) (volatile_states : ℕ → VolatileState) (tick : Ticks) (i j : ℕ) (carried : InFlightFacts) (by : Member) (run sequence : ℕ) (txn : Txn) (request : TxnKind) (key : Key) (found : Expected)
+        → IsSameBook past facts
+        → in_flight facts.flight i ≡ Some carried
+        → carried.message ≡ record { from = ToMember by; to = Store; run = run; sequence = sequence; body = bodies.Request txn }
+        → facts.sent < j
+        → decision_on facts.keys facts.clock txn ≡ Refusal key found
+        → ComparesNoSync txn
+        → let events = refused_events tick i j by run sequence request key found in
+        IsDelivered setup past facts volatile_states events (transition_of volatile_states (refused_action i j txn) events ∷ []) }
+    ensures read { (setup : Setup) (past : Past) (facts : Facts) (volatile_states : ℕ → VolatileState) (tick : Ticks) (i j : ℕ) (carried : InFlightFacts) (by : Member) (run sequence : ℕ)
+        → IsSameBook past facts
+        → in_flight facts.flight i ≡ Some carried
+        → carried.message ≡ record { from = ToMember by; to = Store; run = run; sequence = sequence; body = bodies.Read }
+        → facts.sent < j
+        → let snapshot : Action = SendSnapshot (is_keyless past.leader past.failsafe) (is_leaderless past.leader) j in
+        let events = read_events tick i j by run sequence in
+        IsAllowed (state_of setup past volatile_states) snapshot
+        → IsDelivered setup past facts volatile_states events (transition_of volatile_states snapshot events ∷ []) }
 {}
