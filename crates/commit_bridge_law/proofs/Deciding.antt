@@ -1,10 +1,9 @@
 -- The key store's decision on what compares the sync key is that of the law.
-use Rattle.std.proofs.Common.{◌≡◌, ℕ, ◌==◌, ◌&&◌, Bool, true, false, cond, List, [], ◌∷◌, Option, Some, None, IsSome, refl, ◌∙◌, ap, sym, subst, arith}
+use Rattle.std.proofs.Common.{◌≡◌, ℕ, ◌==◌, ◌&&◌, Bool, true, false, cond, [], ◌∷◌, Option, Some, None, IsSome, refl, ◌∙◌, ap, sym, arith}
 use Rattle.std.proofs.lemmas.Bool.Decides.{nat_tests}
 use Rattle.std.specs.FinMap.{find}
 use Rattle.pat_base.specs.declared.ticks.Ticks.{Ticks}
-use Rattle.lease_store.specs.Answers.{present_pairs}
-use Rattle.lease_store.specs.Decision.{Decision, Grant as Granting, Refusal as Refusing, found_in, is_as_expected, decision_if, decision_by}
+use Rattle.lease_store.specs.Decision.{Grant as Granting, found_in, is_as_expected, decision_if, decision_by}
 use Rattle.lease_store.specs.Kinds.{IsOfKind}
 use Rattle.lease_store.specs.KeyOrder.{key_cmp}
 use Rattle.lease_store.specs.Keys.{is_present, key_in, present}
@@ -28,14 +27,8 @@ use Rattle.commit_law.specs.Keys.{SyncKey}
 use Rattle.commit_law.specs.Past.{Past, leader_revision, revision_in}
 use Rattle.commit_bridge_law.specs.Keys.{sync_key_of, lease_keys, IsSameKeys}
 
-turned-by : (b c : Bool) (m n : ℕ) → (m == n) ≡ b → (n == m) ≡ c → b ≡ c
-turned-by true true m n e f = refl
-turned-by false false m n e f = refl
-turned-by true false m n e f = absurd (grind (arith, nat_tests))
-turned-by false true m n e f = absurd (grind (arith, nat_tests))
-
 turned : (m n : ℕ) → (m == n) ≡ (n == m)
-turned m n = turned-by (m == n) (n == m) m n refl refl
+turned m n = grind (arith, nat_tests)
 
 abbrev OfKind : Key → Option KeyEntry → Type 0
 OfKind key found = (found_key : KeyEntry) → found ≡ Some found_key → IsOfKind key found_key.value

@@ -1,11 +1,11 @@
 -- A delivery to the key store is an action, or two, and leaves the same book.
-use Rattle.std.proofs.Common.{◌≡◌, ◌⊎◌, ℕ, ◌<◌, ◌&&◌, Bool, true, false, List, [], ◌∷◌, Option, Some, None, refl, ◌∙◌, ap, sym, arith, inl, inr}
+use Rattle.std.proofs.Common.{◌≡◌, ℕ, ◌<◌, Bool, false, List, [], ◌∷◌, Option, Some, None, refl, ◌∙◌, ap, sym, arith, inr}
 use Rattle.std.proofs.Math.Path.{fun_ext}
 use Rattle.pat_base.specs.declared.lsn.Lsn.{Lsn}
 use Rattle.pat_base.specs.declared.member_set.MemberSet.{MemberSet}
 use Rattle.pat_base.specs.declared.name.Name.{Name}
 use Rattle.pat_base.specs.declared.ticks.Ticks.{Ticks}
-use Rattle.lease_store.specs.Decision.{Decision, Grant as Granting, Refusal as Refusing, decision_on}
+use Rattle.lease_store.specs.Decision.{Grant as Granting, Refusal as Refusing, decision_on}
 use Rattle.lease_store.specs.Writes.{is_lease}
 use Rattle.lease_store.specs.declared.key.Key.{Key}
 use Rattle.lease_store.specs.declared.txn.Expected.{Expected}
@@ -14,29 +14,24 @@ use Rattle.lease_store.specs.declared.txn.Txn.TheVariants as txns
 use Rattle.lease_store.specs.declared.txn_kind.TxnKind.{TxnKind}
 use Rattle.lease_store.specs.declared.value.HistoryRow.{HistoryRow}
 use Rattle.lease_store.specs.declared.value.MemberInfo.{MemberInfo}
-use Rattle.event_book.specs.declared.event.Event.{Event}
-use Rattle.event_book.specs.declared.event.EventKind.TheVariants as kinds
-use Rattle.event_book.specs.declared.event.MessageEvent.TheVariants.{Sent}
 use Rattle.event_book.specs.declared.link.LinkEnd.TheVariants as ends
 use Rattle.event_book.specs.declared.member.Member.{Member}
 use Rattle.event_book.specs.declared.message.Body.TheVariants as bodies
-use Rattle.event_book.specs.declared.message.Message.{Message}
 use Rattle.event_book.specs.Flight.{InFlightFacts, in_flight}
-use Rattle.event_book.specs.Facts.{Facts, facts_over}
+use Rattle.event_book.specs.Facts.{Facts}
 use Rattle.event_book.specs.Functions.{put_at}
-use Rattle.lease_law.specs.Leases.{LeaderKey}
 use Rattle.lease_law.specs.Showing.{granted_events, refused_events, read_events}
 use Rattle.lease_law.specs.Stores.{IsSpannedTxn, is_granted as is_grant}
 use Rattle.lease_law.proofs.Tools.{both, put-all}
-use Rattle.commit_law.specs.Actions.{Action, Create, Decide, Note, OtherWrite, Release, Renew, SendSnapshot, act, IsAllowed, IsNumbered, MayRenew, is_granted, is_as_read, at_revision}
-use Rattle.commit_law.specs.Books.{Transition, IsShown, ChangeOnce, AreAllowed, book_of}
-use Rattle.commit_law.specs.Flights.{Flying, SyncRequest, Requested}
-use Rattle.commit_law.specs.Past.{Setup, Past, VolatileState, Query, LeaseQuery, SyncQuery, OtherQuery, claim_request, publish_request, renew_query, query_of, query_in_flight_of, flying_of, is_keyless, is_leaderless, leader_revision, revision_in, past_after, past_over, state_of}
-use Rattle.commit_law.specs.Showing.{IsOtherTxn, carries_set, decided_events, event_at}
+use Rattle.commit_law.specs.Actions.{Action, Create, Decide, Note, OtherWrite, Release, Renew, SendSnapshot, IsAllowed, IsNumbered, MayRenew, is_granted}
+use Rattle.commit_law.specs.Books.{IsShown, AreAllowed, book_of}
+use Rattle.commit_law.specs.Flights.{Flying}
+use Rattle.commit_law.specs.Past.{Setup, Past, VolatileState, OtherQuery, claim_request, publish_request, query_of, query_in_flight_of, is_keyless, is_leaderless, leader_revision, past_over, state_of}
+use Rattle.commit_law.specs.Showing.{IsOtherTxn, carries_set, decided_events}
 use Rattle.commit_law.specs.States.{State}
 use Rattle.commit_law.proofs.Showing.{claim-shown, publish-shown, create-shown, renew-shown, other-shown, release-shown, answered-shown, refused-shown, snapshot-shown}
 use Rattle.commit_bridge_law.specs.Deliveries.{transition_of, granted_then_told, granted_and_told, granted_actions, refused_action, ComparesNoSync, MayBeGranted, IsDelivered}
-use Rattle.commit_bridge_law.specs.Flights.{flying_if, past_at_sending, IsSameFlight, IsSameBook}
+use Rattle.commit_bridge_law.specs.Flights.{flying_if, IsSameFlight, IsSameBook}
 use Rattle.commit_bridge_law.specs.Keys.{IsSameKeys}
 use Rattle.commit_bridge_law.proofs.Deciding.{decision-is, granted-leader}
 use Rattle.commit_bridge_law.proofs.Flights.{heard, request-asked, request-flying}
@@ -162,7 +157,7 @@ granted-delivery setup past facts volatile_states tick i j carried by run sequen
     let asked : IsAsked past i by run sequence txn = record { flying = request-flying past facts i carried by run sequence txn same.flight here is; asked = request-asked past facts i carried by run sequence txn same.flight here is } in
     record {
       whole = granted-whole volatile_states tick i j by run sequence txn standbys;
-      allowed = granted-allowed setup past facts volatile_states tick i j by run sequence txn standbys asked same.keys_are granted none may;
+      allowed = granted-allowed setup past facts volatile_states tick i j by run sequence txn standbys asked same.store granted none may;
       same = book-after past facts (granted_events tick i j by run sequence txn standbys) (granted-causal past facts tick i j carried by run sequence txn standbys same here is above span granted) same;
     }
 
@@ -212,7 +207,7 @@ refused-delivery setup past facts volatile_states tick i j carried by run sequen
       whole = refl;
       allowed = (
         refused-may (state_of setup past volatile_states) i j txn,
-        refused-is setup past facts volatile_states tick i j by run sequence txn request key found asked same.keys_are refused none (none-above past facts j same.flight above),
+        refused-is setup past facts volatile_states tick i j by run sequence txn request key found asked same.store refused none (none-above past facts j same.flight above),
         inr (tt, (tt, tt)),
         tt,
       );

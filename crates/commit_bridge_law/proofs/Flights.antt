@@ -1,8 +1,6 @@
 -- Each event keeps that the past has the messages in flight as the book leaves them.
 use Rattle.std.proofs.Common.{◌≡◌, ℕ, ◌≤◌, ◌<◌, ◌==◌, Bool, true, false, cond, List, Option, Some, None, refl, ◌∙◌, ap, sym, subst, arith}
 use Rattle.std.specs.FinMap.{find}
-use Rattle.std.specs.Ordering.{nat_cmp}
-use Rattle.std.specs.BTreeMap.{insert_entry}
 use Rattle.pat_base.specs.declared.lsn.Lsn.{Lsn}
 use Rattle.pat_base.specs.declared.name.Name.{Name}
 use Rattle.pat_base.specs.declared.server_state.Required.{Required}
@@ -21,7 +19,7 @@ use Rattle.event_book.specs.declared.member.Member.{Member}
 use Rattle.event_book.specs.declared.message.Body.{Body}
 use Rattle.event_book.specs.declared.message.Body.TheVariants as bodies
 use Rattle.event_book.specs.declared.message.Message.{Message}
-use Rattle.event_book.specs.Flight.{InFlightFacts, Flight, in_flight, without_message, launched, snapshot_for, grant_for}
+use Rattle.event_book.specs.Flight.{InFlightFacts, in_flight, without_message, launched, snapshot_for, grant_for}
 use Rattle.event_book.specs.Facts.{Facts, facts_after, start_of}
 use Rattle.event_book.specs.Functions.{put_at}
 use Rattle.event_book.specs.Logs.{Logs}
@@ -30,11 +28,11 @@ use Rattle.lease_law.proofs.Tools.{some-is, none-some, put-all, put-here, put-th
 use Rattle.bridge_law.proofs.Entries.{in-with, in-without, rises-with, rises-without}
 use Rattle.bridge_law.proofs.Flights.{snapshot-leader, snapshot-failsafe}
 use Rattle.commit_law.specs.Keys.{SyncKey}
-use Rattle.commit_law.specs.Flights.{Aim, ClaimSync, CreateLeader, PublishStandbys, SyncRequest, Flying, Requested, LeaseGranted, SyncGranted, SnapshotSent, RaceAnswered}
+use Rattle.commit_law.specs.Flights.{Aim, ClaimSync, CreateLeader, PublishStandbys, SyncRequest, Flying, Requested, LeaseGranted, SnapshotSent}
 use Rattle.commit_law.specs.Actions.{sync_key_by}
 use Rattle.commit_law.specs.Past.{Past, Query, LeaseQuery, CarryQuery, SyncQuery, OtherQuery, first_past, query_of, query_sent, is_keyless, is_leaderless, failsafe_revision_of, leader_revision, lease_grant_of, sync_grant_of, request_grant_of, snapshot_of, grant_in_flight_of, answer_in_flight_of, query_in_flight_of, request_in_flight_of, race_answer_of, peer_in_flight_of, flying_of, past_after}
 use Rattle.commit_bridge_law.specs.Keys.{sync_key_of, lease_keys, IsSameKeys}
-use Rattle.commit_bridge_law.specs.Flights.{past_at_sending, flying_carried, flying_if, is_leasing, IsNamed, HasWritten, IsWritten, IsAnswerTo, AnswersBody, Answers, IsCausal, IsSameFlight}
+use Rattle.commit_bridge_law.specs.Flights.{past_at_sending, flying_if, is_leasing, IsNamed, HasWritten, IsWritten, AnswersBody, Answers, IsCausal, IsSameFlight}
 use Rattle.commit_bridge_law.proofs.Keys.{sync-present}
 
 pub flight-first : (logs : Logs) (required : List Required) (confirmed : List (List (Option Lsn))) (first : Settings) (names : List Name) (base : ℕ) → IsSameFlight (first_past logs required confirmed) (start_of first names base)

@@ -33,6 +33,7 @@ use Rattle.lease_law.specs.Past.{extended_by}
 use Rattle.lease_law.specs.Premises.{AllAre}
 use Rattle.lease_law.specs.Showing.{granted_events, refused_events, read_events}
 use Rattle.lease_law.specs.Stores.{IsSpannedTxn, IsSpanned}
+use Rattle.bridge_law.proofs.Groups.{members-spanned}
 use Rattle.bridge_law.specs.Groups.{IsMemberEnd, IsOfMembers, IsNumberedAbove, AreNumberedAbove}
 use Rattle.commit_law.specs.Past.{Past, Query, first_past, leader_revision, past_after, past_over, query_of}
 use Rattle.commit_bridge_law.specs.Keys.{IsSameKeys}
@@ -42,10 +43,10 @@ use Rattle.commit_bridge_law.proofs.Flights.{flight-first, flight-by, request-as
 use Rattle.commit_bridge_law.proofs.Keys.{keys-first, keys-by}
 
 pub book-first : (logs : Logs) (required : List Required) (confirmed : List (List (Option Lsn))) (first : Settings) (names : List Name) (base : ℕ) → IsSameBook (first_past logs required confirmed) (start_of first names base)
-book-first logs required confirmed first names base = record { keys_are = keys-first logs required confirmed first names base; flight = flight-first logs required confirmed first names base }
+book-first logs required confirmed first names base = record { store = keys-first logs required confirmed first names base; flight = flight-first logs required confirmed first names base }
 
 pub book-by : (past : Past) (facts : Facts) (kind : EventKind) → IsSpanned kind → IsCausal past facts kind → IsSameBook past facts → IsSameBook (past_after past kind) (facts_after facts kind)
-book-by past facts kind span causal old = record { keys_are = keys-by past facts kind span old.keys_are; flight = flight-by past facts kind causal old.keys_are old.flight }
+book-by past facts kind span causal old = record { store = keys-by past facts kind span old.store; flight = flight-by past facts kind causal old.store old.flight }
 
 pub book-after : (past : Past) (facts : Facts) (events : List Event) → AreCausal past facts events → IsSameBook past facts → IsSameBook (past_over past events) (facts_over facts events)
 book-after past facts [] causal old = old
@@ -132,7 +133,7 @@ granted-causal past facts tick i j carried by run sequence txn standbys old here
                     before = old.flight.flown i carried here;
                     named = subst (λ (q : Query). IsNamed by.id.number run sequence q) (sym asked) (named-is by.id.number run sequence txn);
                     leasing = ap is_leasing asked ∙ leasing-is by.id.number run sequence txn;
-                    written = subst (λ (q : Query). IsWritten (Granted past i by txn standbys) q) (sym asked) (written-is past facts i by run sequence txn standbys old.keys_are granted);
+                    written = subst (λ (q : Query). IsWritten (Granted past i by txn standbys) q) (sym asked) (written-is past facts i by run sequence txn standbys old.store granted);
                   },
                 ),
                 tt,
@@ -151,13 +152,6 @@ pub read-causal : (past : Past) (facts : Facts) (tick : Ticks) (i j : ℕ) (by :
 read-causal past facts tick i j by run sequence above = (tt, (tt, (tt, ((above, tt), tt))))
 
 -- ---- a tick, a loss, a delivery to an agent, and all that its input brings
-members-spanned : (kind : EventKind) → IsOfMembers kind → IsSpanned kind
-members-spanned (kinds.Store (stores.Granted number by txn standbys)) is = absurd is
-members-spanned (kinds.Store (stores.Refused number by request key found)) is = tt
-members-spanned (kinds.Store (stores.LeaderExpired holder)) is = tt
-members-spanned (kinds.Store (stores.Expired key)) is = tt
-members-spanned _ is = tt
-
 member-answers : (past : Past) (last : ℕ) (from to : LinkEnd) (run sequence : ℕ) (body : Body) → IsMemberEnd from → Answers past last from to run sequence body
 member-answers past last (ends.Member by) to run sequence body is = tt
 member-answers past last ends.Store to run sequence body is = absurd is

@@ -1,5 +1,5 @@
 -- The messages in flight as commits read them are those that the book leaves.
-use Rattle.std.specs.Prelude.{ℕ, ◌≡◌, ◌+◌, ◌≤◌, ◌<◌, Bool, true, false, List, [], ◌∷◌, Option, Some, None}
+use Rattle.std.specs.Prelude.{ℕ, ◌≡◌, ◌≤◌, ◌<◌, Bool, true, false, List, [], ◌∷◌, Option, Some, None}
 use Rattle.std.specs.FinMap.{find}
 use Rattle.lease_store.specs.declared.key.Key.TheVariants as keys
 use Rattle.lease_store.specs.KeyOrder.{key_cmp}
@@ -116,5 +116,5 @@ AreCausal past facts (event ∷ events) = IsSpanned event.kind × (IsCausal past
 
 -- the past has the keys and the messages in flight as the book leaves them
 pub record IsSameBook (past : Past) (facts : Facts) : Type 0 where
-  pub keys_are : IsSameKeys past facts
+  pub store : IsSameKeys past facts
   pub flight : IsSameFlight past facts

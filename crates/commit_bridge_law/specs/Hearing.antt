@@ -1,11 +1,11 @@
 -- The grants that come to agents.
-use Rattle.std.specs.Prelude.{ℕ, ◌≡◌, Bool, true, false, Option, Some, None}
+use Rattle.std.specs.Prelude.{ℕ, ◌≡◌, Bool, true, false, Option, Some}
 use Rattle.std.specs.FinMap.{find}
 use Rattle.lease_store.specs.declared.key.Key.TheVariants as keys
 use Rattle.lease_store.specs.KeyOrder.{key_cmp}
 use Rattle.event_book.specs.declared.member.Member.{Member}
 use Rattle.event_book.specs.Flight.{InFlightFacts}
-use Rattle.lease_law.specs.Stores.{leader_key_of, failsafe_key_of}
+use Rattle.lease_law.specs.Stores.{failsafe_key_of}
 use Rattle.commit_law.specs.Actions.{sync_key_by}
 use Rattle.commit_law.specs.Flights.{Aim, Flying, LeaseGranted, SnapshotSent, SyncGranted}
 use Rattle.commit_law.specs.Past.{Past, failsafe_revision_of}

@@ -1,4 +1,5 @@
 pub mod Deliveries
+pub mod Example
 pub mod Flights
 pub mod Hearing
 pub mod Keys

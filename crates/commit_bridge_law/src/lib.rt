@@ -3,4 +3,4 @@
 
 mod laws;
 
-pub use laws::{decisions, deliveries, same_book};
+pub use laws::{decisions, deliveries, example, heard, same_book, waiting};
