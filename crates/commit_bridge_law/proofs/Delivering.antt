@@ -1,5 +1,5 @@
 -- A delivery to the key store is an action, or two, and leaves the same book.
-use Rattle.std.proofs.Common.{◌≡◌, ℕ, ◌<◌, Bool, false, List, [], ◌∷◌, Option, Some, None, refl, ◌∙◌, ap, sym, arith, inr}
+use Rattle.std.proofs.Common.{◌≡◌, ℕ, ◌<◌, Bool, true, false, List, [], ◌∷◌, Option, Some, None, refl, ◌∙◌, ap, sym, arith, inr}
 use Rattle.std.proofs.Math.Path.{fun_ext}
 use Rattle.pat_base.specs.declared.lsn.Lsn.{Lsn}
 use Rattle.pat_base.specs.declared.member_set.MemberSet.{MemberSet}
@@ -30,7 +30,7 @@ use Rattle.commit_law.specs.Past.{Setup, Past, VolatileState, OtherQuery, claim_
 use Rattle.commit_law.specs.Showing.{IsOtherTxn, carries_set, decided_events}
 use Rattle.commit_law.specs.States.{State}
 use Rattle.commit_law.proofs.Showing.{claim-shown, publish-shown, create-shown, renew-shown, other-shown, release-shown, answered-shown, refused-shown, snapshot-shown}
-use Rattle.commit_bridge_law.specs.Deliveries.{transition_of, granted_then_told, granted_and_told, granted_actions, refused_action, ComparesNoSync, MayBeGranted, IsDelivered}
+use Rattle.commit_bridge_law.specs.Deliveries.{transition_of, granted_if, granted_actions, refused_action, ComparesNoSync, MayBeGranted, IsDelivered}
 use Rattle.commit_bridge_law.specs.Flights.{flying_if, IsSameFlight, IsSameBook}
 use Rattle.commit_bridge_law.specs.Keys.{IsSameKeys}
 use Rattle.commit_bridge_law.proofs.Deciding.{decision-is, granted-leader}
@@ -71,12 +71,12 @@ never-compared s carries none = record { leader = λ e. absurd (both (sym none �
 -- one action, and one with the answer after it
 allowed-one : (setup : Setup) (past : Past) (volatile_states : ℕ → VolatileState) (action : Action) (tick : Ticks) (i j : ℕ) (by : Member) (run sequence : ℕ) (txn : Txn) (standbys : List Name)
     → IsAllowed (state_of setup past volatile_states) action → IsShown setup past volatile_states (transition_of volatile_states action (granted_events tick i j by run sequence txn standbys))
-    → AreAllowed setup past volatile_states (granted_and_told volatile_states action tick i j by run sequence txn standbys)
+    → AreAllowed setup past volatile_states (granted_if true volatile_states action tick i j by run sequence txn standbys)
 allowed-one setup past volatile_states action tick i j by run sequence txn standbys may shown = (may, shown, inr (tt, (tt, tt)), tt)
 
 allowed-two : (setup : Setup) (past : Past) (volatile_states : ℕ → VolatileState) (action : Action) (tick : Ticks) (i j : ℕ) (by : Member) (run sequence : ℕ) (txn : Txn) (standbys : List Name)
     → IsAllowed (state_of setup past volatile_states) action → IsShown setup past volatile_states (transition_of volatile_states action (decided_events tick i by txn standbys)) → past.asked i ≡ OtherQuery
-    → AreAllowed setup past volatile_states (granted_then_told volatile_states action tick i j by run sequence txn standbys)
+    → AreAllowed setup past volatile_states (granted_if false volatile_states action tick i j by run sequence txn standbys)
 allowed-two setup past volatile_states action tick i j by run sequence txn standbys may shown other = (
   may,
   shown,
@@ -91,7 +91,7 @@ record IsAsked (past : Past) (i : ℕ) (by : Member) (run sequence : ℕ) (txn :
   asked : past.asked i ≡ query_of by.id.number run sequence txn
 
 other-allowed : (setup : Setup) (past : Past) (volatile_states : ℕ → VolatileState) (tick : Ticks) (i j : ℕ) (by : Member) (run sequence : ℕ) (txn : Txn) (standbys : List Name) → past.flight i ≡ None → past.asked i ≡ OtherQuery → IsOtherTxn txn
-    → AreAllowed setup past volatile_states (granted_then_told volatile_states OtherWrite tick i j by run sequence txn standbys)
+    → AreAllowed setup past volatile_states (granted_if false volatile_states OtherWrite tick i j by run sequence txn standbys)
 other-allowed setup past volatile_states tick i j by run sequence txn standbys none asked other =
     allowed-two setup past volatile_states OtherWrite tick i j by run sequence txn standbys tt (other-shown setup past volatile_states tick i by txn standbys none other) asked
 

@@ -1,5 +1,5 @@
 -- A delivery to the key store as actions, in synchronous mode: creates of the leader key compare no sync key, and nobody removes it.
-use Rattle.std.specs.Prelude.{ℕ, ◌≡◌, false, List, [], ◌∷◌, Some, None}
+use Rattle.std.specs.Prelude.{ℕ, ◌≡◌, Bool, true, false, List, [], ◌∷◌, Some, None}
 use Rattle.pat_base.specs.declared.name.Name.{Name}
 use Rattle.pat_base.specs.declared.ticks.Ticks.{Ticks}
 use Rattle.lease_store.specs.declared.txn.Txn.{Txn}
@@ -20,30 +20,45 @@ use Rattle.commit_law.specs.Showing.{carries_set, decided_events, event_at}
 use Rattle.commit_law.specs.States.{State}
 use Rattle.commit_bridge_law.specs.Flights.{IsSameBook}
 
--- one action, after which no event's words say more of the members than before it
+-- one action, after which each member is as before it in what no event says
 abbrev pub transition_of : (ℕ → VolatileState) → Action → List Event → Transition
 transition_of volatile_states action events = record { action = action; events = events; volatile_states = volatile_states }
 
--- a request is granted in this action, and in the next one its answer goes out, which shows the keys alone
-abbrev pub granted_then_told : (ℕ → VolatileState) → Action → Ticks → ℕ → ℕ → Member → ℕ → ℕ → Txn → List Name → List Transition
-granted_then_told volatile_states action tick number answer by run sequence txn standbys =
+-- the answer to a request goes out that was granted
+abbrev pub told_events : Ticks → ℕ → ℕ → Member → ℕ → ℕ → Txn → List Event
+told_events tick number answer by run sequence txn =
+    event_at tick (kinds.Message (Sent answer (record { from = ends.Store; to = ends.Member by; run = run; sequence = sequence; body = bodies.Granted number (is_lease txn) })))
+
+-- what the grant of a request is, with the answer under this number where it tells more than the keys
+abbrev pub granted_action : ℕ → ℕ → ℕ → ℕ → ℕ → Txn → Action
+granted_action number answer member run sequence (txns.Create info ttl failsafe sync) = Create member run sequence answer
+granted_action number answer member run sequence (txns.Renew revision info ttl status row failsafe) = Renew member run sequence answer (carries_set failsafe)
+granted_action number answer member run sequence (txns.Claim revision sync) = Decide number answer
+granted_action number answer member run sequence (txns.SetSync revision sync standbys) = Decide number answer
+granted_action number answer member run sequence (txns.Release revision) = Release
+granted_action number answer member run sequence _ = OtherWrite
+
+-- its answer tells more than the keys: the lease, or the sync key that it wrote
+abbrev pub is_told : Txn → Bool
+is_told (txns.Create info ttl failsafe sync) = true
+is_told (txns.Renew revision info ttl status row failsafe) = true
+is_told (txns.Claim revision sync) = true
+is_told (txns.SetSync revision sync standbys) = true
+is_told _ = false
+
+-- a request is granted and answered in one action; or in two, where the answer shows the keys alone
+abbrev pub granted_if : Bool → (ℕ → VolatileState) → Action → Ticks → ℕ → ℕ → Member → ℕ → ℕ → Txn → List Name → List Transition
+granted_if true volatile_states action tick number answer by run sequence txn standbys =
+    transition_of volatile_states action (granted_events tick number answer by run sequence txn standbys) ∷ []
+granted_if false volatile_states action tick number answer by run sequence txn standbys =
     transition_of volatile_states action (decided_events tick number by txn standbys)
-    ∷ transition_of volatile_states (SendSnapshot false false answer) (event_at tick (kinds.Message (Sent answer (record { from = ends.Store; to = ends.Member by; run = run; sequence = sequence; body = bodies.Granted number (is_lease txn) }))))
+    ∷ transition_of volatile_states (SendSnapshot false false answer) (told_events tick number answer by run sequence txn)
     ∷ []
 
--- a request is granted and answered in this one action
-abbrev pub granted_and_told : (ℕ → VolatileState) → Action → Ticks → ℕ → ℕ → Member → ℕ → ℕ → Txn → List Name → List Transition
-granted_and_told volatile_states action tick number answer by run sequence txn standbys = transition_of volatile_states action (granted_events tick number answer by run sequence txn standbys) ∷ []
-
--- what the delivery of a request that is granted is, with its answer
+-- the actions that the delivery of a request is which is granted
 abbrev pub granted_actions : (ℕ → VolatileState) → Ticks → ℕ → ℕ → Member → ℕ → ℕ → Txn → List Name → List Transition
-granted_actions volatile_states tick number answer by run sequence (txns.Create info ttl failsafe sync) standbys = granted_and_told volatile_states (Create by.id.number run sequence answer) tick number answer by run sequence (txns.Create info ttl failsafe sync) standbys
-granted_actions volatile_states tick number answer by run sequence (txns.Renew revision info ttl status row failsafe) standbys =
-    granted_and_told volatile_states (Renew by.id.number run sequence answer (carries_set failsafe)) tick number answer by run sequence (txns.Renew revision info ttl status row failsafe) standbys
-granted_actions volatile_states tick number answer by run sequence (txns.Claim revision sync) standbys = granted_and_told volatile_states (Decide number answer) tick number answer by run sequence (txns.Claim revision sync) standbys
-granted_actions volatile_states tick number answer by run sequence (txns.SetSync revision sync set) standbys = granted_and_told volatile_states (Decide number answer) tick number answer by run sequence (txns.SetSync revision sync set) standbys
-granted_actions volatile_states tick number answer by run sequence (txns.Release revision) standbys = granted_then_told volatile_states Release tick number answer by run sequence (txns.Release revision) standbys
-granted_actions volatile_states tick number answer by run sequence txn standbys = granted_then_told volatile_states OtherWrite tick number answer by run sequence txn standbys
+granted_actions volatile_states tick number answer by run sequence txn standbys =
+    granted_if (is_told txn) volatile_states (granted_action number answer by.id.number run sequence txn) tick number answer by run sequence txn standbys
 
 -- what a refusal is: a decision on a request that compares the sync key; of another one commits read nothing
 abbrev pub refused_action : ℕ → ℕ → Txn → Action
@@ -56,8 +71,8 @@ abbrev pub ComparesNoSync : Txn → Type 0
 ComparesNoSync (txns.Create info ttl failsafe (Some sync)) = ⊥
 ComparesNoSync _ = Unit {0}
 
--- what is asked of a request beside that it is granted: a create or a renewal is of a run and a number that its sender's agents gave; a create
--- compares no sync key, and nobody removes that key
+-- what is asked of a request beside that it is granted: a create or a renewal is of a run and a number that its sender's agents gave;
+-- a create compares no sync key, and nobody removes that key
 abbrev pub MayBeGranted : State → ℕ → ℕ → ℕ → Txn → Type 0
 MayBeGranted s member run sequence (txns.Create info ttl failsafe None) = IsNumbered (s.members member) run sequence
 MayBeGranted s member run sequence (txns.Create info ttl failsafe (Some sync)) = ⊥
@@ -65,7 +80,8 @@ MayBeGranted s member run sequence (txns.Renew revision info ttl status row fail
 MayBeGranted s member run sequence (txns.DropSync revision sync) = ⊥
 MayBeGranted s member run sequence _ = Unit {0}
 
--- these events are those of these actions, which are allowed one after the other and shown by them; and past and facts are of one book after them
+-- these events are those of these actions, which are allowed one after the other and shown by them; and after them past and facts are
+-- still of one book
 pub record IsDelivered (setup : Setup) (past : Past) (facts : Facts) (volatile_states : ℕ → VolatileState) (events : List Event) (transitions : List Transition) : Type 0 where
   pub whole : book_of transitions ≡ events
   pub allowed : AreAllowed setup past volatile_states transitions

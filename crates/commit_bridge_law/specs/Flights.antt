@@ -71,8 +71,8 @@ IsWritten past (CarryQuery member revision) = leader_revision past.leader ≡ So
 IsWritten past (SyncQuery request) = HasWritten past request request.aim
 IsWritten past OtherQuery = Unit {0}
 
--- the request of this number, one of those up to the last, was asked by this member, in this run and under this number of a question, for
--- the lease or not; and it was granted last
+-- the request of this number, which is one of those up to the last, was asked by this member, in this run and under this number of a
+-- question, for the lease or not; and it was granted last
 pub record IsAnswerTo (past : Past) (last member run sequence request : ℕ) (leased : Bool) : Type 0 where
   pub before : request ≤ last
   pub named : IsNamed member run sequence (past.asked request)
@@ -104,7 +104,8 @@ pub record IsSameFlight (past : Past) (facts : Facts) : Type 0 where
   pub answers : (i : ℕ) (carried : InFlightFacts) → in_flight facts.flight i ≡ Some carried
       → Answers (past_at_sending past.asked carried) facts.sent carried.message.from carried.message.to carried.message.run carried.message.sequence carried.message.body
 
--- causes come first: a message is sent under a number above those before it, and a grant only for a request that was asked, and granted last
+-- causes come first: a message is sent under a number above those before it, and a grant only for a request that was asked, and
+-- granted last
 abbrev pub IsCausal : Past → Facts → EventKind → Type 0
 IsCausal past facts (kinds.Message (Sent number message)) = (facts.sent < number) × Answers past facts.sent message.from message.to message.run message.sequence message.body
 IsCausal past facts _ = Unit {0}

@@ -5,4 +5,5 @@ use Rattle.commit_law.specs.Past.{Query}
 
 -- a request of this name that was asked is this one, as commits read it
 abbrev pub IsAskedOnce : (ℕ → Option Question) → (ℕ → Query) → ℕ → ℕ → ℕ → Query → Type 0
-IsAskedOnce named asked member run sequence query = (i : ℕ) (question : Question) → named i ≡ Some question → question.member ≡ member → question.run ≡ run → question.sequence ≡ sequence → asked i ≡ query
+IsAskedOnce named asked member run sequence query =
+    (i : ℕ) (question : Question) → named i ≡ Some question → question.member ≡ member → question.run ≡ run → question.sequence ≡ sequence → asked i ≡ query
