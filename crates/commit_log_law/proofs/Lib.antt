@@ -1,0 +1,15 @@
+pub mod Places
+pub mod Matching
+pub mod Live
+pub mod Fronts
+pub mod Sound
+pub mod Keeping
+pub mod First
+pub mod Acting
+pub mod Following
+pub mod Commits
+pub mod Streaming
+pub mod Repairing
+pub mod Completions
+pub mod Acknowledging
+pub mod Beginning
