@@ -1,5 +1,5 @@
 -- A server begins by the order of its agent, and agents end.
-use Rattle.std.proofs.Common.{ℕ, ◌≡◌, ◌<◌, Bool, true, List, [], length, slice_get, Some, None, ◌∙◌, ap, sym}
+use Rattle.std.proofs.Common.{ℕ, ◌≡◌, ◌<◌, Bool, true, List, [], length, Option, slice_get, Some, None, ◌∙◌, ap, sym}
 use Rattle.std.proofs.lemmas.Option.{slice_get_within}
 use Rattle.pg_model.specs.Facts.{ServerFacts, entries_of, has_data}
 use Rattle.event_book.specs.declared.event.EventKind.{EventKind}
@@ -19,13 +19,13 @@ use Rattle.cluster_model.specs.Losing.{beginning_kinds, loss_if}
 use Rattle.cluster_model.specs.Parts.{events_of}
 use Rattle.cluster_model.specs.State.{Cluster}
 use Rattle.summary.specs.Lacking.{lacks_in}
-use Rattle.lease_law.proofs.Tools.{put-here, put-there}
+use Rattle.lease_law.proofs.Tools.{put-all, put-here, put-there}
 use Rattle.commit_law.specs.Actions.{Kill}
 use Rattle.commit_law.specs.Books.{IsShown}
 use Rattle.commit_law.specs.Past.{Setup, Past, VolatileState, machine_of, past_after, state_of}
-use Rattle.commit_law.specs.States.{Machine}
+use Rattle.commit_law.specs.States.{Agent, Machine}
 use Rattle.commit_law.proofs.Showing.{members-shown}
-use Rattle.commit_log_law.specs.Matching.{IsSameServers, IsLiveAs, IsLiveAhead}
+use Rattle.commit_log_law.specs.Matching.{IsSameServers, IsLiveAs, IsLiveAhead, live_in}
 use Rattle.commit_log_law.specs.Sound.{AreServersSound}
 use Rattle.commit_log_law.specs.Happening.{LeavesSound}
 use Rattle.commit_log_law.specs.Acting.{AreActions, Fits, IsAside, Leads}
@@ -72,6 +72,14 @@ killed-shown setup past volatile_states m =
     (members-shown past past volatile_states (put_at volatile_states m ended) m (record (machine_of past (volatile_states m) m) { agent = None })
     (agent-of past m _ _ (put-here volatile_states m ended))
     (λ n other. agent-of past n _ _ (put-there volatile_states m ended n other)))
+
+-- whatever agents there are
+pub fits-agents : (past : Past) (facts : Facts) (volatile_states : ℕ → VolatileState) (m : ℕ) (agent : Option Agent) → Fits past facts volatile_states → Fits past facts (put_at volatile_states m (record (volatile_states m) { agent = agent }))
+fits-agents past facts volatile_states m agent fits = record {
+  same = fits.same;
+  live = record { live = put-all volatile_states m (record (volatile_states m) { agent = agent }) (λ n state. state.live ≡ live_in facts.servers n) (fits.live.live m) (λ n other. fits.live.live n) };
+  sound = fits.sound;
+}
 
 -- ---- what changes no server but those whose start or stop is complete with a tick
 live-aside : (volatile_states : ℕ → VolatileState) (now : ℕ) (facts : Facts) (kind : EventKind) → IsAside kind → IsLiveAs volatile_states facts.servers → IsLiveAs volatile_states (servers_after now facts.servers kind)

@@ -10,14 +10,17 @@ use Rattle.pg_model.specs.Facts.{ServerFacts, fresh}
 use Rattle.event_book.specs.declared.member.Member.{Member}
 use Rattle.event_book.specs.Facts.{start_of}
 use Rattle.event_book.specs.Logs.{logs_in}
+use Rattle.event_book.specs.Required.{required_in, confirmed_in}
 use Rattle.event_book.specs.Members.{members_from, put_first}
 use Rattle.lease_law.proofs.Tools.{some-is, none-some}
 use Rattle.commit_law.specs.Books.{AllHaveBytes, first_volatile_states}
-use Rattle.commit_law.specs.Past.{log_found}
+use Rattle.commit_law.specs.Past.{first_past, log_found}
 use Rattle.commit_law.specs.States.{HaveBytes}
 use Rattle.commit_log_law.specs.Matching.{live_in, IsLiveAs}
 use Rattle.commit_log_law.specs.Sound.{IsServerSound, AreServersSound}
 use Rattle.commit_log_law.specs.Happening.{AreInPlace}
+use Rattle.commit_log_law.specs.Acting.{Fits}
+use Rattle.commit_log_law.proofs.Matching.{same-first}
 
 -- ---- servers
 replicated : {A : Type 0} (n : ℕ) (x : A) (m : ℕ) (s : A) → slice_get (replicate n x) m ≡ Some s → x ≡ s
@@ -56,6 +59,10 @@ live-none (suc count) base (suc m) = live-none count base m
 
 pub live-first : (first : Settings) (names : List Name) (base : ℕ) → IsLiveAs first_volatile_states (start_of first names base).servers
 live-first first names base = record { live = λ m. live-none (length names) base m }
+
+pub fits-first : (first : Settings) (names : List Name) (base : ℕ) → base ≤ 2 ^ 40 →
+    let facts = start_of first names base in Fits (first_past (logs_in facts.servers) (required_in facts.servers) (confirmed_in facts.servers)) facts first_volatile_states
+fits-first first names base most = record { same = same-first first names base; live = live-first first names base; sound = sound-first first names base most }
 
 -- ---- members
 not-small : (n : ℕ) → nat_lt n 16 ≡ false → n < 16 → ⊥

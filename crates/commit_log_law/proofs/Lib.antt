@@ -13,3 +13,5 @@ pub mod Repairing
 pub mod Completions
 pub mod Acknowledging
 pub mod Beginning
+pub mod Ordering
+pub mod Kept

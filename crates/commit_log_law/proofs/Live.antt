@@ -40,7 +40,7 @@ live-at : (known : List ServerFacts) (m : ℕ) → live_in known m ≡ said (sli
 live-at known m = live-said (slice_get known m) ∙ ap said (sym (slice_get-map (λ s. live s.state) known m))
 
 -- where all states say the same, so it is of each server
-live-kept : (before known : List ServerFacts) (m : ℕ) → map (λ s. live s.state) known ≡ map (λ s. live s.state) before → live_in known m ≡ live_in before m
+pub live-kept : (before known : List ServerFacts) (m : ℕ) → map (λ s. live s.state) known ≡ map (λ s. live s.state) before → live_in known m ≡ live_in before m
 live-kept before known m same = live-at known m ∙ ap (λ xs. said (slice_get xs m)) same ∙ sym (live-at before m)
 
 -- ---- what leaves it

@@ -137,6 +137,32 @@ LeavesSound facts (kinds.Server (servers.Ended server)) = HasDataAt facts.server
 LeavesSound facts (kinds.Replication (replications.RequiredSet server required names)) = WaitsForMembers required
 LeavesSound facts _ = Unit {0}
 
+-- all of these events do, one after another
+abbrev pub AllLeaveSound : Facts → List Event → Type 0
+AllLeaveSound facts [] = Unit {0}
+AllLeaveSound facts (event ∷ events) = LeavesSound facts event.kind × AllLeaveSound (facts_after facts event.kind) events
+
+-- the server of this number is that to which this happens
+abbrev pub IsAtServer : ℕ → ServerEvent → Type 0
+IsAtServer m (servers.Began server timeline) = server.id.number ≡ m
+IsAtServer m (servers.Ended server) = server.id.number ≡ m
+IsAtServer m (servers.Crashed server) = server.id.number ≡ m
+IsAtServer m (servers.Promoted server) = server.id.number ≡ m
+IsAtServer m (servers.Stops server) = server.id.number ≡ m
+IsAtServer m (servers.StartsAsPrimary server) = server.id.number ≡ m
+IsAtServer m (servers.StartsAsReplica server) = server.id.number ≡ m
+IsAtServer m (servers.Follows server upstream) = server.id.number ≡ m
+IsAtServer m (servers.Diverged server upstream at) = server.id.number ≡ m
+IsAtServer m (servers.Frozen server) = server.id.number ≡ m
+IsAtServer m (servers.Thawed server) = server.id.number ≡ m
+IsAtServer m (servers.Slowed server stop start) = server.id.number ≡ m
+
+-- an event that makes no server live or not but that of this number
+abbrev pub MovesOnly : ℕ → EventKind → Type 0
+MovesOnly m (kinds.Server happening) = IsAtServer m happening
+MovesOnly m (kinds.Watchdog (watchdogs.Reset member)) = member.id.number ≡ m
+MovesOnly m _ = Unit {0}
+
 -- each member stands at its own number
 pub record AreInPlace (members : List Member) : Type 0 where
   pub number : (n : ℕ) (member : Member) → slice_get members n ≡ Some member → member.id.number ≡ n

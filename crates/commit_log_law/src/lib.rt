@@ -1,9 +1,12 @@
 //! What happens to the servers and the logs of a cluster, as actions of the law of commits.
 #![tactic(auto)]
 
+mod happenings;
 mod laws;
 
+pub use happenings::{
+    acknowledgements, beginnings, commands, orders_leave_sound, repairs, streams, ticks,
+};
 pub use laws::{
-    acknowledgements, agents_end, beginnings, commands, events_are_actions, repairs, same_servers,
-    servers_are_sound, streams, ticks,
+    actions_keep_commits, all_fits, events_are_actions, same_servers, servers_are_sound,
 };
