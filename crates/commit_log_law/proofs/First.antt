@@ -1,8 +1,13 @@
 -- What holds before the first event.
-use Rattle.std.proofs.Common.{ℕ, ◌≡◌, ◌<◌, ◌≤◌, ◌+◌, ◌^◌, nat_lt, zero, suc, Bool, true, false, List, [], ◌∷◌, length, map, replicate, slice_get, Some, refl, ◌∙◌, ap, sym, subst, arith}
+use Rattle.std.proofs.Common.{ℕ, ◌≡◌, ◌<◌, ◌≤◌, ◌+◌, ◌^◌, nat_lt, zero, suc, Bool, true, false, List, [], ◌∷◌, length, map, replicate, slice_get, Some, refl, ◌∙◌, ap, sym, subst, arith, ◌⊎◌, inl, inr}
+use Rattle.std.specs.Int.{bit_at}
+use Rattle.std.proofs.lemmas.Bool.{cases_lt}
 use Rattle.std.proofs.lemmas.Bool.Decides.{nat_tests}
+use Rattle.std.proofs.lemmas.Nat.Bits.{bit_at_above}
 use Rattle.std.proofs.lemmas.List.Sums.{sum_by-cons}
 use Rattle.pat_base.specs.declared.name.Name.{Name}
+use Rattle.pat_base.specs.declared.member_set.MemberSet.{MemberSet}
+use Rattle.pat_base.specs.declared.server_state.Required.TheVariants as requireds
 use Rattle.pat_base.specs.MemberId.{member_by}
 use Rattle.lease_store.specs.Settings.{Settings}
 use Rattle.wal_model.specs.declared.entry.Entry.{Entry}
@@ -17,7 +22,7 @@ use Rattle.commit_law.specs.Books.{AllHaveBytes, first_volatile_states}
 use Rattle.commit_law.specs.Past.{first_past, log_found}
 use Rattle.commit_law.specs.States.{HaveBytes}
 use Rattle.commit_log_law.specs.Matching.{live_in, IsLiveAs}
-use Rattle.commit_log_law.specs.Sound.{IsServerSound, AreServersSound}
+use Rattle.commit_log_law.specs.Sound.{IsServerSound, AreServersSound, WaitsForMembers}
 use Rattle.commit_log_law.specs.Happening.{AreInPlace}
 use Rattle.commit_log_law.specs.Acting.{Fits}
 use Rattle.commit_log_law.proofs.Matching.{same-first}
@@ -65,6 +70,14 @@ pub fits-first : (first : Settings) (names : List Name) (base : ℕ) → base �
 fits-first first names base most = record { same = same-first first names base; live = live-first first names base; sound = sound-first first names base most }
 
 -- ---- members
+bit-within : (bits m : ℕ) → bits < 2 ^ 16 → bit_at bits m ≡ 1 → (m < 16) ⊎ (16 ≤ m) → m < 16
+bit-within bits m few is (inl less) = less
+bit-within bits m few is (inr past) = absurd (omega (arith, is, bit_at_above bits 16 m few past))
+
+-- a set of sixteen bits is of members
+pub set-within : (set : MemberSet) → set.bits < 2 ^ 16 → WaitsForMembers (requireds.All set)
+set-within set few = λ m is. bit-within set.bits m few is (cases_lt m 16)
+
 not-small : (n : ℕ) → nat_lt n 16 ≡ false → n < 16 → ⊥
 not-small n is small = grind (arith, nat_tests)
 

@@ -15,3 +15,4 @@ pub mod Acknowledging
 pub mod Beginning
 pub mod Ordering
 pub mod Kept
+pub mod ExampleBook

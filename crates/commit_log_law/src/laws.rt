@@ -1,13 +1,15 @@
 //! Laws of servers and logs: what holds of them at each moment, and that what may happen to them are actions.
-ghost use Rattle.std.specs.Prelude.{ℕ, ◌≡◌, ◌<◌, ◌≤◌, ◌^◌, ◌++◌, true, Bool, List, [], length, Option, None};
+ghost use Rattle.std.specs.Prelude.{ℕ, ◌≡◌, ◌<◌, ◌≤◌, ◌^◌, ◌++◌, true, Bool, List, [], ◌∷◌, length, Option, None};
 ghost use Rattle.pat_base.specs.declared.name.Name.{Name};
+ghost use Rattle.pat_base.specs.declared.member_set.MemberSet.{MemberSet};
+ghost use Rattle.pat_base.specs.declared.server_state.Required.TheVariants as requireds;
 ghost use Rattle.pat_base.specs.declared.server_state.State.{State};
 ghost use Rattle.pat_base.specs.declared.ticks.Ticks.{Ticks};
 ghost use Rattle.pat_base.specs.ServerState.{writes, live};
 ghost use Rattle.lease_store.specs.Settings.{Settings};
 ghost use Rattle.event_book.specs.declared.event.Event.{Event};
 ghost use Rattle.event_book.specs.declared.event.EventKind.{EventKind};
-ghost use Rattle.event_book.specs.Facts.{Facts, facts_after, start_of};
+ghost use Rattle.event_book.specs.Facts.{Facts, facts_after, facts_over, start_of};
 ghost use Rattle.event_book.specs.Functions.{put_at};
 ghost use Rattle.event_book.specs.Logs.{logs_in};
 ghost use Rattle.event_book.specs.Required.{required_in, confirmed_in};
@@ -19,7 +21,7 @@ ghost use Rattle.commit_law.specs.Past.{Setup, Past, VolatileState, first_past, 
 ghost use Rattle.commit_law.specs.Showing.{event_at};
 ghost use Rattle.commit_law.specs.States.{Agent};
 ghost use Rattle.commit_log_law.specs.Matching.{IsSameServers, live_in, volatile_after, volatile_over};
-ghost use Rattle.commit_log_law.specs.Sound.{AreServersSound};
+ghost use Rattle.commit_log_law.specs.Sound.{AreServersSound, WaitsForMembers};
 ghost use Rattle.commit_log_law.specs.Happening.{MayHappen, MayFollow, MovesOnly, LeavesSound, AreInPlace};
 ghost use Rattle.commit_log_law.specs.Acting.{Fits, Leads, AreActions, IsAside};
 
@@ -41,6 +43,8 @@ pub fn servers_are_sound()
     // What the law of commits asks of logs before the first event, and what is needed of members.
     ensures bytes { (first : Settings) (names : List Name) (base : ℕ) → 1 ≤ base → AllHaveBytes (logs_in (start_of first names base).servers) }
     ensures members { (first : Settings) (names : List Name) (base : ℕ) → length names ≤ 16 → AreInPlace (start_of first names base).members }
+    // A required list of sixteen bits is of members.
+    ensures sets { (set : MemberSet) → set.bits < 2 ^ 16 → WaitsForMembers (requireds.All set) }
     // Who accepts writes is live.
     ensures writers { (state : State) → writes state ≡ true → live state ≡ true }
 {}
@@ -82,4 +86,13 @@ pub fn actions_keep_commits()
         → front ++ back ≡ events → KeepsNow (past_over past front) }
     // One event changes once what commits being kept speaks of.
     ensures once { (tick : Ticks) (kind : EventKind) → ChangeOnce (event_at tick kind) }
+{}
+
+/// There are such books in which a commit is acknowledged that a standby was waited for to confirm.
+pub fn example()
+    ensures { (first : Settings) (name other : Name) → let start = start_of first (name ∷ other ∷ []) 8 in
+        (before : List Event) × (volatile_states : ℕ → VolatileState) × (events : List Event)
+        × Fits (past_over (first_past (logs_in start.servers) (required_in start.servers) (confirmed_in start.servers)) before) (facts_over start before) volatile_states
+        × MayFollow (facts_over start before) events
+        × ((facts_over (facts_over start before) events).acknowledged ≡ 1 ∷ []) }
 {}
