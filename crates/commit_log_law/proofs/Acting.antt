@@ -4,6 +4,7 @@ use Rattle.std.specs.Int.{bit_at}
 use Rattle.std.proofs.lemmas.Option.{slice_get-map, slice_get-get_or, slice_get_within}
 use Rattle.std.proofs.lemmas.Bool.Decides.{nat_tests}
 use Rattle.pat_base.specs.declared.lsn.Lsn.{Lsn}
+use Rattle.pat_base.specs.declared.member_set.MemberSet.{MemberSet}
 use Rattle.pat_base.specs.declared.server_state.Required.{Required}
 use Rattle.pat_base.specs.declared.server_state.Required.TheVariants as requireds
 use Rattle.pat_base.specs.declared.server_state.State.{State}
@@ -14,7 +15,7 @@ use Rattle.wal_model.specs.Log.{common_of, end_of}
 use Rattle.pg_model.specs.Facts.{ServerFacts, entries_of, has_data}
 use Rattle.pg_model.specs.Replication.{is_met, Reaches as ReachesEnd}
 use Rattle.pg_model.specs.Rewinding.{common_log, is_rewindable}
-use Rattle.pg_model.proofs.Acks.{is_met-to}
+use Rattle.pg_model.proofs.Acks.{is_met-to, is_met-from}
 use Rattle.pg_model.proofs.Rewinds.{rewound-told}
 use Rattle.event_book.specs.declared.event.EventKind.{EventKind}
 use Rattle.event_book.specs.declared.event.EventKind.TheVariants as kinds
@@ -69,6 +70,9 @@ live-at : (volatile_states : ℕ → VolatileState) (known : List ServerFacts) (
 live-at volatile_states known k s is found = is.live k ∙ ap live_now found
 
 -- ---- whom a commit waits for has confirmed it
+is-one : (bit : ℕ) → bit ≡ 1 → (bit == 1) ≡ true
+is-one bit e = grind (arith, nat_tests)
+
 in-set : (bit : ℕ) → (bit == 1) ≡ true → bit ≡ 1
 in-set bit e = grind (arith, nat_tests)
 
@@ -86,6 +90,21 @@ met-by member_count (requireds.All set) end position confirmed long members is m
     subst (λ (o : Option (Option Lsn)). Reaches position (position_in o)) (sym (slice_get-get_or confirmed n None few))
     (reached end position (get_or confirmed n None) is (is_met-to (requireds.All set) end confirmed met n few bit))
 
+-- in a book's words
+pub met-in : (member_count : ℕ) (required : Required) (end : Lsn) (confirmed : List (Option Lsn)) → length confirmed ≡ 16 → WaitsForMembers required → is_met required end confirmed ≡ true
+    → Meets member_count (need_in required) (λ n. Reaches end.position (position_of (Some confirmed) n))
+met-in member_count required end confirmed long members met = met-by member_count required end end.position confirmed long members refl met
+
+reached-end : (end : Lsn) (found : Option Lsn) → Reaches end.position (position_in (Some found)) → ReachesEnd end found
+reached-end end None reaches = absurd reaches
+reached-end end (Some confirmed) reaches = reaches
+
+pub met-from : (member_count : ℕ) (set : MemberSet) (end : Lsn) (confirmed : List (Option Lsn)) → Meets member_count (need_in (requireds.All set)) (λ n. Reaches end.position (position_of (Some confirmed) n))
+    → is_met (requireds.All set) end confirmed ≡ true
+met-from member_count set end confirmed meets =
+    is_met-from (requireds.All set) end confirmed (λ k few bit. reached-end end (get_or confirmed k None)
+    (subst (λ (o : Option (Option Lsn)). Reaches end.position (position_in o)) (slice_get-get_or confirmed k None few) (meets k (is-one (bit_at set.bits k) bit))))
+
 -- ---- each by itself
 module _ (setup : Setup) (past : Past) (facts : Facts) (volatile_states : ℕ → VolatileState) (fits : Fits past facts volatile_states) where
   appended-action : (server : ServerOf) (entry : Entry) → Appends facts server.id.number entry → IsAction setup past volatile_states (kinds.Log (logs.Appended server entry)) volatile_states
@@ -98,9 +117,9 @@ module _ (setup : Setup) (past : Past) (facts : Facts) (volatile_states : ℕ �
       }
 
   copies-from : (m from : ℕ) (takes : Takes facts.servers m from) → has_data takes.server.state ≡ true → CopiesFrom (state_of setup past volatile_states) m from
-  copies-from m from takes filled = record {
+  copies-from m from takes with_data = record {
     mine = entries_of takes.server.log;
-    mine_is = whole-log past facts fits.same m takes.server takes.is ((fits.sound.each m takes.server takes.is).log filled);
+    mine_is = whole-log past facts fits.same m takes.server takes.is ((fits.sound.each m takes.server takes.is).log with_data);
     theirs = entries_of takes.source.log;
     theirs_is = whole-log past facts fits.same from takes.source takes.source_is ((fits.sound.each from takes.source takes.source_is).log (live-data takes.source.state (writes-live takes.source.state takes.is_writer)));
     not_live = live-at volatile_states facts.servers m takes.server fits.live takes.is ∙ takes.not_live;
@@ -114,7 +133,7 @@ module _ (setup : Setup) (past : Past) (facts : Facts) (volatile_states : ℕ �
       let n = from.id.number in
       record {
         action = Receive m n count;
-        allowed = record { copies = copies-from m n may.takes may.filled; prefix = may.prefix };
+        allowed = record { copies = copies-from m n may.takes may.with_data; prefix = may.prefix };
         shown = λ tick. receive-shown setup past volatile_states tick server from count may.takes.server.log may.takes.source.log (log-at past facts fits.same m may.takes.server may.takes.is) (log-at past facts fits.same n may.takes.source may.takes.source_is);
       }
 
@@ -162,7 +181,7 @@ module _ (setup : Setup) (past : Past) (facts : Facts) (volatile_states : ℕ �
           mine = entries_of may.server.log;
           mine_is = whole-log past facts fits.same m may.server may.is ((fits.sound.each m may.server may.is).log (live-data may.server.state (writes-live may.server.state may.is_writer)));
           theirs = entries_of may.standby.log;
-          theirs_is = whole-log past facts fits.same n may.standby may.standby_is ((fits.sound.each n may.standby may.standby_is).log may.filled);
+          theirs_is = whole-log past facts fits.same n may.standby may.standby_is ((fits.sound.each n may.standby may.standby_is).log may.with_data);
           prefix = may.prefix;
         };
         shown = λ tick. confirm-shown setup past volatile_states tick server by end may.server.confirmed (confirmed-at past facts fits.same m may.server may.is)

@@ -39,25 +39,25 @@ use Rattle.commit_log_law.proofs.Matching.{same-by}
 -- ---- a beginning ahead of which the server was made live
 began-leads : (setup : Setup) (past : Past) (facts : Facts) (volatile_states : ℕ → VolatileState) (member : Member) (timeline : ℕ) (s : ServerFacts) → IsSameServers past facts → AreServersSound facts → IsLiveAhead volatile_states facts.servers member.id.number
     → slice_get facts.servers member.id.number ≡ Some s → has_data s.state ≡ true → Leads setup past facts volatile_states (kinds.Server (servers.Began (server_of member) timeline)) volatile_states
-began-leads setup past facts volatile_states member timeline s same sound ahead is filled =
+began-leads setup past facts volatile_states member timeline s same sound ahead is with_data =
     let kind : EventKind = kinds.Server (servers.Began (server_of member) timeline) in
     record {
       action = began-action setup past facts volatile_states (server_of member) timeline s same is ahead.here;
       fits = record {
         same = same-by past facts kind (slice_get_within facts.servers member.id.number s is) same;
         live = live-begins volatile_states facts.servers member.id.number s is ahead;
-        sound = sound-by facts kind (record { server = s; is = is; filled = filled }) sound;
+        sound = sound-by facts kind (record { server = s; is = is; with_data = with_data }) sound;
       };
     }
 
 pub begins-ahead : (setup : Setup) (past : Past) (cluster : Cluster) (volatile_states : ℕ → VolatileState) (member : Member) (timeline : ℕ) (s : ServerFacts) (acknowledged : List ℕ) → IsSameServers past cluster.book → AreServersSound cluster.book
     → IsLiveAhead volatile_states cluster.book.servers member.id.number → slice_get cluster.book.servers member.id.number ≡ Some s → has_data s.state ≡ true
     → AreActions setup past cluster.book volatile_states (events_of cluster (beginning_kinds member timeline acknowledged s.log))
-begins-ahead setup past cluster volatile_states member timeline s acknowledged same sound ahead is filled =
+begins-ahead setup past cluster volatile_states member timeline s acknowledged same sound ahead is with_data =
     let kind : EventKind = kinds.Server (servers.Began (server_of member) timeline) in
     let later : Cluster = cluster_after cluster kind in
     let lacks : Bool = lacks_in (entries_of s.log) acknowledged in
-    let leads = began-leads setup past cluster.book volatile_states member timeline s same sound ahead is filled in
+    let leads = began-leads setup past cluster.book volatile_states member timeline s same sound ahead is with_data in
     (leads, actions-of setup (past_after past kind) later.book volatile_states (events_of later (kinds_of (loss_if member lacks))) leads.fits (follow-if later (loss_if member lacks) (loss-may later.book member lacks)))
 
 -- ---- an agent ends with no event of its own

@@ -67,9 +67,9 @@ unfolding lsn_at
 example-follows first name other = (
   record { server = _; is = refl; is_writer = refl; next = refl; bytes = omega arith; room = omega arith },
   (
-    record { takes = record { server = _; is = refl; not_live = refl; source = _; source_is = refl; is_writer = refl }; filled = refl; prefix = record { rest = commit_entry ∷ []; whole = refl } },
+    record { takes = record { server = _; is = refl; not_live = refl; source = _; source_is = refl; is_writer = refl }; with_data = refl; prefix = record { rest = commit_entry ∷ []; whole = refl } },
     (
-      record { server = _; is = refl; is_writer = refl; standby = _; standby_is = refl; filled = refl; prefix = record { rest = []; whole = refl }; end_is = refl },
+      record { server = _; is = refl; is_writer = refl; standby = _; standby_is = refl; with_data = refl; prefix = record { rest = []; whole = refl }; end_is = refl },
       (record { server = _; is = refl; is_writer = refl; first = _; more = []; waiting = refl; commit_is = refl; met = refl }, tt),
     ),
   ),
@@ -90,7 +90,7 @@ first-waits first name other =
     record {
       same = same-by (past_after past waits) required begins (omega arith) (same-by past start waits tt (same-first first (name ∷ names) 8));
       live = record { live = λ m. refl };
-      sound = sound-by required begins (record { server = _; is = refl; filled = refl }) (sound-by start waits (set-within set (omega arith)) (sound-first first (name ∷ names) 8 (omega arith)));
+      sound = sound-by required begins (record { server = _; is = refl; with_data = refl }) (sound-by start waits (set-within set (omega arith)) (sound-first first (name ∷ names) 8 (omega arith)));
     }
 
 pub example : (first : Settings) (name other : Name) → let start = start_of first (name ∷ other ∷ []) 8 in

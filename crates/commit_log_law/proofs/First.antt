@@ -35,10 +35,10 @@ replicated (suc n) x (suc m) s e = replicated n x m s e
 
 fresh-sound : (base : ℕ) → base ≤ 2 ^ 40 → IsServerSound 0 (fresh base)
 fresh-sound base most =
-    let filled : Entry = record { serial = 0; timeline = 1; bytes = base } in
+    let with_data : Entry = record { serial = 0; timeline = 1; bytes = base } in
     record {
-      end = omega (arith, sum_by-cons (λ (e : Entry). e.bytes) filled [], most);
-      log = λ e. record { entries = filled ∷ []; is = refl };
+      end = omega (arith, sum_by-cons (λ (e : Entry). e.bytes) with_data [], most);
+      log = λ e. record { entries = with_data ∷ []; is = refl };
       numbered = (omega arith, tt);
       waiting = tt;
       none_waits = λ e. refl;

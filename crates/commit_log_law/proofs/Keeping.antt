@@ -25,6 +25,7 @@ use Rattle.event_book.specs.Clock.{now_after}
 use Rattle.event_book.specs.Facts.{Facts, facts_after}
 use Rattle.event_book.specs.Servers.{becomes_copy, copied_by, cut_to, goes_back, received_by, servers_after, servers_by, servers_by_log, servers_by_replication, servers_by_watchdog, starts_as_primary, starts_as_replica, stops}
 use Rattle.lease_law.proofs.Tools.{some-is, both}
+use Rattle.commit_law.specs.States.{HasLog}
 use Rattle.commit_log_law.specs.Sound.{IsServerSound, AreServersSound}
 use Rattle.commit_log_law.specs.Happening.{Appends, Takes, Receives, Rewinds, Copies, IsLiveAt, HasDataAt, MayHappenToLog, MayHappenToServer, MayBeReplicated, MayHappen, LeavesSound}
 use Rattle.commit_log_law.proofs.Places.{each-changed, each-mapped}
@@ -62,6 +63,10 @@ writes-live (states.Starting as_primary at) e = absurd (both e)
 writes-live states.Replica e = absurd (both e)
 writes-live states.Crashed e = absurd (both e)
 
+-- who is live has a log
+pub live-log : (commits : ℕ) (s : ServerFacts) → IsServerSound commits s → live s.state ≡ true → HasLog s.log
+live-log commits s is is_live = is.log (live-data s.state is_live)
+
 pub not-live-quiet : (state : State) → live state ≡ false → writes state ≡ false
 not-live-quiet states.Primary e = e
 not-live-quiet (states.Stopping was_primary at) e = e
@@ -72,13 +77,13 @@ not-live-quiet states.Replica e = refl
 not-live-quiet states.Crashed e = refl
 
 data-at : (known : List ServerFacts) (m : ℕ) → IsLiveAt known m → HasDataAt known m
-data-at known m at = record { server = at.server; is = at.is; filled = live-data at.server.state at.is_live }
+data-at known m at = record { server = at.server; is = at.is; with_data = live-data at.server.state at.is_live }
 
 server-sound : (commits now : ℕ) (known : List ServerFacts) (happening : ServerEvent) (facts : Facts) → facts.servers ≡ known → LeavesSound facts (kinds.Server happening) → Each commits known → Each commits (servers_by now known happening)
 server-sound commits now known (servers.Began server timeline) facts same leaves all =
-    this-sound commits known server.id.number _ leaves.server (ap (λ (xs : List ServerFacts). slice_get xs server.id.number) (sym same) ∙ leaves.is) (sound-begun commits leaves.server.state leaves.server leaves.filled) all
+    this-sound commits known server.id.number _ leaves.server (ap (λ (xs : List ServerFacts). slice_get xs server.id.number) (sym same) ∙ leaves.is) (sound-begun commits leaves.server.state leaves.server leaves.with_data) all
 server-sound commits now known (servers.Ended server) facts same leaves all =
-    this-sound commits known server.id.number stopped leaves.server (ap (λ (xs : List ServerFacts). slice_get xs server.id.number) (sym same) ∙ leaves.is) (sound-stopped commits leaves.server leaves.filled) all
+    this-sound commits known server.id.number stopped leaves.server (ap (λ (xs : List ServerFacts). slice_get xs server.id.number) (sym same) ∙ leaves.is) (sound-stopped commits leaves.server leaves.with_data) all
 server-sound commits now known (servers.Crashed server) facts same leaves all = one-sound commits known server.id.number crashed (sound-crashed commits) all
 server-sound commits now known (servers.Stops server) facts same leaves all = one-sound commits known server.id.number (stops now) (sound-stops commits now) all
 server-sound commits now known (servers.StartsAsPrimary server) facts same leaves all = one-sound commits known server.id.number (starts_as_primary now) (sound-as_primary commits now) all
@@ -114,8 +119,8 @@ rewound-sound commits known m from kept may all =
 
 copy-sound : (commits : ℕ) (s source : ServerFacts) (creating : Bool) → creating ≡ true → writes s.state ≡ false → has_data source.state ≡ true → IsServerSound commits source → IsServerSound commits s
     → IsServerSound commits (cond creating (cloned s source) (record s { log = source.log }))
-copy-sound commits s source true e quiet filled source_is is = sound-cloned commits s source quiet (source_is.log filled) source_is is
-copy-sound commits s source false e quiet filled source_is is = absurd (both e)
+copy-sound commits s source true e quiet with_data source_is is = sound-cloned commits s source quiet (source_is.log with_data) source_is is
+copy-sound commits s source false e quiet with_data source_is is = absurd (both e)
 
 copied-sound : (commits : ℕ) (known : List ServerFacts) (m from : ℕ) → Copies known m from → Each commits known → Each commits (copied_by known m (slice_get known from))
 copied-sound commits known m from may all =

@@ -49,17 +49,17 @@ loss-leaves facts member false kind e = absurd (none-some kind e)
 
 module _ (cluster : Cluster) (member : Member) (acknowledged : List ℕ) (s : ServerFacts) (found : slice_get cluster.book.servers member.id.number ≡ Some s) where
   begun-leaves : (timeline : ℕ) → has_data s.state ≡ true → AllLeaveSound cluster.book (events_of cluster (beginning_kinds member timeline acknowledged s.log))
-  begun-leaves timeline filled =
+  begun-leaves timeline with_data =
       let lacks : Bool = lacks_in (entries_of s.log) acknowledged in (
-        record { server = s; is = found; filled = filled },
+        record { server = s; is = found; with_data = with_data },
         leave-if (cluster_after cluster (kinds.Server (servers.Began (server_of member) timeline))) (loss_if member lacks) (loss-leaves _ member lacks),
       )
 
   again-leaves : (timeline : ℕ) (was_primary at_once : Bool) → has_data s.state ≡ true
       → AllLeaveSound cluster.book (events_of cluster (kinds_by member acknowledged s.log (cond was_primary (Some (cond at_once (beginnings.AtOnce timeline) beginnings.WithItsStart)) None)))
-  again-leaves timeline true true filled = begun-leaves timeline filled
-  again-leaves timeline true false filled = (tt, tt)
-  again-leaves timeline false at_once filled = tt
+  again-leaves timeline true true with_data = begun-leaves timeline with_data
+  again-leaves timeline true false with_data = (tt, tt)
+  again-leaves timeline false at_once with_data = tt
 
   begin-by : (state : State) → s.state ≡ state → AllLeaveSound cluster.book (events_of cluster (kinds_by member acknowledged s.log (beginning_in state s)))
   begin-by states.Replica is = begun-leaves (s.timeline + 1) (ap has_data is)
@@ -70,18 +70,18 @@ module _ (cluster : Cluster) (member : Member) (acknowledged : List ℕ) (s : Se
   begin-by states.Primary is = tt
   begin-by (states.Stopping was_primary at) is = tt
 
-  replica-filled : (state : State) → is_replica state ≡ true → has_data state ≡ true
-  replica-filled states.Replica e = refl
-  replica-filled states.Creating e = absurd (both e)
-  replica-filled states.Stopped e = refl
-  replica-filled (states.Starting as_primary at) e = refl
-  replica-filled states.Primary e = refl
-  replica-filled (states.Stopping was_primary at) e = refl
-  replica-filled states.Crashed e = refl
+  replica-has_data : (state : State) → is_replica state ≡ true → has_data state ≡ true
+  replica-has_data states.Replica e = refl
+  replica-has_data states.Creating e = absurd (both e)
+  replica-has_data states.Stopped e = refl
+  replica-has_data (states.Starting as_primary at) e = refl
+  replica-has_data states.Primary e = refl
+  replica-has_data (states.Stopping was_primary at) e = refl
+  replica-has_data states.Crashed e = refl
 
   promote-by : (test : Bool) → is_replica s.state ≡ test
       → AllLeaveSound cluster.book (events_of cluster (cond test (kinds.Server (servers.Promoted (server_of member)) ∷ beginning_kinds member (s.timeline + 1) acknowledged s.log) []))
-  promote-by true is = (tt, begun-leaves (s.timeline + 1) (replica-filled s.state is))
+  promote-by true is = (tt, begun-leaves (s.timeline + 1) (replica-has_data s.state is))
   promote-by false is = tt
 
 pub begin-leaves : (cluster : Cluster) (member : Member) → AllLeaveSound cluster.book (begin_events cluster member)
@@ -93,18 +93,18 @@ promote-leaves cluster member =
     leave-for_some cluster.book (slice_get cluster.book.servers member.id.number) (λ s. events_of cluster (promote_kinds member cluster.book.acknowledged s)) (λ s is. promote-by cluster member cluster.book.acknowledged s is (is_replica s.state) refl)
 
 -- ---- ends
-primary-filled : (state : State) → is_primary state ≡ true → has_data state ≡ true
-primary-filled states.Primary e = refl
-primary-filled states.Replica e = refl
-primary-filled states.Creating e = absurd (both e)
-primary-filled states.Stopped e = refl
-primary-filled (states.Starting as_primary at) e = refl
-primary-filled (states.Stopping was_primary at) e = refl
-primary-filled states.Crashed e = refl
+primary-has_data : (state : State) → is_primary state ≡ true → has_data state ≡ true
+primary-has_data states.Primary e = refl
+primary-has_data states.Replica e = refl
+primary-has_data states.Creating e = absurd (both e)
+primary-has_data states.Stopped e = refl
+primary-has_data (states.Starting as_primary at) e = refl
+primary-has_data (states.Stopping was_primary at) e = refl
+primary-has_data states.Crashed e = refl
 
 stop-kind : (facts : Facts) (member : Member) (s : ServerFacts) (test : Bool) → slice_get facts.servers member.id.number ≡ Some s → (is_primary s.state && s.stop_delay.0 == 0) ≡ test
     → LeavesSound facts (cond test (kinds.Server (servers.Ended (server_of member))) (kinds.Server (servers.Stops (server_of member))))
-stop-kind facts member s true is e = record { server = s; is = is; filled = primary-filled s.state (and_parts (is_primary s.state) (s.stop_delay.0 == 0) e).0 }
+stop-kind facts member s true is e = record { server = s; is = is; with_data = primary-has_data s.state (and_parts (is_primary s.state) (s.stop_delay.0 == 0) e).0 }
 stop-kind facts member s false is e = tt
 
 up-found : (b : Bool) (x y : EventKind) → cond b (Some x) None ≡ Some y → x ≡ y

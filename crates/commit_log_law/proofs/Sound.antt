@@ -32,9 +32,9 @@ module _ (commits : ℕ) where
   -- in another state, with no commit that waits
   pub sound-resting : (s t : ServerFacts) → t.log ≡ s.log → t.confirmed ≡ s.confirmed → t.required ≡ s.required → t.waiting ≡ [] → (has_data t.state ≡ true → has_data s.state ≡ true)
       → IsServerSound commits s → IsServerSound commits t
-  sound-resting s t log confirmed required waiting filled is = record {
+  sound-resting s t log confirmed required waiting with_data is = record {
     end = subst (λ (l : Option (List Entry)). end_of (entries_of l) ≤ 2 ^ 63) (sym log) is.end;
-    log = λ e. subst HasLog (sym log) (is.log (filled e));
+    log = λ e. subst HasLog (sym log) (is.log (with_data e));
     numbered = subst (λ (l : Option (List Entry)). AreUpTo commits (entries_of l)) (sym log) is.numbered;
     waiting = subst (AllStandIn (entries_of t.log)) (sym waiting) tt;
     none_waits = λ e. waiting;
@@ -45,9 +45,9 @@ module _ (commits : ℕ) where
   -- in another state that accepts writes where the first does, with the same commits that wait
   pub sound-going : (s t : ServerFacts) → t.log ≡ s.log → length t.confirmed ≡ 16 → t.required ≡ s.required → t.waiting ≡ s.waiting → (has_data t.state ≡ true → has_data s.state ≡ true)
       → (writes t.state ≡ false → writes s.state ≡ false) → IsServerSound commits s → IsServerSound commits t
-  sound-going s t log confirmed required waiting filled writing is = record {
+  sound-going s t log confirmed required waiting with_data writing is = record {
     end = subst (λ (l : Option (List Entry)). end_of (entries_of l) ≤ 2 ^ 63) (sym log) is.end;
-    log = λ e. subst HasLog (sym log) (is.log (filled e));
+    log = λ e. subst HasLog (sym log) (is.log (with_data e));
     numbered = subst (λ (l : Option (List Entry)). AreUpTo commits (entries_of l)) (sym log) is.numbered;
     waiting = subst (λ (l : Option (List Entry)). AllStandIn (entries_of l) t.waiting) (sym log) (subst (AllStandIn (entries_of s.log)) (sym waiting) is.waiting);
     none_waits = λ e. waiting ∙ is.none_waits (writing e);
@@ -74,7 +74,7 @@ module _ (commits : ℕ) where
 
   -- ---- states
   pub sound-stopped : (s : ServerFacts) → has_data s.state ≡ true → IsServerSound commits s → IsServerSound commits (stopped s)
-  sound-stopped s filled is = sound-resting s (stopped s) refl refl refl refl (λ e. filled) is
+  sound-stopped s with_data is = sound-resting s (stopped s) refl refl refl refl (λ e. with_data) is
 
   data-crashed : (state : State) → has_data (crashed_state state) ≡ true → has_data state ≡ true
   data-crashed states.Creating e = e
@@ -89,22 +89,22 @@ module _ (commits : ℕ) where
   sound-crashed s is = sound-resting s (crashed s) refl refl refl refl (data-crashed s.state) is
 
   sound-replica : (s : ServerFacts) → has_data s.state ≡ true → writes s.state ≡ false → IsServerSound commits s → IsServerSound commits (started false s)
-  sound-replica s filled quiet is = sound-going s (started false s) refl is.places refl refl (λ e. filled) (λ e. quiet) is
+  sound-replica s with_data quiet is = sound-going s (started false s) refl is.places refl refl (λ e. with_data) (λ e. quiet) is
 
   sound-primary : (s : ServerFacts) → has_data s.state ≡ true → IsServerSound commits s → IsServerSound commits (started true s)
-  sound-primary s filled is = sound-going s (started true s) refl refl refl refl (λ e. filled) (λ e. absurd (both (sym e))) is
+  sound-primary s with_data is = sound-going s (started true s) refl refl refl refl (λ e. with_data) (λ e. absurd (both (sym e))) is
 
   sound-promoted : (s : ServerFacts) → has_data s.state ≡ true → IsServerSound commits s → IsServerSound commits (promoted s)
-  sound-promoted s filled is = sound-going s (promoted s) refl refl refl refl (λ e. filled) (λ e. absurd (both (sym e))) is
+  sound-promoted s with_data is = sound-going s (promoted s) refl refl refl refl (λ e. with_data) (λ e. absurd (both (sym e))) is
 
   pub sound-begun : (state : State) (s : ServerFacts) → has_data s.state ≡ true → IsServerSound commits s → IsServerSound commits (begun_in state s)
-  sound-begun states.Replica s filled is = sound-promoted s filled is
-  sound-begun states.Creating s filled is = sound-primary s filled is
-  sound-begun states.Stopped s filled is = sound-primary s filled is
-  sound-begun (states.Starting as_primary at) s filled is = sound-primary s filled is
-  sound-begun states.Primary s filled is = sound-primary s filled is
-  sound-begun (states.Stopping was_primary at) s filled is = sound-primary s filled is
-  sound-begun states.Crashed s filled is = sound-primary s filled is
+  sound-begun states.Replica s with_data is = sound-promoted s with_data is
+  sound-begun states.Creating s with_data is = sound-primary s with_data is
+  sound-begun states.Stopped s with_data is = sound-primary s with_data is
+  sound-begun (states.Starting as_primary at) s with_data is = sound-primary s with_data is
+  sound-begun states.Primary s with_data is = sound-primary s with_data is
+  sound-begun (states.Stopping was_primary at) s with_data is = sound-primary s with_data is
+  sound-begun states.Crashed s with_data is = sound-primary s with_data is
 
   -- what becomes of one that is down
   data-down : (state : State) → is_down state ≡ true → has_data state ≡ true
@@ -126,15 +126,15 @@ module _ (commits : ℕ) where
   quiet-down (states.Stopping was_primary at) e = absurd (both e)
 
   sound-starting : (as_primary : Bool) (at : Ticks) (s : ServerFacts) → has_data s.state ≡ true → writes s.state ≡ false → IsServerSound commits s → IsServerSound commits (record s { state = states.Starting as_primary at })
-  sound-starting as_primary at s filled quiet is = sound-going s (record s { state = states.Starting as_primary at }) refl is.places refl refl (λ e. filled) (λ e. quiet) is
+  sound-starting as_primary at s with_data quiet is = sound-going s (record s { state = states.Starting as_primary at }) refl is.places refl refl (λ e. with_data) (λ e. quiet) is
 
   sound-told : (s : ServerFacts) → IsServerSound commits s → IsServerSound commits (record s { upstream = None; was_primary = false })
   sound-told s is = sound-going s (record s { upstream = None; was_primary = false }) refl is.places refl refl (λ e. e) (λ e. e) is
 
   replica-started : (now : Ticks) (s : ServerFacts) (at_once : Bool) → has_data s.state ≡ true → writes s.state ≡ false → IsServerSound commits s
       → IsServerSound commits (cond at_once (started false s) (record s { state = states.Starting false (moment_after now s.start_delay) }))
-  replica-started now s true filled quiet is = sound-replica s filled quiet is
-  replica-started now s false filled quiet is = sound-starting false (moment_after now s.start_delay) s filled quiet is
+  replica-started now s true with_data quiet is = sound-replica s with_data quiet is
+  replica-started now s false with_data quiet is = sound-starting false (moment_after now s.start_delay) s with_data quiet is
 
   pub sound-as_replica : (now : ℕ) (s : ServerFacts) → IsServerSound commits s → IsServerSound commits (starts_as_replica now s)
   sound-as_replica now s is =
@@ -154,7 +154,7 @@ module _ (commits : ℕ) where
   -- what becomes of one that shuts down
   stop-slow : (at : Ticks) (s : ServerFacts) → has_data s.state ≡ true → (is_primary s.state ≡ false → writes s.state ≡ false) → IsServerSound commits s
       → IsServerSound commits (record s { state = states.Stopping (is_primary s.state) at })
-  stop-slow at s filled quiet is = sound-going s (record s { state = states.Stopping (is_primary s.state) at }) refl is.places refl refl (λ e. filled) quiet is
+  stop-slow at s with_data quiet is = sound-going s (record s { state = states.Stopping (is_primary s.state) at }) refl is.places refl refl (λ e. with_data) quiet is
 
   data-up : (state : State) → is_up state ≡ true → has_data state ≡ true
   data-up (states.Starting as_primary at) e = refl

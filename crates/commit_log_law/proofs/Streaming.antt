@@ -153,7 +153,7 @@ confirm-may cluster member from sound behind =
       is_writer = between.is_writer;
       standby = s;
       standby_is = between.is;
-      filled = replica-data s.state between.replica;
+      with_data = replica-data s.state between.replica;
       prefix = behind.prefix;
       end_is = ap (λ (l : Lsn). l.position) (end-told s.log (slice_index_or between.source.confirmed member.id.number None) told (sym is_end ∙ is)) ∙ lsn_at-position (end_of (entries_of s.log)) (sound.each member.id.number s between.is).end;
     }) e)
@@ -223,7 +223,7 @@ receive-may cluster member from most (Some (streams.Received count)) sound betwe
     let prefix : IsPrefixOf (entries_of s.log) (entries_of source.log) = received-front (writes source.state) (entries_of s.log) (entries_of source.log) most count (news-answer s source most (streams.Received count) is) in
     let may : Receives cluster.book.servers member.id.number from.id.number = record {
       takes = record { server = s; is = between.is; not_live = replica-not-live s.state between.replica; source = source; source_is = between.source_is; is_writer = between.is_writer };
-      filled = replica-data s.state between.replica;
+      with_data = replica-data s.state between.replica;
       prefix = prefix;
     } in
     (may, confirm-may (cluster_after cluster kind) member from (sound-by cluster.book kind may sound) (behind-received cluster.book member from count between prefix))

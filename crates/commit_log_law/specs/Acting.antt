@@ -13,8 +13,8 @@ use Rattle.commit_law.specs.Showing.{event_at}
 use Rattle.commit_log_law.specs.Matching.{IsSameServers, IsLiveAs, volatile_after}
 use Rattle.commit_log_law.specs.Sound.{AreServersSound}
 
--- an event is one allowed action, which it shows, whenever it happens: from what a book and these volatile states are, to what the book with the event
--- and the later ones are
+-- an event is one allowed action, which it shows whenever it happens: from the state of a book and of these volatile states to that of the book
+-- with the event, and of the later ones
 pub record IsAction (setup : Setup) (past : Past) (volatile_states : ℕ → VolatileState) (kind : EventKind) (later : ℕ → VolatileState) : Type 0 where
   pub action : Action
   pub allowed : IsAllowed (state_of setup past volatile_states) action

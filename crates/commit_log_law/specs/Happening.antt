@@ -44,7 +44,7 @@ pub record Takes (servers : List ServerFacts) (m from : ℕ) : Type 0 where
 -- it receives them: its log is a front of the other
 pub record Receives (servers : List ServerFacts) (m from : ℕ) : Type 0 where
   pub takes : Takes servers m from
-  pub filled : has_data takes.server.state ≡ true
+  pub with_data : has_data takes.server.state ≡ true
   pub prefix : IsPrefixOf (entries_of takes.server.log) (entries_of takes.source.log)
 
 -- it is rewound to the other, and keeps so many entries: those that both logs begin with
@@ -65,7 +65,7 @@ pub record Confirms (servers : List ServerFacts) (m by : ℕ) (end : Lsn) : Type
   pub is_writer : writes server.state ≡ true
   pub standby : ServerFacts
   pub standby_is : slice_get servers by ≡ Some standby
-  pub filled : has_data standby.state ≡ true
+  pub with_data : has_data standby.state ≡ true
   pub prefix : IsPrefixOf (entries_of standby.log) (entries_of server.log)
   pub end_is : end.position ≡ end_of (entries_of standby.log)
 
@@ -90,7 +90,7 @@ pub record IsLiveAt (servers : List ServerFacts) (m : ℕ) : Type 0 where
 pub record HasDataAt (servers : List ServerFacts) (m : ℕ) : Type 0 where
   pub server : ServerFacts
   pub is : slice_get servers m ≡ Some server
-  pub filled : has_data server.state ≡ true
+  pub with_data : has_data server.state ≡ true
 
 -- what may happen to a log. No log is wiped yet
 abbrev pub MayHappenToLog : Facts → LogEvent → Type 0

@@ -1,12 +1,16 @@
 //! Laws of servers and logs: what holds of them at each moment, and that what may happen to them are actions.
-ghost use Rattle.std.specs.Prelude.{ℕ, ◌≡◌, ◌<◌, ◌≤◌, ◌^◌, ◌++◌, true, Bool, List, [], ◌∷◌, length, Option, None};
+ghost use Rattle.std.specs.Prelude.{ℕ, ◌≡◌, ◌<◌, ◌≤◌, ◌^◌, ◌++◌, true, Bool, List, [], ◌∷◌, length, Option, Some, None};
 ghost use Rattle.pat_base.specs.declared.name.Name.{Name};
+ghost use Rattle.pat_base.specs.declared.lsn.Lsn.{Lsn};
 ghost use Rattle.pat_base.specs.declared.member_set.MemberSet.{MemberSet};
+ghost use Rattle.pat_base.specs.declared.server_state.Required.{Required};
 ghost use Rattle.pat_base.specs.declared.server_state.Required.TheVariants as requireds;
 ghost use Rattle.pat_base.specs.declared.server_state.State.{State};
 ghost use Rattle.pat_base.specs.declared.ticks.Ticks.{Ticks};
 ghost use Rattle.pat_base.specs.ServerState.{writes, live};
 ghost use Rattle.lease_store.specs.Settings.{Settings};
+ghost use Rattle.pg_model.specs.Facts.{ServerFacts};
+ghost use Rattle.pg_model.specs.Replication.{is_met};
 ghost use Rattle.event_book.specs.declared.event.Event.{Event};
 ghost use Rattle.event_book.specs.declared.event.EventKind.{EventKind};
 ghost use Rattle.event_book.specs.Facts.{Facts, facts_after, facts_over, start_of};
@@ -17,11 +21,12 @@ ghost use Rattle.event_book.specs.Writers.{BeginsKind};
 ghost use Rattle.commit_law.specs.Actions.{Kill, IsAllowed};
 ghost use Rattle.commit_law.specs.Books.{AllHaveBytes, ChangeOnce, IsShown, KeepsNow, first_volatile_states};
 ghost use Rattle.commit_law.specs.Carried.{IsSound};
-ghost use Rattle.commit_law.specs.Past.{Setup, Past, VolatileState, first_past, past_after, past_over, state_of};
+ghost use Rattle.commit_law.specs.Keys.{Meets};
+ghost use Rattle.commit_law.specs.Past.{Setup, Past, VolatileState, first_past, need_in, past_after, past_over, position_of, state_of};
 ghost use Rattle.commit_law.specs.Showing.{event_at};
-ghost use Rattle.commit_law.specs.States.{Agent};
+ghost use Rattle.commit_law.specs.States.{Agent, HasLog, Reaches};
 ghost use Rattle.commit_log_law.specs.Matching.{IsSameServers, live_in, volatile_after, volatile_over};
-ghost use Rattle.commit_log_law.specs.Sound.{AreServersSound, WaitsForMembers};
+ghost use Rattle.commit_log_law.specs.Sound.{AreServersSound, IsServerSound, WaitsForMembers};
 ghost use Rattle.commit_log_law.specs.Happening.{MayHappen, MayFollow, MovesOnly, LeavesSound, AreInPlace};
 ghost use Rattle.commit_log_law.specs.Acting.{Fits, Leads, AreActions, IsAside};
 
@@ -45,8 +50,18 @@ pub fn servers_are_sound()
     ensures members { (first : Settings) (names : List Name) (base : ℕ) → length names ≤ 16 → AreInPlace (start_of first names base).members }
     // A required list of sixteen bits is of members.
     ensures sets { (set : MemberSet) → set.bits < 2 ^ 16 → WaitsForMembers (requireds.All set) }
-    // Who accepts writes is live.
+    // Who accepts writes is live, and who is live has a log.
     ensures writers { (state : State) → writes state ≡ true → live state ≡ true }
+    ensures logs { (commits : ℕ) (s : ServerFacts) → IsServerSound commits s → live s.state ≡ true → HasLog s.log }
+{}
+
+/// The server's test that a commit's end is confirmed says, where the commit waits for a set, that each member of it has confirmed that end
+/// in the law's words; where it waits for any one, the law counts nobody.
+pub fn required_is_met()
+    ensures met { (member_count : ℕ) (required : Required) (end : Lsn) (confirmed : List (Option Lsn)) → length confirmed ≡ 16 → WaitsForMembers required
+        → is_met required end confirmed ≡ true → Meets member_count (need_in required) (λ n. Reaches end.position (position_of (Some confirmed) n)) }
+    ensures sets { (member_count : ℕ) (set : MemberSet) (end : Lsn) (confirmed : List (Option Lsn))
+        → Meets member_count (need_in (requireds.All set)) (λ n. Reaches end.position (position_of (Some confirmed) n)) → is_met (requireds.All set) end confirmed ≡ true }
 {}
 
 /// All fits before the first event, and behind each event that changes no server but those whose start or stop is complete with a tick.

@@ -8,5 +8,6 @@ pub use happenings::{
     acknowledgements, beginnings, commands, orders_leave_sound, repairs, streams, ticks,
 };
 pub use laws::{
-    actions_keep_commits, all_fits, events_are_actions, example, same_servers, servers_are_sound,
+    actions_keep_commits, all_fits, events_are_actions, example, required_is_met, same_servers,
+    servers_are_sound,
 };
