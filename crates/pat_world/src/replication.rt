@@ -1,5 +1,5 @@
 //! Synchronous replication, as agents find it on their servers.
-ghost use Rattle.std.specs.Prelude.{◌≡◌, ◌<◌, option_map, slice_get, slice_index_or};
+ghost use Rattle.std.specs.Prelude.{◌≡◌, if◌then◌else◌, option_map, slice_get};
 ghost use Rattle.pat_base.specs.ServerState.{writes};
 ghost use Rattle.cluster_model.specs.Machines.{connected_end, connected_ends, is_connected, is_source, nothing_confirmed, replication_of};
 
