@@ -2,7 +2,6 @@
 use Rattle.std.proofs.Common.{◌≡◌, ◌*◌, ◌≤◌, ℕ, Bool, true, false, List, Option, Some, None, IfSome, slice_get, option_map, is_some, refl, sym, subst, ap, ◌∙◌, arith}
 use Rattle.std.proofs.lemmas.Option.{slice_get-map}
 use Rattle.pat_base.specs.declared.ticks.Ticks.{Ticks}
-use Rattle.pat_base.specs.ServerState.{live}
 use Rattle.cluster_script.specs.declared.head.MemberOptions.{MemberOptions}
 use Rattle.cluster_script.specs.Script.{HeadText, MemberText}
 use Rattle.pg_model.specs.Facts.{ServerFacts}
@@ -21,7 +20,7 @@ use Rattle.lease_law.specs.Past.{Past}
 use Rattle.lease_law.proofs.Tools.{none-some, some-is}
 use Rattle.run_law.specs.Bridged.{IsMatched}
 use Rattle.run_law.specs.Declaring.{declared_of, margin_said, works_of, works_said}
-use Rattle.run_law.specs.Machines.{deadline_now, hold_now, live_now, run_in}
+use Rattle.run_law.specs.Machines.{deadline_now, hold_now, run_in}
 use Rattle.run_law.specs.Volatile.{agent_now, machine_in}
 use Rattle.run_law.proofs.InputMachines.{Mirrors, Resembles}
 use Rattle.run_law.proofs.SameMachine.{machine-same}

@@ -27,7 +27,7 @@ use Rattle.ha_loop.specs.declared.output.Output.TheVariants as outputs
 use Rattle.ha_loop.specs.declared.output.Target.TheVariants as targets
 use Rattle.ha_loop.specs.declared.role.Why.{Why}
 use Rattle.ha_loop.specs.declared.role.Why.TheVariants.{HandOver, Lost}
-use Rattle.ha_loop.specs.Acting.{requiring, seconds_after, lease_span, counted, arming, feeding, armed, fed_until, disarmed, disarming, sending, asking, touching, starting_replica, following_server, is_refusing, deadline_after, waiting_no_more}
+use Rattle.ha_loop.specs.Acting.{requiring, seconds_after, lease_span, counted, arming, feeding, armed, fed_until, disarmed, disarming, sending, asking, touching, starting_replica, is_refusing, deadline_after, waiting_no_more}
 use Rattle.ha_loop.specs.Agents.{RoleFacts, Follower, Outcome, made}
 use Rattle.ha_loop.specs.Before.{has_ended, before}
 use Rattle.ha_loop.specs.Claiming.{begins, claims, begins_or_claims, postpones}
