@@ -17,3 +17,4 @@ pub mod Waiting
 pub mod FreeKey
 pub mod Beginning
 pub mod Replying
+pub mod CommitTools
