@@ -1,0 +1,56 @@
+-- What agents in synchronous mode wait for, and what they ask.
+use Rattle.std.specs.Prelude.{ℕ, ◌≡◌, Bool, true, false, List, Option, Some, None, slice_get}
+use Rattle.std.specs.Option.{ForSome}
+use Rattle.pat_base.specs.declared.member_set.MemberSet.{MemberSet}
+use Rattle.lease_store.specs.declared.txn.Txn.{Txn}
+use Rattle.lease_store.specs.declared.txn.Txn.TheVariants as txns
+use Rattle.lease_law.specs.Leases.{Question as Asked}
+use Rattle.lease_law.specs.Past as lease_past
+use Rattle.event_book.specs.declared.message.Body.{Body}
+use Rattle.event_book.specs.declared.message.Body.TheVariants as bodies
+use Rattle.event_book.specs.Flight.{Flight, InFlightFacts, in_flight}
+use Rattle.ha_loop.specs.declared.knowledge.Question.{Question}
+use Rattle.ha_loop.specs.declared.knowledge.Question.TheVariants.{Claiming, Syncing}
+use Rattle.ha_loop.specs.declared.knowledge.Settling.TheVariants.{Lists}
+use Rattle.ha_loop.specs.declared.knowledge.Waited.{Waited}
+use Rattle.ha_loop.specs.Agents.{AgentFacts}
+use Rattle.ha_loop.specs.Committing.{AsksOn, IsAskedBy}
+use Rattle.ha_loop.specs.Decisions.{asks_sync}
+use Rattle.commit_law.specs.Actions.{sync_key_by}
+use Rattle.commit_law.specs.Flights.{SyncRequest}
+use Rattle.commit_law.specs.Past.{Past, Query, SyncQuery}
+use Rattle.commit_bridge_law.specs.Flights.{is_creating}
+
+-- a request as synchronous mode has it: a create compares no sync key, and nobody removes that key
+abbrev pub IsSynchronousTxn : Txn → Type 0
+IsSynchronousTxn (txns.Create info ttl failsafe (Some sync)) = ⊥
+IsSynchronousTxn (txns.DropSync revision sync) = ⊥
+IsSynchronousTxn _ = Unit {0}
+
+-- the same of what a message says
+abbrev pub IsSynchronousBody : Body → Type 0
+IsSynchronousBody (bodies.Request txn) = IsSynchronousTxn txn
+IsSynchronousBody _ = Unit {0}
+
+-- each request in flight is such
+abbrev pub AreSynchronous : Flight → Type 0
+AreSynchronous flight = (i : ℕ) (carried : InFlightFacts) → in_flight flight i ≡ Some carried → IsSynchronousBody carried.message.body
+
+-- this request that compares the sync key asks for what the question says, whatever its revision comes to be
+pub record IsWriteOf (question : Question) (request : SyncRequest) : Type 0 where
+  pub writes : is_creating request.aim ≡ false
+  pub standbys : (revision : ℕ) → IsAskedBy question (sync_key_by request.member revision request.aim)
+
+-- a request of this member with the run and the number of what is waited for is the write of the sync key that is waited for
+abbrev pub IsWriteAsked : (ℕ → Option Asked) → (ℕ → Query) → ℕ → ℕ → Waited → Type 0
+IsWriteAsked named asked m run waited = (i : ℕ) (question : Asked) → named i ≡ Some question → question.member ≡ m → question.run ≡ run → question.sequence ≡ waited.sequence
+    → (request : SyncRequest) × (asked i ≡ SyncQuery request) × IsWriteOf waited.question request
+
+-- what an agent of this member waits for it asked with the mode on; and so it was asked, if it asks for a write of the sync key
+pub record IsAgentSynchronous (named : ℕ → Option Asked) (asked : ℕ → Query) (m : ℕ) (agent : AgentFacts) : Type 0 where
+  pub on : AsksOn agent.knows
+  pub writes : ForSome agent.knows.waited (λ waited. asks_sync waited.question ≡ true → IsWriteAsked named asked m agent.knows.run waited)
+
+-- each agent that is there is such
+abbrev pub AreAgentsSynchronous : (ℕ → Option Asked) → (ℕ → Query) → List (Option AgentFacts) → Type 0
+AreAgentsSynchronous named asked agents = (m : ℕ) (agent : AgentFacts) → slice_get agents m ≡ Some (Some agent) → IsAgentSynchronous named asked m agent

@@ -1,0 +1,4 @@
+pub mod Reading
+pub mod Modes
+pub mod Agents
+pub mod Bridged
