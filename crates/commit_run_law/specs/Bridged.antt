@@ -1,30 +1,33 @@
 -- What a book and a cluster in synchronous mode keep between two parts of a step, and what is promised of each moment.
-use Rattle.std.specs.Prelude.{ℕ, ◌≡◌, true, List}
+use Rattle.std.specs.Prelude.{true, List}
 use Rattle.cluster_script.specs.Script.{HeadText}
 use Rattle.event_book.specs.declared.event.Event.{Event}
 use Rattle.cluster_model.specs.State.{Cluster}
 use Rattle.lease_law.specs.Past as lease_past
 use Rattle.commit_law.specs.Books.{KeepsNow}
 use Rattle.commit_law.specs.Carried.{IsSound}
+use Rattle.commit_law.specs.Past.{Past}
 use Rattle.commit_bridge_law.specs.Flights.{IsSameBook}
 use Rattle.commit_log_law.specs.Acting.{Fits}
 use Rattle.run_law.specs.Bridged.{Bridged}
 use Rattle.run_law.specs.Kept.{MeetsPremises}
-use Rattle.run_law.specs.Machines.{run_in}
 use Rattle.run_law.specs.Promise.{Promise}
 use Rattle.summary.specs.Claims.{KeepMode}
 use Rattle.commit_run_law.specs.Agents.{AreAgentsSynchronous, AreSynchronous}
 use Rattle.commit_run_law.specs.Modes.{IsSynchronous}
 use Rattle.commit_run_law.specs.Reading.{past_of, state_of_run, volatile_of}
 
--- a book fits a cluster of this head, as far as commits read them
-pub record FitsCommits (head : HeadText) (book : List Event) (cluster : Cluster) : Type 0 where
-  pub store : IsSameBook (past_of head book) cluster.book
-  pub servers : Fits (past_of head book) cluster.book (volatile_of cluster)
-  pub runs : (m : ℕ) → (past_of head book).runs m ≡ run_in cluster.book.agents m
+-- what commits and the law of one writer read of a book fits a cluster
+pub record FitsBy (past : Past) (named : lease_past.Past) (cluster : Cluster) : Type 0 where
+  pub store : IsSameBook past cluster.book
+  pub servers : Fits past cluster.book (volatile_of cluster)
   pub mode : IsSynchronous cluster.book
   pub requests : AreSynchronous cluster.book.flight
-  pub agents : AreAgentsSynchronous (lease_past.past_of book).asked (past_of head book).asked cluster.agents
+  pub agents : AreAgentsSynchronous named.asked past.asked cluster.agents
+
+-- a book fits a cluster of this head
+abbrev pub FitsCommits : HeadText → List Event → Cluster → Type 0
+FitsCommits head book cluster = FitsBy (past_of head book) (lease_past.past_of book) cluster
 
 -- a book and a cluster that it leaves, between two actions: what both laws carry holds of them
 pub record CommitsBridged (head : HeadText) (book : List Event) (cluster : Cluster) : Type 0 where

@@ -1,0 +1,5 @@
+pub mod Flights
+pub mod Modes
+pub mod Transitions
+pub mod Over
+pub mod Still

@@ -1,0 +1,94 @@
+-- Actions one after another keep what the law carries, and commits at each moment inside them.
+use Rattle.std.proofs.Common.{ℕ, ◌≡◌, ◌++◌, true, List, [], ◌∷◌, refl, ◌∙◌, sym, subst, inl, inr}
+use Rattle.cluster_script.specs.Script.{HeadText}
+use Rattle.event_book.specs.declared.event.Event.{Event}
+use Rattle.cluster_model.specs.Cluster.{cluster_over}
+use Rattle.cluster_model.specs.State.{Cluster}
+use Rattle.commit_law.specs.Actions.{Note}
+use Rattle.commit_law.specs.Books.{AreAllowed, KeepsNow, Transition, book_of}
+use Rattle.commit_law.specs.Carried.{IsSound}
+use Rattle.commit_law.specs.Past.{Past, Setup, VolatileState, past_over, state_of}
+use Rattle.commit_law.proofs.Fronts.{kept-after, kept-inside, past-append}
+use Rattle.lease_law.proofs.Runs.{cuts, no-cons}
+use Rattle.run_law.specs.Bridged.{Bridged}
+use Rattle.run_law.specs.Kept.{IsKept}
+use Rattle.run_law.specs.Promise.{IsComposable, Upholds}
+use Rattle.run_law.proofs.Composing.{premises-front}
+use Rattle.summary.specs.Claims.{KeepMode}
+use Rattle.commit_run_law.specs.Bridged.{CommitsBridged, FitsCommits, MeetsMode, kept_commits}
+use Rattle.commit_run_law.specs.Reading.{first_past_of, past_of, setup_of, volatile_of}
+
+-- what no event says of members after these actions
+abbrev pub volatile_last : (ℕ → VolatileState) → List Transition → ℕ → VolatileState
+volatile_last volatile_states [] = volatile_states
+volatile_last volatile_states (transition ∷ transitions) = volatile_last transition.volatile_states transitions
+
+pub keeps-now : (setup : Setup) (past : Past) (volatile_states : ℕ → VolatileState) → IsSound (state_of setup past volatile_states) → KeepsNow past
+keeps-now setup past volatile_states sound = kept-inside setup past volatile_states (record { action = Note; events = []; volatile_states = volatile_states }) [] [] sound tt refl tt refl
+
+sound-last : (setup : Setup) (past : Past) (volatile_states : ℕ → VolatileState) (transitions : List Transition) → AreAllowed setup past volatile_states transitions → IsSound (state_of setup past volatile_states)
+    → IsSound (state_of setup (past_over past (book_of transitions)) (volatile_last volatile_states transitions))
+sound-last setup past volatile_states [] all sound = sound
+sound-last setup past volatile_states (t ∷ ts) all sound =
+    subst (λ (p : Past). IsSound (state_of setup p (volatile_last t.volatile_states ts))) (sym (past-append past t.events (book_of ts)))
+    (sound-last setup (past_over past t.events) t.volatile_states ts all.3 (kept-after setup past volatile_states t sound all.0 all.1))
+
+none-left : (front back : List Event) → front ++ back ≡ [] → front ≡ []
+none-left [] back e = refl
+none-left (x ∷ front) back e = absurd (no-cons x (front ++ back) e)
+
+keeps-inside : (setup : Setup) (past : Past) (volatile_states : ℕ → VolatileState) (transitions : List Transition) (front back : List Event) → AreAllowed setup past volatile_states transitions → IsSound (state_of setup past volatile_states)
+    → front ++ back ≡ book_of transitions → KeepsNow (past_over past front)
+keeps-inside setup past volatile_states [] front back all sound e =
+    subst (λ (l : List Event). KeepsNow (past_over past l)) (sym (none-left front back e)) (keeps-now setup past volatile_states sound)
+keeps-inside setup past volatile_states (t ∷ ts) front back all sound e = elim (cuts front back t.events (book_of ts) e) [
+  | inl cut ↦ kept-inside setup past volatile_states t front cut.0 sound all.0 all.1 all.2 cut.1
+  | inr cut ↦
+      subst (λ (l : List Event). KeepsNow (past_over past l)) (sym cut.1)
+      (subst KeepsNow (sym (past-append past t.events cut.0))
+      (keeps-inside setup (past_over past t.events) t.volatile_states ts cut.0 back all.3 (kept-after setup past volatile_states t sound all.0 all.1) cut.2))
+]
+
+-- ---- of a run
+pub past-more : (head : HeadText) (book events : List Event) → past_of head (book ++ events) ≡ past_over (past_of head book) events
+past-more head book events = past-append (past_of head []) book events
+
+mode-front : (front rest : List Event) → KeepMode true (front ++ rest) → KeepMode true front
+mode-front [] rest mode = tt
+mode-front (event ∷ front) rest mode = (mode.0, mode-front front rest mode.1)
+
+pub composable : (head : HeadText) → IsComposable (kept_commits head)
+composable head = record {
+  front = λ front rest meets. record { timely = premises-front head front rest meets.timely; mode = mode-front front rest meets.mode };
+  now = λ book cluster good. keeps-now (setup_of head) (past_of head book) (volatile_of cluster) good.sound;
+}
+
+mode-back : (book rest : List Event) → KeepMode true (book ++ rest) → KeepMode true rest
+mode-back [] rest mode = mode
+mode-back (event ∷ book) rest mode = mode-back book rest mode.1
+
+-- what is bridged behind actions, but for what the law carries
+abbrev pub FitsBehind : HeadText → List Event → Cluster → List Event → Type 0
+FitsBehind head book cluster events = KeepMode true events → Bridged head (book ++ events) (cluster_over cluster events) → FitsCommits head (book ++ events) (cluster_over cluster events)
+
+-- these events are allowed actions, one after another, which they show; and behind them all fits
+pub upheld-by : (head : HeadText) (book : List Event) (cluster : Cluster) (transitions : List Transition) → CommitsBridged head book cluster
+    → AreAllowed (setup_of head) (past_of head book) (volatile_of cluster) transitions
+    → volatile_last (volatile_of cluster) transitions ≡ volatile_of (cluster_over cluster (book_of transitions))
+    → IsKept head book cluster (book_of transitions)
+    → FitsBehind head book cluster (book_of transitions)
+    → Upholds (kept_commits head) book cluster (book_of transitions)
+upheld-by head book cluster transitions good allowed same kept fits = record {
+  inside = λ front rest e meets.
+      subst KeepsNow (sym (past-more head book front)) (keeps-inside (setup_of head) (past_of head book) (volatile_of cluster) transitions front rest allowed good.sound e);
+  behind = λ meets.
+      let lease = kept.behind meets.timely in
+      record {
+        lease = lease;
+        fits = fits (mode-back book (book_of transitions) meets.mode) lease;
+        sound =
+            subst (λ (p : Past). IsSound (state_of (setup_of head) p (volatile_of (cluster_over cluster (book_of transitions))))) (sym (past-more head book (book_of transitions)))
+            (subst (λ (v : ℕ → VolatileState). IsSound (state_of (setup_of head) (past_over (past_of head book) (book_of transitions)) v)) same
+            (sound-last (setup_of head) (past_of head book) (volatile_of cluster) transitions allowed good.sound));
+      };
+}
