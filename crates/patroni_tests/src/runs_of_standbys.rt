@@ -306,6 +306,68 @@ const NO_STANDBY: [Run; 1] = [(
     },
 )];
 
+/// The primary dies after a commit that the standby has and another one that it hasn't: with synchronous mode, and without.
+const DEAD_PRIMARY: [Run; 2] = [
+    (
+        "config {\"synchronous_mode\":true}\nmember a\nmember b\nrun 250\ncommit a 4096\nrun 1\n\
+         freeze b\ncommit a 100\ncrash a\nkill a\nthaw b\nrun 300\n",
+        "1 a takes the leader key\n\
+         1 a arms its watchdog until 251\n\
+         1 a claims the sync key\n\
+         1 a accepts writes on timeline 2\n\
+         2 b follows a\n\
+         101 a requires b\n\
+         201 a publishes sync standbys b\n\
+         250 commit 1 of 4096 bytes on a\n\
+         251 commit 1 is acknowledged\n\
+         251 b is frozen\n\
+         251 commit 2 of 100 bytes on a\n\
+         251 a crashed\n\
+         251 a is killed\n\
+         251 b is thawed\n\
+         451 a is reset by its watchdog\n\
+         501 the leader key of a expires\n\
+         522 b takes the leader key\n\
+         522 b arms its watchdog until 772\n\
+         522 b claims the sync key\n\
+         522 b accepts writes on timeline 3\n",
+        Closing {
+            end: 551,
+            writers: "b",
+            acknowledged: 1,
+            ..SYNCHRONOUS
+        },
+    ),
+    (
+        "member a\nmember b\nrun 250\ncommit a 4096\nrun 1\nfreeze b\ncommit a 100\ncrash a\n\
+         kill a\nthaw b\nrun 300\n",
+        "1 a takes the leader key\n\
+         1 a arms its watchdog until 251\n\
+         1 a accepts writes on timeline 2\n\
+         2 b follows a\n\
+         250 commit 1 of 4096 bytes on a\n\
+         250 commit 1 is acknowledged\n\
+         251 b is frozen\n\
+         251 commit 2 of 100 bytes on a\n\
+         251 commit 2 is acknowledged\n\
+         251 a crashed\n\
+         251 a is killed\n\
+         251 b is thawed\n\
+         451 a is reset by its watchdog\n\
+         501 the leader key of a expires\n\
+         522 b takes the leader key\n\
+         522 b arms its watchdog until 772\n\
+         522 b accepts writes on timeline 3\n",
+        Closing {
+            end: 551,
+            writers: "b",
+            acknowledged: 2,
+            lost: "first at 522",
+            ..QUIET
+        },
+    ),
+];
+
 #[test]
 fn stale_sync_snapshot(rt: HostRuntime) -> Result<(), Fail> {
     prints(&rt, rt.alloc(), &PUBLISHED, &STALE_SYNC_SNAPSHOT)
@@ -337,6 +399,11 @@ fn disconnected_standby(rt: HostRuntime) -> Result<(), Fail> {
 #[test]
 fn refused_claims(rt: HostRuntime) -> Result<(), Fail> {
     prints(&rt, rt.alloc(), &ONE_MEMBER, &REFUSED_CLAIMS)
+}
+
+#[test]
+fn the_primary_dies(rt: HostRuntime) -> Result<(), Fail> {
+    prints(&rt, rt.alloc(), &OWN_MEMBERS, &DEAD_PRIMARY)
 }
 
 #[test]
