@@ -11,13 +11,13 @@ use Rattle.cluster_config.specs.Snapshots.{SnapshotFacts}
 use Rattle.sync_state.specs.declared.steps.Plan.{Plan}
 use Rattle.sync_state.specs.declared.steps.Plan.TheVariants as plans
 use Rattle.sync_state.specs.Candidates.{may_sync, wanted_in}
-use Rattle.sync_state.specs.Laws.{IsWithin, IsBoth, IsEither, published_after, required_after}
+use Rattle.sync_state.specs.Laws.{IsWithin, IsBoth, IsEither, published_after, required_after, changes_standbys, LeadsInSync}
 use Rattle.sync_state.specs.Plans.{change_of, plan_off, plan_on, plan_of}
 use Rattle.sync_state.specs.Published.{published_in}
 use Rattle.sync_state.specs.Sets.{nobody, both, either, is_within, are_same}
 use Rattle.sync_state.specs.Standbys.{required_members, has_confirmed, confirmed_in, standbys_in}
 use Rattle.sync_state.proofs.Wanting.{wanted-tags}
-use Rattle.sync_state.proofs.SetBits.{same-numbers, chosen-from, none-within, is-within, both-members, either-members}
+use Rattle.sync_state.proofs.SetBits.{same-numbers, numbers-same, chosen-from, none-within, is-within, both-members, either-members}
 
 no : false ≡ true → ⊥
 no e = cc
@@ -63,29 +63,20 @@ never-mark true true false false w r p q e = cc
 never-mark true true false true w r p q e = cc
 
 -- ---- a change is planned where the mode is on and the key names the leader
-abbrev is_change : Plan → Bool
-is_change plans.Keep = false
-is_change plans.Mark = false
-is_change (plans.Withdraw standbys) = true
-is_change (plans.AddRequired members) = true
-is_change (plans.Publish standbys) = true
-is_change (plans.DropRequired members) = true
-is_change plans.SwitchOff = false
+other-plan : (plan change : Plan) → plan ≡ change → changes_standbys plan ≡ false → changes_standbys change ≡ true → ⊥
+other-plan plan change e f is = no (sym f ∙ ap changes_standbys e ∙ is)
 
-other-plan : (plan change : Plan) → plan ≡ change → is_change plan ≡ false → is_change change ≡ true → ⊥
-other-plan plan change e f is = no (sym f ∙ ap is_change e ∙ is)
-
-named-change : (leads : Bool) (change plan : Plan) → cond leads change plans.Mark ≡ plan → is_change plan ≡ true → change ≡ plan
+named-change : (leads : Bool) (change plan : Plan) → cond leads change plans.Mark ≡ plan → changes_standbys plan ≡ true → change ≡ plan
 named-change true change plan e is = e
 named-change false change plan e is = absurd (other-plan plans.Mark plan e refl is)
 
-keyed-change : (mode : Bool) (sync : Option SyncKey) (view : LeaderView) (seen : SnapshotFacts) (plan : Plan) → cond mode (plan_on view seen sync) (plan_off sync) ≡ plan → is_change plan ≡ true → change_of (standbys_in view seen) ≡ plan
+keyed-change : (mode : Bool) (sync : Option SyncKey) (view : LeaderView) (seen : SnapshotFacts) (plan : Plan) → cond mode (plan_on view seen sync) (plan_off sync) ≡ plan → changes_standbys plan ≡ true → change_of (standbys_in view seen) ≡ plan
 keyed-change false None view seen plan e is = absurd (other-plan plans.Keep plan e refl is)
 keyed-change false (Some sync) view seen plan e is = absurd (other-plan plans.SwitchOff plan e refl is)
 keyed-change true None view seen plan e is = absurd (other-plan plans.Mark plan e refl is)
 keyed-change true (Some sync) view seen plan e is = named-change (sync.leader.number == view.view.me.number) (change_of (standbys_in view seen)) plan e is
 
-change-of : (view : LeaderView) (seen : SnapshotFacts) (plan : Plan) → plan_of view seen ≡ plan → is_change plan ≡ true → change_of (standbys_in view seen) ≡ plan
+change-of : (view : LeaderView) (seen : SnapshotFacts) (plan : Plan) → plan_of view seen ≡ plan → changes_standbys plan ≡ true → change_of (standbys_in view seen) ≡ plan
 change-of view seen plan e is = keyed-change (config_in seen).synchronous_mode (sync_in seen) view seen plan e is
 
 -- ---- the rows of a leader
@@ -204,3 +195,21 @@ marks-on true sync view seen e mine = marked-by (sync.leader.number == view.view
 pub marks-other : (view : LeaderView) (seen : SnapshotFacts) (sync : SyncKey) → plan_of view seen ≡ plans.Mark → sync_in seen ≡ Some sync → sync.leader.number ≢ view.view.me.number
 marks-other view seen sync e there mine =
     marks-on (config_in seen).synchronous_mode sync view seen (ap (λ (o : Option SyncKey). cond (config_in seen).synchronous_mode (plan_on view seen o) (plan_off o)) (sym there) ∙ e) mine
+
+named-leads : (leads : Bool) (change : Plan) → changes_standbys (cond leads change plans.Mark) ≡ true → leads ≡ true
+named-leads true change is = refl
+named-leads false change is = absurd (no is)
+
+leads-by : (mode : Bool) (sync : Option SyncKey) (view : LeaderView) (seen : SnapshotFacts) → (config_in seen).synchronous_mode ≡ mode → sync_in seen ≡ sync → changes_standbys (cond mode (plan_on view seen sync) (plan_off sync)) ≡ true → LeadsInSync view seen
+leads-by false None view seen on there is = absurd (no is)
+leads-by false (Some sync) view seen on there is = absurd (no is)
+leads-by true None view seen on there is = absurd (no is)
+leads-by true (Some sync) view seen on there is = record {
+  on = on;
+  key = sync;
+  there = there;
+  leads = numbers-same sync.leader.number view.view.me.number (named-leads (sync.leader.number == view.view.me.number) (change_of (standbys_in view seen)) is);
+}
+
+pub changes-lead : (view : LeaderView) (seen : SnapshotFacts) → changes_standbys (plan_of view seen) ≡ true → LeadsInSync view seen
+changes-lead view seen is = leads-by (config_in seen).synchronous_mode (sync_in seen) view seen refl refl is

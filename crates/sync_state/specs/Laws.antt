@@ -1,9 +1,12 @@
--- What is wanted of a leader's steps: whom the sync key names, and whom commits wait for.
-use Rattle.std.specs.Prelude.{ℕ, ◌≡◌, ◌⊎◌, Some}
+-- What the steps of a leader come to: whom the sync key names, and whom commits wait for.
+use Rattle.std.specs.Prelude.{ℕ, ◌≡◌, ◌⊎◌, Some, Bool, true, false}
 use Rattle.std.specs.Int.{bit_at}
 use Rattle.pat_base.specs.declared.member_id.MemberId.{MemberId}
 use Rattle.pat_base.specs.declared.member_set.MemberSet.{MemberSet}
 use Rattle.pat_base.specs.declared.name.Name.{Name}
+use Rattle.lease_store.specs.declared.value.SyncKey.{SyncKey}
+use Rattle.cluster_config.specs.declared.view.LeaderView.{LeaderView}
+use Rattle.cluster_config.specs.KeyValues.{config_in, sync_in}
 use Rattle.cluster_config.specs.Snapshots.{SnapshotFacts}
 use Rattle.sync_state.specs.declared.steps.Plan.{Plan}
 use Rattle.sync_state.specs.declared.steps.Plan.TheVariants as plans
@@ -45,6 +48,23 @@ required_after (plans.AddRequired members) required = members
 required_after (plans.Publish standbys) required = required
 required_after (plans.DropRequired members) required = members
 required_after plans.SwitchOff required = nobody
+
+-- a step changes who the standbys are, in a key that names the leader already, or in the list of those that commits wait for
+abbrev pub changes_standbys : Plan → Bool
+changes_standbys plans.Keep = false
+changes_standbys plans.Mark = false
+changes_standbys (plans.Withdraw standbys) = true
+changes_standbys (plans.AddRequired members) = true
+changes_standbys (plans.Publish standbys) = true
+changes_standbys (plans.DropRequired members) = true
+changes_standbys plans.SwitchOff = false
+
+-- the synchronous mode is on, and the sync key names this leader
+pub record LeadsInSync (view : LeaderView) (seen : SnapshotFacts) : Type 0 where
+  pub on : (config_in seen).synchronous_mode ≡ true
+  pub key : SyncKey
+  pub there : sync_in seen ≡ Some key
+  pub leads : key.leader.number ≡ view.view.me.number
 
 -- no two members of a snapshot have one name, as is so of the members of a script
 abbrev pub HaveOwnNames : SnapshotFacts → Type 0

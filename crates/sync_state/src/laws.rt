@@ -11,7 +11,7 @@ ghost use Rattle.cluster_config.specs.Snapshots.{SnapshotFacts};
 ghost use Rattle.sync_state.specs.declared.candidates.Candidate.{Candidate};
 ghost use Rattle.sync_state.specs.declared.steps.Plan.TheVariants as plans;
 ghost use Rattle.sync_state.specs.Candidates.{may_sync, candidate_in, candidate_cmp, wanted_in};
-ghost use Rattle.sync_state.specs.Laws.{IsWithin, IsBoth, IsEither, published_after, required_after, HaveOwnNames};
+ghost use Rattle.sync_state.specs.Laws.{IsWithin, IsBoth, IsEither, published_after, required_after, changes_standbys, LeadsInSync, HaveOwnNames};
 ghost use Rattle.sync_state.specs.Plans.{plan_of};
 ghost use Rattle.sync_state.specs.Published.{published_in};
 ghost use Rattle.sync_state.specs.Standbys.{required_members, has_confirmed};
@@ -53,10 +53,12 @@ pub fn who_is_wanted()
 {}
 
 /// The sync key is removed only where the synchronous mode is off and the key is there. It is made to name the leader only
-/// where the mode is on, and it names another leader if it is there.
+/// where the mode is on, and it names another leader if it is there. Each other change is planned only where the mode is on
+/// and the key names the leader.
 pub fn when_the_key_is_marked_or_removed()
     ensures off { (view : LeaderView) (seen : SnapshotFacts) → plan_of view seen ≡ plans.SwitchOff → (config_in seen).synchronous_mode ≡ false }
     ensures there { (view : LeaderView) (seen : SnapshotFacts) → plan_of view seen ≡ plans.SwitchOff → IsSome (sync_in seen) }
     ensures on { (view : LeaderView) (seen : SnapshotFacts) → plan_of view seen ≡ plans.Mark → (config_in seen).synchronous_mode ≡ true }
     ensures other { (view : LeaderView) (seen : SnapshotFacts) (sync : SyncKey) → plan_of view seen ≡ plans.Mark → sync_in seen ≡ Some sync → sync.leader.number ≢ view.view.me.number }
+    ensures leads { (view : LeaderView) (seen : SnapshotFacts) → changes_standbys (plan_of view seen) ≡ true → LeadsInSync view seen }
 {}
