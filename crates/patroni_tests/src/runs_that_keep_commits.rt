@@ -1,6 +1,6 @@
 //! Runs in which an agent with a fault loses a commit that a client was told of, though the premises are met: this one keeps it.
 //! docs/lost_commits has the scripts by these names, and docs/COMMIT_LAW.md the condition that each fault breaks.
-use crate::in_memory::{Closing, NO_FAULTS, QUIET, closed, repeated, run_in_memory};
+use crate::in_memory::{Closing, NO_FAULTS, Outcome, QUIET, closed, repeated, run_in_memory};
 use std::alloc::Global;
 use std::process::Abort;
 use std::test::Fail;
@@ -198,22 +198,33 @@ const QUICK_STORIES: [Story; 7] = [
 /// Checks that the run of each story, whose script begins so, tells what it says and ends as it says.
 fn tell(rt: &impl Abort, alloc: Global, head: &str, stories: &[Story]) -> Result<(), Fail> {
     for story in stories {
-        let name = story.name;
         let script = repeated(alloc, head, story.body, 1)?;
-        let ended = run_in_memory(alloc, "run", script.as_str(), NO_FAULTS)?;
-        assert_eq!(rt; ended.err.as_str(), "", "{name}");
-        assert_eq!(rt; ended.status, 0, "{name}");
-        let out = ended.out.as_str();
-        assert!(rt; out.find(story.telling).is_some(), "{name}: {out}");
         let ending = closed(alloc, story.ending, story.closing)?;
-        assert_eq!(rt; last(out, ending.len()), ending.as_str(), "{name}");
+        let ended = run_in_memory(alloc, "run", script.as_str(), NO_FAULTS)?;
+        is_told(rt, story, &ended, ending.as_str())?;
     }
     Ok(())
 }
 
-/// The last bytes of a text.
-fn last(text: &str, bytes: usize) -> &str {
-    text.get(text.len().saturating_sub(bytes)..).unwrap_or(text)
+/// Checks that a run was whole, that it has the lines in which its story is told, and that it ends so.
+fn is_told(rt: &impl Abort, story: &Story, ended: &Outcome, ending: &str) -> Result<(), Fail> {
+    let name = story.name;
+    assert_eq!(rt; ended.err.as_str(), "", "{name}");
+    assert_eq!(rt; ended.status, 0, "{name}");
+    assert!(rt; has(ended.out.as_str(), story.telling), "{name}");
+    assert!(rt; ends(ended.out.as_str(), ending), "{name}");
+    Ok(())
+}
+
+/// Whether a text has another one in it.
+fn has(text: &str, piece: &str) -> bool {
+    text.find(piece).is_some()
+}
+
+/// Whether a text ends with another one.
+fn ends(text: &str, ending: &str) -> bool {
+    let start = text.len().saturating_sub(ending.len());
+    text.get(start..) == Some(ending)
 }
 
 #[test]
