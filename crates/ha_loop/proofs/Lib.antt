@@ -18,3 +18,5 @@ pub mod FreeKey
 pub mod Beginning
 pub mod Replying
 pub mod CommitTools
+pub mod CommitQuiet
+pub mod CommitIdling
