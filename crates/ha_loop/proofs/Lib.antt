@@ -20,3 +20,4 @@ pub mod Replying
 pub mod CommitTools
 pub mod CommitQuiet
 pub mod CommitIdling
+pub mod CommitSteps
