@@ -21,3 +21,5 @@ pub mod CommitTools
 pub mod CommitQuiet
 pub mod CommitIdling
 pub mod CommitSteps
+pub mod CommitLawful
+pub mod CommitAsking
