@@ -23,3 +23,4 @@ pub mod CommitIdling
 pub mod CommitSteps
 pub mod CommitLawful
 pub mod CommitAsking
+pub mod CommitGrounds
