@@ -24,3 +24,4 @@ pub mod CommitSteps
 pub mod CommitLawful
 pub mod CommitAsking
 pub mod CommitGrounds
+pub mod CommitGrants
