@@ -62,18 +62,18 @@ use Rattle.ha_loop.proofs.Living.{no-way}
 use Rattle.ha_loop.proofs.Rows.{led_on}
 
 -- what a granted request is heard on, with what stands after what comes before it
-record Ground (s : State) (m : ℕ) (o b : Outcome) : Type 0 where
-  sound : IsSound s
-  stands : StandsToCommit s m o
-  behind : IsBehind o b
-  quiet : All IsQuiet o.outputs
+pub record Ground (s : State) (m : ℕ) (o b : Outcome) : Type 0 where
+  pub sound : IsSound s
+  pub stands : StandsToCommit s m o
+  pub behind : IsBehind o b
+  pub quiet : All IsQuiet o.outputs
 
 -- what is made of it is lawful, where the agent goes on
-abbrev Lawful : Ticks → ℕ → Granted → SnapshotFacts → State → ℕ → AgentInput → Outcome → Outcome → Type 0
+abbrev pub Lawful : Ticks → ℕ → Granted → SnapshotFacts → State → ℕ → AgentInput → Outcome → Outcome → Type 0
 Lawful now sequence grant snapshot s m input o x = Onward (Some snapshot) o x → IsCommitInputOf s m o x input → IsLawfulAs now (HeardGranted sequence grant snapshot) o s m input
 
 -- a row that leaves what commits depend on
-rests : (now : Ticks) (sequence : ℕ) (grant : Granted) (snapshot : SnapshotFacts) (s : State) (m : ℕ) (input : AgentInput) (o b x : Outcome) → Ground s m o b → Idle None b x → Lawful now sequence grant snapshot s m input o x
+pub rests : (now : Ticks) (sequence : ℕ) (grant : Granted) (snapshot : SnapshotFacts) (s : State) (m : ℕ) (input : AgentInput) (o b x : Outcome) → Ground s m o b → Idle None b x → Lawful now sequence grant snapshot s m input o x
 rests now sequence grant snapshot s m input o b x ground idle onward is =
     idle-lawful now (HeardGranted sequence grant snapshot) None (Some snapshot) s m input o x ground.stands is onward (idle-then None o b x ground.behind.idle idle ground.behind.last) ground.quiet (λ told e. absurd (none-told told e))
   where
@@ -81,22 +81,23 @@ rests now sequence grant snapshot s m input o b x ground idle onward is =
     none-told told e = cc
 
 -- what is known of a lease that is heard
-record Leased (s : State) (m sequence : ℕ) (grant : Granted) (snapshot : SnapshotFacts) (input : AgentInput) (o : Outcome) : Type 0 where
-  awaited : IsAwaitedLease sequence grant o.knows
-  hears : HearsLease s m input.heard sequence grant.revision snapshot o.knows
+pub record Leased (s : State) (m sequence : ℕ) (grant : Granted) (snapshot : SnapshotFacts) (input : AgentInput) (o : Outcome) : Type 0 where
+  pub awaited : IsAwaitedLease sequence grant o.knows
+  pub hears : HearsLease s m input.heard sequence grant.revision snapshot o.knows
 
-ready-led : (role : RoleFacts) → is_leader role ≡ true → is_ready role ≡ true → ⊥
-ready-led (Leader held) leads ready = no-way ready
-ready-led (Ready held) leads ready = no-way leads
-ready-led _ leads ready = no-way ready
+-- who leads isn't about to begin
+pub unready : (role : RoleFacts) → is_leader role ≡ true → is_ready role ≡ false
+unready (Leader held) leads = refl
+unready (Ready held) leads = absurd (no-way leads)
+unready _ leads = refl
 
 -- a leader whose required list changes
-record Changes (s : State) (m : ℕ) (o x : Outcome) : Type 0 where
-  ready : is_ready x.role ≡ false
-  turn : x.knows.turn_sync ≡ o.knows.turn_sync
-  waited : x.knows.waited ≡ None
-  quiet : All IsQuiet x.outputs
-  notes : (noted_position x.knows.noted ≡ end_of (entries_of (s.members m).log)) ⊎ (Narrows (s.members m).required (need_in x.machine.replication.required) × (x.knows.noted ≡ o.knows.noted))
+pub record Changes (s : State) (m : ℕ) (o x : Outcome) : Type 0 where
+  pub ready : is_ready x.role ≡ false
+  pub turn : x.knows.turn_sync ≡ o.knows.turn_sync
+  pub waited : x.knows.waited ≡ None
+  pub quiet : All IsQuiet x.outputs
+  pub notes : (noted_position x.knows.noted ≡ end_of (entries_of (s.members m).log)) ⊎ (Narrows (s.members m).required (need_in x.machine.replication.required) × (x.knows.noted ≡ o.knows.noted))
 
 notes-shown : (s : State) (m : ℕ) (input : AgentInput) (o x : Outcome) → IsCommitInputOf s m o x input → Changes s m o x
     → (input.agent.noted ≡ end_of (entries_of (s.members m).log)) ⊎ (Narrows (s.members m).required input.required × (input.agent.noted ≡ (was_of o).noted))
@@ -113,7 +114,7 @@ overlaps-shown s m input o x key standbys is quorum same over =
     (subst (λ (set : ℕ → Bool). Overlaps s.member_count set 0 (need_in x.machine.replication.required)) (sym same) over))
 
 -- in a turn
-changes-lawful : (now : Ticks) (sequence : ℕ) (grant : Granted) (snapshot : SnapshotFacts) (s : State) (m : ℕ) (input : AgentInput) (o b x : Outcome) → Ground s m o b → Leased s m sequence grant snapshot input o → IsLedBy s m snapshot o → is_leader b.role ≡ true → Changes s m o x
+pub changes-lawful : (now : Ticks) (sequence : ℕ) (grant : Granted) (snapshot : SnapshotFacts) (s : State) (m : ℕ) (input : AgentInput) (o b x : Outcome) → Ground s m o b → Leased s m sequence grant snapshot input o → IsLedBy s m snapshot o → is_leader b.role ≡ true → Changes s m o x
     → Overlaps s.member_count (set_members (published_in snapshot)) 0 (need_in x.machine.replication.required) → Lawful now sequence grant snapshot s m input o x
 changes-lawful now sequence grant snapshot s m input o b x ground leased led leads changes over onward is =
     lawful-as now (HeardGranted sequence grant snapshot) (Some snapshot) s m input o x ground.stands is onward (waits-nothing o x changes.waited)
@@ -132,7 +133,7 @@ changes-lawful now sequence grant snapshot s m input o b x ground leased led lea
     })) tt
 
 -- on a granted write of the sync key
-settles-lawful : (now : Ticks) (sequence : ℕ) (grant : Granted) (snapshot : SnapshotFacts) (s : State) (m : ℕ) (input : AgentInput) (o b x : Outcome) → Ground s m o b → (awaited : IsAwaitedWrite sequence grant o.knows) → (hears : HearsWrite s m input.heard sequence awaited.waited.question o.knows)
+pub settles-lawful : (now : Ticks) (sequence : ℕ) (grant : Granted) (snapshot : SnapshotFacts) (s : State) (m : ℕ) (input : AgentInput) (o b x : Outcome) → Ground s m o b → (awaited : IsAwaitedWrite sequence grant o.knows) → (hears : HearsWrite s m input.heard sequence awaited.waited.question o.knows)
     → is_leader b.role ≡ true → Changes s m o x → hears.key.quorum ≡ 0 → Overlaps s.member_count hears.key.standbys 0 (need_in x.machine.replication.required) → Lawful now sequence grant snapshot s m input o x
 settles-lawful now sequence grant snapshot s m input o b x ground awaited hears leads changes quorum over onward is =
     lawful-as now (HeardGranted sequence grant snapshot) (Some snapshot) s m input o x ground.stands is onward (waits-nothing o x changes.waited)
@@ -149,7 +150,7 @@ settles-lawful now sequence grant snapshot s m input o b x ground awaited hears 
     })) tt
 
 -- a leader that asks for standbys that are required, and are published already or have confirmed the noted position
-publishes-lawful : (now ttl : Ticks) (sequence : ℕ) (grant : Granted) (snapshot : SnapshotFacts) (s : State) (m : ℕ) (input : AgentInput) (o b : Outcome) → Ground s m o b → Leased s m sequence grant snapshot input o → IsLedBy s m snapshot o → is_leader b.role ≡ true → (settling : Settling) (set : MemberSet)
+pub publishes-lawful : (now ttl : Ticks) (sequence : ℕ) (grant : Granted) (snapshot : SnapshotFacts) (s : State) (m : ℕ) (input : AgentInput) (o b : Outcome) → Ground s m o b → Leased s m sequence grant snapshot input o → IsLedBy s m snapshot o → is_leader b.role ≡ true → (settling : Settling) (set : MemberSet)
     → IsWithin (set_members set) (set_members (required_members o.machine.replication.required)) → ((n : ℕ) → set_members set n ≡ true → (set_members (published_in snapshot) n ≡ true) ⊎ HasReached o.machine.replication.connected (noted_position o.knows.noted) n)
     → Lawful now sequence grant snapshot s m input o (naming now grant.revision settling set (led_on now ttl grant.revision (Told snapshot b)))
 publishes-lawful now ttl sequence grant snapshot s m input o b ground leased led leads settling set required each onward is =

@@ -101,10 +101,10 @@ before-behind now o = let onward : Onward None o (before now o) = before-onward 
 }
 
 -- what is waited for behind that was waited for before it
-pub lease-before : (sequence : ℕ) (grant : Granted) (o b : Outcome) → IsBehind o b → IsAwaitedLease sequence grant b.knows → IsAwaitedLease sequence grant o.knows
+abbrev pub lease-before : (sequence : ℕ) (grant : Granted) (o b : Outcome) → IsBehind o b → IsAwaitedLease sequence grant b.knows → IsAwaitedLease sequence grant o.knows
 lease-before sequence grant o b behind awaited = record { waited = awaited.waited; is = sym behind.waited ∙ awaited.is; decision = awaited.decision; mine = subst (λ (w : Who). is_lease_of w.me grant ≡ true) behind.who awaited.mine }
 
-pub write-before : (sequence : ℕ) (grant : Granted) (o b : Outcome) → IsBehind o b → IsAwaitedWrite sequence grant b.knows → IsAwaitedWrite sequence grant o.knows
+abbrev pub write-before : (sequence : ℕ) (grant : Granted) (o b : Outcome) → IsBehind o b → IsAwaitedWrite sequence grant b.knows → IsAwaitedWrite sequence grant o.knows
 write-before sequence grant o b behind awaited = record { waited = awaited.waited; is = sym behind.waited ∙ awaited.is; decision = awaited.decision; mine = subst (λ (w : Who). is_write_of w.me grant ≡ true) behind.who awaited.mine }
 
 some_of : ℕ → Option ℕ

@@ -25,3 +25,4 @@ pub mod CommitLawful
 pub mod CommitAsking
 pub mod CommitGrounds
 pub mod CommitGrants
+pub mod CommitRows
