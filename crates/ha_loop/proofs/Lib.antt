@@ -26,3 +26,4 @@ pub mod CommitAsking
 pub mod CommitGrounds
 pub mod CommitGrants
 pub mod CommitRows
+pub mod CommitInputs
