@@ -18,8 +18,9 @@ use Rattle.event_book.specs.declared.reason.Reason.TheVariants.{StartTooLong, Wa
 use Rattle.lease_law.proofs.Tools.{some-is, none-some}
 use Rattle.sync_state.specs.Published.{published_in}
 use Rattle.sync_state.specs.Sets.{both, either}
-use Rattle.commit_law.specs.States.{State}
-use Rattle.commit_law.specs.Inputs.{AgentInput, HearsSnapshot}
+use Rattle.commit_law.specs.Actions.{fresh_agent}
+use Rattle.commit_law.specs.States.{Agent, State}
+use Rattle.commit_law.specs.Inputs.{AgentInput, HearsSnapshot, Does, Idling, Racing, HearingAnswer, WinningRace, CreatingLeader, Arming, TakingOver, ChangingRequired, Publishing, Promoting, SettlingRequired, ArmsAlone, IsGivenByLease}
 use Rattle.ha_loop.specs.declared.heard.Heard.{Heard}
 use Rattle.ha_loop.specs.declared.heard.Heard.TheVariants.{Wake, Got, Granted as HeardGranted, Mismatch, Asked, Answered}
 use Rattle.ha_loop.specs.declared.knowledge.Knowledge.{Knowledge}
@@ -33,11 +34,12 @@ use Rattle.ha_loop.specs.declared.output.Output.{Output}
 use Rattle.ha_loop.specs.declared.output.Output.TheVariants as outputs
 use Rattle.ha_loop.specs.declared.output.Target.TheVariants as targets
 use Rattle.ha_loop.specs.declared.role.Why.TheVariants.{HandOver}
+use Rattle.ha_loop.specs.declared.who.Who.{Who}
 use Rattle.ha_loop.specs.Acting.{deadline_after, ending_server, arming, requiring, waiting_no_more}
-use Rattle.ha_loop.specs.Agents.{RoleFacts, Ending, Outcome, made}
+use Rattle.ha_loop.specs.Agents.{RoleFacts, Follower, Ending, Outcome, made, fresh_knowledge}
 use Rattle.ha_loop.specs.Before.{before}
 use Rattle.ha_loop.specs.Claiming.{begins, claims, postpones}
-use Rattle.ha_loop.specs.Committing.{sync_seen, IsOn, HearsOn, HearsToCommit, AsksOn, FollowsOn, requests_of, IsOneAtMost, IsNoRemoval, StaysOn, CommitsFrom}
+use Rattle.ha_loop.specs.Committing.{sync_seen, committer_seen, ArmsOn, DoesAs, IsOn, HearsOn, HearsToCommit, AsksOn, FollowsOn, requests_of, IsOneAtMost, IsNoRemoval, StaysOn, CommitsFrom}
 use Rattle.ha_loop.specs.Decisions.{takes_over, gives_back, granted, refused}
 use Rattle.ha_loop.specs.Outputs.{listed}
 use Rattle.ha_loop.specs.Peers.{asked, answered}
@@ -194,3 +196,24 @@ pub action-commits-as : (now : Ticks) (role : RoleFacts) (knows : Knowledge) (ma
     → outs ≡ [] → CommitsFrom now Wake (made role knows machine []) after
 action-commits-as now role knows machine outs after is none = let same : after ≡ act now (made role knows machine []) = is ∙ ap (λ (l : List Output). act now (made role knows machine l)) none in
     subst (λ (x : Outcome). CommitsFrom now Wake (made role knows machine []) x) (sym same) (action-commits now (made role knows machine []) (All-nil IsQuiet))
+
+-- an agent that starts waits for nothing, and is to the law one that starts
+pub fresh-asks : (who : Who) (first : Ticks) (run : ℕ) → AsksOn (fresh_knowledge who first run)
+fresh-asks who first run waited is = absurd (none-some waited is)
+
+pub fresh-seen : (who : Who) (first : Ticks) (run : ℕ) → committer_seen Follower (fresh_knowledge who first run) ≡ fresh_agent run
+fresh-seen who first run = refl
+
+-- what the timed lease gives to an input: to one that arms, that it hears the present leader key and that nobody else acts
+pub given-by-lease : (now : Ticks) (heard : Heard) (o : Outcome) (s : State) (m : ℕ) (input : AgentInput) (was : Agent) (does : Does s m input was) → DoesAs now heard o s m input was does → ((revision : ℕ) → ArmsOn now heard o revision → ArmsAlone s m revision) → IsGivenByLease s m input was does
+given-by-lease now heard o s m input was (Racing races) as-it gives = absurd as-it
+given-by-lease now heard o s m input was (HearingAnswer answer) as-it gives = absurd as-it
+given-by-lease now heard o s m input was (WinningRace wins) as-it gives = absurd as-it
+given-by-lease now heard o s m input was (CreatingLeader creates) as-it gives = absurd as-it
+given-by-lease now heard o s m input was (Arming arms) as-it gives = gives arms.grant.revision as-it
+given-by-lease now heard o s m input was (Idling idles) as-it gives = tt
+given-by-lease now heard o s m input was (TakingOver takes) as-it gives = tt
+given-by-lease now heard o s m input was (ChangingRequired changes) as-it gives = tt
+given-by-lease now heard o s m input was (Publishing publishes) as-it gives = tt
+given-by-lease now heard o s m input was (Promoting promotes) as-it gives = tt
+given-by-lease now heard o s m input was (SettlingRequired settles) as-it gives = tt
