@@ -73,7 +73,7 @@ pub read-causal : (past : Past) (facts : Facts) (tick : Ticks) (i j : ℕ) (by :
 read-causal past facts tick i j by run sequence above = (tt, (tt, (tt, ((above, tt), tt))))
 
 -- ---- a tick, a loss, a delivery to an agent, and all that its input brings
-members-spanned : (kind : EventKind) → IsOfMembers kind → IsSpanned kind
+pub members-spanned : (kind : EventKind) → IsOfMembers kind → IsSpanned kind
 members-spanned (kinds.Store (stores.Granted number by txn standbys)) is = absurd is
 members-spanned (kinds.Store (stores.Refused number by request key found)) is = tt
 members-spanned (kinds.Store (stores.LeaderExpired holder)) is = tt

@@ -56,7 +56,7 @@ sent-asks P past number message i q is (inl e) at =
 sent-asks P past number message i q is (inr other) at =
     inl (sym (asked-there past.asked number (flying_of past message.from message.to message.run message.sequence message.body) i other) ∙ at)
 
-asked-by : (P : ℕ → ℕ → ℕ → Type 0) (past : Past) (kind : EventKind) → AsksOnly P kind → (i : ℕ) (q : Question) → (past_after past kind).asked i ≡ Some q → (past.asked i ≡ Some q) ⊎ P q.member q.run q.sequence
+pub asked-by : (P : ℕ → ℕ → ℕ → Type 0) (past : Past) (kind : EventKind) → AsksOnly P kind → (i : ℕ) (q : Question) → (past_after past kind).asked i ≡ Some q → (past.asked i ≡ Some q) ⊎ P q.member q.run q.sequence
 asked-by P past (kinds.Message (Sent number message)) is i q at = sent-asks P past number message i q is (decide-eq i number) at
 asked-by P past (kinds.Message (Delivered number)) is i q at = inl at
 asked-by P past (kinds.Message (Lost number)) is i q at = inl at

@@ -1,5 +1,6 @@
 -- The machines of members, as their agents find them.
-use Rattle.std.specs.Prelude.{ℕ, ◌+◌, ◌*◌, ◌==◌, Bool, false, is_some, if◌then◌else◌, List, [], ◌∷◌, Option, Some, None, option_map, map, replicate, slice_get, length}
+use Rattle.std.specs.Prelude.{ℕ, ◌*◌, ◌==◌, Bool, false, is_some, if◌then◌else◌, List, [], Option, Some, None, option_map, map, replicate, slice_get, slice_index_or, length}
+use Rattle.std.specs.List.{range_with_len}
 use Rattle.pat_base.specs.declared.lsn.Lsn.{Lsn}
 use Rattle.pat_base.specs.ServerState.{writes}
 use Rattle.event_book.specs.Links.{CutLinks}
@@ -37,11 +38,14 @@ abbrev pub is_connected : List Member → List ServerFacts → CutLinks → Memb
 is_connected members servers cuts member None = false
 is_connected members servers cuts member (Some other) = is_source member (source_of members servers cuts other)
 
--- of positions that members confirmed, from this number on, those of connected members
-abbrev pub connected_ends : List Member → List ServerFacts → CutLinks → Member → ℕ → List (Option Lsn) → List (Option Lsn)
-connected_ends members servers cuts member number [] = []
-connected_ends members servers cuts member number (end ∷ ends) =
-    (if is_connected members servers cuts member (slice_get members number) then end else None) ∷ connected_ends members servers cuts member (number + 1) ends
+-- how far the member of this number has confirmed, where it is connected
+abbrev pub connected_end : List Member → List ServerFacts → CutLinks → Member → List (Option Lsn) → ℕ → Option Lsn
+connected_end members servers cuts member confirmed number =
+    if is_connected members servers cuts member (slice_get members number) then slice_index_or confirmed number None else None
+
+-- by member number, how far each connected member has confirmed, where members confirmed these positions
+unfoldable pub connected_ends : List Member → List ServerFacts → CutLinks → Member → List (Option Lsn) → List (Option Lsn)
+connected_ends members servers cuts member confirmed = map (connected_end members servers cuts member confirmed) (range_with_len 0 16)
 
 -- nobody has confirmed a position, by member number
 abbrev pub nothing_confirmed : List (Option Lsn)
@@ -50,7 +54,7 @@ nothing_confirmed = replicate 16 None
 -- synchronous replication on this server of a member: whom its commits wait for, and how far each connected member has confirmed. To a
 -- server that accepts no writes nobody is connected
 abbrev pub replication_of : List Member → List ServerFacts → CutLinks → Member → ServerFacts → Replication
-replication_of members servers cuts member s = record { required = s.required; connected = if writes s.state then connected_ends members servers cuts member 0 s.confirmed else nothing_confirmed }
+replication_of members servers cuts member s = record { required = s.required; connected = if writes s.state then connected_ends members servers cuts member s.confirmed else nothing_confirmed }
 
 -- a machine of these parts; its server receives, or not
 abbrev pub machine_from : Bool → Option Replication → Option MemberOptions → Option (Option Ticks) → Option (Option Ticks) → Option ServerFacts → Option Machine

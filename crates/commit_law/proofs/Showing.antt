@@ -393,6 +393,7 @@ frame-by m past (kinds.Replication (replications.RequiredSet server list names))
   acknowledged_log = refl;
   acknowledged = refl;
 }
+frame-by m past (kinds.Replication (replications.Lacks server)) own = record { sync = refl; leader = refl; failsafe = refl; revision = refl; runs = refl; logs = refl; writes = refl; confirmed = refl; required = λ n other. refl; acknowledged_log = refl; acknowledged = refl }
 frame-by m past (kinds.Agent (agents.Started agent run)) own = absurd own
 frame-by m past (kinds.Agent _) own = record { sync = refl; leader = refl; failsafe = refl; revision = refl; runs = refl; logs = refl; writes = refl; confirmed = refl; required = λ n other. refl; acknowledged_log = refl; acknowledged = refl }
 frame-by m past (kinds.Note happening) own = record { sync = refl; leader = refl; failsafe = refl; revision = refl; runs = refl; logs = refl; writes = refl; confirmed = refl; required = λ n other. refl; acknowledged_log = refl; acknowledged = refl }
@@ -471,7 +472,8 @@ idle-by setup past volatile_states (kinds.Note happening) idle = refl
 idle-by setup past volatile_states kinds.Tick idle = absurd idle
 idle-by setup past volatile_states (kinds.Message happening) idle = absurd idle
 idle-by setup past volatile_states (kinds.Log happening) idle = absurd idle
-idle-by setup past volatile_states (kinds.Replication happening) idle = absurd idle
+idle-by setup past volatile_states (kinds.Replication (replications.Lacks server)) idle = refl
+idle-by setup past volatile_states (kinds.Replication _) idle = absurd idle
 
 idle-all : (setup : Setup) (past : Past) (volatile_states : ℕ → VolatileState) (events : List Event) → AreIdle events → state_of setup (past_over past events) volatile_states ≡ state_of setup past volatile_states
 idle-all setup past volatile_states [] idle = refl

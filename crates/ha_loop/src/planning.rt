@@ -88,7 +88,14 @@ fn take(
             name(revision, Settling::Lists(nobody), nobody, knows, out, now);
         }
         Plan::Withdraw(standbys) => {
-            name(revision, Settling::Lists(standbys), standbys, knows, out, now);
+            name(
+                revision,
+                Settling::Lists(standbys),
+                standbys,
+                knows,
+                out,
+                now,
+            );
         }
         Plan::Publish(standbys) => name(revision, Settling::Stays, standbys, knows, out, now),
         Plan::AddRequired(members) => {
@@ -179,7 +186,12 @@ fn write_sync(settling: Settling, write: Txn, knows: &mut Knowledge, out: &mut O
 }
 
 /// A write of the sync key is granted: what the required list becomes.
-pub(crate) fn settle(settling: Settling, knows: &Knowledge, machine: &mut Machine, out: &mut Outputs)
+pub(crate) fn settle(
+    settling: Settling,
+    knows: &Knowledge,
+    machine: &mut Machine,
+    out: &mut Outputs,
+)
     requires { 1 ≤ out.old.spare }
     ensures outcome { (role : RoleFacts) → made role knows.now machine.new out.new.outputs ≡ settled settling (made role knows.now machine.old out.old.outputs) }
     ensures room { out.old.spare ≤ out.new.spare + 1 }

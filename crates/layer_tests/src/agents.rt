@@ -3,10 +3,10 @@ ghost use Rattle.std.specs.Prelude.{◌≡◌};
 
 use cluster_config::{RoleWord, Snapshot};
 use event_book::{Body, Reason};
-use ha_loop::{Agent, Heard, Machine, Output, Outputs, Who};
+use ha_loop::{Agent, Heard, Machine, Output, Outputs, Replication, Who};
 use leader_key::{Mode, Watchdog};
 use lease_store::{ConfigValue, MemberInfo, Store, Txn, TxnKind};
-use pat_base::{Host, Lsn, MemberId, Name, State, Tags, Ticks, Word};
+use pat_base::{Host, Lsn, MemberId, Name, Required, State, Tags, Ticks, Word};
 use pg_model::ServerStatus;
 use std::alloc::Global;
 use std::process::Abort;
@@ -131,6 +131,10 @@ fn one_member(rt: HostRuntime) -> Result<(), Fail> {
     let read = snapshot(rt.alloc(), &rt, &store, Ticks(101))?;
     let mut machine = Machine {
         server: server(&rt),
+        replication: Replication {
+            required: Required::Nobody,
+            connected: [None; 16],
+        },
         watchdog: Watchdog::new(Mode::Automatic, true, Some(Ticks(50))),
         hold: None,
     };

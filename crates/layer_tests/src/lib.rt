@@ -17,6 +17,8 @@ mod scripts;
 #[cfg(test)]
 mod servers;
 #[cfg(test)]
+mod standbys;
+#[cfg(test)]
 mod store;
 #[cfg(test)]
 mod values;

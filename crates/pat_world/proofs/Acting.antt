@@ -1,11 +1,14 @@
 -- What an input of an agent brings at most: messages of its run, and outputs.
-use Rattle.std.proofs.Common.{ℕ, ◌+◌, ◌≤◌, List, [], ◌∷◌, All, length, length-append, Option, Some, None, arith, zero, suc}
+use Rattle.std.proofs.Common.{ℕ, ◌+◌, ◌≤◌, ◌^◌, List, [], ◌∷◌, All, length, length-append, Option, Some, None, arith, zero, suc}
 use Rattle.std.proofs.lemmas.List.Elements.{All-push}
 use Rattle.pat_base.specs.MemberId.{member_of}
 use Rattle.pat_base.specs.declared.member_id.MemberId.{MemberId}
 use Rattle.pat_base.specs.declared.peer_answer.PeerAnswer.{PeerAnswer}
 use Rattle.pat_base.specs.declared.ticks.Ticks.{Ticks}
 use Rattle.lease_store.specs.declared.granted.Granted.{Granted}
+use Rattle.lease_store.specs.declared.txn.Txn.{Txn}
+use Rattle.lease_store.specs.declared.txn.Txn.TheVariants as txns
+use Rattle.lease_store.specs.Writes.{ttl_of}
 use Rattle.wal_model.specs.declared.entry.HistoryPoint.{HistoryPoint}
 use Rattle.cluster_config.specs.Snapshots.{SnapshotFacts}
 use Rattle.ha_loop.specs.declared.heard.Heard.{Heard}
@@ -17,17 +20,19 @@ use Rattle.ha_loop.specs.declared.role.Why.{Why}
 use Rattle.ha_loop.specs.declared.who.Who.{Who}
 use Rattle.event_book.specs.declared.message.Body.TheVariants as bodies
 use Rattle.ha_loop.specs.declared.role.Why.TheVariants.{HandOver, Lost}
-use Rattle.ha_loop.specs.Acting.{arming, armed, deadline_after, disarmed, fed_until, feeding, is_refusing, touching}
-use Rattle.ha_loop.specs.Agents.{Leader, Follower, Outcome}
+use Rattle.ha_loop.specs.Acting.{arming, armed, deadline_after, disarmed, fed_until, is_refusing, requiring, touching, waiting_no_more}
+use Rattle.ha_loop.specs.Agents.{Follower, Outcome}
 use Rattle.ha_loop.specs.Before.{before, has_ended}
-use Rattle.ha_loop.specs.Decisions.{arms, begins, gives_back, granted, is_start_too_long, leader_renewed, may_take, refused, stray_renewed, takes_key, takes_over}
+use Rattle.ha_loop.specs.Claiming.{begins, begins_or_claims, claims, postpones}
+use Rattle.ha_loop.specs.Decisions.{arms, gives_back, granted, leader_renewed, may_take, refused, stray_renewed, takes_key, takes_over}
 use Rattle.ha_loop.specs.Outputs.{listed, most_outputs}
+use Rattle.ha_loop.specs.Planning.{noting, writing_sync}
 use Rattle.ha_loop.specs.Racing.{finds_free, judged, unheard}
 use Rattle.ha_loop.specs.Repairs.{repair_of}
 use Rattle.ha_loop.specs.Snapshots.{follow_row, follows, got, informed, read_noted}
 use Rattle.ha_loop.specs.Table.{step}
 use Rattle.ha_loop.specs.Wake.{overdue, turned, woken}
-use Rattle.ha_loop.proofs.Rows.{if-cases, before-by, overdue-by, turn-by, wake-by, got-by, refused-by, granted-by, follow-by, repaired-by, free-by, judged-by, answered-by}
+use Rattle.ha_loop.proofs.Rows.{WritesSync, led_on, if-cases, begins-or-claims-by, renewed-by, before-by, overdue-by, turn-by, wake-by, got-by, refused-by, granted-by, follow-by, repaired-by, free-by, judged-by, answered-by}
 use Rattle.ha_loop.specs.Answers.{is_other, most_answers, asking_one, asking_first}
 use Rattle.ha_loop.specs.Peers.{keeping, answered}
 use Rattle.pat_world.specs.Short.{AsksShortly}
@@ -115,6 +120,13 @@ judged-row : (now : Ticks) (o : Outcome) → Row o (judged now o)
 judged-row now o = judged-by (Row o) now o (said o.knows.sequence (o.knows.sequence + 1) o.outputs _ (omega arith) (omega (arith, o.knows.settings.ttl_range)))
     (λ bar. said-both o.knows.sequence o.outputs _ _ tt (omega (arith, o.knows.settings.ttl_range)))
 
+-- a promotion that is postponed
+postponed-row : (held : ℕ) (o : Outcome) → Row o (postpones held o)
+postponed-row held o =
+    grows-then 1 1 9 o.knows.sequence o.knows.sequence o.knows.sequence o.outputs (disarmed o.machine.watchdog.deadline o.outputs) _ (omega arith)
+    (disarmed-one o.knows.sequence o.machine.watchdog.deadline o.outputs)
+    (one o.knows.sequence o.knows.sequence (disarmed o.machine.watchdog.deadline o.outputs) outputs.PostponesPromotion (omega arith) tt)
+
 overdue-row : (now : Ticks) (o : Outcome) → Row o (overdue now o)
 overdue-row now o = overdue-by (Row o) now o (record {
   kept = kept;
@@ -122,6 +134,7 @@ overdue-row now o = overdue-by (Row o) now o (record {
   leader = λ held _. said o.knows.sequence o.knows.sequence o.outputs _ (omega arith) tt;
   stray = λ _. said o.knows.sequence o.knows.sequence o.outputs _ (omega arith) tt;
   judges = λ _. judged-row now o;
+  ready = λ held _. postponed-row held (waiting_no_more o);
 })
 
 turn-row : (now : Ticks) (o : Outcome) → Row o (turned now o)
@@ -197,6 +210,7 @@ refused-row now sequence o = refused-by (Row o) now sequence o (record {
   leader = λ held _. said o.knows.sequence o.knows.sequence o.outputs _ (omega arith) tt;
   stray = λ _. said o.knows.sequence o.knows.sequence o.outputs _ (omega arith) tt;
   follower = λ held _. kept;
+  ready = λ held _. postponed-row held (waiting_no_more o);
 })
 
 back-row : (held : ℕ) (o : Outcome) → Brings 1 o (gives_back held o)
@@ -207,24 +221,41 @@ begins-row now held o =
     grows-then 1 1 2 o.knows.sequence o.knows.sequence o.knows.sequence o.outputs _ _ (omega arith)
     (one o.knows.sequence o.knows.sequence o.outputs _ (omega arith) tt) (one o.knows.sequence o.knows.sequence _ outputs.Begin (omega arith) tt)
 
+claims-row : (now : Ticks) (held : ℕ) (o : Outcome) → Brings 2 o (claims now held o)
+claims-row now held o = weaker 1 2 _ _ _ _ (omega arith) (one o.knows.sequence (o.knows.sequence + 1) o.outputs _ (omega arith) (omega arith))
+
+begun-row : (now : Ticks) (held : ℕ) (o : Outcome) → Brings 2 o (begins_or_claims now held o)
+begun-row now held o = begins-or-claims-by (Brings 2 o) now held o (begins-row now held o) (claims-row now held o)
+
 arms-row : (now ttl : Ticks) (held : ℕ) (o : Outcome) → Row o (arms now ttl held o)
-arms-row now ttl held o = if-cases (Row o) (is_refusing o.machine.watchdog.mode o.machine.watchdog.works) (gives_back held (record o { outputs = listed outputs.CannotArm o.outputs })) (begins now held (arming now ttl o))
+arms-row now ttl held o = if-cases (Row o) (is_refusing o.machine.watchdog.mode o.machine.watchdog.works) (gives_back held (record o { outputs = listed outputs.CannotArm o.outputs })) (begins_or_claims now held (arming now ttl o))
     (λ _. grows-then 1 1 9 o.knows.sequence o.knows.sequence (o.knows.sequence + 1) o.outputs (listed outputs.CannotArm o.outputs) _ (omega arith)
     (one o.knows.sequence o.knows.sequence o.outputs outputs.CannotArm (omega arith) tt) (back-row held (record o { outputs = listed outputs.CannotArm o.outputs })))
-    (λ _. grows-then 1 2 9 o.knows.sequence o.knows.sequence o.knows.sequence o.outputs (armed (deadline_after now ttl o.machine.watchdog) o.outputs) _ (omega arith)
-    (armed-one o.knows.sequence (deadline_after now ttl o.machine.watchdog) o.outputs) (begins-row now held (arming now ttl o)))
+    (λ _. grows-then 1 2 9 o.knows.sequence o.knows.sequence _ o.outputs (armed (deadline_after now ttl o.machine.watchdog) o.outputs) _ (omega arith)
+    (armed-one o.knows.sequence (deadline_after now ttl o.machine.watchdog) o.outputs) (begun-row now held (arming now ttl o)))
 
 takes-row : (now ttl : Ticks) (held : ℕ) (o : Outcome) → Row o (takes_key now ttl held o)
 takes-row now ttl held o = if-cases (Row o) (may_take now o.knows o.machine) (arms now ttl held o) (gives_back held o) (λ _. arms-row now ttl held o)
     (λ _. weaker 1 9 o.knows.sequence (o.knows.sequence + 1) o.outputs _ (omega arith) (back-row held o))
 
+-- a write of the sync key asks for no lease
+sync-short : (txn : Txn) → WritesSync txn → ttl_of txn ≤ 2 ^ 40
+sync-short (txns.SetSync revision sync standbys) writes = omega arith
+sync-short (txns.DropSync revision sync) writes = omega arith
+sync-short _ writes = absurd writes
+
 renewed-row : (now ttl : Ticks) (held : ℕ) (o : Outcome) → Row o (leader_renewed now ttl held o)
 renewed-row now ttl held o =
-    let led : Outcome = record (feeding now ttl o) { role = Leader held } in
-    if-cases (Row o) (is_start_too_long now led.knows led.machine.server.state) _ led
-    (λ _. grows-then 1 1 9 o.knows.sequence o.knows.sequence o.knows.sequence o.outputs led.outputs _ (omega arith) (fed-one o.knows.sequence (deadline_after now ttl o.machine.watchdog) o.outputs)
-    (one o.knows.sequence o.knows.sequence led.outputs _ (omega arith) tt))
-    (λ _. weaker 1 9 o.knows.sequence o.knows.sequence o.outputs led.outputs (omega arith) (fed-one o.knows.sequence (deadline_after now ttl o.machine.watchdog) o.outputs))
+    let led : Outcome = led_on now ttl held o in
+    let fed : Brings 1 o led = fed-one o.knows.sequence (deadline_after now ttl o.machine.watchdog) o.outputs in
+    let and-one : (later : ℕ) (output : Output) → later ≤ o.knows.sequence + 1 → AsksShortly output → Grows 9 o.knows.sequence later o.outputs (listed output led.outputs) =
+        λ later output h asks. grows-then 1 1 9 o.knows.sequence o.knows.sequence later o.outputs led.outputs (listed output led.outputs) (omega arith) fed (one o.knows.sequence later led.outputs output h asks) in
+    renewed-by (Row o) now ttl held o (and-one o.knows.sequence _ (omega arith) tt) (record {
+      kept = weaker 1 9 o.knows.sequence o.knows.sequence o.outputs led.outputs (omega arith) fed;
+      writes = λ settling txn writes. and-one (o.knows.sequence + 1) _ (omega arith) (sync-short txn writes);
+      adds = λ required. and-one o.knows.sequence (outputs.Require required) (omega arith) tt;
+      drops = λ required. and-one o.knows.sequence (outputs.Require required) (omega arith) tt;
+    })
 
 stray-row : (now ttl : Ticks) (held : ℕ) (o : Outcome) → Row o (stray_renewed now ttl held o)
 stray-row now ttl held o = if-cases (Row o) (is_refusing o.machine.watchdog.mode o.machine.watchdog.works) _ (takes_over now held (arming now ttl o))
@@ -239,6 +270,12 @@ granted-row now sequence grant snapshot o =
       leader = λ held _. renewed-row now asked.ttl grant.revision told;
       stray = λ _. stray-row now asked.ttl grant.revision told;
       takes = λ _. takes-row now asked.ttl grant.revision told;
+    })
+    (record {
+      other = kept;
+      begins = λ held _. weaker 2 9 _ _ _ _ (omega arith) (begins-row now held told);
+      postpones = λ held _. postponed-row held told;
+      settles = λ required _. said o.knows.sequence o.knows.sequence o.outputs (outputs.Require required) (omega arith) tt;
     })
 
 -- an input brings at most so many messages and so many outputs, and asks shortly

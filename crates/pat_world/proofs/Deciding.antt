@@ -23,7 +23,7 @@ use Rattle.cluster_model.specs.Cluster.{agent_facts_reached_at, cluster_after}
 use Rattle.cluster_model.specs.Hearing.{heard_from}
 use Rattle.cluster_model.specs.Inputs.{outcome_of_heard}
 use Rattle.cluster_model.specs.State.{Cluster}
-use Rattle.cluster_model.specs.Messages.{heard_message, input_events, send_events, answer_message, answer_events, decision_events, arrival_events, arrival_events_at}
+use Rattle.cluster_model.specs.Messages.{heard_message, input_events, send_events, answer_message, answer_events, decision_events, published_names, arrival_events, arrival_events_at}
 use Rattle.cluster_model.specs.Parts.{event_of, for_some}
 use Rattle.pat_world.specs.Room.{decision_cost, message_cost, outputs_cost, sending_cost}
 use Rattle.ha_loop.specs.Agents.{AgentFacts}
@@ -58,12 +58,12 @@ arrival_events-is cluster after number message to had has is receiver took =
 
 pub granted-took : (cluster granting after : Cluster) (number : ℕ) (by : Member) (message : Message) (txn : Txn) (tick : Ticks) (had mid has : List Event)
     → message.from ≡ link_ends.Member by → tick.0 ≡ cluster.book.clock → decision_on cluster.book.keys cluster.book.clock txn ≡ Grant
-    → granting ≡ cluster_after cluster (kinds.Store (stores.Granted number by txn [])) → mid ≡ had ++ record { tick = tick; kind = kinds.Store (stores.Granted number by txn []) } ∷ []
+    → granting ≡ cluster_after cluster (kinds.Store (stores.Granted number by txn (published_names cluster.book.members txn))) → mid ≡ had ++ record { tick = tick; kind = kinds.Store (stores.Granted number by txn (published_names cluster.book.members txn)) } ∷ []
     → Emits granting after mid has (send_events granting (answer_message message (bodies.Granted number (is_lease txn)))) sending_cost
     → Emits cluster after had has (decision_events cluster number message txn (decision_on cluster.book.keys cluster.book.clock txn) message.from) decision_cost
 granted-took cluster granting after number by message txn tick had mid has from at decision state mid_is rest =
     decision_events-is cluster after number by message txn Grant had has from decision
-    (Emits-after cluster granting after had mid has tick (kinds.Store (stores.Granted number by txn [])) (λ later. send_events later (answer_message message (bodies.Granted number (is_lease txn)))) sending_cost decision_cost tt at state mid_is rest (omega arith))
+    (Emits-after cluster granting after had mid has tick (kinds.Store (stores.Granted number by txn (published_names cluster.book.members txn))) (λ later. send_events later (answer_message message (bodies.Granted number (is_lease txn)))) sending_cost decision_cost tt at state mid_is rest (omega arith))
 
 pub refused-took : (cluster after : Cluster) (number : ℕ) (by : Member) (message : Message) (txn : Txn) (key : Key) (found : Expected) (tick : Ticks) (had mid has : List Event)
     → message.from ≡ link_ends.Member by → tick.0 ≡ cluster.book.clock → decision_on cluster.book.keys cluster.book.clock txn ≡ Refusal key found
@@ -109,9 +109,9 @@ heard-took cluster hearing after number message member tick had has is to at sta
     (Emits-after cluster hearing after had _ has tick (kinds.Message (Delivered number)) (λ later. input_events later member (heard_message number message) (outcome_of_heard cluster member (heard_from cluster message))) outputs_cost message_cost tt at state refl rest (omega arith))
 
 -- the event of a grant, with what was copied into it
-pub granted-event : (tick : Ticks) (number : ℕ) (by : Member) (copy txn : Txn) (names : List Name) → copy ≡ txn → names ≡ []
-    → ◌≡◌ {A = List Event} ((record { tick = tick; kind = kinds.Store (stores.Granted number by copy names) }) ∷ []) ((record { tick = tick; kind = kinds.Store (stores.Granted number by txn []) }) ∷ [])
-granted-event tick number by copy txn names same none = rw (same, none) refl
+pub granted-event : (tick : Ticks) (number : ℕ) (by : Member) (copy txn : Txn) (names listed : List Name) → copy ≡ txn → names ≡ listed
+    → ◌≡◌ {A = List Event} ((record { tick = tick; kind = kinds.Store (stores.Granted number by copy names) }) ∷ []) ((record { tick = tick; kind = kinds.Store (stores.Granted number by txn listed) }) ∷ [])
+granted-event tick number by copy txn names listed same named = rw (same, named) refl
 
 pub nothing-took : (cluster after : Cluster) (number : ℕ) (had : List Event) → in_flight cluster.book.flight number ≡ None → after ≡ cluster → Emits cluster after had had (for_some (in_flight cluster.book.flight number) (arrival_events cluster number)) message_cost
 nothing-took cluster after number had is same =

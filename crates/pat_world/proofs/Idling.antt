@@ -1,7 +1,7 @@
 -- Why a step of an idle cluster brings its tick and nothing else.
 use Rattle.std.proofs.Common.{◌≡◌, ℕ, ◌+◌, ◌≤◌, ◌<◌, ◌&&◌, nat_le, not, Bool, true, false, cond, List, [], ◌∷◌, ◌++◌, map, filter, Option, Some, None, option_and_then, arith, append-nil, if◌then◌else◌, inl, inr, is_some, length, get_or, refl, ap, sym, subst, ◌∙◌}
 use Rattle.std.specs.Map.{keys_of}
-use Rattle.std.specs.Prelude.{All, slice_get}
+use Rattle.std.specs.Prelude.{All, option_map, slice_get}
 use Rattle.std.proofs.Math.Bool.{and-false}
 use Rattle.std.proofs.lemmas.Bool.{cases_lt}
 use Rattle.std.proofs.lemmas.Bool.Decides.{nat_tests}
@@ -35,6 +35,7 @@ use Rattle.event_book.specs.declared.member.Member.{Member}
 use Rattle.cluster_script.specs.declared.head.MemberOptions.{MemberOptions}
 use Rattle.cluster_script.specs.declared.line.Step.{Step}
 use Rattle.cluster_script.specs.declared.line.Step.TheVariants as steps
+use Rattle.ha_loop.specs.declared.machine.Replication.{Replication}
 use Rattle.ha_loop.specs.Agents.{AgentFacts, Outcome}
 use Rattle.ha_loop.specs.Wake.{due_from}
 use Rattle.ha_loop.proofs.Waiting.{due-at}
@@ -46,7 +47,7 @@ use Rattle.cluster_model.specs.Beginnings.{completed_by, completion_in, completi
 use Rattle.cluster_model.specs.Commands.{kinds_of}
 use Rattle.cluster_model.specs.Inputs.{agent_at, has_work, is_to_wake, may_act, standing, standing_of}
 use Rattle.cluster_model.specs.Limits.{most_rounds}
-use Rattle.cluster_model.specs.Machines.{machine_from, watchdog_of}
+use Rattle.cluster_model.specs.Machines.{machine_from, replication_of, watchdog_of}
 use Rattle.cluster_model.specs.Messages.{message_events, wake_events, wake_events_if, wake_events_of}
 use Rattle.cluster_model.specs.Next.{acknowledge_events, all_entries, next_events, step_events, receive_events, receive_events_at_most, receive_events_of, round_events, rounds_events, scheduled_events}
 use Rattle.cluster_model.specs.Orders.{declared_member}
@@ -329,15 +330,18 @@ no-machine : (agent : Option AgentFacts) → HasWorkFrom (standing agent None) N
 no-machine None = λ now. refl
 no-machine (Some agent) = λ now. refl
 
-work-of : (receives : Bool) (options : Option MemberOptions) (deadline hold : Option (Option Ticks)) (s : Option ServerFacts) (agent : Option AgentFacts)
-    → HasWorkFrom (standing agent (machine_from receives options deadline hold s)) (work_moment options deadline hold s agent)
-work-of receives None deadline hold s agent = no-machine agent
-work-of receives (Some options) None hold s agent = no-machine agent
-work-of receives (Some options) (Some deadline) None s agent = no-machine agent
-work-of receives (Some options) (Some deadline) (Some hold) None agent = no-machine agent
-work-of receives (Some options) (Some deadline) (Some hold) (Some s) None = λ now. refl
-work-of receives (Some options) (Some deadline) (Some hold) (Some s) (Some agent) = λ now.
-    due-at agent.role agent.knows s.state now (record { server = record (status_of s) { receives = receives }; watchdog = watchdog_of options deadline; hold = hold }) refl
+work-of : (receives : Bool) (on : ServerFacts → Replication) (options : Option MemberOptions) (deadline hold : Option (Option Ticks)) (s : Option ServerFacts) (agent : Option AgentFacts)
+    → HasWorkFrom (standing agent (machine_from receives (option_map on s) options deadline hold s)) (work_moment options deadline hold s agent)
+work-of receives on None deadline hold None agent = no-machine agent
+work-of receives on None deadline hold (Some s) agent = no-machine agent
+work-of receives on (Some options) None hold None agent = no-machine agent
+work-of receives on (Some options) None hold (Some s) agent = no-machine agent
+work-of receives on (Some options) (Some deadline) None None agent = no-machine agent
+work-of receives on (Some options) (Some deadline) None (Some s) agent = no-machine agent
+work-of receives on (Some options) (Some deadline) (Some hold) None agent = no-machine agent
+work-of receives on (Some options) (Some deadline) (Some hold) (Some s) None = λ now. refl
+work-of receives on (Some options) (Some deadline) (Some hold) (Some s) (Some agent) = λ now.
+    due-at agent.role agent.knows s.state now (record { server = record (status_of s) { receives = receives }; replication = on s; watchdog = watchdog_of options deadline; hold = hold }) refl
 
 -- from when on there is something to do for the agent of a member
 pub work-from : (cluster : Cluster) (member : Member) (found : Option Ticks)
@@ -346,7 +350,7 @@ pub work-from : (cluster : Cluster) (member : Member) (found : Option Ticks)
     → HasWorkFrom (standing_of cluster member) found
 work-from cluster member found is =
     subst (λ (moment : Option Ticks). HasWorkFrom (standing_of cluster member) moment) (sym is)
-    (work-of (is_some (source_of cluster.book.members cluster.book.servers cluster.book.cuts member)) (slice_get cluster.options member.id.number) (slice_get cluster.book.deadlines member.id.number) (slice_get cluster.book.holds member.id.number)
+    (work-of (is_some (source_of cluster.book.members cluster.book.servers cluster.book.cuts member)) (replication_of cluster.book.members cluster.book.servers cluster.book.cuts member) (slice_get cluster.options member.id.number) (slice_get cluster.book.deadlines member.id.number) (slice_get cluster.book.holds member.id.number)
     (slice_get cluster.book.servers member.id.number) (agent_at cluster.agents member.id.number))
 
 same-item : {X : Type 0} (xs : List X) (k place : ℕ) (x y : X) → k ≡ place → slice_get xs place ≡ Some x → slice_get xs k ≡ Some y → x ≡ y

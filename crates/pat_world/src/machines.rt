@@ -7,7 +7,7 @@ ghost use Rattle.cluster_model.specs.Machines.{watchdog_of, machine_from, declar
 
 use cluster_script::MemberOptions;
 use event_book::Member;
-use ha_loop::{Machine, Who};
+use ha_loop::{Machine, Replication, Who};
 use leader_key::Watchdog;
 use pat_base::{Name, Ticks};
 use pg_model::{Server, ServerStatus};
@@ -18,20 +18,23 @@ const TICKS_OF_SECOND: u64 = 10;
 /// A machine of these parts. `None` exactly where one of them is absent.
 pub fn machine_from(
     receives: bool,
+    replication: Option<Replication>,
     options: Option<MemberOptions>,
     deadline: Option<Option<Ticks>>,
     hold: Option<Option<Ticks>>,
     server: Option<&Server>,
 ) -> Option<Machine>
-    ensures machine { result ≡ machine_from receives options deadline hold (option_map without_spare (option_copied server.entry)) }
+    ensures machine { result ≡ machine_from receives replication options deadline hold (option_map without_spare (option_copied server.entry)) }
     ensures within { IfSome (option_copied server.entry) (λ s. s.timeline < 2 ^ 60) → IfSome result (λ machine. IsWithin machine.server) }
 {
+    let replication = replication?;
     let options = options?;
     let deadline = deadline?;
     let hold = hold?;
     let status = server?.status();
     Some(Machine {
         server: ServerStatus { receives, ..status },
+        replication,
         watchdog: watchdog_of(options, deadline),
         hold,
     })

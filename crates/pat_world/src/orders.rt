@@ -2,14 +2,14 @@
 ghost use Rattle.std.specs.Prelude.{ℕ, ◌≡◌, ◌<◌, ◌+◌, ◌^◌, IfSome, IfOk, Some, None, option_and_then, option_map, slice_get};
 ghost use Rattle.event_book.specs.Members.{server_of};
 ghost use Rattle.cluster_model.specs.Messages.{receiver_of};
-ghost use Rattle.cluster_model.specs.Orders.{arming, barring, declared_member, declared_name, feeding, following_of, hold_taken, is_same_required, not_racing, require_of, required_names, stop_kind, stop_of, told_of, upstream_of};
+ghost use Rattle.cluster_model.specs.Orders.{arming, barring, declared_member, declared_name, feeding, following_of, hold_taken, is_same_required, not_racing, require_of, stop_kind, stop_of, told_of, upstream_of};
 ghost use Rattle.cluster_model.specs.State.{Cluster};
 ghost use Rattle.pat_world.specs.Comes.{MayCome};
 
+use crate::naming::required_names;
 use cluster_model::HeardMessage;
 use event_book::{
-    Basis, EventKind, LinkEnd, Member, Names, Note, ReplicationEvent, ServerEvent, ServerOf,
-    WatchdogEvent,
+    Basis, EventKind, LinkEnd, Member, Note, ReplicationEvent, ServerEvent, ServerOf, WatchdogEvent,
 };
 use ha_loop::{Output, Target};
 use lease_store::Bar;
@@ -116,20 +116,6 @@ pub fn require_of(
     })))
 }
 
-/// The names of those that commits wait for. It fails only for want of memory.
-fn required_names(
-    alloc: Global,
-    members: &[Member],
-    required: Required,
-) -> Result<Names, AllocError>
-    ensures { IfOk result (λ names. names ≡ required_names members.now required) }
-{
-    match required {
-        Required::All(set) => Names::of(alloc, set, members),
-        _ => Ok(Names::none(alloc)),
-    }
-}
-
 /// Whether commits wait for the same members.
 fn is_same_required(first: Required, second: Required) -> bool
     ensures { result ≡ is_same_required first second }
@@ -190,7 +176,7 @@ pub fn feeding(member: Member, until: Ticks, heard: HeardMessage) -> EventKind
     })
 }
 
-/// What an agent tells of its watchdog, but for its feeds.
+/// What an agent tells of its watchdog, but for its feeds, and of its promotion.
 pub fn told_of(member: Member, output: &Output) -> Option<EventKind>
     ensures kind { result ≡ told_of member output.now }
     ensures comes { (cluster : Cluster) → IfSome result (MayCome cluster) }
@@ -198,6 +184,7 @@ pub fn told_of(member: Member, output: &Output) -> Option<EventKind>
     match output {
         Output::Disarmed => Some(EventKind::Watchdog(WatchdogEvent::Disarmed { member })),
         Output::CannotArm => Some(EventKind::Note(Note::CannotArm { member })),
+        Output::PostponesPromotion => Some(EventKind::Note(Note::PostponesPromotion { member })),
         _ => None,
     }
 }

@@ -61,11 +61,11 @@ pub action-kept : (head : HeadText) (book : List Event) (cluster : Cluster) (eve
     → (MeetsPremises head (book ++ events) → TellsAction head book cluster events action)
     → IsKept head book cluster events
 action-kept head book cluster events action good begins tells = record {
-  sole = λ front rest e meets.
+  inside = λ front rest e meets.
       one-front-of (declared_of head) book (volatile_of cluster) action front good.carried
       (front-timely (declared_of head) book (volatile_of cluster) action front meets.timely
       (begins-front (MayBeginBehind (Behind head book cluster) action) [] front rest (subst (λ (l : List Event). BeginsBehind (MayBeginBehind (Behind head book cluster) action) [] l) (sym e) begins)));
-  bridged = λ meets.
+  behind = λ meets.
       let told = tells meets in
       record {
         matched = told.matched;

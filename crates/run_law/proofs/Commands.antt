@@ -1,5 +1,5 @@
 -- Commands of a script keep the law, but for those by which agents act and messages come.
-use Rattle.std.proofs.Common.{ℕ, ◌≡◌, ◌<◌, ◌==◌, Bool, true, false, cond, List, [], ◌∷◌, length, slice_get, Option, Some, None, option_and_then, option_map, refl, ◌∙◌, ap, sym, ◌≤◌}
+use Rattle.std.proofs.Common.{◌≡◌, ◌<◌, ◌==◌, Bool, true, false, cond, List, [], ◌∷◌, length, slice_get, Option, Some, None, option_and_then, option_map, refl, ◌≤◌}
 use Rattle.pat_base.specs.declared.member_id.MemberId.{MemberId}
 use Rattle.wal_model.specs.declared.entry.Entry.{Entry}
 use Rattle.pg_model.specs.Facts.{ServerFacts, is_replica}
@@ -9,11 +9,9 @@ use Rattle.event_book.specs.declared.event.AgentEvent.TheVariants as agents
 use Rattle.event_book.specs.declared.event.Event.{Event}
 use Rattle.event_book.specs.declared.event.EventKind.{EventKind}
 use Rattle.event_book.specs.declared.event.EventKind.TheVariants as kinds
-use Rattle.event_book.specs.declared.event.Note.TheVariants as notes
 use Rattle.event_book.specs.declared.event.ServerEvent.TheVariants as servers
 use Rattle.event_book.specs.declared.link.Link.{Link}
 use Rattle.event_book.specs.declared.member.Member.{Member}
-use Rattle.event_book.specs.Flight.{InFlightFacts}
 use Rattle.event_book.specs.Links.{CutLinks, is_cut}
 use Rattle.event_book.specs.Members.{server_of}
 use Rattle.cluster_script.specs.declared.line.Command.{Command}
@@ -23,7 +21,6 @@ use Rattle.cluster_script.specs.declared.line.SlowedCall.TheVariants as slowed_c
 use Rattle.cluster_script.specs.declared.ranges.Delay.{Delay}
 use Rattle.cluster_model.specs.Commands.{cut_of, hold_of, join_of, kill_of, kinds_of, link_of, resume_of}
 use Rattle.cluster_script.specs.Script.{HeadText, names_of}
-use Rattle.cluster_model.specs.Messages.{lose_events}
 use Rattle.cluster_model.specs.Next.{command_kind, declared, process_kind, promote_events, restart_events}
 use Rattle.cluster_model.specs.Parts.{event_of, events_of, for_some}
 use Rattle.cluster_model.specs.ServerCommands.{commit_of, crash_of, freezing_of, is_gone, slow_of, ticks_of}
@@ -32,12 +29,10 @@ use Rattle.run_law.specs.Asides.{IsQuiet}
 use Rattle.run_law.specs.Bridged.{Bridged}
 use Rattle.run_law.specs.Declaring.{member_count}
 use Rattle.run_law.specs.Kept.{IsKept}
-use Rattle.run_law.specs.Members.{IsDeclared}
 use Rattle.run_law.proofs.Composing.{kept-for_some, kept-none, kept-then}
-use Rattle.run_law.proofs.Ending.{kept-crash, kept-kill, kept-loss}
-use Rattle.run_law.proofs.Members.{declared-at, declared-within}
+use Rattle.run_law.proofs.Ending.{kept-crash, kept-kill}
+use Rattle.run_law.proofs.Members.{declared-now, declared-within}
 use Rattle.run_law.proofs.Promoting.{kept-breach}
-use Rattle.run_law.proofs.Quiet.{kept-quiet}
 use Rattle.run_law.proofs.Starting.{kept-restart}
 use Rattle.run_law.proofs.Streams.{IsQuietIf, kept-quiet-if}
 
@@ -108,11 +103,6 @@ pub kept-quiet-command : (head : HeadText) (book : List Event) (cluster : Cluste
     → IsKept head book cluster (events_of cluster (kinds_of (command_kind cluster command)))
 kept-quiet-command head book cluster command is good = kept-quiet-if head (command_kind cluster command) (command-quiet cluster command is) book cluster good
 
--- who is found by a number is declared
-pub declared-now : (head : HeadText) → length (names_of head) ≤ 16 → (book : List Event) (cluster : Cluster) → Bridged head book cluster
-    → (id : MemberId) (m : Member) → declared cluster id ≡ Some m → IsDeclared head m
-declared-now head few book cluster good id m is = declared-at head few id.number m (sym (ap (λ (ms : List Member). slice_get ms id.number) good.matched.members) ∙ is)
-
 kill-by : (head : HeadText) (book : List Event) (cluster : Cluster) (m : Member) (running : Bool) → m.id.number < member_count head → Bridged head book cluster
     → IsKept head book cluster (events_of cluster (kinds_of (cond running (Some (kinds.Agent (agents.Killed m))) None)))
 kill-by head book cluster m true small good = kept-then head book cluster (event_of cluster (kinds.Agent (agents.Killed m))) [] (kept-kill head book cluster m small good) (λ later. kept-none head _ _ later)
@@ -147,7 +137,7 @@ crash-declared head book cluster (Some m) good = crash-found head book cluster m
 pub kept-command-kind : (head : HeadText) → length (names_of head) ≤ 16 → (book : List Event) (cluster : Cluster) (command : Command) → Bridged head book cluster
     → IsKept head book cluster (events_of cluster (kinds_of (command_kind cluster command)))
 kept-command-kind head few book cluster (commands.Kill id) good =
-    kill-declared head book cluster (declared cluster id) (λ m is. declared-within head few m (declared-now head few book cluster good id m is)) good
+    kill-declared head book cluster (declared cluster id) (λ m is. declared-within head few m (declared-now head few cluster good.matched.members id m is)) good
 kept-command-kind head few book cluster (commands.Crash id) good = crash-declared head book cluster (declared cluster id) good
 kept-command-kind head few book cluster command good = kept-quiet-command head book cluster command tt good
 
@@ -161,10 +151,6 @@ pub kept-promote : (head : HeadText) (book : List Event) (cluster : Cluster) (m 
 kept-promote head book cluster m good =
     kept-for_some head book cluster (slice_get cluster.book.servers m.id.number) _ good (λ s is. promote-by head book cluster m _ (is_replica s.state) good)
 
-pub kept-lose : (head : HeadText) (book : List Event) (cluster : Cluster) (number : ℕ) (message : Option InFlightFacts) → Bridged head book cluster → IsKept head book cluster (lose_events cluster number message)
-kept-lose head book cluster number None good = kept-quiet head book cluster (kinds.Note (notes.NoMessage number)) tt good
-kept-lose head book cluster number (Some message) good = kept-loss head book cluster number good
-
 pub kept-restarts : (head : HeadText) → length (names_of head) ≤ 16 → (book : List Event) (cluster : Cluster) (id : MemberId) → Bridged head book cluster → IsKept head book cluster (for_some (declared cluster id) (restart_events cluster))
 kept-restarts head few book cluster id good =
-    kept-for_some head book cluster (declared cluster id) (restart_events cluster) good (λ m is. kept-restart head book cluster m (declared-within head few m (declared-now head few book cluster good id m is)) good)
+    kept-for_some head book cluster (declared cluster id) (restart_events cluster) good (λ m is. kept-restart head book cluster m (declared-within head few m (declared-now head few cluster good.matched.members id m is)) good)

@@ -38,8 +38,8 @@ use Rattle.lease_law.proofs.Showing.{past-append}
 use Rattle.lease_law.proofs.Tools.{both, eq-from, none-some, some-is}
 use Rattle.run_law.specs.Bridged.{Bridged, IsMatched}
 use Rattle.run_law.specs.Declaring.{declared_of}
-use Rattle.run_law.specs.Inputs.{InputsKeep}
-use Rattle.run_law.specs.Kept.{IsKept}
+use Rattle.run_law.specs.Parts.{InputsUphold}
+use Rattle.run_law.specs.Kept.{IsKept, one_writer}
 use Rattle.run_law.specs.Volatile.{agent_now, volatile_of}
 use Rattle.run_law.specs.Waiting.{IsAddressed, IsAnswer, IsPeerBody}
 use Rattle.run_law.proofs.Actions.{action-kept, machines-kept}
@@ -220,7 +220,7 @@ module _ (head : HeadText) (book : List Event) (cluster : Cluster) (number : ℕ
   kept-hearing = heard-by (heard_from cluster message) refl
 
 -- all of them do
-pub inputs-keep : (head : HeadText) → InputsKeep head
+pub inputs-keep : (head : HeadText) → InputsUphold head (one_writer head)
 inputs-keep head = record {
   wakes = λ book cluster member process good declared found acts. kept-wake head book cluster member good;
   hears = λ book cluster number message member good found to opened. kept-hearing head book cluster number message member good found to opened;

@@ -10,7 +10,6 @@ use Rattle.cluster_model.specs.Next.{run_events}
 use Rattle.cluster_model.specs.Starting.{cluster_of}
 use Rattle.lease_law.specs.Premises.{IsTimely, IsHandsOff}
 use Rattle.run_law.specs.Declaring.{declared_of, works_of}
-use Rattle.run_law.proofs.EveryInput.{inputs-keep}
 use Rattle.run_law.proofs.First.{bridged-first}
 use Rattle.run_law.proofs.Steps.{keeps-run}
 
@@ -21,7 +20,7 @@ pub runs-one : (head : HeadText) → IsHead head → (steps : List Step) (front 
     → IsTimely (declared_of head).margin front → IsHandsOff head.config (works_of head) front → HasOneWriter front
 runs-one head is steps front rest whole timely hands_off =
     let few = few-names head is in
-    (keeps-run head few (inputs-keep head) steps [] (cluster_of head) (bridged-first head few hands_off.unpaused)).sole front rest whole (record { timely = timely; hands_off = hands_off })
+    (keeps-run head few steps [] (cluster_of head) (bridged-first head few hands_off.unpaused)).inside front rest whole (record { timely = timely; hands_off = hands_off })
 
 -- the premises by other functions that say the same of each member
 pub runs-one-by : (head : HeadText) → IsHead head → (steps : List Step) (front rest : List Event) (margin : ℕ → Option ℕ) (works : ℕ → Bool) → front ++ rest ≡ run_events (cluster_of head) steps

@@ -162,6 +162,7 @@ module _ (member : Member) (run heard : ℕ) (Q : Output → Type 0) where
   order-mine cluster message at (outputs.Fed until) table is = tt
   order-mine cluster message at outputs.Disarmed table is = refl
   order-mine cluster message at outputs.CannotArm table is = tt
+  order-mine cluster message at outputs.PostponesPromotion table is = tt
   order-mine cluster message at (outputs.DoesNotRace bar) table is = tt
   order-mine cluster message at outputs.ShutDown table is = holds-then Mine (stop_of member) (server_at cluster member)
       (λ s. holds-if Mine (is_up s.state) (stop_kind member s.state s.stop_delay) (stop-mine (is_primary s.state && s.stop_delay.0 == 0)))

@@ -117,8 +117,8 @@ taken-over past (event ∷ events) all = taken-over (past_after past event.kind)
 -- the premises say that watchdogs work
 pub kept-if-works : (head : HeadText) (book : List Event) (cluster : Cluster) (events : List Event) → (((m : ℕ) → works_of head m ≡ true) → IsKept head book cluster events) → IsKept head book cluster events
 kept-if-works head book cluster events kept = record {
-  sole = λ front rest e meets. (kept meets.hands_off.watched).sole front rest e meets;
-  bridged = λ meets. (kept meets.hands_off.watched).bridged meets;
+  inside = λ front rest e meets. (kept meets.hands_off.watched).inside front rest e meets;
+  behind = λ meets. (kept meets.hands_off.watched).behind meets;
 }
 
 volatile-same : (a b : Bool) (x y : Option _) → a ≡ b → x ≡ y → ◌≡◌ {A = VolatileState} (record { live = a; agent = x }) (record { live = b; agent = y })
@@ -329,7 +329,8 @@ module _ (head : HeadText) (book : List Event) (cluster : Cluster) (good : Bridg
     )
 
     makes : (outs : List Output) (before : List Event) → MayPromote S M Theirs outs → (has_one is_arming outs ≡ true → IsArmedIn M message.number before) → May before M
-    makes outs before may armed = (
+    makes outs before (inl acts) armed = (refl, inl acts)
+    makes outs before (inr may) armed = (
       refl,
       inr (record {
         fed = may.fed;

@@ -519,7 +519,8 @@ module _ (member : Member) where
   output-here cluster message machine (outputs.StartReplica leader) table none old = start-here cluster machine (upstream_id leader) (declared_member cluster.book.members leader) old
   output-here cluster message machine (outputs.Stop reason) table none old = stop-here cluster machine reason old
   output-here cluster message machine (outputs.Follow leader) table none old = follow-here cluster machine (server_id_of leader) (slice_get cluster.book.members leader.number) old
-  output-here cluster message machine (outputs.Require required) table none old = require-here cluster machine required old
+  output-here cluster message machine (outputs.Require required) table none old =
+      let here : Here (cluster_over cluster (output_events member message cluster (outputs.Require required))) machine = require-here cluster machine required old in record { server = here.server; deadline = here.deadline; hold = here.hold }
   output-here cluster message machine (outputs.Armed until) table none old = record {
     server = stays-server cluster (cluster_after (cluster_after cluster (kinds.Watchdog (watchdogs.Measured member message.sent))) (kinds.Watchdog (watchdogs.Armed member until message.number))) member.id.number (status_seen machine.server) refl old.server;
     deadline = item-here cluster.book.deadlines member.id.number _ machine.watchdog.deadline old.deadline;
@@ -536,5 +537,6 @@ module _ (member : Member) where
     hold = old.hold;
   }
   output-here cluster message machine outputs.CannotArm table none old = unmoved cluster (cluster_after cluster (kinds.Note (notes.CannotArm member))) member.id.number machine refl refl refl old
+  output-here cluster message machine outputs.PostponesPromotion table none old = unmoved cluster (cluster_after cluster (kinds.Note (notes.PostponesPromotion member))) member.id.number machine refl refl refl old
   output-here cluster message machine (outputs.DoesNotRace bar) table none old = unmoved cluster (cluster_after cluster (not_racing cluster.book.members member bar)) member.id.number machine refl refl refl old
   output-here cluster message machine (outputs.HoldTaken until from sequence) table none old = absurd table

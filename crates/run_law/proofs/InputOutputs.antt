@@ -1,6 +1,6 @@
 -- All outputs of an input, one after another: the numbers of its messages, the machine that they leave, who begins in them, and what they
 -- feed.
-use Rattle.run_law.proofs.Composing.{over-append}
+use Rattle.run_law.proofs.Upholding.{over-append}
 use Rattle.std.proofs.Common.{◌≡◌, ◌⊎◌, ◌+◌, ◌++◌, ◌||◌, ◌≤◌, ◌<◌, nat_le, ℕ, Bool, true, false, List, [], ◌∷◌, Option, Some, None, All, length, slice_get, refl, sym, subst, ap, ◌∙◌, arith, inl, inr}
 use Rattle.std.proofs.lemmas.List.Elements.{All-head, All-tail}
 use Rattle.pat_base.specs.declared.member_id.MemberId.{MemberId}
@@ -162,6 +162,7 @@ module _ (member : Member) (run : ℕ) (message : HeardMessage) where
   output-numbered cluster (outputs.Fed until) runs table = other-numbered cluster (outputs.Fed until) runs table tt
   output-numbered cluster outputs.Disarmed runs table = other-numbered cluster outputs.Disarmed runs table tt
   output-numbered cluster outputs.CannotArm runs table = other-numbered cluster outputs.CannotArm runs table tt
+  output-numbered cluster outputs.PostponesPromotion runs table = other-numbered cluster outputs.PostponesPromotion runs table tt
   output-numbered cluster (outputs.DoesNotRace bar) runs table = other-numbered cluster (outputs.DoesNotRace bar) runs table tt
   output-numbered cluster outputs.ShutDown runs table = other-numbered cluster outputs.ShutDown runs table tt
   output-numbered cluster (outputs.Repair leader repair) runs table = other-numbered cluster (outputs.Repair leader repair) runs table tt

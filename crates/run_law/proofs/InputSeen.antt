@@ -2,7 +2,6 @@
 use Rattle.std.proofs.Common.{◌≡◌, ◌*◌, ◌≤◌, ℕ, Bool, true, false, List, Option, Some, None, IfSome, slice_get, option_map, is_some, refl, sym, subst, ap, ◌∙◌, arith}
 use Rattle.std.proofs.lemmas.Option.{slice_get-map}
 use Rattle.pat_base.specs.declared.ticks.Ticks.{Ticks}
-use Rattle.pat_base.specs.ServerState.{live}
 use Rattle.cluster_script.specs.declared.head.MemberOptions.{MemberOptions}
 use Rattle.cluster_script.specs.Script.{HeadText, MemberText}
 use Rattle.pg_model.specs.Facts.{ServerFacts}
@@ -13,14 +12,15 @@ use Rattle.ha_loop.specs.Agents.{AgentFacts}
 use Rattle.ha_loop.specs.Lawful.{IsYoung}
 use Rattle.ha_loop.specs.Seen.{moment_seen, hold_seen, machine_seen}
 use Rattle.ha_loop.specs.declared.knowledge.Waited.{Waited}
-use Rattle.cluster_model.specs.Machines.{machine_from, machine_of, ticks_of_second}
+use Rattle.cluster_model.specs.Machines.{machine_from, machine_of, replication_of, ticks_of_second}
+use Rattle.ha_loop.specs.declared.machine.Replication.{Replication}
 use Rattle.cluster_model.specs.State.{Cluster}
 use Rattle.cluster_model.specs.Streaming.{source_of}
 use Rattle.lease_law.specs.Past.{Past}
 use Rattle.lease_law.proofs.Tools.{none-some, some-is}
 use Rattle.run_law.specs.Bridged.{IsMatched}
 use Rattle.run_law.specs.Declaring.{declared_of, margin_said, works_of, works_said}
-use Rattle.run_law.specs.Machines.{deadline_now, hold_now, live_now, run_in}
+use Rattle.run_law.specs.Machines.{deadline_now, hold_now, run_in}
 use Rattle.run_law.specs.Volatile.{agent_now, machine_in}
 use Rattle.run_law.proofs.InputMachines.{Mirrors, Resembles}
 use Rattle.run_law.proofs.SameMachine.{machine-same}
@@ -34,10 +34,11 @@ pub record IsFound (cluster : Cluster) (member : Member) (machine : Machine) : T
   pub works : machine.watchdog.works ≡ options.device_works
   pub margin : machine.watchdog.margin ≡ Some (record { 0 = ticks_of_second * options.margin.seconds })
 
-found-by : (cluster : Cluster) (member : Member) (receives : Bool) (machine : Machine) (options : Option MemberOptions) (deadline hold : Option (Option Ticks)) (s : Option ServerFacts)
+found-by : (cluster : Cluster) (member : Member) (receives : Bool) (replication : Option Replication) (machine : Machine) (options : Option MemberOptions) (deadline hold : Option (Option Ticks)) (s : Option ServerFacts)
     → slice_get cluster.options member.id.number ≡ options → slice_get cluster.book.deadlines member.id.number ≡ deadline → slice_get cluster.book.holds member.id.number ≡ hold → slice_get cluster.book.servers member.id.number ≡ s
-    → machine_from receives options deadline hold s ≡ Some machine → IsFound cluster member machine
-found-by cluster member receives machine (Some options) (Some deadline) (Some hold) (Some s) a b c d e =
+    → machine_from receives replication options deadline hold s ≡ Some machine → IsFound cluster member machine
+found-by cluster member receives None machine options deadline hold s a b c d e = absurd (none-some machine e)
+found-by cluster member receives (Some replication) machine (Some options) (Some deadline) (Some hold) (Some s) a b c d e =
     subst (IsFound cluster member) (some-is _ machine e) (record {
       options = options;
       options_is = a;
@@ -46,14 +47,15 @@ found-by cluster member receives machine (Some options) (Some deadline) (Some ho
       works = refl;
       margin = refl;
     })
-found-by cluster member receives machine None deadline hold s a b c d e = absurd (none-some machine e)
-found-by cluster member receives machine (Some options) None hold s a b c d e = absurd (none-some machine e)
-found-by cluster member receives machine (Some options) (Some deadline) None s a b c d e = absurd (none-some machine e)
-found-by cluster member receives machine (Some options) (Some deadline) (Some hold) None a b c d e = absurd (none-some machine e)
+found-by cluster member receives (Some replication) machine None deadline hold s a b c d e = absurd (none-some machine e)
+found-by cluster member receives (Some replication) machine (Some options) None hold s a b c d e = absurd (none-some machine e)
+found-by cluster member receives (Some replication) machine (Some options) (Some deadline) None s a b c d e = absurd (none-some machine e)
+found-by cluster member receives (Some replication) machine (Some options) (Some deadline) (Some hold) None a b c d e = absurd (none-some machine e)
 
 pub found-of : (cluster : Cluster) (member : Member) (machine : Machine) → machine_of cluster member ≡ Some machine → IsFound cluster member machine
 found-of cluster member machine e =
-    found-by cluster member (is_some (source_of cluster.book.members cluster.book.servers cluster.book.cuts member)) machine
+    found-by cluster member (is_some (source_of cluster.book.members cluster.book.servers cluster.book.cuts member))
+    (option_map (replication_of cluster.book.members cluster.book.servers cluster.book.cuts member) (slice_get cluster.book.servers member.id.number)) machine
     (slice_get cluster.options member.id.number) (slice_get cluster.book.deadlines member.id.number) (slice_get cluster.book.holds member.id.number) (slice_get cluster.book.servers member.id.number) refl refl refl refl e
 
 -- ---- what the law sees of it

@@ -2,6 +2,7 @@ pub mod Places
 pub mod Lists
 pub mod Machines
 pub mod SameMachine
+pub mod Upholding
 pub mod Composing
 pub mod Fresh
 pub mod Waiting
@@ -16,6 +17,7 @@ pub mod Members
 pub mod Commands
 pub mod TickMachines
 pub mod Ticks
+pub mod Walking
 pub mod Steps
 pub mod First
 pub mod EveryRun

@@ -178,10 +178,10 @@ tells-decision : (number : ℕ) (message : Message) (txn : Txn) (decision : Deci
 tells-decision number message txn decision ends.Store moments cluster knows = tells-none moments cluster
 tells-decision number message txn Grant (ends.Member by) moments cluster knows =
     let answer : Message = answer_message message (decision_body number txn Grant) in
-    told-event moments cluster (decision_kind number by txn Grant) (λ later. send_events later answer) tt knows (tells-send answer)
+    told-event moments cluster (decision_kind cluster.book.members number by txn Grant) (λ later. send_events later answer) tt knows (tells-send answer)
 tells-decision number message txn (Refusal key found) (ends.Member by) moments cluster knows =
     let answer : Message = answer_message message (decision_body number txn (Refusal key found)) in
-    told-event moments cluster (decision_kind number by txn (Refusal key found)) (λ later. send_events later answer) tt knows (tells-send answer)
+    told-event moments cluster (decision_kind cluster.book.members number by txn (Refusal key found)) (λ later. send_events later answer) tt knows (tells-send answer)
 
 tells-answer : (number : ℕ) (message : Message) (body : Body) → Tells (λ cluster. answer_events_by cluster number message body)
 tells-answer number message bodies.Read moments cluster knows = tells-send (answer_message message bodies.Snapshot) moments cluster knows

@@ -6,11 +6,14 @@ use Rattle.pat_base.specs.declared.name.Name.{Name}
 use Rattle.event_book.specs.declared.member.Member.{Member}
 use Rattle.event_book.specs.Members.{members_from, put_first}
 use Rattle.pat_base.specs.MemberId.{member_by}
+use Rattle.pat_base.specs.declared.member_id.MemberId.{MemberId}
 use Rattle.cluster_script.specs.Script.{HeadText, names_of}
+use Rattle.cluster_model.specs.Next.{declared}
+use Rattle.cluster_model.specs.State.{Cluster}
 use Rattle.lease_law.proofs.Tools.{some-is}
 use Rattle.run_law.specs.Declaring.{declared_members, member_count}
 use Rattle.run_law.specs.Members.{IsDeclared, is_listed}
-use Rattle.run_law.proofs.Composing.{Each}
+use Rattle.run_law.proofs.Upholding.{Each}
 use Rattle.run_law.proofs.Places.{eq-self, there}
 
 not-small : (n : ℕ) → nat_lt n 16 ≡ false → n < 16 → ⊥
@@ -105,3 +108,8 @@ pub listed : (head : HeadText) → length (names_of head) ≤ 16 → (m : ℕ) �
 listed head few m small =
     let found = there (declared_members head) m (subst (λ (n : ℕ). m < n) (sym (counted head few)) small) in
     listed-at m (declared_members head) m found.0 found.1 (numbered head few m found.0 found.1)
+
+-- who is found by a number among the declared members is declared
+pub declared-now : (head : HeadText) → length (names_of head) ≤ 16 → (cluster : Cluster) → cluster.book.members ≡ declared_members head
+    → (id : MemberId) (m : Member) → declared cluster id ≡ Some m → IsDeclared head m
+declared-now head few cluster members id m is = declared-at head few id.number m (sym (ap (λ (ms : List Member). slice_get ms id.number) members) ∙ is)

@@ -20,8 +20,8 @@ hands-off-back (event ∷ book) rest is = hands-off-back book rest is.1
 pub kept-breach : (head : HeadText) (book : List Event) (cluster : Cluster) (event : Event) (events : List Event) → (IsHandsOffKind event.kind → ⊥) → Bridged head book cluster
     → IsKept head book cluster (event ∷ events)
 kept-breach head book cluster event events breach good = record {
-  sole = sole;
-  bridged = λ meets. absurd (breach (hands-off-back book (event ∷ events) meets.hands_off.events).0);
+  inside = sole;
+  behind = λ meets. absurd (breach (hands-off-back book (event ∷ events) meets.hands_off.events).0);
 }
   where
     sole : (front rest : List Event) → front ++ rest ≡ event ∷ events → MeetsPremises head (book ++ front) → HasOneWriter (book ++ front)

@@ -7,6 +7,7 @@ use Rattle.pat_base.specs.declared.peer_answer.PeerAnswer.{PeerAnswer}
 use Rattle.pat_base.specs.declared.ticks.Ticks.{Ticks}
 use Rattle.lease_store.specs.declared.config.Config.{Config}
 use Rattle.lease_store.specs.declared.granted.Granted.{Granted}
+use Rattle.lease_store.specs.declared.txn.Txn.{Txn}
 use Rattle.lease_store.specs.declared.txn.Txn.TheVariants as txns
 use Rattle.wal_model.specs.declared.entry.HistoryPoint.{HistoryPoint}
 use Rattle.cluster_config.specs.Snapshots.{SnapshotFacts}
@@ -17,7 +18,8 @@ use Rattle.ha_loop.specs.declared.heard.Heard.{Heard}
 use Rattle.ha_loop.specs.declared.heard.Heard.TheVariants.{Wake, Got, Granted as HeardGranted, Mismatch, Asked, Answered}
 use Rattle.ha_loop.specs.declared.knowledge.Knowledge.{Knowledge}
 use Rattle.ha_loop.specs.declared.knowledge.Question.{Question}
-use Rattle.ha_loop.specs.declared.knowledge.Question.TheVariants.{Reading, Asking, Creating, Renewing}
+use Rattle.ha_loop.specs.declared.knowledge.Question.TheVariants.{Reading, Asking, Creating, Renewing, Claiming, Syncing}
+use Rattle.ha_loop.specs.declared.knowledge.Settling.{Settling}
 use Rattle.ha_loop.specs.declared.knowledge.Waited.{Waited}
 use Rattle.ha_loop.specs.declared.machine.Machine.{Machine}
 use Rattle.ha_loop.specs.declared.output.Output.{Output}
@@ -25,17 +27,21 @@ use Rattle.ha_loop.specs.declared.output.Output.TheVariants as outputs
 use Rattle.ha_loop.specs.declared.output.Target.TheVariants as targets
 use Rattle.ha_loop.specs.declared.role.Why.{Why}
 use Rattle.ha_loop.specs.declared.role.Why.TheVariants.{HandOver, Lost}
-use Rattle.ha_loop.specs.Acting.{seconds_after, lease_span, counted, arming, feeding, armed, fed_until, disarmed, disarming, sending, asking, touching, starting_replica, following_server, is_refusing, deadline_after, waiting_no_more}
-use Rattle.ha_loop.specs.Agents.{RoleFacts, Follower, Leader, Outcome, made}
+use Rattle.ha_loop.specs.Acting.{requiring, seconds_after, lease_span, counted, arming, feeding, armed, fed_until, disarmed, disarming, sending, asking, touching, starting_replica, is_refusing, deadline_after, waiting_no_more}
+use Rattle.ha_loop.specs.Agents.{RoleFacts, Follower, Outcome, made}
 use Rattle.ha_loop.specs.Before.{has_ended, before}
-use Rattle.ha_loop.specs.Decisions.{asks_lease, is_start_too_long, leader_renewed, takes_over, stray_renewed, may_take, gives_back, begins, arms, takes_key, granted, refused}
+use Rattle.ha_loop.specs.Claiming.{begins, claims, begins_or_claims, postpones}
+use Rattle.ha_loop.specs.Decisions.{asks_lease, leader_renewed, takes_over, stray_renewed, may_take, gives_back, arms, takes_key, granted, refused}
+use Rattle.ha_loop.specs.Planning.{writing_sync, noting}
+use Rattle.ha_loop.specs.Synchronous.{unnamed}
+use Rattle.pat_base.specs.declared.server_state.Required.{Required}
 use Rattle.ha_loop.specs.Outputs.{listed}
 use Rattle.ha_loop.specs.Racing.{finds_free, judged, answers_until, asking_others, unheard}
 use Rattle.ha_loop.specs.Repairs.{repair_of}
 use Rattle.ha_loop.specs.Snapshots.{informed, follows, read_noted, got, follow_row}
 use Rattle.ha_loop.specs.Table.{step}
 use Rattle.ha_loop.specs.Wake.{turn_noted, overdue, turned, woken}
-use Rattle.ha_loop.proofs.Rows.{if-cases, before-by, overdue-by, turn-by, wake-by, got-by, refused-by, follow-by, repaired-by, free-by, granted-by, judged-by, answered-by}
+use Rattle.ha_loop.proofs.Rows.{WritesSync, led_on, if-cases, renewed-by, begins-or-claims-by, before-by, overdue-by, turn-by, wake-by, got-by, refused-by, follow-by, repaired-by, free-by, granted-by, judged-by, answered-by}
 use Rattle.ha_loop.specs.declared.who.Who.{Who}
 use Rattle.ha_loop.specs.Answers.{is_other, most_answers, asking_one, asking_first}
 use Rattle.ha_loop.specs.Peers.{keeping, answered}
@@ -223,6 +229,10 @@ others-reach now known o r =
       waits = New waited refl (omega (arith, r.last)) (omega arith) refl (is-lease o.knows.settings) (λ k d h. asks-none waited _ refl);
     }
 
+-- a promotion that is postponed
+postpone-reaches : (now : Ticks) (known : Knowledge) (held : ℕ) (o : Outcome) → Reaches now known o → Reaches now known (postpones held o)
+postpone-reaches now known held o r = one-more now known o.knows (disarmed o.machine.watchdog.deadline o.outputs) outputs.PostponesPromotion tt (disarm-reaches now known o r)
+
 overdue-reaches : (now : Ticks) (known : Knowledge) (o : Outcome) → Reaches now known o → Reaches now known (overdue now o)
 overdue-reaches now known o r =
     let quiet : AsksAnew now known (let none : Knowledge = record o.knows { waited = None } in none) o.outputs = rests now known o.knows _ o.outputs refl refl refl refl r in
@@ -232,6 +242,7 @@ overdue-reaches now known o r =
       leader = λ held _. one-more now known _ o.outputs _ tt quiet;
       stray = λ _. one-more now known _ o.outputs _ tt quiet;
       judges = λ _. judged-reaches now known o r;
+      ready = λ held _. postpone-reaches now known held (waiting_no_more o) quiet;
     })
 
 turn-reaches : (now : Ticks) (known : Knowledge) (o : Outcome) → Reaches now known o → Reaches now known (turned now o)
@@ -306,6 +317,7 @@ refused-reaches now known sequence o r =
       leader = λ held _. one-more now known _ o.outputs _ tt quiet;
       stray = λ _. one-more now known _ o.outputs _ tt quiet;
       follower = λ held _. quiet;
+      ready = λ held _. postpone-reaches now known held (waiting_no_more o) quiet;
     })
 
 feed-reaches : (now ttl : Ticks) (known : Knowledge) (o : Outcome) → Reaches now known o → Reaches now known (feeding now ttl o)
@@ -314,10 +326,30 @@ feed-reaches now ttl known o r = feeds now known o.knows o.outputs (deadline_aft
 arm-reaches : (now ttl : Ticks) (known : Knowledge) (o : Outcome) → Reaches now known o → Reaches now known (arming now ttl o)
 arm-reaches now ttl known o r = arms-it now known o.knows o.outputs (deadline_after now ttl o.machine.watchdog) r
 
+-- a write of the sync key
+writes-question : (txn : Txn) → WritesSync txn → IsQuestion (bodies.Request txn)
+writes-question (txns.SetSync revision sync standbys) writes = tt
+writes-question (txns.DropSync revision sync) writes = tt
+writes-question _ writes = absurd writes
+
+write-reaches : (now : Ticks) (known : Knowledge) (settling : Settling) (txn : Txn) (o : Outcome) → WritesSync txn → Reaches now known o → Reaches now known (writing_sync now settling txn o)
+write-reaches now known settling txn o writes r = ask-reaches now known (Syncing settling) _ (bodies.Request txn) o (writes-question txn writes) (λ e. absurd (no-lease e)) r
+  where
+    no-lease : asks_lease (Syncing settling) ≡ true → ⊥
+    no-lease e = cc
+
+require-reaches : (now : Ticks) (known : Knowledge) (required : Required) (o : Outcome) → Reaches now known o → Reaches now known (requiring required o)
+require-reaches now known required o r = one-more now known o.knows o.outputs (outputs.Require required) tt r
+
 renewed-reaches : (now ttl : Ticks) (known : Knowledge) (revision : ℕ) (o : Outcome) → Reaches now known o → Reaches now known (leader_renewed now ttl revision o)
-renewed-reaches now ttl known revision o r = let fed : Outcome = record (feeding now ttl o) { role = Leader revision } in
-    if-cases (Reaches now known) (is_start_too_long now fed.knows fed.machine.server.state) _ fed
-    (λ _. one-more now known fed.knows fed.outputs _ tt (feed-reaches now ttl known o r)) (λ _. feed-reaches now ttl known o r)
+renewed-reaches now ttl known revision o r = let led : Outcome = led_on now ttl revision o in
+    let fed : Reaches now known led = feed-reaches now ttl known o r in
+    renewed-by (Reaches now known) now ttl revision o (one-more now known led.knows led.outputs _ tt fed) (record {
+      kept = fed;
+      writes = λ settling txn writes. write-reaches now known settling txn led writes fed;
+      adds = λ required. require-reaches now known required (noting led) (goes-on now known led.knows (noting led).knows led.outputs refl refl refl refl fed);
+      drops = λ required. require-reaches now known required led fed;
+    })
 
 stray-reaches : (now ttl : Ticks) (known : Knowledge) (revision : ℕ) (o : Outcome) → Reaches now known o → Reaches now known (stray_renewed now ttl revision o)
 stray-reaches now ttl known revision o r = let armed-now : Outcome = arming now ttl o in
@@ -325,13 +357,20 @@ stray-reaches now ttl known revision o r = let armed-now : Outcome = arming now 
     (λ _. one-more now known o.knows o.outputs _ tt r) (λ _. goes-on now known armed-now.knows _ armed-now.outputs refl refl refl refl (arm-reaches now ttl known o r))
 
 begin-reaches : (now : Ticks) (known : Knowledge) (revision : ℕ) (o : Outcome) → Reaches now known o → Reaches now known (begins now revision o)
-begin-reaches now known revision o r = goes-on now known o.knows _ _ refl refl refl refl (one-more now known o.knows _ outputs.Begin tt (one-more now known o.knows o.outputs _ tt r))
+begin-reaches now known revision o r = goes-on now known o.knows _ _ refl refl refl refl (one-more now known o.knows _ outputs.Begin tt (require-reaches now known (unnamed o.knows.turn_settings) o r))
+
+claim-reaches : (now : Ticks) (known : Knowledge) (revision : ℕ) (o : Outcome) → Reaches now known o → Reaches now known (claims now revision o)
+claim-reaches now known revision o r = ask-reaches now known Claiming _ _ o tt (λ e. absurd (no-lease e)) r
+  where
+    no-lease : asks_lease Claiming ≡ true → ⊥
+    no-lease e = cc
 
 arms-reaches : (now ttl : Ticks) (known : Knowledge) (revision : ℕ) (o : Outcome) → Reaches now known o → Reaches now known (arms now ttl revision o)
 arms-reaches now ttl known revision o r =
-    if-cases (Reaches now known) (is_refusing o.machine.watchdog.mode o.machine.watchdog.works) _ (begins now revision (arming now ttl o))
+    if-cases (Reaches now known) (is_refusing o.machine.watchdog.mode o.machine.watchdog.works) _ (begins_or_claims now revision (arming now ttl o))
     (λ _. send-reaches now known (bodies.Request (txns.Release revision)) (record o { outputs = listed outputs.CannotArm o.outputs }) tt (one-more now known o.knows o.outputs outputs.CannotArm tt r))
-    (λ _. begin-reaches now known revision (arming now ttl o) (arm-reaches now ttl known o r))
+    (λ _. let arm : Outcome = arming now ttl o in let fed : Reaches now known arm = arm-reaches now ttl known o r in
+    begins-or-claims-by (Reaches now known) now revision arm (begin-reaches now known revision arm fed) (claim-reaches now known revision arm fed))
 
 takes-reaches : (now ttl : Ticks) (known : Knowledge) (revision : ℕ) (o : Outcome) → Reaches now known o → Reaches now known (takes_key now ttl revision o)
 takes-reaches now ttl known revision o r =
@@ -348,6 +387,12 @@ granted-reaches now known sequence grant snapshot o r =
       leader = λ held _. renewed-reaches now waited.ttl known grant.revision told next;
       stray = λ _. stray-reaches now waited.ttl known grant.revision told next;
       takes = λ _. takes-reaches now waited.ttl known grant.revision told next;
+    })
+    (record {
+      other = next;
+      begins = λ revision _. begin-reaches now known revision told next;
+      postpones = λ revision _. postpone-reaches now known revision told next;
+      settles = λ required _. require-reaches now known required told next;
     })
 
 step-reaches : (now : Ticks) (points : List HistoryPoint) (heard : Heard) (known : Knowledge) (o : Outcome) → Reaches now known o → Reaches now known (step now points heard o)

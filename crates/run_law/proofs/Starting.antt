@@ -19,7 +19,8 @@ use Rattle.event_book.specs.Functions.{put_at}
 use Rattle.ha_loop.specs.Agents.{AgentFacts}
 use Rattle.cluster_model.specs.Cluster.{cluster_after, cluster_over}
 use Rattle.cluster_model.specs.Commands.{disarm_of, disarm_if, kinds_of}
-use Rattle.cluster_model.specs.Machines.{machine_from, machine_of, who_of}
+use Rattle.cluster_model.specs.Machines.{machine_from, machine_of, replication_of, who_of}
+use Rattle.ha_loop.specs.declared.machine.Replication.{Replication}
 use Rattle.cluster_model.specs.Next.{restart_events, restart_events_of}
 use Rattle.cluster_model.specs.Parts.{event_of, events_of}
 use Rattle.cluster_model.specs.Starting.{options_of}
@@ -90,13 +91,18 @@ abbrev IsThere : {A : Type 0} → Option A → Type 0
 IsThere None = ⊥
 IsThere (Some x) = Unit {0}
 
-disarms : (member : Member) (receives : Bool) (options : Option MemberOptions) (deadline hold : Option (Option Ticks)) (s : Option ServerFacts) → IsThere options → IsThere deadline → IsThere hold → IsThere s
-    → IsStartOf member (live_now s) (deadline_now deadline) (disarm_of member (machine_from receives options deadline hold s))
-disarms member receives None deadline hold s a b c d = absurd a
-disarms member receives (Some options) None hold s a b c d = absurd b
-disarms member receives (Some options) (Some deadline) None s a b c d = absurd c
-disarms member receives (Some options) (Some deadline) (Some hold) None a b c d = absurd d
-disarms member receives (Some options) (Some deadline) (Some hold) (Some s) a b c d = disarms-if member (live s.state) deadline
+there-too : {A B : Type 0} (f : A → B) (found : Option A) → IsThere found → IsThere (option_map f found)
+there-too f None there = absurd there
+there-too f (Some x) there = tt
+
+disarms : (member : Member) (receives : Bool) (replication : Option Replication) (options : Option MemberOptions) (deadline hold : Option (Option Ticks)) (s : Option ServerFacts) → IsThere replication → IsThere options → IsThere deadline → IsThere hold → IsThere s
+    → IsStartOf member (live_now s) (deadline_now deadline) (disarm_of member (machine_from receives replication options deadline hold s))
+disarms member receives None options deadline hold s r a b c d = absurd r
+disarms member receives (Some replication) None deadline hold s r a b c d = absurd a
+disarms member receives (Some replication) (Some options) None hold s r a b c d = absurd b
+disarms member receives (Some replication) (Some options) (Some deadline) None s r a b c d = absurd c
+disarms member receives (Some replication) (Some options) (Some deadline) (Some hold) None r a b c d = absurd d
+disarms member receives (Some replication) (Some options) (Some deadline) (Some hold) (Some s) r a b c d = disarms-if member (live s.state) deadline
 
 is-there : {A : Type 0} (xs : List A) (k : ℕ) → k < length xs → IsThere (slice_get xs k)
 is-there xs k small = let found = there xs k small in subst IsThere (sym found.1) tt
@@ -109,11 +115,13 @@ start-disarms : (head : HeadText) (book : List Event) (cluster : Cluster) (membe
 start-disarms head book cluster member small good =
     let k : ℕ = member.id.number in
     let within : (n : ℕ) → n ≡ member_count head → k < n = λ n e. subst (λ (n : ℕ). k < n) (sym e) small in
-    disarms member _ (slice_get cluster.options k) (slice_get cluster.book.deadlines k) (slice_get cluster.book.holds k) (slice_get cluster.book.servers k)
+    let server : IsThere (slice_get cluster.book.servers k) = is-there cluster.book.servers k (within (length cluster.book.servers) good.matched.sized.servers) in
+    disarms member _ _ (slice_get cluster.options k) (slice_get cluster.book.deadlines k) (slice_get cluster.book.holds k) (slice_get cluster.book.servers k)
+    (there-too (replication_of cluster.book.members cluster.book.servers cluster.book.cuts member) (slice_get cluster.book.servers k) server)
     (is-there cluster.options k (within (length cluster.options) (ap (λ xs. length xs) good.matched.options ∙ options-sized head)))
     (is-there cluster.book.deadlines k (within (length cluster.book.deadlines) good.matched.sized.deadlines))
     (is-there cluster.book.holds k (within (length cluster.book.holds) good.matched.sized.holds))
-    (is-there cluster.book.servers k (within (length cluster.book.servers) good.matched.sized.servers))
+    server
 
 disarm-asides : (started : Cluster) (member : Member) (found : Option EventKind) (is_live : Bool) (deadline : Option ℕ) → IsStartOf member is_live deadline found → AllAre IsAside (events_of started (kinds_of found))
 disarm-asides started member None is_live deadline is = tt

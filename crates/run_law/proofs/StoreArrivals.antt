@@ -18,7 +18,8 @@ use Rattle.ha_loop.specs.Agents.{AgentFacts}
 use Rattle.cluster_script.specs.Script.{HeadText}
 use Rattle.cluster_model.specs.Cluster.{agent_facts_reached, agent_facts_reached_at, cluster_after, cluster_over}
 use Rattle.cluster_model.specs.Limits.{most_in_flight}
-use Rattle.cluster_model.specs.Messages.{answer_events, arrival_events_at, decision_events, lost_at_once}
+use Rattle.cluster_model.specs.Messages.{answer_events, arrival_events_at, decision_events, lost_at_once, published_names}
+use Rattle.pat_base.specs.declared.name.Name.{Name}
 use Rattle.cluster_model.specs.Parts.{event_of, events_of}
 use Rattle.cluster_model.specs.State.{Cluster}
 use Rattle.lease_law.specs.Actions.{Deliver}
@@ -130,14 +131,15 @@ module _ (head : HeadText) (book : List Event) (cluster : Cluster) (number : ℕ
       → IsKept head book cluster (event_of cluster (kinds.Message (Delivered number)) ++ decision_events Later number (record { from = ends.Member by; to = ends.Store; run = run; sequence = sequence; body = bodies.Request txn }) txn decision (ends.Member by))
   decision-kept txn Grant is span decides =
       let answer : ℕ = cluster.book.sent + 1 in
-      let events : List Event = granted_events Moment number answer by run sequence txn [] in
+      let names : List Name = published_names cluster.book.members txn in
+      let events : List Event = granted_events Moment number answer by run sequence txn names in
       let above = more-sent cluster.book.sent in
       kept-then head book cluster events (events_of (cluster_over cluster events) (lost_at_once (nat_le most_in_flight (length Later.book.flight)) answer))
       (delivery-kept head book cluster events number answer true good (λ P. (tt, (tt, (tt, tt))))
       (record { agents = reached (bodies.Request txn) is; servers = refl; processes = refl; asked = refl })
-      (granted-causal (past_of book) cluster.book Moment number answer message by run sequence txn [] good.matched.flight found is above span)
+      (granted-causal (past_of book) cluster.book Moment number answer message by run sequence txn names good.matched.flight found is above span)
       (λ hands_off. ((tt, tt, tt), ((hands_off.1.0, tt, tt), ((tt, tt, tt), tt))))
-      (granted-delivery (declared_of head) book cluster.book (volatile_of cluster) Moment number answer message by run sequence txn [] same-book found is above span decides).0)
+      (granted-delivery (declared_of head) book cluster.book (volatile_of cluster) Moment number answer message by run sequence txn names same-book found is above span decides).0)
       (λ later. lost-kept head (book ++ events) (cluster_over cluster events) (nat_le most_in_flight (length Later.book.flight)) answer later)
   decision-kept txn (Refusal key expected) is span decides =
       let answer : ℕ = cluster.book.sent + 1 in

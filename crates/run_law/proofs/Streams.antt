@@ -17,7 +17,7 @@ use Rattle.cluster_model.specs.Losing.{is_lacking, loss_if, loss_of, losses_of}
 use Rattle.cluster_model.specs.Cluster.{cluster_after}
 use Rattle.cluster_model.specs.Commands.{kinds_of}
 use Rattle.cluster_script.specs.Script.{HeadText}
-use Rattle.cluster_model.specs.Next.{acknowledge_events, all_entries, confirm_events, receive_events, receive_events_at_most, receive_events_of}
+use Rattle.cluster_model.specs.Next.{acknowledge_events, confirm_events, receive_events, receive_events_at_most}
 use Rattle.cluster_model.specs.Parts.{event_of, events_of}
 use Rattle.cluster_model.specs.State.{Cluster}
 use Rattle.cluster_model.specs.Streaming.{confirm_of, source_of}
@@ -25,7 +25,7 @@ use Rattle.run_law.proofs.Lists.{AllKinds, kinds-both}
 use Rattle.run_law.specs.Asides.{IsQuiet}
 use Rattle.run_law.specs.Bridged.{Bridged}
 use Rattle.run_law.specs.Kept.{IsKept, Keeps}
-use Rattle.run_law.proofs.Composing.{kept-for_some, kept-if, kept-none, kept-then}
+use Rattle.run_law.proofs.Composing.{kept-for_some, kept-none, kept-then}
 use Rattle.run_law.proofs.Quiet.{kept-quiet, kept-quietly}
 
 -- one such event, if one happens
@@ -60,11 +60,6 @@ pub keeps-receive-at-most : (head : HeadText) (most : ℕ) (member : Member) →
 keeps-receive-at-most head most member book cluster good =
     kept-for_some head book cluster (source_of cluster.book.members cluster.book.servers cluster.book.cuts member) _ good
     (λ from is. kept-receive head book cluster member from (news_at cluster.book.servers member.id.number from.id.number most) good)
-
-pub keeps-receive : (head : HeadText) (member : Member) → Keeps head (λ cluster. receive_events_of cluster member)
-keeps-receive head member book cluster good =
-    kept-for_some head book cluster (slice_get cluster.book.frozen member.id.number) _ good
-    (λ frozen is. kept-if head book cluster frozen [] (receive_events_at_most cluster all_entries member) (λ e. kept-none head book cluster good) (λ e. keeps-receive-at-most head all_entries member book cluster good))
 
 loss-quiet : (member : Member) (test : Bool) → AllKinds IsQuiet (kinds_of (loss_if member test))
 loss-quiet member true = (tt, tt)

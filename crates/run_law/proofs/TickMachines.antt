@@ -33,7 +33,7 @@ use Rattle.run_law.specs.Asides.{IsQuiet}
 use Rattle.run_law.specs.Machines.{deadline_in, deadline_now, live_now, run_now}
 use Rattle.run_law.specs.Members.{is_listed}
 use Rattle.run_law.specs.Volatile.{agent_now, machine_in}
-use Rattle.run_law.proofs.Composing.{Each, over-append}
+use Rattle.run_law.proofs.Upholding.{Each, over-append}
 use Rattle.run_law.proofs.Ending.{agent-without, crashed-now}
 use Rattle.run_law.proofs.Machines.{ended-run, no-deadline, seen-kept}
 use Rattle.run_law.proofs.SameMachine.{machine-same}

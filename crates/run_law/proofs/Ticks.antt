@@ -46,7 +46,7 @@ use Rattle.run_law.specs.Members.{is_listed}
 use Rattle.run_law.specs.Volatile.{machine_in, volatile_of}
 use Rattle.run_law.proofs.Actions.{action-kept, machine-is}
 use Rattle.run_law.proofs.Asides.{asides-begin-as, matched-behind-as}
-use Rattle.run_law.proofs.Composing.{Each, over-append}
+use Rattle.run_law.proofs.Upholding.{Each, over-append}
 use Rattle.run_law.proofs.Members.{declared-within, each-declared, listed}
 use Rattle.run_law.proofs.Quiet.{quiet-aside, quiet-local}
 use Rattle.run_law.proofs.TickMachines.{end-one, ends, quiet-machines, resets, stops_seen, ticked-machine}

@@ -7,7 +7,7 @@ use Rattle.wal_model.specs.declared.entry.HistoryPoint.{HistoryPoint}
 use Rattle.ha_loop.specs.declared.heard.Heard.TheVariants.{Wake}
 use Rattle.ha_loop.specs.declared.knowledge.Knowledge.{Knowledge}
 use Rattle.ha_loop.specs.declared.knowledge.Question.{Question}
-use Rattle.ha_loop.specs.declared.knowledge.Question.TheVariants.{Asking, Creating, Reading, Renewing}
+use Rattle.ha_loop.specs.declared.knowledge.Question.TheVariants.{Asking, Creating, Reading, Renewing, Claiming, Syncing}
 use Rattle.ha_loop.specs.declared.knowledge.Waited.{Waited}
 use Rattle.ha_loop.specs.declared.machine.Machine.{Machine}
 use Rattle.ha_loop.specs.declared.output.Output.{Output}
@@ -18,6 +18,7 @@ use Rattle.ha_loop.specs.Acting.{disarmed, waiting_no_more}
 use Rattle.ha_loop.specs.Agents.{RoleFacts, Follower, Holder, Ready, Leader, Ending, Stray, Outcome, made}
 use Rattle.ha_loop.proofs.Rows.{judged-by}
 use Rattle.ha_loop.specs.Before.{before, before_as, has_ended}
+use Rattle.ha_loop.specs.Claiming.{claim_fails_as}
 use Rattle.ha_loop.specs.Decisions.{may_create}
 use Rattle.ha_loop.specs.Racing.{judged}
 use Rattle.ha_loop.specs.Table.{step}
@@ -60,10 +61,16 @@ none-reach now _ o all = all
 none-judged : (now : Ticks) (o : Outcome) → NoneFed o → NoneFed (judged now o)
 none-judged now o all = judged-by NoneFed now o (All-push FeedsNone _ _ all tt) (λ bar. All-push FeedsNone _ _ (All-push FeedsNone _ _ all tt) tt)
 
+none-failed : (role : RoleFacts) (o : Outcome) → NoneFed o → NoneFed (claim_fails_as role o)
+none-failed (Ready revision) o all = All-push FeedsNone _ _ (none-disarmed o.machine.watchdog.deadline o.outputs all) tt
+none-failed _ o all = all
+
 none-unanswered : (now : Ticks) (question : Question) (o : Outcome) → NoneFed o → NoneFed (unanswered now question o)
 none-unanswered now Reading o all = none-reach now o.role (waiting_no_more o) all
 none-unanswered now Renewing o all = none-reach now o.role (waiting_no_more o) all
 none-unanswered now Creating o all = all
+none-unanswered now Claiming o all = none-failed o.role (waiting_no_more o) all
+none-unanswered now (Syncing settling) o all = all
 none-unanswered now Asking o all = none-if (may_create o.role) (judged now o) (waiting_no_more o) (none-judged now o all) all
 
 none-overdue : (now : Ticks) (waited : Option Waited) (o : Outcome) → NoneFed o → NoneFed (overdue_for now waited o)

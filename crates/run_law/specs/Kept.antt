@@ -1,5 +1,5 @@
 -- Events that keep the law of one writer.
-use Rattle.std.specs.Prelude.{◌≡◌, ◌++◌, List}
+use Rattle.std.specs.Prelude.{◌++◌, List}
 use Rattle.cluster_script.specs.Script.{HeadText}
 use Rattle.event_book.specs.declared.event.Event.{Event}
 use Rattle.event_book.specs.Writers.{HasOneWriter}
@@ -11,6 +11,7 @@ use Rattle.lease_law.specs.Books.{IsShown}
 use Rattle.lease_law.specs.Claims.{ShowsIt}
 use Rattle.lease_law.specs.Past.{past_of, state_of}
 use Rattle.run_law.specs.Bridged.{Bridged, IsMatched}
+use Rattle.run_law.specs.Promise.{Promise, Upholds, UpholdsAlways}
 use Rattle.run_law.specs.Volatile.{volatile_of}
 use Rattle.run_law.specs.Declaring.{declared_of, works_of}
 
@@ -19,15 +20,17 @@ pub record MeetsPremises (head : HeadText) (book : List Event) : Type 0 where
   pub timely : IsTimely (declared_of head).margin book
   pub hands_off : IsHandsOff head.config (works_of head) book
 
--- behind this book and cluster these events keep the law: at each moment inside them at most one server accepts writes, and behind them
--- book and cluster are bridged again; each as long as the premises are met
-pub record IsKept (head : HeadText) (book : List Event) (cluster : Cluster) (events : List Event) : Type 0 where
-  pub sole : (front rest : List Event) → front ++ rest ≡ events → MeetsPremises head (book ++ front) → HasOneWriter (book ++ front)
-  pub bridged : MeetsPremises head (book ++ events) → Bridged head (book ++ events) (cluster_over cluster events)
+-- at most one server accepts writes, as long as the premises are met, over books and clusters that are bridged
+abbrev pub one_writer : HeadText → Promise
+one_writer head = record { premises = MeetsPremises head; moment = HasOneWriter; between = Bridged head }
+
+-- behind this book and cluster these events keep the law
+abbrev pub IsKept : HeadText → List Event → Cluster → List Event → Type 0
+IsKept head book cluster events = Upholds (one_writer head) book cluster events
 
 -- a part of a step keeps the law behind each book and cluster that are bridged
 abbrev pub Keeps : HeadText → (Cluster → List Event) → Type 0
-Keeps head part = (book : List Event) (cluster : Cluster) → Bridged head book cluster → IsKept head book cluster (part cluster)
+Keeps head part = UpholdsAlways (one_writer head) part
 
 -- these events are this action: it is lawful, they tell it, and cluster and book fit behind them
 pub record TellsAction (head : HeadText) (book : List Event) (cluster : Cluster) (events : List Event) (action : Action) : Type 0 where

@@ -7,7 +7,8 @@ pub mod Questions
 pub mod Waiting
 pub mod InputEvents
 pub mod Bridged
+pub mod Promise
 pub mod Kept
 pub mod Asides
 pub mod LocalActions
-pub mod Inputs
+pub mod Parts

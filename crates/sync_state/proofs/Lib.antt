@@ -1,1 +1,5 @@
+pub mod Changing
+pub mod Ordering
+pub mod Ranking
 pub mod SetBits
+pub mod Wanting

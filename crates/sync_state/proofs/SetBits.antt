@@ -1,15 +1,16 @@
 -- Sets by their bits, and sets that are put together member by member.
-use Rattle.std.proofs.Common.{◌≡◌, ◌≢◌, ◌==◌, ℕ, ◌+◌, ◌<◌, ◌≤◌, min, max, Bool, true, false, cond, List, length, get_or, take, set, map, inl, inr, refl, sym, ap, ◌∙◌, arith, bit_and, ◌↔◌, IsTrue}
+use Rattle.std.proofs.Common.{◌≡◌, ◌≢◌, ◌==◌, ℕ, ◌+◌, ◌<◌, ◌≤◌, min, max, Bool, true, false, cond, List, length, get_or, take, set, map, ◌⊎◌, inl, inr, refl, sym, ap, ◌∙◌, arith, bit_and, ◌↔◌, IsTrue}
 use Rattle.std.specs.Int.{bit_at}
 use Rattle.std.proofs.lemmas.Bool.{cases_lt, cases_eq}
 use Rattle.std.proofs.lemmas.Bool.Decides.{nat_tests}
 use Rattle.std.proofs.lemmas.List.{get_or-take, get_or_past, get_or-map, length-map, length-take, take_all}
 use Rattle.std.proofs.lemmas.List.Edits.{fill_by_more}
-use Rattle.std.proofs.lemmas.Nat.Bits.{bit_at_and, bit_at_or, same_from_bits}
+use Rattle.std.proofs.lemmas.Nat.Bits.{bit_at_and, bit_at_or, bit_at-lt, bit_at-zero, same_from_bits}
 use Rattle.std.proofs.lemmas.Simd.{bit_mask_l}
 use Rattle.pat_base.specs.declared.member_set.MemberSet.{MemberSet}
 use Rattle.pat_base.proofs.MemberBits.{within_both, both_within}
-use Rattle.sync_state.specs.Sets.{set_of, both, either, is_within}
+use Rattle.sync_state.specs.Laws.{IsWithin, IsBoth, IsEither}
+use Rattle.sync_state.specs.Sets.{nobody, set_of, both, either, is_within}
 
 -- sets with the same bits are one
 pub same-set : (one other : MemberSet) → ((k : ℕ) → bit_at one.bits k ≡ bit_at other.bits k) → one ≡ other
@@ -44,6 +45,74 @@ bit_where chosen = cond chosen 1 0
 
 pub bit-set_of : (chosen : List Bool) (k : ℕ) → bit_at (set_of chosen).bits k ≡ bit_where (get_or chosen k false)
 bit-set_of chosen k = bit_mask_l chosen k
+
+one-bit : (t : Bool) → bit_where t ≡ 1 → t ≡ true
+one-bit true e = refl
+one-bit false e = absurd (omega (arith, e))
+
+-- who is in the set of those that are chosen
+pub chosen-from : {X : Type 0} (chosen : X → Bool) (xs : List X) (k : ℕ) (d : X) → bit_at (set_of (map chosen xs)).bits k ≡ 1 → (k < length xs) × (chosen (get_or xs k d) ≡ true)
+chosen-from chosen xs k d is =
+    let there : get_or (map chosen xs) k false ≡ true = one-bit (get_or (map chosen xs) k false) (sym (bit-set_of (map chosen xs) k) ∙ is) in
+    elim (cases_lt k (length xs)) [
+      | inl lt ↦ (lt, sym (get_or-map chosen xs k d false lt) ∙ there)
+      | inr ge ↦ absurd (not-both (sym (get_or_past (map chosen xs) k false (omega (arith, length-map xs chosen))) ∙ there))
+    ]
+  where
+    not-both : false ≡ true → ⊥
+    not-both e = cc
+
+pub chosen-to : {X : Type 0} (chosen : X → Bool) (xs : List X) (k : ℕ) (d : X) → k < length xs → chosen (get_or xs k d) ≡ true → bit_at (set_of (map chosen xs)).bits k ≡ 1
+chosen-to chosen xs k d within is = bit-set_of (map chosen xs) k ∙ ap bit_where (get_or-map chosen xs k d false within ∙ is)
+
+-- ---- sets within sets
+pub none-within : (set : MemberSet) → IsWithin nobody set
+none-within set k is = absurd (omega (arith, bit_at-zero k, is))
+
+pub is-within : (one other : MemberSet) → is_within one other ≡ true → IsWithin one other
+is-within one other h k is =
+    let below = within_both one.bits other.bits (numbers-same (bit_and one.bits other.bits) one.bits h) k in
+    let least = bit_at-lt other.bits k in
+    omega (arith, below, least, is)
+
+pub both-members : (one other : MemberSet) → IsBoth one other (both one other)
+both-members one other = record {
+  first = λ k is. first k is;
+  second = λ k is. second k is;
+  whole = λ k is is'. whole k is is';
+}
+  where
+    bit : (k : ℕ) → bit_at (both one other).bits k ≡ min (bit_at one.bits k) (bit_at other.bits k)
+    bit k = bit_at_and one.bits other.bits k
+
+    first : (k : ℕ) → bit_at (both one other).bits k ≡ 1 → bit_at one.bits k ≡ 1
+    first k is = omega (arith, bit k, is, bit_at-lt one.bits k)
+
+    second : (k : ℕ) → bit_at (both one other).bits k ≡ 1 → bit_at other.bits k ≡ 1
+    second k is = omega (arith, bit k, is, bit_at-lt other.bits k)
+
+    whole : (k : ℕ) → bit_at one.bits k ≡ 1 → bit_at other.bits k ≡ 1 → bit_at (both one other).bits k ≡ 1
+    whole k is is' = omega (arith, bit k, is, is')
+
+pub either-members : (one other : MemberSet) → IsEither one other (either one other)
+either-members one other = record {
+  first = λ k is. first k is;
+  second = λ k is. second k is;
+  whole = λ k is. whole k is (cases_eq (bit_at one.bits k) 1);
+}
+  where
+    bit : (k : ℕ) → bit_at (either one other).bits k ≡ max (bit_at one.bits k) (bit_at other.bits k)
+    bit k = bit_at_or one.bits other.bits k
+
+    first : (k : ℕ) → bit_at one.bits k ≡ 1 → bit_at (either one other).bits k ≡ 1
+    first k is = omega (arith, bit k, is, bit_at-lt other.bits k)
+
+    second : (k : ℕ) → bit_at other.bits k ≡ 1 → bit_at (either one other).bits k ≡ 1
+    second k is = omega (arith, bit k, is, bit_at-lt one.bits k)
+
+    whole : (k : ℕ) → bit_at (either one other).bits k ≡ 1 → (bit_at one.bits k ≡ 1) ⊎ (bit_at one.bits k ≡ 1 → ⊥) → (bit_at one.bits k ≡ 1) ⊎ (bit_at other.bits k ≡ 1)
+    whole k is (inl here) = inl here
+    whole k is (inr out) = inr (omega (arith, bit k, is, out, bit_at-lt one.bits k, bit_at-lt other.bits k))
 
 at-take : (chosen : List Bool) (n k : ℕ) → n < length chosen → k ≢ n → get_or (take (n + 1) chosen) k false ≡ get_or (take n chosen) k false
 at-take chosen n k within other =

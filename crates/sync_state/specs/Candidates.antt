@@ -61,7 +61,8 @@ abbrev pub candidate_where : Bool → Option Candidate → Option Candidate
 candidate_where false candidate = None
 candidate_where true candidate = candidate
 
--- the member as a candidate: it is connected, and its member key is there and doesn't say `nosync`
+-- the member as a candidate, if it is one: the cluster has such a member, it is connected, and its member key is there and doesn't
+-- say `nosync`
 abbrev pub candidate_in : LeaderView → SnapshotFacts → MemberId → Option Candidate
 candidate_in view seen member =
     candidate_where (may_sync member seen) (candidate_by (is_one_of member (published_in seen)) (connected_end member view) (name_in member seen))

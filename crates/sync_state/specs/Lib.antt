@@ -1,4 +1,5 @@
 pub mod Candidates
+pub mod Laws
 pub mod Plans
 pub mod Published
 pub mod Sets

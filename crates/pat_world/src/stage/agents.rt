@@ -20,6 +20,7 @@ use crate::flight::InFlight;
 use crate::machines::{item_at, machine_from};
 use crate::places;
 use crate::processes::{may_act, restarted};
+use crate::replication::replication_of;
 use crate::streaming::source_of;
 use crate::watchdogs::disarm_at_start;
 use cluster_config::{AgentView, Snapshot};
@@ -266,6 +267,7 @@ impl Stage {
         let from = source_of(&self.members, &self.servers, &self.cuts, member);
         machine_from(
             from.is_some(),
+            replication_of(&self.members, &self.servers, &self.cuts, member),
             item_at(&self.options, place),
             item_at(&self.deadlines, place),
             item_at(&self.holds, place),

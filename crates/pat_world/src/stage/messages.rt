@@ -20,9 +20,10 @@ use super::{Stage, note};
 use crate::deliveries::delivery_of;
 use crate::flight::InFlight;
 use crate::flight_index::message_way;
+use crate::naming::published_names;
 use cluster_model::{Delivery, HeardMessage};
 use event_book::{
-    Body, Event, EventKind, LinkEnd, Member, Message, MessageEvent, Names, Note, StoreEvent,
+    Body, Event, EventKind, LinkEnd, Member, Message, MessageEvent, Note, StoreEvent,
 };
 use lease_store::{Granted, Key, KeyEntry, StoreRefusal, Txn};
 use pat_base::{Shared, Ticks};
@@ -248,7 +249,7 @@ impl Stage {
                     number,
                     by,
                     txn: Shared::new(self.alloc, txn.try_clone()?)?,
-                    standbys: Names::none(self.alloc),
+                    standbys: published_names(self.alloc, &self.members, txn)?,
                 };
                 note(events, self.clock, EventKind::Store(granted))?;
                 let body = Body::Granted {

@@ -1,4 +1,4 @@
-use Rattle.std.proofs.Common.{◌≡◌, ◌∙◌, ◌++◌, [], ◌∷◌, Bool, Err, arith, refl, ap, sym, subst}
+use Rattle.std.proofs.Common.{◌≡◌, ◌∙◌, ◌++◌, [], ◌∷◌, Bool, Err, arith, refl, ap, sym, subst, rules}
 use Rattle.std.proofs.lemmas.Result.{on_ok_weaker}
 use Rattle.lease_store.specs.declared.granted.Granted.{Granted}
 use Rattle.lease_store.specs.Decision.{decision_on, Grant, Refusal}
@@ -11,7 +11,7 @@ use Rattle.event_book.specs.declared.event.StoreEvent.TheVariants as stores
 use Rattle.event_book.specs.declared.message.Body.TheVariants as bodies
 use Rattle.event_book.specs.declared.message.Message.{Message}
 use Rattle.cluster_model.specs.State.{Cluster}
-use Rattle.cluster_model.specs.Messages.{decision_events, send_events, answer_message}
+use Rattle.cluster_model.specs.Messages.{decision_events, published_names, send_events, answer_message}
 use Rattle.pat_world.specs.Room.{HasRoom}
 use Rattle.pat_world.specs.Emits.{Emits}
 use Rattle.pat_world.proofs.Deciding.{granted-took, refused-took, granted-event}
@@ -26,7 +26,7 @@ send-requires-clause-room c =
     let written = c.in-Ok.ensures.written in
     let state = ap (λ (keys : Keys). let g : Cluster = record before { book = record before.book { keys = keys } } in g) written in
     let room : HasRoom before 3 = subst (λ (b : Cluster). HasRoom b 3) (sym c.self.view_is) c.requires.room in
-    subst (λ (b : Cluster). HasRoom b 2) (sym state) (HasRoom-cluster_after before (kinds.Store (stores.Granted c.args.number by c.args.txn.now [])) 2 tt room)
+    subst (λ (b : Cluster). HasRoom b 2) (sym state) (HasRoom-cluster_after before (kinds.Store (stores.Granted c.args.number by c.args.txn.now (published_names before.book.members c.args.txn.now))) 2 tt room)
 
 pub send-requires-in-Err-Mismatch-clause-room : goal.send-requires-in-Err-Mismatch-clause-room
 send-requires-in-Err-Mismatch-clause-room c =
@@ -47,7 +47,8 @@ returns-in_ok-note-in-Ok c =
     let state = ap (λ (keys : Keys). let g : Cluster = record before { book = record before.book { keys = keys } } in g) written in
     let leased : c.leased.result ≡ is_lease txn = c.leased.ensures ∙ ap (λ (g : Granted). g.leased) c.in-Ok.ensures.told in
     let answer = c.answer_message.ensures ∙ ap (λ (l : Bool). answer_message message (bodies.Granted c.args.number l)) leased in
-    let mid = c.in_ok-note-in-Ok.ensures ∙ ap (λ es. c.args.events.now.items ++ es) (granted-event c.self.inside.clock c.args.number by _ txn _ (c.in_ok-new-in-Ok.ensures ∙ c.in_ok-try_clone-in-Ok.ensures) c.none.ensures) in
+    let named : c.in_ok-published_names.published_names ≡ published_names before.book.members txn = search rules in
+    let mid = c.in_ok-note-in-Ok.ensures ∙ ap (λ es. c.args.events.now.items ++ es) (granted-event c.self.inside.clock c.args.number by _ txn _ _ (c.in_ok-new-in-Ok.ensures ∙ c.in_ok-try_clone-in-Ok.ensures) named) in
     on_ok_weaker c.send.result
     (λ took. subst (λ (b : Cluster). Emits b c.send.new.self c.args.events.now.items c.send.new.events.items (decision_events b c.args.number message txn (decision_on b.book.keys b.book.clock txn) message.from) 3) c.self.view_is
     (granted-took before granting c.send.new.self c.args.number by message txn c.self.inside.clock c.args.events.now.items c.note.new.events.items c.send.new.events.items

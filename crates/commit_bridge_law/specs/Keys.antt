@@ -1,0 +1,34 @@
+-- The keys that commits read among the keys that the book leaves.
+use Rattle.std.specs.Prelude.{ℕ, ◌≡◌, Option, Some, None}
+use Rattle.std.specs.FinMap.{find}
+use Rattle.lease_store.specs.declared.key.Key.TheVariants as keys
+use Rattle.lease_store.specs.declared.value.KeyEntry.{KeyEntry}
+use Rattle.lease_store.specs.declared.value.Value.{Value}
+use Rattle.lease_store.specs.declared.value.Value.TheVariants as values
+use Rattle.lease_store.specs.KeyOrder.{key_cmp}
+use Rattle.event_book.specs.Facts.{Facts}
+use Rattle.lease_law.specs.Past as lease_past
+use Rattle.lease_law.specs.Stores.{IsEndless, IsSameStore}
+use Rattle.commit_law.specs.Keys.{SyncKey}
+use Rattle.commit_law.specs.Past.{Past}
+
+-- the sync key with this value and revision, if the value is one of a sync key. None of its standbys may lack an acknowledged commit
+abbrev pub sync_value : Value → ℕ → Option SyncKey
+sync_value (values.Sync key) revision = Some (record { leader = key.leader.number; standbys = lease_past.set_members key.standbys; quorum = 0; revision = revision })
+sync_value _ revision = None
+
+-- the sync key as the key store has it
+abbrev pub sync_key_of : Option KeyEntry → Option SyncKey
+sync_key_of None = None
+sync_key_of (Some found_key) = sync_value found_key.value found_key.revision
+
+-- the clock and the keys of the lease in what commits read of a book, as lease_law has them
+abbrev pub lease_keys : Past → lease_past.Past
+lease_keys past = record lease_past.first_past { clock = past.clock; leader = past.leader; failsafe = past.failsafe; revision = past.revision }
+
+-- the past has clock, revision, leader key and failsafe key as the key store of the book has them, and the sync key too, which has no
+-- expiry: where it has an entry, it is present
+pub record IsSameKeys (past : Past) (facts : Facts) : Type 0 where
+  pub lease : IsSameStore (lease_keys past) facts
+  pub sync : past.sync ≡ sync_key_of (find key_cmp keys.Sync facts.keys.pairs)
+  pub endless : IsEndless (find key_cmp keys.Sync facts.keys.pairs)

@@ -1,0 +1,6 @@
+pub mod Deliveries
+pub mod Example
+pub mod Flights
+pub mod Hearing
+pub mod Keys
+pub mod Waiting

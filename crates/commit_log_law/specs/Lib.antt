@@ -1,0 +1,4 @@
+pub mod Matching
+pub mod Sound
+pub mod Happening
+pub mod Acting
