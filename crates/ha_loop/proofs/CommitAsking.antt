@@ -1,5 +1,5 @@
 -- With the synchronous mode on in each snapshot, what an agent waits for it asked with the mode on.
-use Rattle.std.proofs.Common.{◌≡◌, ℕ, ◌==◌, ◌&&◌, nat_le, Bool, true, false, if◌then◌else◌, List, Option, Some, None, refl, sym, subst, ap, ◌∙◌}
+use Rattle.std.proofs.Common.{◌≡◌, ℕ, ◌==◌, nat_le, Bool, true, List, Option, Some, None, refl, sym, subst, ◌∙◌}
 use Rattle.lease_store.specs.Defaults.{default_config}
 use Rattle.lease_store.specs.declared.config.Config.{Config}
 use Rattle.lease_store.specs.declared.granted.Granted.{Granted}
@@ -19,17 +19,17 @@ use Rattle.ha_loop.specs.declared.knowledge.Question.TheVariants.{Reading, Askin
 use Rattle.ha_loop.specs.declared.knowledge.Waited.{Waited}
 use Rattle.ha_loop.specs.declared.role.Why.{Why}
 use Rattle.ha_loop.specs.declared.role.Why.TheVariants.{HandOver, Lost}
-use Rattle.ha_loop.specs.Acting.{touching, shutting_down, starting_replica, following_server, waiting_no_more}
+use Rattle.ha_loop.specs.Acting.{touching, waiting_no_more}
 use Rattle.ha_loop.specs.Agents.{RoleFacts, Follower, Holder, Ready, Leader, Ending, Stray, Outcome}
 use Rattle.ha_loop.specs.Before.{has_ended, before}
 use Rattle.ha_loop.specs.Claiming.{claim_fails_as}
 use Rattle.ha_loop.specs.Committing.{IsOn, FollowsOn, AsksOn}
-use Rattle.ha_loop.specs.Decisions.{asks_lease, may_create, is_decision, refused}
+use Rattle.ha_loop.specs.Decisions.{asks_lease, may_create, refused}
 use Rattle.ha_loop.specs.Peers.{is_asking, awaits_answer, keeping, accepted_answer, answered_for, answered}
 use Rattle.ha_loop.specs.Powers.{IsAwaitedLease}
-use Rattle.ha_loop.specs.Racing.{judged, finds_free, barred, asking_others, unheard}
+use Rattle.ha_loop.specs.Racing.{judged, finds_free, unheard}
 use Rattle.ha_loop.specs.Repairs.{repair_of, repairing}
-use Rattle.ha_loop.specs.Snapshots.{renewing, follow_row, follows, read_noted, got}
+use Rattle.ha_loop.specs.Snapshots.{follow_row, follows, read_noted, got}
 use Rattle.ha_loop.specs.Wake.{out_of_reach_as, unanswered, overdue_for, overdue, turned, woken}
 use Rattle.ha_loop.proofs.Granting.{both-true}
 use Rattle.ha_loop.proofs.Living.{no-way}

@@ -1,63 +1,41 @@
 -- Each granted request is lawful for kept commits.
-use Rattle.std.proofs.Common.{◌≡◌, ◌⊎◌, ℕ, ◌+◌, ◌≤◌, ◌<◌, ◌&&◌, Bool, true, false, if◌then◌else◌, not, List, [], ◌∷◌, Option, Some, None, All, refl, sym, subst, ap, ◌∙◌, arith, inl, inr}
-use Rattle.pat_base.specs.declared.lsn.Lsn.{Lsn}
+use Rattle.std.proofs.Common.{◌≡◌, ◌⊎◌, ℕ, ◌+◌, ◌≤◌, Bool, true, false, Option, Some, None, All, refl, sym, subst, ap, ◌∙◌, arith, inl, inr}
 use Rattle.pat_base.specs.declared.member_set.MemberSet.{MemberSet}
-use Rattle.pat_base.specs.declared.server_state.Required.{Required}
-use Rattle.pat_base.specs.declared.server_state.Required.TheVariants as requireds
-use Rattle.pat_base.specs.declared.server_state.State.{State as ServerState}
-use Rattle.pat_base.specs.declared.server_state.State.TheVariants as states
 use Rattle.pat_base.specs.declared.ticks.Ticks.{Ticks}
-use Rattle.pat_base.specs.ServerState.{live}
 use Rattle.lease_store.specs.declared.granted.Granted.{Granted}
 use Rattle.lease_store.specs.declared.txn.Txn.TheVariants as txns
 use Rattle.wal_model.specs.Log.{end_of}
-use Rattle.pg_model.specs.declared.status.ServerStatus.{ServerStatus}
-use Rattle.pg_model.specs.Facts.{entries_of, has_data}
+use Rattle.pg_model.specs.Facts.{entries_of}
 use Rattle.cluster_config.specs.Snapshots.{SnapshotFacts}
 use Rattle.event_book.specs.declared.message.Body.TheVariants as bodies
-use Rattle.event_book.specs.declared.reason.Reason.TheVariants.{StartTooLong, WatchdogNotArmed}
 use Rattle.lease_law.specs.Past.{set_members}
 use Rattle.sync_state.specs.Published.{published_in}
-use Rattle.sync_state.specs.Sets.{both, either}
 use Rattle.sync_state.specs.Standbys.{required_members, noted_position}
-use Rattle.commit_law.specs.Keys.{SyncKey, Need, Nobody, All as AllOf, Overlaps, MayPublish, Added, Narrows}
+use Rattle.commit_law.specs.Keys.{SyncKey, Need, Overlaps, Added, Narrows}
 use Rattle.commit_law.specs.Flights.{SyncRequest}
 use Rattle.commit_law.specs.States.{Agent, State}
-use Rattle.commit_law.specs.Inputs.{AgentInput, HasConfirmed, HearsLeaseGrant, HearsSyncGrant, KeepsTurn, Does, Arming, TakingOver, ChangingRequired, Publishing, Promoting, SettlingRequired, sync_revision_of}
+use Rattle.commit_law.specs.Inputs.{AgentInput, ChangingRequired, Publishing, SettlingRequired, sync_revision_of}
 use Rattle.commit_law.specs.Carried.{IsSound}
-use Rattle.commit_law.specs.Past.{need_in, claim_request, publish_request}
-use Rattle.ha_loop.specs.declared.heard.Heard.{Heard}
+use Rattle.commit_law.specs.Past.{need_in, publish_request}
 use Rattle.ha_loop.specs.declared.heard.Heard.TheVariants.{Granted as HeardGranted}
-use Rattle.ha_loop.specs.declared.knowledge.Question.{Question}
-use Rattle.ha_loop.specs.declared.knowledge.Question.TheVariants.{Claiming, Syncing}
 use Rattle.ha_loop.specs.declared.knowledge.Settling.{Settling}
-use Rattle.ha_loop.specs.declared.knowledge.Settling.TheVariants.{Stays, Lists, Empties}
-use Rattle.ha_loop.specs.declared.knowledge.SyncRead.{SyncRead}
 use Rattle.ha_loop.specs.declared.machine.Replication.{Replication}
 use Rattle.ha_loop.specs.declared.output.Output.{Output}
 use Rattle.ha_loop.specs.declared.output.Output.TheVariants as outputs
 use Rattle.ha_loop.specs.declared.output.Target.TheVariants as targets
-use Rattle.ha_loop.specs.declared.role.Why.TheVariants.{HandOver}
-use Rattle.ha_loop.specs.Acting.{deadline_after, ending_server, arming, requiring, is_hold_active, waiting_no_more}
-use Rattle.ha_loop.specs.Agents.{RoleFacts, Ready, Leader, Ending, Stray, Outcome, is_ready, is_leader}
-use Rattle.ha_loop.specs.Claiming.{begins, claims, postpones, can_begin_on_claim}
-use Rattle.ha_loop.specs.Committing.{sync_seen, number_waited, StandsToCommit, IsAwaitedWrite, HearsLease, IsAskedBy, HearsWrite, HearsGranted, IsOn, FollowsOn, AsksOn, requests_of, is_begin, IsCommitInputOf, IsLawfulAs}
-use Rattle.ha_loop.specs.Decisions.{can_begin, takes_over, gives_back, may_create, may_take, granted}
-use Rattle.ha_loop.specs.Fits.{Fits}
-use Rattle.ha_loop.specs.Outputs.{listed, has_one}
-use Rattle.ha_loop.specs.Planning.{naming, noting}
+use Rattle.ha_loop.specs.Acting.{deadline_after}
+use Rattle.ha_loop.specs.Agents.{RoleFacts, Ready, Leader, Outcome, is_ready, is_leader}
+use Rattle.ha_loop.specs.Committing.{StandsToCommit, IsAwaitedWrite, HearsLease, HearsWrite, IsCommitInputOf, IsLawfulAs}
+use Rattle.ha_loop.specs.Planning.{naming}
 use Rattle.ha_loop.specs.Powers.{IsAwaitedLease}
-use Rattle.ha_loop.specs.Synchronous.{sync_read_in, expected_of, is_named_if, may_lead_in_sync, unnamed, waiting_for}
-use Rattle.ha_loop.proofs.CommitAsking.{before-asks, leases-on}
-use Rattle.ha_loop.proofs.CommitGrounds.{IsBehind, before-behind, lease-before, write-before, lease_granted_as, write_granted_as, hears-lease, hears-write, leads-live, IsLedBy, key-covers, led-by, written, compared-as, wins-named, has-confirmed, confirmed-any, noted-end}
-use Rattle.ha_loop.proofs.CommitIdling.{Idle, idle-then, waits-nothing, waits-same, waits-new, stays, falls, same-idle, quiet-idle, postpones-idle}
-use Rattle.ha_loop.proofs.CommitLawful.{was_of, lawful-as, keeps-turn, keeps-live, keeps-server, keeps-ready, keeps-leads, keeps-noted, sends-nothing, sends-one, idle-lawful}
-use Rattle.ha_loop.proofs.CommitQuiet.{IsQuiet, quietly, quiet-armed, quiet-fed, quiet-none, quiet-unbegun, last-request, last-unbegun}
-use Rattle.ha_loop.proofs.CommitSteps.{wanted_at, confirmed_at, required_at, PlanSteps, LeaseSteps, WriteSteps, granted-steps}
-use Rattle.ha_loop.proofs.CommitTools.{IsWithin, HasReached, within-set, both-first, either-first, either-within, covers-required, unnamed-need, waiting-covers, waiting-narrows, confirmed-reached}
-use Rattle.ha_loop.proofs.Fitting.{ended-for}
-use Rattle.ha_loop.proofs.Granting.{take-free, Told, both-true}
-use Rattle.ha_loop.proofs.Knowing.{Onward, before-onward, granted-onward, onward-then}
+use Rattle.ha_loop.specs.Synchronous.{sync_read_in, expected_of}
+use Rattle.ha_loop.proofs.CommitGrounds.{IsBehind, lease_granted_as, write_granted_as, hears-lease, hears-write, leads-live, IsLedBy, compared-as, has-confirmed, confirmed-any}
+use Rattle.ha_loop.proofs.CommitIdling.{Idle, idle-then, waits-nothing, waits-new}
+use Rattle.ha_loop.proofs.CommitLawful.{was_of, lawful-as, keeps-turn, keeps-live, keeps-server, keeps-ready, keeps-noted, sends-nothing, sends-one, idle-lawful}
+use Rattle.ha_loop.proofs.CommitQuiet.{IsQuiet, quiet-fed, quiet-none, quiet-unbegun, last-request, last-unbegun}
+use Rattle.ha_loop.proofs.CommitTools.{IsWithin, HasReached, covers-required}
+use Rattle.ha_loop.proofs.Granting.{Told}
+use Rattle.ha_loop.proofs.Knowing.{Onward}
 use Rattle.ha_loop.proofs.Living.{no-way}
 use Rattle.ha_loop.proofs.Rows.{led_on}
 

@@ -1,10 +1,8 @@
 -- What a granted request rests on: what comes before an input, the grant that is heard, and the sync key of a live leader.
-use Rattle.std.proofs.Common.{◌≡◌, ◌⊎◌, ℕ, ◌≤◌, ◌<◌, ◌==◌, ◌&&◌, ◌||◌, Bool, true, false, if◌then◌else◌, List, [], Option, Some, None, All, refl, sym, subst, ap, ◌∙◌, arith, inl, inr}
+use Rattle.std.proofs.Common.{◌≡◌, ℕ, ◌≤◌, ◌==◌, ◌&&◌, ◌||◌, Bool, true, false, if◌then◌else◌, List, Option, Some, None, refl, sym, subst, ap, ◌∙◌, arith, inl, inr}
 use Rattle.std.proofs.lemmas.Bool.Decides.{nat_tests}
 use Rattle.pat_base.specs.declared.lsn.Lsn.{Lsn}
 use Rattle.pat_base.specs.declared.member_id.MemberId.{MemberId}
-use Rattle.pat_base.specs.declared.member_set.MemberSet.{MemberSet}
-use Rattle.pat_base.specs.declared.server_state.Required.{Required}
 use Rattle.pat_base.specs.declared.ticks.Ticks.{Ticks}
 use Rattle.pat_base.specs.ServerState.{live}
 use Rattle.lease_store.specs.declared.granted.Granted.{Granted}
@@ -16,7 +14,7 @@ use Rattle.wal_model.specs.Log.{end_of}
 use Rattle.pg_model.specs.declared.status.ServerStatus.{ServerStatus}
 use Rattle.pg_model.specs.Facts.{entries_of}
 use Rattle.cluster_config.specs.KeyValues.{sync_by, sync_of_entry, sync_in}
-use Rattle.cluster_config.specs.Naming.{is_named, is_standby}
+use Rattle.cluster_config.specs.Naming.{is_standby}
 use Rattle.cluster_config.specs.Snapshots.{SnapshotFacts, entry_in}
 use Rattle.lease_law.proofs.Tools.{some-is, none-some, eq-from}
 use Rattle.lease_law.specs.Past.{set_members}
@@ -32,7 +30,6 @@ use Rattle.commit_law.specs.Past.{need_in, revision_in}
 use Rattle.ha_loop.specs.declared.knowledge.Knowledge.{Knowledge}
 use Rattle.ha_loop.specs.declared.knowledge.SyncRead.{SyncRead}
 use Rattle.ha_loop.specs.declared.knowledge.Waited.{Waited}
-use Rattle.ha_loop.specs.declared.machine.Replication.{Replication}
 use Rattle.ha_loop.specs.declared.role.Why.{Why}
 use Rattle.ha_loop.specs.declared.role.Why.TheVariants.{HandOver, Lost}
 use Rattle.ha_loop.specs.declared.who.Who.{Who}
@@ -45,7 +42,6 @@ use Rattle.ha_loop.specs.Powers.{IsAwaitedLease}
 use Rattle.ha_loop.specs.Synchronous.{sync_read_by, sync_read_of_entry, sync_read_in, expected_of, is_named_if}
 use Rattle.ha_loop.proofs.CommitIdling.{TurnsOn, Idle, before-idle}
 use Rattle.ha_loop.proofs.CommitLawful.{was_of}
-use Rattle.ha_loop.proofs.CommitQuiet.{IsQuiet}
 use Rattle.ha_loop.proofs.CommitSteps.{IsForeign}
 use Rattle.ha_loop.proofs.CommitTools.{IsWithin, HasReached, required-covers}
 use Rattle.ha_loop.proofs.Fitting.{before-fits}

@@ -1,8 +1,7 @@
 -- Inputs that leave all that kept commits depend on.
-use Rattle.std.proofs.Common.{◌≡◌, ◌⊎◌, ℕ, ◌+◌, ◌≤◌, ◌<◌, Bool, true, false, List, Option, Some, None, All, refl, sym, subst, ap, ◌∙◌, arith, inl, inr}
+use Rattle.std.proofs.Common.{◌≡◌, ◌⊎◌, ℕ, ◌+◌, ◌≤◌, ◌<◌, true, false, List, Option, Some, None, All, refl, sym, subst, ◌∙◌, arith, inl, inr}
 use Rattle.pat_base.specs.declared.member_id.MemberId.{MemberId}
 use Rattle.pat_base.specs.declared.peer_answer.PeerAnswer.{PeerAnswer}
-use Rattle.pat_base.specs.declared.server_state.Required.{Required}
 use Rattle.pat_base.specs.declared.ticks.Ticks.{Ticks}
 use Rattle.wal_model.specs.declared.entry.HistoryPoint.{HistoryPoint}
 use Rattle.cluster_config.specs.Snapshots.{SnapshotFacts}
@@ -11,7 +10,6 @@ use Rattle.event_book.specs.declared.reason.Reason.TheVariants.{StoreOutOfReach,
 use Rattle.lease_store.specs.declared.txn.Txn.TheVariants as txns
 use Rattle.lease_law.proofs.Tools.{some-is, none-some}
 use Rattle.ha_loop.specs.declared.knowledge.Waited.{Waited}
-use Rattle.ha_loop.specs.declared.output.Output.{Output}
 use Rattle.ha_loop.specs.declared.output.Output.TheVariants as outputs
 use Rattle.ha_loop.specs.declared.output.Target.TheVariants as targets
 use Rattle.ha_loop.specs.declared.role.Why.{Why}
@@ -25,10 +23,9 @@ use Rattle.ha_loop.specs.Decisions.{refused}
 use Rattle.ha_loop.specs.Outputs.{listed}
 use Rattle.ha_loop.specs.Peers.{asked, keeping, answered}
 use Rattle.ha_loop.specs.Racing.{creating, barred, finds_free, judged, asking_others, unheard}
-use Rattle.ha_loop.specs.Repairs.{repair_of, repairing}
+use Rattle.ha_loop.specs.Repairs.{repair_of}
 use Rattle.ha_loop.specs.Snapshots.{renewing, follow_row, follows, leader_loses_key, stray_loses_key, read_noted, got}
 use Rattle.ha_loop.specs.Synchronous.{sync_read_in}
-use Rattle.ha_loop.specs.declared.knowledge.SyncRead.{SyncRead}
 use Rattle.ha_loop.specs.Wake.{reading, turn_noted, leader_out_of_reach, stray_out_of_reach, overdue, turned, woken}
 use Rattle.ha_loop.proofs.CommitQuiet.{IsQuiet, quietly, quiet-disarmed, asks-quiet}
 use Rattle.ha_loop.proofs.Knowing.{before-onward, overdue-onward}
@@ -179,10 +176,10 @@ follow-idle : (told : Option SnapshotFacts) (now : Ticks) (leader : MemberId) (o
 follow-idle told now leader o = let x : Outcome = record o { role = Follower } in
     let row : Outcome = follow_row now leader o.machine.server.state x in
     let moved : Idle told o row = follow-by (Idle told o) now leader o.machine.server.state x
-        (falls told o x refl refl refl refl refl (waits-same o x refl) (λ q. q))
-        (falls told o (starting_replica now (Some leader) x) refl refl refl refl refl (waits-same o (starting_replica now (Some leader) x) refl) (λ q. quietly o.outputs (outputs.StartReplica (Some leader)) q tt))
-        (falls told o (following_server leader x) refl refl refl refl refl (waits-same o (following_server leader x) refl) (λ q. quietly o.outputs (outputs.Follow leader) q tt))
-        (falls told o (shutting_down now x) refl refl refl refl refl (waits-same o (shutting_down now x) refl) (λ q. quietly o.outputs outputs.ShutDown q tt)) in
+    (falls told o x refl refl refl refl refl (waits-same o x refl) (λ q. q))
+    (falls told o (starting_replica now (Some leader) x) refl refl refl refl refl (waits-same o (starting_replica now (Some leader) x) refl) (λ q. quietly o.outputs (outputs.StartReplica (Some leader)) q tt))
+    (falls told o (following_server leader x) refl refl refl refl refl (waits-same o (following_server leader x) refl) (λ q. quietly o.outputs (outputs.Follow leader) q tt))
+    (falls told o (shutting_down now x) refl refl refl refl refl (waits-same o (shutting_down now x) refl) (λ q. quietly o.outputs outputs.ShutDown q tt)) in
     let counted : o.knows.sequence ≤ row.knows.sequence = follow-by (λ (y : Outcome). o.knows.sequence ≤ y.knows.sequence) now leader o.machine.server.state x (omega arith) (omega arith) (omega arith) (omega arith) in
     let told-it : Idle told o (touching row) = idle-then told o row (touching row) moved (touching-idle told row) counted in
     repaired-by (Idle told o) leader (repair_of o.knows.settings leader o.machine.server) (touching row) told-it

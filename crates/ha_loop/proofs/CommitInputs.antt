@@ -1,14 +1,11 @@
 -- Each input of the table is lawful for kept commits, and leaves the synchronous mode on.
-use Rattle.std.proofs.Common.{◌≡◌, ℕ, ◌+◌, ◌≤◌, Bool, true, List, [], Option, Some, None, All, refl, sym, subst, ap, ◌∙◌}
+use Rattle.std.proofs.Common.{◌≡◌, ℕ, ◌+◌, Bool, List, [], Option, Some, None, All, refl, sym, subst, ap, ◌∙◌}
 use Rattle.std.proofs.lemmas.List.Elements.{All-nil}
-use Rattle.pat_base.specs.declared.member_id.MemberId.{MemberId}
 use Rattle.pat_base.specs.declared.member_set.MemberSet.{MemberSet}
-use Rattle.pat_base.specs.declared.peer_answer.PeerAnswer.{PeerAnswer}
 use Rattle.pat_base.specs.declared.server_state.Required.{Required}
 use Rattle.pat_base.specs.declared.server_state.Required.TheVariants as requireds
 use Rattle.pat_base.specs.declared.ticks.Ticks.{Ticks}
 use Rattle.lease_store.specs.declared.granted.Granted.{Granted}
-use Rattle.lease_store.specs.declared.txn.Txn.{Txn}
 use Rattle.lease_store.specs.declared.txn.Txn.TheVariants as txns
 use Rattle.lease_store.specs.Writes.{nobody}
 use Rattle.wal_model.specs.declared.entry.HistoryPoint.{HistoryPoint}
@@ -44,7 +41,6 @@ use Rattle.ha_loop.specs.Decisions.{takes_over, gives_back, granted, refused}
 use Rattle.ha_loop.specs.Outputs.{listed}
 use Rattle.ha_loop.specs.Peers.{asked, answered}
 use Rattle.ha_loop.specs.Planning.{naming, noting}
-use Rattle.ha_loop.specs.Powers.{IsAwaitedLease}
 use Rattle.ha_loop.specs.Snapshots.{got}
 use Rattle.ha_loop.specs.Synchronous.{expected_of, sync_read_in, unnamed, waiting_for}
 use Rattle.ha_loop.specs.Table.{step, act}

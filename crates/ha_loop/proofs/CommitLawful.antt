@@ -10,13 +10,12 @@ use Rattle.sync_state.specs.Standbys.{noted_position}
 use Rattle.commit_law.specs.Flights.{SyncRequest}
 use Rattle.commit_law.specs.Keys.{SyncKey}
 use Rattle.commit_law.specs.States.{Agent, State}
-use Rattle.commit_law.specs.Inputs.{Sending, AgentInput, HearsSnapshot, KeepsTurn, BeginsTurn, KeepsServer, KeepsRole, Sends, IsLawful, Does, Idling}
+use Rattle.commit_law.specs.Inputs.{AgentInput, HearsSnapshot, KeepsTurn, BeginsTurn, KeepsServer, Sends, Does, Idling}
 use Rattle.commit_law.specs.Past.{need_in}
 use Rattle.ha_loop.specs.declared.heard.Heard.{Heard}
-use Rattle.ha_loop.specs.declared.knowledge.SyncRead.{SyncRead}
 use Rattle.ha_loop.specs.declared.knowledge.Waited.{Waited}
 use Rattle.ha_loop.specs.Agents.{Outcome}
-use Rattle.ha_loop.specs.Committing.{sync_seen, number_waited, committer_seen, StandsToCommit, requests_of, IsSent, is_begin, live_shown, IsCommitInputOf, DoesAs, IsLawfulAs}
+use Rattle.ha_loop.specs.Committing.{sync_seen, number_waited, committer_seen, StandsToCommit, requests_of, IsSent, is_begin, IsCommitInputOf, DoesAs, IsLawfulAs}
 use Rattle.ha_loop.specs.Decisions.{asks_lease, asks_sync}
 use Rattle.ha_loop.specs.Outputs.{has_one}
 use Rattle.ha_loop.specs.Synchronous.{sync_read_in}

@@ -1,7 +1,6 @@
 -- Each granted request is lawful for kept commits: who takes the leader key, claims and begins, and all rows together.
-use Rattle.std.proofs.Common.{◌≡◌, ◌⊎◌, ℕ, ◌+◌, ◌≤◌, ◌<◌, ◌&&◌, Bool, true, false, if◌then◌else◌, not, List, [], ◌∷◌, Option, Some, None, All, refl, sym, subst, ap, ◌∙◌, arith, inl, inr}
+use Rattle.std.proofs.Common.{◌≡◌, ℕ, ◌+◌, ◌&&◌, Bool, true, false, if◌then◌else◌, not, Option, Some, None, All, refl, sym, subst, ap, ◌∙◌, arith, inl, inr}
 use Rattle.pat_base.specs.declared.lsn.Lsn.{Lsn}
-use Rattle.pat_base.specs.declared.member_id.MemberId.{MemberId}
 use Rattle.pat_base.specs.declared.member_set.MemberSet.{MemberSet}
 use Rattle.pat_base.specs.declared.server_state.Required.{Required}
 use Rattle.pat_base.specs.declared.server_state.Required.TheVariants as requireds
@@ -11,8 +10,6 @@ use Rattle.pat_base.specs.declared.ticks.Ticks.{Ticks}
 use Rattle.pat_base.specs.ServerState.{live}
 use Rattle.lease_store.specs.declared.granted.Granted.{Granted}
 use Rattle.lease_store.specs.declared.txn.Txn.TheVariants as txns
-use Rattle.lease_store.specs.Writes.{nobody}
-use Rattle.wal_model.specs.Log.{end_of}
 use Rattle.pg_model.specs.declared.status.ServerStatus.{ServerStatus}
 use Rattle.pg_model.specs.Facts.{has_data}
 use Rattle.cluster_config.specs.KeyValues.{sync_in}
@@ -23,7 +20,7 @@ use Rattle.lease_law.specs.Past.{set_members}
 use Rattle.sync_state.specs.Published.{published_in}
 use Rattle.sync_state.specs.Sets.{both, either, is_within}
 use Rattle.sync_state.specs.Standbys.{required_members, noted_position}
-use Rattle.commit_law.specs.Keys.{Need, Overlaps, Narrows}
+use Rattle.commit_law.specs.Keys.{Need, Narrows}
 use Rattle.commit_law.specs.Flights.{SyncRequest}
 use Rattle.commit_law.specs.States.{Agent, State}
 use Rattle.commit_law.specs.Inputs.{AgentInput, WinsByName, Arming, TakingOver, Promoting, sync_revision_of}
@@ -32,7 +29,7 @@ use Rattle.commit_law.specs.Past.{need_in, claim_request}
 use Rattle.ha_loop.specs.declared.heard.Heard.TheVariants.{Granted as HeardGranted}
 use Rattle.ha_loop.specs.declared.knowledge.Question.{Question}
 use Rattle.ha_loop.specs.declared.knowledge.Question.TheVariants.{Claiming, Syncing}
-use Rattle.ha_loop.specs.declared.knowledge.Settling.TheVariants.{Stays, Lists, Empties}
+use Rattle.ha_loop.specs.declared.knowledge.Settling.TheVariants.{Stays, Lists}
 use Rattle.ha_loop.specs.declared.knowledge.SyncRead.{SyncRead}
 use Rattle.ha_loop.specs.declared.machine.Replication.{Replication}
 use Rattle.ha_loop.specs.declared.output.Output.{Output}
@@ -41,26 +38,26 @@ use Rattle.ha_loop.specs.declared.output.Target.TheVariants as targets
 use Rattle.ha_loop.specs.declared.role.Why.TheVariants.{HandOver}
 use Rattle.ha_loop.specs.declared.who.Who.{Who}
 use Rattle.ha_loop.specs.Acting.{deadline_after, ending_server, arming, requiring, is_hold_active, waiting_no_more}
-use Rattle.ha_loop.specs.Agents.{Ready, Leader, Ending, Stray, Outcome, is_leader}
+use Rattle.ha_loop.specs.Agents.{Ready, Ending, Outcome, is_leader}
 use Rattle.ha_loop.specs.Before.{before}
 use Rattle.ha_loop.specs.Claiming.{begins, claims, postpones, can_begin_on_claim}
 use Rattle.ha_loop.specs.Committing.{sync_seen, StandsToCommit, IsAwaitedWrite, IsAskedBy, HearsWrite, HearsGranted, IsOn, FollowsOn, AsksOn, IsCommitInputOf, IsLawfulAs}
 use Rattle.ha_loop.specs.Decisions.{can_begin, takes_over, gives_back, may_create, may_take, granted}
 use Rattle.ha_loop.specs.Outputs.{listed}
-use Rattle.ha_loop.specs.Planning.{leader_view, naming, noting}
+use Rattle.ha_loop.specs.Planning.{leader_view, noting}
 use Rattle.ha_loop.specs.Powers.{IsAwaitedLease}
 use Rattle.ha_loop.specs.Synchronous.{expected_of, is_named_if, may_lead_in_sync, unnamed, waiting_for}
 use Rattle.ha_loop.proofs.CommitAsking.{before-asks, leases-on}
-use Rattle.ha_loop.proofs.CommitGrants.{Ground, Lawful, rests, Leased, Changes, unready, changes-lawful, settles-lawful, publishes-lawful}
+use Rattle.ha_loop.proofs.CommitGrants.{Ground, Lawful, rests, Leased, unready, changes-lawful, settles-lawful, publishes-lawful}
 use Rattle.ha_loop.proofs.CommitGrounds.{IsBehind, before-behind, lease-before, write-before, lease_granted_as, write_granted_as, hears-lease, hears-write, leads-live, IsLedBy, key-covers, led-by, written, compared-as, wins-named, noted-end}
 use Rattle.ha_loop.proofs.CommitIdling.{Idle, idle-then, waits-nothing, waits-new, stays, falls, same-idle, quiet-idle, postpones-idle}
-use Rattle.ha_loop.proofs.CommitLawful.{was_of, lawful-as, keeps-turn, keeps-server, keeps-ready, keeps-noted, sends-nothing, sends-one}
+use Rattle.ha_loop.proofs.CommitLawful.{lawful-as, keeps-turn, keeps-server, keeps-ready, sends-nothing, sends-one}
 use Rattle.ha_loop.proofs.CommitQuiet.{IsQuiet, quietly, quiet-armed, quiet-fed, quiet-none, quiet-unbegun, last-request, last-unbegun}
 use Rattle.ha_loop.proofs.CommitSteps.{IsForeign, wanted_at, confirmed_at, required_at, PlanSteps, LeaseSteps, WriteSteps, granted-steps}
 use Rattle.ha_loop.proofs.CommitTools.{IsWithin, HasReached, within-set, both-first, either-first, either-within, unnamed-need, waiting-covers, waiting-narrows, confirmed-reached}
 use Rattle.ha_loop.proofs.Fitting.{ended-for}
 use Rattle.ha_loop.proofs.Granting.{take-free, Told, both-true}
-use Rattle.ha_loop.proofs.Knowing.{Onward, before-onward, granted-onward, onward-then}
+use Rattle.ha_loop.proofs.Knowing.{before-onward, granted-onward, onward-then}
 use Rattle.ha_loop.proofs.Living.{no-way}
 use Rattle.ha_loop.proofs.Rows.{led_on}
 
@@ -83,7 +80,7 @@ arms-lawful now ttl sequence grant snapshot s m input o b ground leased mode cre
     let free : is_hold_active now b.machine.hold ≡ false = take-free (is_hold_active now b.machine.hold) (can && leads) may in
     let may-lead : leads ≡ true = (both-true can leads (both-true (not (is_hold_active now b.machine.hold)) (can && leads) may).1).1 in
     let named : WinsByName (sync_seen b.knows.turn_sync) m = wins-named b.knows.who.me m b.knows.turn_sync (ap (λ (w : Who). w.me.number) behind.who ∙ ground.stands.me)
-        (chosen b.knows.turn_settings.synchronous_mode (is_named_if b.knows.who.me b.knows.turn_sync) mode may-lead) in
+    (chosen b.knows.turn_settings.synchronous_mode (is_named_if b.knows.who.me b.knows.turn_sync) mode may-lead) in
     lawful-as now (HeardGranted sequence grant snapshot) (Some snapshot) s m input o x ground.stands is onward (waits-new o x _ refl (omega (arith, behind.last)))
     (Arming (record {
       grant = lease_granted_as m sequence grant.revision snapshot o;

@@ -1,6 +1,5 @@
 -- The steps of a granted request while the synchronous mode is on: what holds of each that applies holds of what is made of it.
-use Rattle.std.proofs.Common.{◌≡◌, ℕ, ◌==◌, ◌&&◌, Bool, true, false, if◌then◌else◌, not, Option, Some, None, refl, sym, subst, ap, ◌∙◌}
-use Rattle.pat_base.specs.declared.member_id.MemberId.{MemberId}
+use Rattle.std.proofs.Common.{◌≡◌, ℕ, ◌==◌, ◌&&◌, Bool, true, false, if◌then◌else◌, not, Option, Some, None, refl, sym, ap, ◌∙◌}
 use Rattle.pat_base.specs.declared.member_set.MemberSet.{MemberSet}
 use Rattle.pat_base.specs.declared.server_state.Required.TheVariants as requireds
 use Rattle.pat_base.specs.declared.ticks.Ticks.{Ticks}
@@ -11,7 +10,7 @@ use Rattle.cluster_config.specs.KeyValues.{config_in, sync_in}
 use Rattle.cluster_config.specs.Snapshots.{SnapshotFacts}
 use Rattle.cluster_config.specs.declared.view.LeaderView.{LeaderView}
 use Rattle.event_book.specs.declared.reason.Reason.TheVariants.{StartTooLong, WatchdogNotArmed}
-use Rattle.sync_state.specs.Plans.{change_of, plan_on, plan_off, plan_of}
+use Rattle.sync_state.specs.Plans.{change_of, plan_on, plan_off}
 use Rattle.sync_state.specs.Sets.{both, either, is_within, are_same}
 use Rattle.sync_state.specs.Candidates.{wanted_in}
 use Rattle.sync_state.specs.Published.{published_in}

@@ -19,7 +19,7 @@ use Rattle.lease_law.specs.Past.{set_members}
 use Rattle.sync_state.specs.Standbys.{noted_position}
 use Rattle.commit_law.specs.Keys.{SyncKey}
 use Rattle.commit_law.specs.Flights.{SyncRequest, LeaseGranted, SyncGranted}
-use Rattle.commit_law.specs.States.{Agent, State, HasLog, Reaches}
+use Rattle.commit_law.specs.States.{Agent, State, HasLog}
 use Rattle.commit_law.specs.Inputs.{Sending, AgentInput, HearsSnapshot, IsLawful, Does, Racing, HearingAnswer, WinningRace, CreatingLeader, Arming}
 use Rattle.commit_law.specs.Carried.{IsSound}
 use Rattle.commit_law.specs.Past.{Query, SyncQuery, query_of, need_in}
