@@ -4,6 +4,7 @@ pub mod Answers
 pub mod Asking
 pub mod Before
 pub mod Claiming
+pub mod Committing
 pub mod Decisions
 pub mod Fits
 pub mod FreeKey

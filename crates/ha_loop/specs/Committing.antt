@@ -1,0 +1,249 @@
+-- Which inputs of the law of kept commits an input of the table stands for, and that they are lawful while the synchronous mode is on.
+use Rattle.std.specs.Prelude.{ℕ, ◌≡◌, ◌<◌, ◌||◌, if◌then◌else◌, Bool, true, false, List, [], ◌∷◌, Option, Some, None, All, slice_get}
+use Rattle.std.specs.List.{filter_map}
+use Rattle.std.specs.Option.{ForSome}
+use Rattle.pat_base.specs.declared.lsn.Lsn.{Lsn}
+use Rattle.pat_base.specs.declared.ticks.Ticks.{Ticks}
+use Rattle.pat_base.specs.ServerState.{live}
+use Rattle.lease_store.specs.declared.granted.Granted.{Granted}
+use Rattle.lease_store.specs.declared.txn.Txn.{Txn}
+use Rattle.lease_store.specs.declared.txn.Txn.TheVariants as txns
+use Rattle.wal_model.specs.declared.entry.Entry.{Entry}
+use Rattle.wal_model.specs.Log.{end_of}
+use Rattle.pg_model.specs.Facts.{has_data}
+use Rattle.cluster_config.specs.KeyValues.{config_in}
+use Rattle.cluster_config.specs.Snapshots.{SnapshotFacts}
+use Rattle.event_book.specs.declared.message.Body.{Body}
+use Rattle.event_book.specs.declared.message.Body.TheVariants as bodies
+use Rattle.lease_law.specs.Past.{set_members}
+use Rattle.sync_state.specs.Standbys.{noted_position}
+use Rattle.commit_law.specs.Keys.{SyncKey}
+use Rattle.commit_law.specs.Flights.{SyncRequest, LeaseGranted, SyncGranted}
+use Rattle.commit_law.specs.States.{Agent, State, HasLog}
+use Rattle.commit_law.specs.Inputs.{Sending, AgentInput, HearsSnapshot, IsLawful, Does, Racing, HearingAnswer, WinningRace, CreatingLeader, Arming}
+use Rattle.commit_law.specs.Carried.{IsSound}
+use Rattle.commit_law.specs.Past.{Query, SyncQuery, query_of, need_in}
+use Rattle.ha_loop.specs.declared.heard.Heard.{Heard}
+use Rattle.ha_loop.specs.declared.heard.Heard.TheVariants as heards
+use Rattle.ha_loop.specs.declared.knowledge.Knowledge.{Knowledge}
+use Rattle.ha_loop.specs.declared.knowledge.Question.{Question}
+use Rattle.ha_loop.specs.declared.knowledge.Question.TheVariants.{Asking, Creating, Renewing, Claiming, Syncing}
+use Rattle.ha_loop.specs.declared.knowledge.Settling.TheVariants.{Lists, Empties}
+use Rattle.ha_loop.specs.declared.knowledge.SyncRead.{SyncRead}
+use Rattle.ha_loop.specs.declared.knowledge.Waited.{Waited}
+use Rattle.ha_loop.specs.declared.output.Output.{Output}
+use Rattle.ha_loop.specs.declared.output.Output.TheVariants as outputs
+use Rattle.ha_loop.specs.declared.output.Target.TheVariants as targets
+use Rattle.ha_loop.specs.Acting.{is_hold_active}
+use Rattle.ha_loop.specs.Agents.{RoleFacts, Outcome, is_ready, is_leader}
+use Rattle.ha_loop.specs.Decisions.{asks_lease, asks_sync, is_sync_decision, is_write_of}
+use Rattle.ha_loop.specs.Outputs.{has_one}
+use Rattle.ha_loop.specs.Powers.{IsAwaitedLease}
+use Rattle.ha_loop.specs.Synchronous.{sync_read_in}
+
+-- what the law sees of a sync key that was read: none of its standbys may lack an acknowledged commit
+abbrev pub sync_seen : Option SyncRead → Option SyncKey
+sync_seen None = None
+sync_seen (Some read) = Some (record { leader = read.key.leader.number; standbys = set_members read.key.standbys; quorum = 0; revision = read.revision })
+
+-- the number of what is waited for, if that is a create, a renewal or a write of the sync key
+abbrev pub number_waited : Option Waited → Option ℕ
+number_waited None = None
+number_waited (Some waited) = if asks_lease waited.question || asks_sync waited.question then Some waited.sequence else None
+
+-- what the law sees of an agent in this role. No race counts: in synchronous mode only whom the sync key names takes the leader key
+abbrev pub committer_seen : RoleFacts → Knowledge → Agent
+committer_seen role knows = record {
+  run = knows.run;
+  last = knows.sequence;
+  waits = number_waited knows.waited;
+  turn = sync_seen knows.turn_sync;
+  race = None;
+  won = false;
+  ready = is_ready role;
+  leads = is_leader role;
+  noted = noted_position knows.noted;
+}
+
+-- a member is connected to this server, which accepts writes and has this position of it
+pub record IsConnected (s : State) (m n : ℕ) (end : Lsn) : Type 0 where
+  pub writes : (s.members m).writes ≡ true
+  pub confirmed : (s.members m).confirmed n ≡ Some end.position
+
+-- a sync key as synchronous mode writes it: no standby may lack a commit, and each is a member of the cluster
+pub record IsStrict (member_count : ℕ) (key : SyncKey) : Type 0 where
+  pub quorum : key.quorum ≡ 0
+  pub members : (n : ℕ) → key.standbys n ≡ true → n < member_count
+
+-- this is seen of where a log ends, which is there where the log is
+abbrev pub IsEndOf : Option Lsn → Option (List Entry) → Type 0
+IsEndOf None None = Unit {0}
+IsEndOf (Some end) (Some log) = end.position ≡ end_of log
+IsEndOf _ _ = ⊥
+
+-- the state of the law in which this agent stands
+pub record StandsToCommit (s : State) (m : ℕ) (o : Outcome) : Type 0 where
+  pub agent : (s.members m).agent ≡ Some (committer_seen o.role o.knows)
+  pub live : (s.members m).live ≡ live o.machine.server.state
+  pub required : (s.members m).required ≡ need_in o.machine.replication.required
+  pub end : IsEndOf o.machine.server.end (s.members m).log
+  pub has_log : has_data o.machine.server.state ≡ true → HasLog (s.members m).log
+  pub connected : (n : ℕ) (end : Lsn) → slice_get o.machine.replication.connected n ≡ Some (Some end) → IsConnected s m n end
+  pub me : o.knows.who.me.number ≡ m
+  pub counts : m < s.member_count
+  pub strict : (key : SyncKey) → s.sync ≡ Some key → IsStrict s.member_count key
+
+-- the answer of this number grants this member the write of the sync key that it waits for
+pub record IsAwaitedWrite (sequence : ℕ) (grant : Granted) (knows : Knowledge) : Type 0 where
+  pub waited : Waited
+  pub is : knows.waited ≡ Some waited
+  pub decision : is_sync_decision waited sequence ≡ true
+  pub mine : is_write_of knows.who.me grant ≡ true
+
+-- the message that this member hears grants a create or a renewal of this number and revision, with this snapshot
+pub record HearsLease (s : State) (m : ℕ) (heard : Option ℕ) (sequence revision : ℕ) (snapshot : SnapshotFacts) (knows : Knowledge) : Type 0 where
+  pub number : ℕ
+  pub heard_is : heard ≡ Some number
+  pub is : s.flight number ≡ Some (LeaseGranted (record { member = m; run = knows.run; sequence = sequence; revision = revision; sync = sync_seen (sync_read_in snapshot) }))
+
+-- the standbys in a sync key are those that this question asked for: a claim names none, and a required list settles to those that it
+-- is asked for with
+abbrev pub IsAskedBy : Question → SyncKey → Type 0
+IsAskedBy Claiming key = (n : ℕ) → key.standbys n ≡ false
+IsAskedBy (Syncing (Lists standbys)) key = (n : ℕ) → key.standbys n ≡ set_members standbys n
+IsAskedBy _ key = Unit {0}
+
+-- the message that it hears grants a write of the sync key of this number, which this question asked
+pub record HearsWrite (s : State) (m : ℕ) (heard : Option ℕ) (sequence : ℕ) (question : Question) (knows : Knowledge) : Type 0 where
+  pub number : ℕ
+  pub key : SyncKey
+  pub heard_is : heard ≡ Some number
+  pub is : s.flight number ≡ Some (SyncGranted (record { member = m; run = knows.run; sequence = sequence; key = key }))
+  pub asked : IsAskedBy question key
+
+-- it hears the answer to a granted request: where that is waited for, the grant of a lease or of a write of the sync key
+pub record HearsGranted (s : State) (m : ℕ) (heard : Option ℕ) (sequence : ℕ) (grant : Granted) (snapshot : SnapshotFacts) (knows : Knowledge) : Type 0 where
+  pub lease : IsAwaitedLease sequence grant knows → HearsLease s m heard sequence grant.revision snapshot knows
+  pub write : (awaited : IsAwaitedWrite sequence grant knows) → HearsWrite s m heard sequence awaited.waited.question knows
+
+-- what the law hears of what comes to an agent. Of a refusal, and of what other members ask and answer, it needs nothing
+abbrev pub HearsToCommit : State → ℕ → AgentInput → Heard → Outcome → Type 0
+HearsToCommit s m input (heards.Got sequence snapshot) o = HearsSnapshot s input (sync_seen (sync_read_in snapshot))
+HearsToCommit s m input (heards.Granted sequence grant snapshot) o = HearsGranted s m input.heard sequence grant snapshot o.knows
+HearsToCommit s m input _ o = Unit {0}
+
+-- the synchronous mode is on in a snapshot
+abbrev pub IsOn : SnapshotFacts → Type 0
+IsOn snapshot = (config_in snapshot).synchronous_mode ≡ true
+
+-- so it is in the snapshot that comes with what is heard, if one does
+abbrev pub HearsOn : Heard → Type 0
+HearsOn (heards.Got sequence snapshot) = IsOn snapshot
+HearsOn (heards.Granted sequence grant snapshot) = IsOn snapshot
+HearsOn _ = Unit {0}
+
+-- the mode is on, where this question follows what a turn read; and it isn't that the sync key be removed
+abbrev pub FollowsOn : Bool → Question → Type 0
+FollowsOn on Asking = on ≡ true
+FollowsOn on Creating = on ≡ true
+FollowsOn on Renewing = on ≡ true
+FollowsOn on (Syncing Empties) = ⊥
+FollowsOn on _ = Unit {0}
+
+-- what an agent waits for it asked with the synchronous mode on
+abbrev pub AsksOn : Knowledge → Type 0
+AsksOn knows = ForSome knows.waited (λ waited. FollowsOn knows.turn_settings.synchronous_mode waited.question)
+
+-- the request that compares the sync key, if this is one
+abbrev pub request_in : Query → Option SyncRequest
+request_in (SyncQuery request) = Some request
+request_in _ = None
+
+-- the same of a question of this member, in this run under this number
+abbrev pub request_of_body : ℕ → ℕ → ℕ → Body → Option SyncRequest
+request_of_body m run sequence (bodies.Request txn) = request_in (query_of m run sequence txn)
+request_of_body m run sequence _ = None
+
+-- the same of an output
+abbrev pub request_of : ℕ → ℕ → Output → Option SyncRequest
+request_of m run (outputs.Send targets.Store sequence body) = request_of_body m run sequence body
+request_of m run _ = None
+
+-- the requests among these outputs that compare the sync key
+abbrev pub requests_of : ℕ → ℕ → List Output → List SyncRequest
+requests_of m run outs = filter_map (request_of m run) outs
+
+-- there is one at most
+abbrev pub IsOneAtMost : List SyncRequest → Type 0
+IsOneAtMost [] = Unit {0}
+IsOneAtMost (request ∷ []) = Unit {0}
+IsOneAtMost (request ∷ other ∷ more) = ⊥
+
+-- it is what is sent, under some number of a message
+abbrev pub IsSent : List SyncRequest → Option Sending → Type 0
+IsSent [] sends = sends ≡ None
+IsSent (request ∷ []) sends = (number : ℕ) × (sends ≡ Some (record { number = number; request = request }))
+IsSent (request ∷ other ∷ more) sends = ⊥
+
+-- no request that the sync key be removed
+abbrev pub IsNoRemovalTxn : Txn → Type 0
+IsNoRemovalTxn (txns.DropSync revision sync) = ⊥
+IsNoRemovalTxn _ = Unit {0}
+
+-- the same of a body
+abbrev pub IsNoRemovalBody : Body → Type 0
+IsNoRemovalBody (bodies.Request txn) = IsNoRemovalTxn txn
+IsNoRemovalBody _ = Unit {0}
+
+-- the same of an output
+abbrev pub IsNoRemoval : Output → Type 0
+IsNoRemoval (outputs.Send to sequence body) = IsNoRemovalBody body
+IsNoRemoval _ = Unit {0}
+
+-- the server comes to accept writes by this output, or will when its start is complete
+abbrev pub is_begin : Output → Bool
+is_begin outputs.Begin = true
+is_begin _ = false
+
+-- whether the server is live after an input, but for its end, which is an action of its own
+abbrev pub live_shown : Outcome → Outcome → Bool
+live_shown o after = if has_one is_begin after.outputs then live after.machine.server.state else live o.machine.server.state
+
+-- the input of the law that stands for one of the table. No renewal carries a set for the failsafe key
+pub record IsCommitInputOf (s : State) (m : ℕ) (o after : Outcome) (input : AgentInput) : Type 0 where
+  pub agent : input.agent ≡ committer_seen after.role after.knows
+  pub live : input.live ≡ live_shown o after
+  pub required : input.required ≡ need_in after.machine.replication.required
+  pub sends : IsSent (requests_of m o.knows.run after.outputs) input.sends
+  pub holder_was_live : input.holder_was_live ≡ s.holder_was_live
+
+-- on a lease of this revision an agent claims the sync key: it hears the grant that it waits for, and no hold is active
+abbrev pub ArmsOn : Ticks → Heard → Outcome → ℕ → Type 0
+ArmsOn now (heards.Granted sequence grant snapshot) o revision = IsAwaitedLease sequence grant o.knows × (grant.revision ≡ revision) × (is_hold_active now o.machine.hold ≡ false)
+ArmsOn now _ o revision = ⊥
+
+-- what an input does, so far as the timed lease is to give something to it: no race counts, and no create compares the sync key
+abbrev pub DoesAs : Ticks → Heard → Outcome → (s : State) (m : ℕ) (input : AgentInput) (was : Agent) → Does s m input was → Type 0
+DoesAs now heard o s m input was (Racing races) = ⊥
+DoesAs now heard o s m input was (HearingAnswer answer) = ⊥
+DoesAs now heard o s m input was (WinningRace wins) = ⊥
+DoesAs now heard o s m input was (CreatingLeader creates) = ⊥
+DoesAs now heard o s m input was (Arming arms) = ArmsOn now heard o arms.grant.revision
+DoesAs now heard o s m input was _ = Unit {0}
+
+-- an input of the law is lawful, and does what it may
+pub record IsLawfulAs (now : Ticks) (heard : Heard) (o : Outcome) (s : State) (m : ℕ) (input : AgentInput) : Type 0 where
+  pub lawful : IsLawful s m input
+  pub does : DoesAs now heard o s m input lawful.was lawful.does
+
+-- an input leaves the synchronous mode on: what it waits for it asked with the mode on; it sends one request at most that compares the
+-- sync key, and none that removes it
+pub record StaysOn (o after : Outcome) : Type 0 where
+  pub asks : AsksOn after.knows
+  pub one : IsOneAtMost (requests_of o.knows.who.me.number o.knows.run after.outputs)
+  pub keeps : All IsNoRemoval after.outputs
+
+-- while the synchronous mode is on, whatever input of the law stands for this one of the table is lawful
+pub record CommitsFrom (now : Ticks) (heard : Heard) (o after : Outcome) : Type 0 where
+  pub stays : AsksOn o.knows → HearsOn heard → StaysOn o after
+  pub lawful : AsksOn o.knows → HearsOn heard → (s : State) (m : ℕ) (input : AgentInput) → IsSound s → StandsToCommit s m o → HearsToCommit s m input heard o → IsCommitInputOf s m o after input → IsLawfulAs now heard o s m input
