@@ -13,6 +13,7 @@ pub mod ExampleRun
 pub mod SameStore
 pub mod Deciding
 pub mod Delivering
+pub mod Configurations
 pub mod Unpaused
 pub mod LocalActions
 pub mod Timely

@@ -1,5 +1,5 @@
 -- Nobody pauses: what is carried from event to event.
-use Rattle.std.proofs.Common.{◌≡◌, ℕ, ◌+◌, ◌++◌, Bool, true, false, cond, List, [], ◌∷◌, Option, Some, None, refl, sym, subst}
+use Rattle.std.proofs.Common.{◌≡◌, ℕ, ◌+◌, Bool, true, false, cond, List, [], ◌∷◌, Option, Some, None, sym, subst}
 use Rattle.std.specs.FinMap.{find}
 use Rattle.std.specs.Ordering.{nat_cmp, match_ordering}
 use Rattle.std.specs.declared.cmp.Ordering.{Ordering}
@@ -7,20 +7,17 @@ use Rattle.std.specs.declared.cmp.Ordering.TheVariants.{Less, Equal, Greater}
 use Rattle.std.specs.BTreeMap.{insert_entry, is_at}
 use Rattle.std.specs.Map.{remove_entry}
 use Rattle.pat_base.specs.declared.name.Name.{Name}
-use Rattle.pat_base.specs.declared.lsn.Lsn.{Lsn}
 use Rattle.pat_base.specs.declared.member_id.MemberId.{MemberId}
-use Rattle.pat_base.specs.declared.member_set.MemberSet.{MemberSet}
 use Rattle.lease_store.specs.declared.key.Key.{Key}
 use Rattle.lease_store.specs.declared.key.Key.TheVariants as keys
 use Rattle.lease_store.specs.declared.txn.Txn.{Txn}
 use Rattle.lease_store.specs.declared.txn.Txn.TheVariants as txns
-use Rattle.lease_store.specs.declared.value.HistoryRow.{HistoryRow}
 use Rattle.lease_store.specs.declared.value.KeyEntry.{KeyEntry}
 use Rattle.lease_store.specs.KeyOrder.{key_cmp}
 use Rattle.lease_store.specs.Keys.{Keys, is_present, present}
 use Rattle.lease_store.specs.Kept.{IsKept}
 use Rattle.lease_store.specs.Answers.{present_pairs}
-use Rattle.lease_store.specs.Writes.{keys_after_grant, writes_of, status_writes, row_writes, failsafe_writes}
+use Rattle.lease_store.specs.Writes.{keys_after_grant, writes_of}
 use Rattle.lease_store.specs.Settings.{Settings}
 use Rattle.lease_store.proofs.Keeping.{kept_after, kept_present, find_present}
 use Rattle.lease_store.proofs.Fences.{kept_first}
@@ -34,6 +31,7 @@ use Rattle.event_book.specs.declared.message.Body.{Body}
 use Rattle.event_book.specs.declared.message.Body.TheVariants as bodies
 use Rattle.event_book.specs.Flight.{InFlightFacts, Flight, snapshot_for, launched, flight_by}
 use Rattle.event_book.specs.Facts.{Facts, facts_after, start_of}
+use Rattle.lease_law.proofs.Configurations.{SetsConfig, config-after}
 use Rattle.lease_law.specs.Premises.{IsUnpaused, IsHandsOffKind}
 use Rattle.lease_law.specs.Pauses.{IsUnpausedHeld, IsUnpausedIn, AreUnpaused, NobodyPauses}
 
@@ -52,27 +50,12 @@ unpaused-snapshot : (now : ℕ) (pairs : List (Key × KeyEntry)) → IsKept pair
 unpaused-snapshot now pairs kept is = subst (λ (o : Option KeyEntry). IsUnpausedHeld o) (sym (find_present now keys.Config pairs kept.order)) (unpaused-present now (find key_cmp keys.Config pairs) is)
 
 -- a granted transaction
-carried-config : (revision now : ℕ) (found : Option KeyEntry) (status : Option Lsn) (row : Option HistoryRow) (failsafe : Option MemberSet) → found_after_all revision now keys.Config found (status_writes status ++ (row_writes row ++ failsafe_writes failsafe)) ≡ found
-carried-config revision now found None None None = refl
-carried-config revision now found None None (Some members) = refl
-carried-config revision now found None (Some row) None = refl
-carried-config revision now found None (Some row) (Some members) = refl
-carried-config revision now found (Some end) None None = refl
-carried-config revision now found (Some end) None (Some members) = refl
-carried-config revision now found (Some end) (Some row) None = refl
-carried-config revision now found (Some end) (Some row) (Some members) = refl
+unpaused-set : (revision now : ℕ) (by : MemberId) (txn : Txn) (found : Option KeyEntry) → IsUnpaused txn → SetsConfig IsUnpausedHeld revision now by found txn
+unpaused-set revision now by (txns.SetConfig compared config) found is = is
+unpaused-set revision now by _ found is = tt
 
 config-written : (revision now : ℕ) (by : MemberId) (txn : Txn) (found : Option KeyEntry) → IsUnpaused txn → IsUnpausedHeld found → IsUnpausedHeld (found_after_all revision now keys.Config found (writes_of by txn))
-config-written revision now by (txns.Touch info ttl) found is old = old
-config-written revision now by (txns.Create info ttl failsafe sync) found is old = old
-config-written revision now by (txns.Renew compared info ttl status row failsafe) found is old = subst (λ (o : Option KeyEntry). IsUnpausedHeld o) (sym (carried-config revision now found status row failsafe)) old
-config-written revision now by (txns.Release compared) found is old = old
-config-written revision now by (txns.Claim compared sync) found is old = old
-config-written revision now by (txns.SetSync compared sync standbys) found is old = old
-config-written revision now by (txns.DropSync compared sync) found is old = old
-config-written revision now by (txns.SetFailover failover ttl) found is old = old
-config-written revision now by (txns.DropFailover compared) found is old = old
-config-written revision now by (txns.SetConfig compared config) found is old = is
+config-written revision now by txn found is old = config-after IsUnpausedHeld revision now by txn found (unpaused-set revision now by txn found is) old
 
 unpaused-granted : (store : Keys) (now : ℕ) (by : MemberId) (txn : Txn) → IsUnpaused txn → IsUnpausedIn store.pairs → IsUnpausedIn (keys_after_grant store now by txn).pairs
 unpaused-granted store now by txn is old = subst (λ (o : Option KeyEntry). IsUnpausedHeld o) (sym (find_all_written (store.revision + 1) now keys.Config store.pairs (writes_of by txn)))
