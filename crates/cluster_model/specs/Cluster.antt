@@ -1,7 +1,6 @@
 -- What a book leaves of a cluster, with where its agents stand.
-use Rattle.std.specs.Prelude.{ℕ, ◌+◌, List, [], ◌∷◌, Option, Some, None, map, length, slice_get}
+use Rattle.std.specs.Prelude.{ℕ, List, [], ◌∷◌, Option, Some, None}
 use Rattle.pat_base.specs.declared.name.Name.{Name}
-use Rattle.pat_base.specs.declared.ticks.Ticks.{Ticks}
 use Rattle.pat_base.specs.Changes.{with_changed}
 use Rattle.cluster_script.specs.declared.head.MemberOptions.{MemberOptions}
 use Rattle.event_book.specs.declared.event.AgentEvent.{AgentEvent}
@@ -16,7 +15,7 @@ use Rattle.event_book.specs.declared.event.WatchdogEvent.TheVariants as watchdog
 use Rattle.event_book.specs.declared.link.LinkEnd.{LinkEnd}
 use Rattle.event_book.specs.declared.link.LinkEnd.TheVariants as link_ends
 use Rattle.event_book.specs.declared.member.Member.{Member}
-use Rattle.event_book.specs.Facts.{Facts, facts_after, start_of}
+use Rattle.event_book.specs.Facts.{facts_after}
 use Rattle.event_book.specs.Flight.{InFlightFacts, in_flight}
 use Rattle.ha_loop.specs.declared.heard.Heard.TheVariants.{Wake}
 use Rattle.ha_loop.specs.Agents.{AgentFacts, Outcome}

@@ -1,5 +1,5 @@
 -- Parts of a step, and how they follow one another.
-use Rattle.std.specs.Prelude.{Bool, true, false, List, [], ◌∷◌, ◌++◌, map, Option, Some, None}
+use Rattle.std.specs.Prelude.{Bool, true, false, List, [], ◌∷◌, ◌++◌, map, Option}
 use Rattle.std.specs.Option.{option_map_or}
 use Rattle.pat_base.specs.declared.ticks.Ticks.{Ticks}
 use Rattle.event_book.specs.declared.event.Event.{Event}

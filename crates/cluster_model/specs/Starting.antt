@@ -1,5 +1,5 @@
 -- What there is before the first event.
-use Rattle.std.specs.Prelude.{ℕ, ◌+◌, List, [], ◌∷◌, Option, Some, map, length}
+use Rattle.std.specs.Prelude.{List, [], Option, Some, map}
 use Rattle.pat_base.specs.declared.name.Name.{Name}
 use Rattle.cluster_script.specs.declared.head.MemberOptions.{MemberOptions}
 use Rattle.cluster_script.specs.Script.{HeadText, MemberText, names_of}

@@ -1,6 +1,5 @@
 -- What a tick brings beside the clock: machines are reset, keys expire, and servers begin and end.
-use Rattle.std.specs.Prelude.{ℕ, ◌+◌, ◌++◌, if◌then◌else◌, true, List, [], ◌∷◌, Option, Some, None, option_and_then, slice_get}
-use Rattle.pat_base.specs.declared.member_id.MemberId.{MemberId}
+use Rattle.std.specs.Prelude.{ℕ, ◌+◌, ◌++◌, if◌then◌else◌, List, [], ◌∷◌, Option, Some, None, option_and_then, slice_get}
 use Rattle.pat_base.specs.declared.ticks.Ticks.{Ticks}
 use Rattle.lease_store.specs.declared.key.Key.{Key}
 use Rattle.lease_store.specs.declared.key.Key.TheVariants as keys

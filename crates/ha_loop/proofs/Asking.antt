@@ -21,7 +21,7 @@ use Rattle.ha_loop.specs.declared.output.Output.{Output}
 use Rattle.ha_loop.specs.declared.output.Output.TheVariants as outputs
 use Rattle.ha_loop.specs.declared.output.Target.TheVariants as targets
 use Rattle.ha_loop.specs.Acting.{requiring, touching, starting_replica, arming, ending_server, is_refusing, waiting_no_more}
-use Rattle.ha_loop.specs.Agents.{RoleFacts, Follower, Leader, Ending, IsSoundAgent, Outcome, made}
+use Rattle.ha_loop.specs.Agents.{RoleFacts, Follower, Ending, IsSoundAgent, Outcome, made}
 use Rattle.ha_loop.specs.Asking.{IsNumbered, IsAskedNow, AsksAsWaited}
 use Rattle.ha_loop.specs.Before.{before}
 use Rattle.ha_loop.specs.Claiming.{begins, claims, begins_or_claims, postpones}

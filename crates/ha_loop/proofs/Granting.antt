@@ -11,7 +11,7 @@ use Rattle.ha_loop.specs.declared.output.Output.{Output}
 use Rattle.ha_loop.specs.declared.output.Output.TheVariants as outputs
 use Rattle.ha_loop.specs.declared.role.Why.TheVariants.{HandOver}
 use Rattle.ha_loop.specs.Acting.{armed, fed_until, arming, ending_server, requiring, is_hold_active, is_refusing, waiting_no_more}
-use Rattle.ha_loop.specs.Agents.{Ready, Leader, Ending, Outcome, is_ready}
+use Rattle.ha_loop.specs.Agents.{Ending, Outcome, is_ready}
 use Rattle.ha_loop.specs.Claiming.{begins_or_claims, postpones}
 use Rattle.ha_loop.specs.Decisions.{is_decision, is_lease_of, leader_renewed, takes_over, stray_renewed, can_begin, may_take, gives_back, arms, takes_key, granted}
 use Rattle.ha_loop.specs.Fits.{Fits}

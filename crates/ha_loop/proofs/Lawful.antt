@@ -19,7 +19,7 @@ use Rattle.ha_loop.specs.declared.output.Output.{Output}
 use Rattle.ha_loop.specs.declared.output.Output.TheVariants as outputs
 use Rattle.ha_loop.specs.declared.output.Target.TheVariants as targets
 use Rattle.ha_loop.specs.declared.who.Who.{Who}
-use Rattle.ha_loop.specs.Agents.{RoleFacts, Follower, Holder, Ready, Leader, Ending, Stray, Outcome, is_ready}
+use Rattle.ha_loop.specs.Agents.{Outcome, is_ready}
 use Rattle.ha_loop.specs.Fits.{Fits}
 use Rattle.ha_loop.specs.Lawful.{StandsIn, query_in, IsSentBy, IsInputOf}
 use Rattle.ha_loop.specs.Powers.{Acts, BringsNothing, LeavesMachine, leads, lease_of}

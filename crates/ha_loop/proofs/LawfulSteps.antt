@@ -1,5 +1,5 @@
 -- Each input of the table is lawful, by what is heard.
-use Rattle.std.proofs.Common.{◌≡◌, ◌⊎◌, ℕ, ◌≤◌, true, false, List, [], Option, Some, None, All, refl, sym, subst, ap, ◌∙◌, inl, inr}
+use Rattle.std.proofs.Common.{◌≡◌, ◌⊎◌, ℕ, true, false, List, [], Option, Some, None, All, refl, sym, subst, ap, ◌∙◌, inl, inr}
 use Rattle.std.proofs.lemmas.List.Elements.{All-nil}
 use Rattle.std.specs.Option.{ForSome}
 use Rattle.pat_base.specs.declared.member_id.MemberId.{MemberId}
@@ -13,7 +13,7 @@ use Rattle.wal_model.specs.declared.entry.HistoryPoint.{HistoryPoint}
 use Rattle.cluster_config.specs.Snapshots.{SnapshotFacts, entry_in}
 use Rattle.leader_key.specs.Watchdog.{IsLeaseSpan}
 use Rattle.lease_law.specs.Leases.{LeaderSeen, FailsafeKey}
-use Rattle.lease_law.specs.States.{Machine as MachineSeen, State, Acts as LawActs}
+use Rattle.lease_law.specs.States.{Machine as MachineSeen, State}
 use Rattle.lease_law.specs.Inputs.{AgentInput, HeardLeader, HeardFailsafe, FedKnown, WatchdogMay, SetByGrant, Owns}
 use Rattle.lease_law.specs.Past.{set_members}
 use Rattle.lease_law.proofs.Tools.{some-is, none-some}

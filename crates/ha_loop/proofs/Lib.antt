@@ -18,3 +18,12 @@ pub mod FreeKey
 pub mod Beginning
 pub mod Replying
 pub mod CommitTools
+pub mod CommitQuiet
+pub mod CommitIdling
+pub mod CommitSteps
+pub mod CommitLawful
+pub mod CommitAsking
+pub mod CommitGrounds
+pub mod CommitGrants
+pub mod CommitRows
+pub mod CommitInputs

@@ -34,8 +34,8 @@ use Rattle.ha_loop.specs.declared.role.Why.{Why}
 use Rattle.ha_loop.specs.Acting.{disarming, feeding, ending_server, requiring, waiting_no_more, touching, starting_replica, following_server, is_hold_active, shutting_down}
 use Rattle.ha_loop.specs.Agents.{RoleFacts, Follower, Holder, Ready, Leader, Ending, Stray, Outcome, is_leader}
 use Rattle.ha_loop.specs.Before.{leader_finds_ended, has_ended, finds_live, stray_finds_ended, before_as, before}
-use Rattle.ha_loop.specs.Decisions.{may_create, leader_renewed, judges_start, is_start_too_long, stray_renewed, takes_key, lease_granted, belongs, accepted_grant, is_lease_of, granted_write, granted_for, granted, is_decision, is_sync_decision, awaits_decision, is_write_of, sync_granted, accepted_sync, follower_for, renewal_refused, refused_as, refused_for, refused}
-use Rattle.ha_loop.specs.Claiming.{begins, claims, begins_or_claims, postpones, claim_fails_as, claim_fails, can_begin_on_claim, claim_granted}
+use Rattle.ha_loop.specs.Decisions.{may_create, leader_renewed, is_start_too_long, stray_renewed, takes_key, lease_granted, belongs, accepted_grant, is_lease_of, granted_write, granted_for, granted, is_decision, is_sync_decision, awaits_decision, is_write_of, sync_granted, accepted_sync, follower_for, renewal_refused, refused_as, refused_for, refused}
+use Rattle.ha_loop.specs.Claiming.{begins, claims, begins_or_claims, postpones, claim_fails_as, claim_fails, can_begin_on_claim}
 use Rattle.ha_loop.specs.Planning.{leader_view, writing_sync, switching_off, noting, planned_as, planned_on, planned, settled}
 use Rattle.ha_loop.specs.Fits.{Fits}
 use Rattle.ha_loop.specs.Snapshots.{leader_loses_key, stray_loses_key, renewing, finds_own_key, own_key, starts_behind, follow_row, follows, others_key, no_key, led, is_active, awaits_read, read_noted, informed, accepted, got, ends_fork}

@@ -33,7 +33,7 @@ use Rattle.ha_loop.specs.Acting.{armed, fed_until, disarmed, deadline_after, arm
 use Rattle.ha_loop.specs.Agents.{Follower, Ready, Ending, Outcome, is_ready}
 use Rattle.ha_loop.specs.Before.{has_ended, before}
 use Rattle.ha_loop.specs.Claiming.{begins, claims, begins_or_claims, postpones}
-use Rattle.ha_loop.specs.Decisions.{is_decision, is_lease_of, may_create, leader_renewed, takes_over, stray_renewed, can_begin, may_take, gives_back, arms, takes_key, granted, refused}
+use Rattle.ha_loop.specs.Decisions.{is_decision, is_lease_of, leader_renewed, takes_over, stray_renewed, can_begin, may_take, gives_back, arms, takes_key, granted, refused}
 use Rattle.ha_loop.specs.Fits.{Fits}
 use Rattle.ha_loop.specs.Outputs.{listed, is_arming, has_one, BeginsOnly, OutputsBeginBehind}
 use Rattle.ha_loop.specs.Planning.{writing_sync, noting}
@@ -41,7 +41,7 @@ use Rattle.ha_loop.specs.Powers.{Acts, lease_of}
 use Rattle.ha_loop.specs.Synchronous.{unnamed, may_lead_in_sync}
 use Rattle.ha_loop.specs.Seen.{lease_asked, leader_entry_seen, leader_seen_if}
 use Rattle.ha_loop.specs.Snapshots.{renewing, follows, leader_loses_key, stray_loses_key, read_noted, got, follow_row}
-use Rattle.ha_loop.specs.Racing.{creating, finds_free, judged, asking_others, unheard}
+use Rattle.ha_loop.specs.Racing.{finds_free, judged, asking_others, unheard}
 use Rattle.ha_loop.specs.Answers.{is_other, most_answers, asking_one, asking_first}
 use Rattle.ha_loop.specs.Orders.{IsAsk}
 use Rattle.ha_loop.specs.Peers.{asked, keeping, answered}

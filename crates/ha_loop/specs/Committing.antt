@@ -8,8 +8,9 @@ use Rattle.pat_base.specs.ServerState.{live}
 use Rattle.lease_store.specs.declared.granted.Granted.{Granted}
 use Rattle.lease_store.specs.declared.txn.Txn.{Txn}
 use Rattle.lease_store.specs.declared.txn.Txn.TheVariants as txns
+use Rattle.wal_model.specs.declared.entry.Entry.{Entry}
+use Rattle.wal_model.specs.Log.{end_of}
 use Rattle.pg_model.specs.Facts.{has_data}
-use Rattle.pg_model.specs.Status.{end_in}
 use Rattle.cluster_config.specs.KeyValues.{config_in}
 use Rattle.cluster_config.specs.Snapshots.{SnapshotFacts}
 use Rattle.event_book.specs.declared.message.Body.{Body}
@@ -18,7 +19,7 @@ use Rattle.lease_law.specs.Past.{set_members}
 use Rattle.sync_state.specs.Standbys.{noted_position}
 use Rattle.commit_law.specs.Keys.{SyncKey}
 use Rattle.commit_law.specs.Flights.{SyncRequest, LeaseGranted, SyncGranted}
-use Rattle.commit_law.specs.States.{Agent, State, HasLog, Reaches}
+use Rattle.commit_law.specs.States.{Agent, State, HasLog}
 use Rattle.commit_law.specs.Inputs.{Sending, AgentInput, HearsSnapshot, IsLawful, Does, Racing, HearingAnswer, WinningRace, CreatingLeader, Arming}
 use Rattle.commit_law.specs.Carried.{IsSound}
 use Rattle.commit_law.specs.Past.{Query, SyncQuery, query_of, need_in}
@@ -74,12 +75,18 @@ pub record IsStrict (member_count : ℕ) (key : SyncKey) : Type 0 where
   pub quorum : key.quorum ≡ 0
   pub members : (n : ℕ) → key.standbys n ≡ true → n < member_count
 
+-- this is seen of where a log ends, which is there where the log is
+abbrev pub IsEndOf : Option Lsn → Option (List Entry) → Type 0
+IsEndOf None None = Unit {0}
+IsEndOf (Some end) (Some log) = end.position ≡ end_of log
+IsEndOf _ _ = ⊥
+
 -- the state of the law in which this agent stands
 pub record StandsToCommit (s : State) (m : ℕ) (o : Outcome) : Type 0 where
   pub agent : (s.members m).agent ≡ Some (committer_seen o.role o.knows)
   pub live : (s.members m).live ≡ live o.machine.server.state
   pub required : (s.members m).required ≡ need_in o.machine.replication.required
-  pub end : o.machine.server.end ≡ end_in (s.members m).log
+  pub end : IsEndOf o.machine.server.end (s.members m).log
   pub has_log : has_data o.machine.server.state ≡ true → HasLog (s.members m).log
   pub connected : (n : ℕ) (end : Lsn) → slice_get o.machine.replication.connected n ≡ Some (Some end) → IsConnected s m n end
   pub me : o.knows.who.me.number ≡ m

@@ -1,5 +1,5 @@
 -- How the log of a server is repaired by that of the leader's, where it diverged or is missing.
-use Rattle.std.specs.Prelude.{◌==◌, ◌&&◌, if◌then◌else◌, Bool, false, List, Option, Some, None}
+use Rattle.std.specs.Prelude.{◌==◌, ◌&&◌, if◌then◌else◌, Bool, false, Option, Some, None}
 use Rattle.pat_base.specs.declared.member_id.MemberId.{MemberId}
 use Rattle.pat_base.specs.declared.server_id.ServerId.{ServerId}
 use Rattle.pat_base.specs.declared.server_state.State.{State}

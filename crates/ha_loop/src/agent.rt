@@ -6,6 +6,7 @@ ghost use Rattle.ha_loop.specs.declared.machine.Machine.{Machine};
 ghost use Rattle.ha_loop.specs.declared.heard.Heard.TheVariants as heards;
 ghost use Rattle.ha_loop.specs.Agents.{AgentFacts, RoleFacts, IsSound, IsWithin, Follower, role_of, word_of, fresh_knowledge, made, latest, most_messages};
 ghost use Rattle.ha_loop.specs.Before.{before};
+ghost use Rattle.ha_loop.specs.Committing.{CommitsFrom};
 ghost use Rattle.ha_loop.specs.FreeKey.{AsksWhereFree, AsksWhereWon, BeginsWhereGranted};
 ghost use Rattle.ha_loop.specs.Lawful.{IsLawfulFrom};
 ghost use Rattle.ha_loop.specs.Outputs.{most_outputs};
@@ -92,7 +93,7 @@ impl Agent {
 
     /// One input, by the decision table. `history` is that of the own server. It takes no memory and refuses nothing; the
     /// machine is what it reckons with, and who carries out the outputs in their order arrives at the same. Where no output stood
-    /// before, the input is lawful by the law of the lease.
+    /// before, the input is lawful by the law of the lease, and with the synchronous mode on by that of kept commits.
     pub fn step(
         self,
         now: Ticks,
@@ -107,6 +108,7 @@ impl Agent {
         requires room { most_outputs ≤ out.old.spare }
         ensures outcome { made result.role result.knows machine.new out.new.outputs ≡ step now history.now.points heard (made self.role self.knows machine.old out.old.outputs) }
         ensures lawful { out.old.outputs ≡ [] → IsLawfulFrom now heard (made self.role self.knows machine.old []) (made result.role result.knows machine.new out.new.outputs) }
+        ensures commits { out.old.outputs ≡ [] → CommitsFrom now heard (made self.role self.knows machine.old []) (made result.role result.knows machine.new out.new.outputs) }
         // A free leader key is asked for, by whom nothing bars and who wins; and whom it is granted to begins.
         ensures free_key { AsksWhereFree now heard (before now (made self.role self.knows machine.old out.old.outputs)) (made result.role result.knows machine.new out.new.outputs) }
         ensures won_race { AsksWhereWon now heard (before now (made self.role self.knows machine.old out.old.outputs)) (made result.role result.knows machine.new out.new.outputs) }
@@ -131,6 +133,7 @@ impl Agent {
         requires room { most_outputs ≤ out.old.spare }
         ensures outcome { made result.role result.knows machine.new out.new.outputs ≡ act now (made self.role self.knows machine.old out.old.outputs) }
         ensures lawful { out.old.outputs ≡ [] → IsLawfulFrom now heards.Wake (made self.role self.knows machine.old []) (made result.role result.knows machine.new out.new.outputs) }
+        ensures commits { out.old.outputs ≡ [] → CommitsFrom now heards.Wake (made self.role self.knows machine.old []) (made result.role result.knows machine.new out.new.outputs) }
         ensures numbers { result.knows.sequence ≤ self.knows.sequence + most_outputs }
         ensures room { out.old.spare ≤ out.new.spare + most_outputs }
     {

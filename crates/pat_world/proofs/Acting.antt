@@ -20,13 +20,12 @@ use Rattle.ha_loop.specs.declared.role.Why.{Why}
 use Rattle.ha_loop.specs.declared.who.Who.{Who}
 use Rattle.event_book.specs.declared.message.Body.TheVariants as bodies
 use Rattle.ha_loop.specs.declared.role.Why.TheVariants.{HandOver, Lost}
-use Rattle.ha_loop.specs.Acting.{arming, armed, deadline_after, disarmed, fed_until, is_refusing, requiring, touching, waiting_no_more}
+use Rattle.ha_loop.specs.Acting.{arming, armed, deadline_after, disarmed, fed_until, is_refusing, touching, waiting_no_more}
 use Rattle.ha_loop.specs.Agents.{Follower, Outcome}
 use Rattle.ha_loop.specs.Before.{before, has_ended}
 use Rattle.ha_loop.specs.Claiming.{begins, begins_or_claims, claims, postpones}
 use Rattle.ha_loop.specs.Decisions.{arms, gives_back, granted, leader_renewed, may_take, refused, stray_renewed, takes_key, takes_over}
 use Rattle.ha_loop.specs.Outputs.{listed, most_outputs}
-use Rattle.ha_loop.specs.Planning.{noting, writing_sync}
 use Rattle.ha_loop.specs.Racing.{finds_free, judged, unheard}
 use Rattle.ha_loop.specs.Repairs.{repair_of}
 use Rattle.ha_loop.specs.Snapshots.{follow_row, follows, got, informed, read_noted}
@@ -249,7 +248,7 @@ renewed-row now ttl held o =
     let led : Outcome = led_on now ttl held o in
     let fed : Brings 1 o led = fed-one o.knows.sequence (deadline_after now ttl o.machine.watchdog) o.outputs in
     let and-one : (later : ℕ) (output : Output) → later ≤ o.knows.sequence + 1 → AsksShortly output → Grows 9 o.knows.sequence later o.outputs (listed output led.outputs) =
-        λ later output h asks. grows-then 1 1 9 o.knows.sequence o.knows.sequence later o.outputs led.outputs (listed output led.outputs) (omega arith) fed (one o.knows.sequence later led.outputs output h asks) in
+    λ later output h asks. grows-then 1 1 9 o.knows.sequence o.knows.sequence later o.outputs led.outputs (listed output led.outputs) (omega arith) fed (one o.knows.sequence later led.outputs output h asks) in
     renewed-by (Row o) now ttl held o (and-one o.knows.sequence _ (omega arith) tt) (record {
       kept = weaker 1 9 o.knows.sequence o.knows.sequence o.outputs led.outputs (omega arith) fed;
       writes = λ settling txn writes. and-one (o.knows.sequence + 1) _ (omega arith) (sync-short txn writes);

@@ -212,6 +212,7 @@ order-above last cluster member heard (outputs.Armed until) = tt
 order-above last cluster member heard (outputs.Fed until) = tt
 order-above last cluster member heard outputs.Disarmed = tt
 order-above last cluster member heard outputs.CannotArm = tt
+order-above last cluster member heard outputs.PostponesPromotion = tt
 order-above last cluster member heard (outputs.DoesNotRace bar) = tt
 order-above last cluster member heard outputs.ShutDown =
     holds-then (IsAbove last) (stop_of member) (server_at cluster member) (λ s. holds-if (IsAbove last) (is_up s.state) (stop_kind member s.state s.stop_delay) (stop-above last member (is_primary s.state && s.stop_delay.0 == 0)))

@@ -9,7 +9,6 @@ use Rattle.pg_model.specs.Facts.{ServerFacts, is_creating}
 use Rattle.pg_model.specs.Rewinding.{changed_from, cloned, cloned_at, holds_between, is_rewindable, may_clone, may_clone_at, may_rewind, may_rewind_at, rewind_at, rewind_between, rewound, rewound_at, rewound_to}
 use Rattle.pg_model.proofs.Rewinds.{rewound_at-told}
 use Rattle.event_book.specs.declared.event.Event.{Event}
-use Rattle.event_book.specs.declared.event.EventKind.{EventKind}
 use Rattle.event_book.specs.declared.event.EventKind.TheVariants as kinds
 use Rattle.event_book.specs.declared.event.LogEvent.TheVariants as logs
 use Rattle.event_book.specs.declared.member.Member.{Member}

@@ -15,6 +15,10 @@ mod runs_of_races;
 #[cfg(test)]
 mod runs_of_servers;
 #[cfg(test)]
+mod runs_of_standbys;
+#[cfg(test)]
 mod runs_of_watchdogs;
 #[cfg(test)]
 mod runs_refused;
+#[cfg(test)]
+mod runs_that_keep_commits;

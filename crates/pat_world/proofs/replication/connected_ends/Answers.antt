@@ -1,4 +1,4 @@
-use Rattle.std.proofs.Common.{◌≡◌, ℕ, ◌+◌, ◌<◌, List, length, length-set, get_or, set, Option, None, arith, sym, subst, ◌∙◌}
+use Rattle.std.proofs.Common.{◌≡◌, ℕ, ◌+◌, ◌<◌, length-set, get_or, set, Option, None, arith, sym, subst, ◌∙◌}
 use Rattle.std.proofs.lemmas.List.Edits.{fill_by_more}
 use Rattle.std.proofs.lemmas.List.FromFn.{fill_by_all}
 use Rattle.pat_base.specs.declared.lsn.Lsn.{Lsn}
@@ -9,10 +9,11 @@ pub loop-number-preserved : goal.loop-number-preserved
 loop-number-preserved c =
     let end : ℕ → Option Lsn = connected_end c.args.members.now c.args.servers.now c.args.cuts.now c.args.member c.args.server.now.confirmed in
     let ends = c.loop-number.ends in
-    let number = c.loop-number.number in
-    (length-set ends number c.connected_end.result ∙ c.loop-number.invariant.0,
-    subst (λ (found : Option Lsn). (k : ℕ) → k < number + 1 → get_or (set ends number found) k None ≡ end k) (sym c.connected_end.ensures)
-    (fill_by_more end ends number None (omega arith) c.loop-number.invariant.1))
+    let number = c.loop-number.number in (
+      length-set ends number c.connected_end.result ∙ c.loop-number.invariant.0,
+      subst (λ (found : Option Lsn). (k : ℕ) → k < number + 1 → get_or (set ends number found) k None ≡ end k) (sym c.connected_end.ensures)
+          (fill_by_more end ends number None (omega arith) c.loop-number.invariant.1),
+    )
 
 pub returns : goal.returns
 unfolding connected_ends

@@ -4,6 +4,7 @@ use Rattle.ha_loop.specs.Before.{before}
 use Rattle.ha_loop.specs.FreeKey.{AsksWhereFree, AsksWhereWon, BeginsWhereGranted}
 use Rattle.ha_loop.specs.Table.{step}
 use Rattle.ha_loop.proofs.Beginning.{step-asks, step-begins, step-wins}
+use Rattle.ha_loop.proofs.CommitInputs.{input-commits-as}
 use Rattle.ha_loop.proofs.LawfulSteps.{input-lawful-as, input-ends-as, input-counts}
 use Rattle.ha_loop.proofs.agent.Agent.step.Goals as goal
 
@@ -19,6 +20,10 @@ invariant_of-result c = record {
 pub returns-clause-lawful : goal.returns-clause-lawful
 returns-clause-lawful c = input-lawful-as c.args.now c.args.history.now.points c.args.heard c.args.self.role c.args.self.knows c.args.machine.now c.args.out.now.outputs
     (made (role_of c.hear-role.result) c.hear-role.new.knows c.hear-role.new.machine c.hear-role.new.out.outputs) (search rules) (search rules)
+
+pub returns-clause-commits : goal.returns-clause-commits
+returns-clause-commits c = input-commits-as c.args.now c.args.history.now.points c.args.heard c.args.self.role c.args.self.knows c.args.machine.now c.args.out.now.outputs
+    (made (role_of c.hear-role.result) c.hear-role.new.knows c.hear-role.new.machine c.hear-role.new.out.outputs) (search rules)
 
 pub returns-clause-free_key : goal.returns-clause-free_key
 returns-clause-free_key c =

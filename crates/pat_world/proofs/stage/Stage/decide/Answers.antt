@@ -1,4 +1,4 @@
-use Rattle.std.proofs.Common.{◌≡◌, ◌∙◌, ◌++◌, [], ◌∷◌, Bool, Err, arith, refl, ap, sym, subst, rules}
+use Rattle.std.proofs.Common.{◌≡◌, ◌∙◌, ◌++◌, [], ◌∷◌, Bool, Err, arith, refl, ap, sym, subst}
 use Rattle.std.proofs.lemmas.Result.{on_ok_weaker}
 use Rattle.lease_store.specs.declared.granted.Granted.{Granted}
 use Rattle.lease_store.specs.Decision.{decision_on, Grant, Refusal}
@@ -47,7 +47,7 @@ returns-in_ok-note-in-Ok c =
     let state = ap (λ (keys : Keys). let g : Cluster = record before { book = record before.book { keys = keys } } in g) written in
     let leased : c.leased.result ≡ is_lease txn = c.leased.ensures ∙ ap (λ (g : Granted). g.leased) c.in-Ok.ensures.told in
     let answer = c.answer_message.ensures ∙ ap (λ (l : Bool). answer_message message (bodies.Granted c.args.number l)) leased in
-    let named : c.in_ok-published_names.published_names ≡ published_names before.book.members txn = search rules in
+    let named = c.in_ok-published_names-in-Ok.ensures ∙ ap (λ members. published_names members txn) c.deref.ensures.value in
     let mid = c.in_ok-note-in-Ok.ensures ∙ ap (λ es. c.args.events.now.items ++ es) (granted-event c.self.inside.clock c.args.number by _ txn _ _ (c.in_ok-new-in-Ok.ensures ∙ c.in_ok-try_clone-in-Ok.ensures) named) in
     on_ok_weaker c.send.result
     (λ took. subst (λ (b : Cluster). Emits b c.send.new.self c.args.events.now.items c.send.new.events.items (decision_events b c.args.number message txn (decision_on b.book.keys b.book.clock txn) message.from) 3) c.self.view_is

@@ -16,9 +16,9 @@ returns-clause-machine c =
     let place = c.args.member.id.number in
     let receives : c.is_some.result ≡ is_some (source_of w.members.items w.servers w.cuts c.args.member) = search rules in
     let replication : c.replication_of.result ≡ option_map (replication_of w.members.items w.servers w.cuts c.args.member) (slice_get w.servers place) = search rules in
-    let options : c.item_at.result ≡ slice_get w.options.items place = c.item_at.ensures ∙ ap (λ xs. slice_get xs place) c.deref-2.ensures.value in
-    let deadline : c.item_at-2.result ≡ slice_get w.deadlines.items place = c.item_at-2.ensures ∙ ap (λ xs. slice_get xs place) c.deref-3.ensures.value in
-    let hold : c.item_at-3.result ≡ slice_get w.holds.items place = c.item_at-3.ensures ∙ ap (λ xs. slice_get xs place) c.deref-4.ensures.value in
+    let options : c.item_at.result ≡ slice_get w.options.items place = c.item_at.ensures ∙ ap (λ xs. slice_get xs place) c.deref-3.ensures.value in
+    let deadline : c.item_at-2.result ≡ slice_get w.deadlines.items place = c.item_at-2.ensures ∙ ap (λ xs. slice_get xs place) c.deref-4.ensures.value in
+    let hold : c.item_at-3.result ≡ slice_get w.holds.items place = c.item_at-3.ensures ∙ ap (λ xs. slice_get xs place) c.deref-5.ensures.value in
     subst (λ (b : Cluster). c.machine_from.result ≡ machine_of b c.args.member) c.self.view_is
     (machine-is (seen w) c.args.member _ _ _ _ _ _ _ c.machine_from.ensures.machine receives replication options deadline hold c.get.ensures)
 
