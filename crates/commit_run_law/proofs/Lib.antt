@@ -5,3 +5,5 @@ pub mod Over
 pub mod Moving
 pub mod Still
 pub mod Servers
+pub mod Agents
+pub mod First

@@ -92,13 +92,13 @@ agents-leave named past cluster named' past' cluster' leave all m agent is =
           (write.0, before.1 ∙ write.1, write.2);
     }
 
--- such events uphold commits, where they keep the law of one writer, and nobody comes in them
+-- such events uphold commits, where they keep the law of one writer, and agents know behind them what they wait for
 pub upheld-moves : (head : HeadText) (book : List Event) (cluster : Cluster) (events : List Event) → CommitsBridged head book cluster
     → Moves (setup_of head) (past_of head book) cluster events → IsKept head book cluster events
     → AreCausal (past_of head book) cluster.book events → AskAsOn events
-    → OnlyLeave (lease_past.past_of book) (past_of head book) cluster (lease_past.past_over (lease_past.past_of book) events) (past_over (past_of head book) events) (cluster_over cluster events)
+    → AreAgentsSynchronous (lease_past.past_over (lease_past.past_of book) events).asked (past_over (past_of head book) events).asked (cluster_over cluster events).agents
     → Upholds (kept_commits head) book cluster events
-upheld-moves head book cluster events good moves kept causal asks leave =
+upheld-moves head book cluster events good moves kept causal asks agents =
     subst (λ (l : List Event). Upholds (kept_commits head) book cluster l) moves.whole
     (upheld-by head book cluster moves.transitions good moves.allowed (moves.last ∙ ap (λ (l : List Event). volatile_of (cluster_over cluster l)) (sym moves.whole))
     (subst (λ (l : List Event). IsKept head book cluster l) (sym moves.whole) kept)
@@ -113,5 +113,5 @@ upheld-moves head book cluster events good moves kept causal asks leave =
           servers = moves.fits;
           mode = store.mode;
           requests = store.requests;
-          agents = agents-leave (lease_past.past_of book) (past_of head book) cluster (lease_past.past_over (lease_past.past_of book) events) (past_over (past_of head book) events) (cluster_over cluster events) leave good.fits.agents;
+          agents = agents;
         }))

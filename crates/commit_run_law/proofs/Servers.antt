@@ -42,7 +42,7 @@ use Rattle.run_law.proofs.Streams.{IsQuietIf, acknowledge-quiet, confirm-quiet, 
 use Rattle.run_law.proofs.Upholding.{upheld-none}
 use Rattle.commit_run_law.specs.Bridged.{CommitsBridged, kept_commits}
 use Rattle.commit_run_law.specs.Reading.{past_of, setup_of, volatile_of}
-use Rattle.commit_run_law.proofs.Moving.{Moves, OnlyLeave, leave-then, moves-none, moves-then, upheld-moves}
+use Rattle.commit_run_law.proofs.Moving.{Moves, OnlyLeave, agents-leave, leave-then, moves-none, moves-then, upheld-moves}
 use Rattle.commit_run_law.proofs.Over.{AskAsOn}
 use Rattle.commit_run_law.proofs.Still.{IsStill, leaves-still, moves-still}
 use Rattle.commit_run_law.proofs.Transitions.{composable}
@@ -77,7 +77,8 @@ pub upheld-follow : (head : HeadText) (book : List Event) (cluster : Cluster) (e
     → IsKept head book cluster events → Upholds (kept_commits head) book cluster events
 upheld-follow head book cluster events good still may kept =
     let left = leave-follow (lease_past.past_of book) (past_of head book) cluster events still may in
-    upheld-moves head book cluster events good (moves-follow (setup_of head) (past_of head book) cluster events good.fits.servers still may) kept left.causal left.asks left.leave
+    upheld-moves head book cluster events good (moves-follow (setup_of head) (past_of head book) cluster events good.fits.servers still may) kept left.causal left.asks
+    (agents-leave (lease_past.past_of book) (past_of head book) cluster (lease_past.past_over (lease_past.past_of book) events) (past_over (past_of head book) events) (cluster_over cluster events) left.leave good.fits.agents)
 
 pub upheld-still : (head : HeadText) (book : List Event) (cluster : Cluster) (kind : EventKind) → CommitsBridged head book cluster → IsStill kind → MayHappen cluster.book kind
     → IsKept head book cluster (event_of cluster kind) → Upholds (kept_commits head) book cluster (event_of cluster kind)
