@@ -6,4 +6,5 @@ pub mod Moving
 pub mod Still
 pub mod Servers
 pub mod Agents
+pub mod Starting
 pub mod First
