@@ -7,4 +7,6 @@ pub mod Still
 pub mod Servers
 pub mod Agents
 pub mod Starting
+pub mod Going
+pub mod Ticks
 pub mod First

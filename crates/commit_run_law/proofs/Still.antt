@@ -71,7 +71,7 @@ down-agent : (volatile_states : ℕ → VolatileState) (k m : ℕ) (here : Bool)
 down-agent volatile_states k m true here = ap (λ (n : ℕ). (volatile_states n).agent) (sym (eq-from m k here))
 down-agent volatile_states k m false here = refl
 
-agent-stays : (volatile_states : ℕ → VolatileState) (kind : EventKind) (m : ℕ) → (volatile_after volatile_states kind m).agent ≡ (volatile_states m).agent
+pub agent-stays : (volatile_states : ℕ → VolatileState) (kind : EventKind) (m : ℕ) → (volatile_after volatile_states kind m).agent ≡ (volatile_states m).agent
 agent-stays volatile_states (kinds.Server (servers.Ended server)) m = down-agent volatile_states server.id.number m (m == server.id.number) refl
 agent-stays volatile_states (kinds.Server (servers.Crashed server)) m = down-agent volatile_states server.id.number m (m == server.id.number) refl
 agent-stays volatile_states (kinds.Watchdog (watchdogs.Reset member)) m = down-agent volatile_states member.id.number m (m == member.id.number) refl
