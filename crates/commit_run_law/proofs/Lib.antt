@@ -9,4 +9,5 @@ pub mod Agents
 pub mod Starting
 pub mod Going
 pub mod Ticks
+pub mod Commands
 pub mod First

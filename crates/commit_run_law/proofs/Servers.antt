@@ -135,7 +135,7 @@ pub upholds-note : (head : HeadText) (note : Note) → UpholdsAlways (kept_commi
 upholds-note head note book cluster good = upheld-still head book cluster (kinds.Note note) good tt tt (kept-quiet head book cluster (kinds.Note note) tt good.lease)
 
 -- one event that is quiet for the law of one writer, if one happens
-upheld-quiet-if : (head : HeadText) (book : List Event) (cluster : Cluster) (found : Option EventKind) → CommitsBridged head book cluster → IsQuietIf found → HoldsIf (MayHappen cluster.book) found
+pub upheld-quiet-if : (head : HeadText) (book : List Event) (cluster : Cluster) (found : Option EventKind) → CommitsBridged head book cluster → IsQuietIf found → HoldsIf (MayHappen cluster.book) found
     → Upholds (kept_commits head) book cluster (events_of cluster (kinds_of found))
 upheld-quiet-if head book cluster None good quiet may = upheld-none (kept_commits head) (composable head) book cluster good
 upheld-quiet-if head book cluster (Some kind) good quiet may = upheld-still head book cluster kind good (quiet-still kind quiet) may (kept-quiet head book cluster kind quiet good.lease)
