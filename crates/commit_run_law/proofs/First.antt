@@ -54,7 +54,7 @@ waits-nothing named head m (Some member) agent is =
       writes = λ waited waits. absurd (none-some waited waits);
     })
 
-few-names : (head : HeadText) → IsHead head → length (names_of head) ≤ 16
+pub few-names : (head : HeadText) → IsHead head → length (names_of head) ≤ 16
 few-names head is = rw (length-map head.members _) is.few
 
 pub commits-first : (head : HeadText) → IsHead head → head.config.config.synchronous_mode ≡ true → head.config.config.pause ≡ false → CommitsBridged head [] (cluster_of head)

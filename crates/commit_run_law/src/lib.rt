@@ -4,4 +4,4 @@
 
 mod laws;
 
-pub use laws::runs_begin_bridged;
+pub use laws::{parts_uphold_commits, runs_begin_bridged};
