@@ -70,7 +70,10 @@ commits-first head is on unpaused =
         servers = subst (λ (v : ℕ → VolatileState). Fits (past_of head []) (cluster_of head).book v) (sym same) fits;
         mode = synchronous-first head.config (names_of head) head.base on;
         requests = λ i carried e. absurd (none-some carried e);
-        agents = λ m agent e. waits-nothing lease_past.first_past head m (slice_get members m) agent (sym (slice_get-map (first_agent head.cluster (options_of head) members) members m) ∙ e);
+        agents = record {
+          each = λ m agent e. waits-nothing lease_past.first_past head m (slice_get members m) agent (sym (slice_get-map (first_agent head.cluster (options_of head) members) members m) ∙ e);
+          members = λ i question e. absurd (none-some question e);
+        };
       };
       sound = subst (λ (v : ℕ → VolatileState). IsSound (state_of (setup_of head) (past_of head []) v)) (sym same)
           (inv-first (setup_of head) (logs_in start.servers) (required_in start.servers) (confirmed_in start.servers) (bytes-first head.config (names_of head) head.base is.base_least));

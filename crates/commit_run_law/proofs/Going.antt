@@ -14,6 +14,7 @@ use Rattle.commit_bridge_law.specs.Flights.{AreCausal}
 use Rattle.commit_log_law.specs.Acting.{Fits}
 use Rattle.commit_log_law.specs.Happening.{MayFollow}
 use Rattle.event_book.specs.Facts.{Facts, facts_after}
+use Rattle.run_law.specs.Declaring.{member_count}
 use Rattle.run_law.specs.Kept.{IsKept}
 use Rattle.run_law.specs.Promise.{Upholds}
 use Rattle.run_law.proofs.Upholding.{Each, over-append}
@@ -73,4 +74,4 @@ pub upheld-goes : (head : HeadText) (book : List Event) (cluster : Cluster) (eve
 upheld-goes head book cluster events good goes kept =
     let went = goes (lease_past.past_of book) (past_of head book) good.fits.servers in
     upheld-moves head book cluster events good went.moves kept went.left.causal went.left.asks
-    (agents-leave (lease_past.past_of book) (past_of head book) cluster (lease_past.past_over (lease_past.past_of book) events) (past_over (past_of head book) events) (cluster_over cluster events) went.left.leave good.fits.agents)
+    (agents-leave (member_count head) (lease_past.past_of book) (past_of head book) cluster (lease_past.past_over (lease_past.past_of book) events) (past_over (past_of head book) events) (cluster_over cluster events) went.left.leave good.fits.agents)

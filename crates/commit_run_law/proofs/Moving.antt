@@ -14,6 +14,7 @@ use Rattle.commit_law.specs.Past.{Past, Query, Setup, VolatileState, past_over}
 use Rattle.commit_law.proofs.Fronts.{past-append}
 use Rattle.commit_bridge_law.specs.Flights.{AreCausal}
 use Rattle.commit_log_law.specs.Acting.{Fits}
+use Rattle.run_law.specs.Declaring.{member_count}
 use Rattle.run_law.specs.Kept.{IsKept}
 use Rattle.run_law.specs.Promise.{Upholds}
 use Rattle.run_law.proofs.Upholding.{over-append}
@@ -80,23 +81,26 @@ leave-then n n' n'' p p' p'' c c' c'' first second = record {
       (before.0, later.1 ∙ before.1);
 }
 
-pub agents-leave : (named : lease_past.Past) (past : Past) (cluster : Cluster) (named' : lease_past.Past) (past' : Past) (cluster' : Cluster) → OnlyLeave named past cluster named' past' cluster'
-    → AreAgentsSynchronous named.asked past.asked cluster.agents → AreAgentsSynchronous named'.asked past'.asked cluster'.agents
-agents-leave named past cluster named' past' cluster' leave all m agent is =
-    let old = all m agent (leave.agents m agent is) in
-    record {
-      on = old.on;
-      writes = λ waited waits asks i question asked member in_run sequence.
-          let before = leave.asked i question asked in
-          let write = old.writes waited waits asks i question before.0 member in_run sequence in
-          (write.0, before.1 ∙ write.1, write.2);
-    }
+pub agents-leave : (count : ℕ) (named : lease_past.Past) (past : Past) (cluster : Cluster) (named' : lease_past.Past) (past' : Past) (cluster' : Cluster) → OnlyLeave named past cluster named' past' cluster'
+    → AreAgentsSynchronous count named.asked past.asked cluster.agents → AreAgentsSynchronous count named'.asked past'.asked cluster'.agents
+agents-leave count named past cluster named' past' cluster' leave all = record {
+  each = λ m agent is.
+      let old = all.each m agent (leave.agents m agent is) in
+      record {
+        on = old.on;
+        writes = λ waited waits asks i question asked member in_run sequence.
+            let before = leave.asked i question asked in
+            let write = old.writes waited waits asks i question before.0 member in_run sequence in
+            (write.0, before.1 ∙ write.1, write.2);
+      };
+  members = λ i question asked. all.members i question (leave.asked i question asked).0;
+}
 
 -- such events uphold commits, where they keep the law of one writer, and agents know behind them what they wait for
 pub upheld-moves : (head : HeadText) (book : List Event) (cluster : Cluster) (events : List Event) → CommitsBridged head book cluster
     → Moves (setup_of head) (past_of head book) cluster events → IsKept head book cluster events
     → AreCausal (past_of head book) cluster.book events → AskAsOn events
-    → AreAgentsSynchronous (lease_past.past_over (lease_past.past_of book) events).asked (past_over (past_of head book) events).asked (cluster_over cluster events).agents
+    → AreAgentsSynchronous (member_count head) (lease_past.past_over (lease_past.past_of book) events).asked (past_over (past_of head book) events).asked (cluster_over cluster events).agents
     → Upholds (kept_commits head) book cluster events
 upheld-moves head book cluster events good moves kept causal asks agents =
     subst (λ (l : List Event). Upholds (kept_commits head) book cluster l) moves.whole
@@ -107,8 +111,8 @@ upheld-moves head book cluster events good moves kept causal asks agents =
     fits : FitsBehind head book cluster events
     fits mode lease =
         let store = store-over (past_of head book) cluster events causal mode asks (record { store = good.fits.store; mode = good.fits.mode; requests = good.fits.requests }) in
-        subst (λ (p : Past). FitsBy p (lease_past.past_of (book ++ events)) (cluster_over cluster events)) (sym (past-more head book events))
-        (subst (λ (n : lease_past.Past). FitsBy (past_over (past_of head book) events) n (cluster_over cluster events)) (sym (lease-append lease_past.first_past book events)) (record {
+        subst (λ (p : Past). FitsBy (member_count head) p (lease_past.past_of (book ++ events)) (cluster_over cluster events)) (sym (past-more head book events))
+        (subst (λ (n : lease_past.Past). FitsBy (member_count head) (past_over (past_of head book) events) n (cluster_over cluster events)) (sym (lease-append lease_past.first_past book events)) (record {
           store = store.store;
           servers = moves.fits;
           mode = store.mode;

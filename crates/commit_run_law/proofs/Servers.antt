@@ -33,6 +33,7 @@ use Rattle.commit_log_law.proofs.Acknowledging.{acknowledge-follow}
 use Rattle.commit_log_law.proofs.First.{in-place}
 use Rattle.commit_log_law.proofs.Streaming.{receive-at-most}
 use Rattle.run_law.specs.Asides.{IsQuiet}
+use Rattle.run_law.specs.Declaring.{member_count}
 use Rattle.run_law.specs.Kept.{IsKept}
 use Rattle.run_law.specs.Promise.{Upholds, UpholdsAlways}
 use Rattle.run_law.proofs.Lists.{AllKinds, HoldsIf, all-kinds, all-more}
@@ -78,7 +79,7 @@ pub upheld-follow : (head : HeadText) (book : List Event) (cluster : Cluster) (e
 upheld-follow head book cluster events good still may kept =
     let left = leave-follow (lease_past.past_of book) (past_of head book) cluster events still may in
     upheld-moves head book cluster events good (moves-follow (setup_of head) (past_of head book) cluster events good.fits.servers still may) kept left.causal left.asks
-    (agents-leave (lease_past.past_of book) (past_of head book) cluster (lease_past.past_over (lease_past.past_of book) events) (past_over (past_of head book) events) (cluster_over cluster events) left.leave good.fits.agents)
+    (agents-leave (member_count head) (lease_past.past_of book) (past_of head book) cluster (lease_past.past_over (lease_past.past_of book) events) (past_over (past_of head book) events) (cluster_over cluster events) left.leave good.fits.agents)
 
 pub upheld-still : (head : HeadText) (book : List Event) (cluster : Cluster) (kind : EventKind) → CommitsBridged head book cluster → IsStill kind → MayHappen cluster.book kind
     → IsKept head book cluster (event_of cluster kind) → Upholds (kept_commits head) book cluster (event_of cluster kind)

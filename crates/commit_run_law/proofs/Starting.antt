@@ -102,12 +102,14 @@ module _ (cluster : Cluster) (member : Member) (run : ℕ) where
       }
 
   -- it waits for nothing
-  pub agents-start : (named : lease_past.Past) (past : Past) → AreAgentsSynchronous named.asked past.asked cluster.agents
-      → AreAgentsSynchronous (lease_past.past_after named Kind).asked (past_after past Kind).asked (cluster_after cluster Kind).agents
-  agents-start named past all m agent is =
-      started-there member.id.number Started (m == member.id.number) (slice_get cluster.agents m) agent (IsAgentSynchronous named.asked past.asked m)
+  pub agents-start : (count : ℕ) (named : lease_past.Past) (past : Past) → AreAgentsSynchronous count named.asked past.asked cluster.agents
+      → AreAgentsSynchronous count (lease_past.past_after named Kind).asked (past_after past Kind).asked (cluster_after cluster Kind).agents
+  agents-start count named past all = record {
+    each = λ m agent is. started-there member.id.number Started (m == member.id.number) (slice_get cluster.agents m) agent (IsAgentSynchronous named.asked past.asked m)
       (record { on = fresh-asks (who_of cluster.scope cluster.options cluster.book.members member) (record { 0 = cluster.book.clock + 1 }) run; writes = λ waited waits. absurd (none-some waited waits) })
-      (all m agent) (sym (get-changed cluster.agents member.id.number m _) ∙ is)
+        (all.each m agent) (sym (get-changed cluster.agents member.id.number m _) ∙ is);
+    members = all.members;
+  }
 
 -- ---- its watchdog is disarmed with it
 record IsDisarm (facts : Facts) (kind : EventKind) : Type 0 where
@@ -144,8 +146,8 @@ module _ (head : HeadText) (book : List Event) (cluster : Cluster) (member : Mem
       (subst (λ (n : ℕ). member.id.number < n) (sym good.lease.matched.agents_sized) small) good.fits.servers)
       (λ later. moves-follow (setup_of head) past started rest later parts.0 parts.1))
       kept (tt, (tt, left.causal)) (tt, left.asks)
-      (agents-leave named past started (lease_past.past_over named rest) (past_over past rest) (cluster_over started rest) left.leave
-      (agents-start cluster member run (lease_past.past_of book) (past_of head book) good.fits.agents))
+      (agents-leave (member_count head) named past started (lease_past.past_over named rest) (past_over past rest) (cluster_over started rest) left.leave
+      (agents-start cluster member run (member_count head) (lease_past.past_of book) (past_of head book) good.fits.agents))
 
   upheld-restart-by : (process : AgentProcess) (running : Bool) → slice_get cluster.book.agents member.id.number ≡ Some process
       → IsKept head book cluster (events_of cluster (cond running (kinds.Note (AlreadyRunning member)) (kinds.Agent (agents.Started member (process.run + 1))) ∷ kinds_of (cond running None (disarm_of member (machine_of cluster member)))))

@@ -1,5 +1,5 @@
 -- What agents in synchronous mode wait for, and what they ask.
-use Rattle.std.specs.Prelude.{ℕ, ◌≡◌, Bool, true, false, List, Option, Some, None, slice_get}
+use Rattle.std.specs.Prelude.{ℕ, ◌≡◌, ◌<◌, Bool, true, false, List, Option, Some, None, slice_get}
 use Rattle.std.specs.Option.{ForSome}
 use Rattle.pat_base.specs.declared.member_set.MemberSet.{MemberSet}
 use Rattle.lease_store.specs.declared.txn.Txn.{Txn}
@@ -51,6 +51,7 @@ pub record IsAgentSynchronous (named : ℕ → Option Asked) (asked : ℕ → Qu
   pub on : AsksOn agent.knows
   pub writes : ForSome agent.knows.waited (λ waited. asks_sync waited.question ≡ true → IsWriteAsked named asked m agent.knows.run waited)
 
--- each agent that is there is such
-abbrev pub AreAgentsSynchronous : (ℕ → Option Asked) → (ℕ → Query) → List (Option AgentFacts) → Type 0
-AreAgentsSynchronous named asked agents = (m : ℕ) (agent : AgentFacts) → slice_get agents m ≡ Some (Some agent) → IsAgentSynchronous named asked m agent
+-- each agent that is there is such, and each question was asked by one of so many members
+pub record AreAgentsSynchronous (count : ℕ) (named : ℕ → Option Asked) (asked : ℕ → Query) (agents : List (Option AgentFacts)) : Type 0 where
+  pub each : (m : ℕ) (agent : AgentFacts) → slice_get agents m ≡ Some (Some agent) → IsAgentSynchronous named asked m agent
+  pub members : (i : ℕ) (question : Asked) → named i ≡ Some question → question.member < count

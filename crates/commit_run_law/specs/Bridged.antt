@@ -1,5 +1,5 @@
 -- What a book and a cluster in synchronous mode keep between two parts of a step, and what is promised of each moment.
-use Rattle.std.specs.Prelude.{true, List}
+use Rattle.std.specs.Prelude.{ℕ, true, List}
 use Rattle.cluster_script.specs.Script.{HeadText}
 use Rattle.event_book.specs.declared.event.Event.{Event}
 use Rattle.cluster_model.specs.State.{Cluster}
@@ -10,6 +10,7 @@ use Rattle.commit_law.specs.Past.{Past}
 use Rattle.commit_bridge_law.specs.Flights.{IsSameBook}
 use Rattle.commit_log_law.specs.Acting.{Fits}
 use Rattle.run_law.specs.Bridged.{Bridged}
+use Rattle.run_law.specs.Declaring.{member_count}
 use Rattle.run_law.specs.Kept.{MeetsPremises}
 use Rattle.run_law.specs.Promise.{Promise}
 use Rattle.summary.specs.Claims.{KeepMode}
@@ -17,17 +18,17 @@ use Rattle.commit_run_law.specs.Agents.{AreAgentsSynchronous, AreSynchronous}
 use Rattle.commit_run_law.specs.Modes.{IsSynchronous}
 use Rattle.commit_run_law.specs.Reading.{past_of, state_of_run, volatile_of}
 
--- what commits and the law of one writer read of a book fits a cluster
-pub record FitsBy (past : Past) (named : lease_past.Past) (cluster : Cluster) : Type 0 where
+-- what commits and the law of one writer read of a book fits a cluster of so many members
+pub record FitsBy (count : ℕ) (past : Past) (named : lease_past.Past) (cluster : Cluster) : Type 0 where
   pub store : IsSameBook past cluster.book
   pub servers : Fits past cluster.book (volatile_of cluster)
   pub mode : IsSynchronous cluster.book
   pub requests : AreSynchronous cluster.book.flight
-  pub agents : AreAgentsSynchronous named.asked past.asked cluster.agents
+  pub agents : AreAgentsSynchronous count named.asked past.asked cluster.agents
 
 -- a book fits a cluster of this head
 abbrev pub FitsCommits : HeadText → List Event → Cluster → Type 0
-FitsCommits head book cluster = FitsBy (past_of head book) (lease_past.past_of book) cluster
+FitsCommits head book cluster = FitsBy (member_count head) (past_of head book) (lease_past.past_of book) cluster
 
 -- a book and a cluster that it leaves, between two actions: what both laws carry holds of them
 pub record CommitsBridged (head : HeadText) (book : List Event) (cluster : Cluster) : Type 0 where
