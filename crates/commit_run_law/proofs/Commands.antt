@@ -56,7 +56,7 @@ use Rattle.commit_run_law.proofs.Starting.{upheld-restart}
 use Rattle.commit_run_law.proofs.Transitions.{composable, keeps-now}
 
 -- ---- a message is lost
-goes-loss : (setup : Setup) (cluster : Cluster) (number : ℕ) → GoesFrom setup cluster (event_of cluster (kinds.Message (Lost number)))
+pub goes-loss : (setup : Setup) (cluster : Cluster) (number : ℕ) → GoesFrom setup cluster (event_of cluster (kinds.Message (Lost number)))
 goes-loss setup cluster number named past fits =
     let kind : EventKind = kinds.Message (Lost number) in
     let later : Cluster = cluster_after cluster kind in

@@ -49,9 +49,8 @@ module _ (setup : Setup) where
     left = record { leave = record { agents = λ m agent is. is; asked = λ i question is. (is, refl) }; causal = tt; asks = tt };
   }
 
-  pub goes-then : (cluster : Cluster) (xs ys : List Event) → GoesFrom setup cluster xs → GoesFrom setup (cluster_over cluster xs) ys → GoesFrom setup cluster (xs ++ ys)
-  goes-then cluster xs ys first second named past fits =
-      let one = first named past fits in
+  pub goes-after : (named : lease_past.Past) (past : Past) (cluster : Cluster) (xs ys : List Event) → Goes setup named past cluster xs → GoesFrom setup (cluster_over cluster xs) ys → Goes setup named past cluster (xs ++ ys)
+  goes-after named past cluster xs ys one second =
       let other = second (lease_past.past_over named xs) (past_over past xs) one.moves.fits in
       record {
         moves = moves-then setup past cluster xs ys one.moves (λ later. other.moves);
@@ -65,13 +64,19 @@ module _ (setup : Setup) where
         };
       }
 
+  pub goes-then : (cluster : Cluster) (xs ys : List Event) → GoesFrom setup cluster xs → GoesFrom setup (cluster_over cluster xs) ys → GoesFrom setup cluster (xs ++ ys)
+  goes-then cluster xs ys first second named past fits = goes-after named past cluster xs ys (first named past fits) second
+
   pub goes-follow : (cluster : Cluster) (events : List Event) → AllAre IsStill events → MayFollow cluster.book events → GoesFrom setup cluster events
   goes-follow cluster events still may named past fits = record { moves = moves-follow setup past cluster events fits still may; left = leave-follow named past cluster events still may }
 
 -- such events uphold commits, where they keep the law of one writer
-pub upheld-goes : (head : HeadText) (book : List Event) (cluster : Cluster) (events : List Event) → CommitsBridged head book cluster → GoesFrom (setup_of head) cluster events → IsKept head book cluster events
-    → Upholds (kept_commits head) book cluster events
-upheld-goes head book cluster events good goes kept =
-    let went = goes (lease_past.past_of book) (past_of head book) good.fits.servers in
+pub upheld-gone : (head : HeadText) (book : List Event) (cluster : Cluster) (events : List Event) → CommitsBridged head book cluster
+    → Goes (setup_of head) (lease_past.past_of book) (past_of head book) cluster events → IsKept head book cluster events → Upholds (kept_commits head) book cluster events
+upheld-gone head book cluster events good went kept =
     upheld-moves head book cluster events good went.moves kept went.left.causal went.left.asks
     (agents-leave (member_count head) (lease_past.past_of book) (past_of head book) cluster (lease_past.past_over (lease_past.past_of book) events) (past_over (past_of head book) events) (cluster_over cluster events) went.left.leave good.fits.agents)
+
+pub upheld-goes : (head : HeadText) (book : List Event) (cluster : Cluster) (events : List Event) → CommitsBridged head book cluster → GoesFrom (setup_of head) cluster events → IsKept head book cluster events
+    → Upholds (kept_commits head) book cluster events
+upheld-goes head book cluster events good goes kept = upheld-gone head book cluster events good (goes (lease_past.past_of book) (past_of head book) good.fits.servers) kept

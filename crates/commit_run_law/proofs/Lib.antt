@@ -10,4 +10,6 @@ pub mod Starting
 pub mod Going
 pub mod Ticks
 pub mod Commands
+pub mod Given
+pub mod Arrivals
 pub mod First

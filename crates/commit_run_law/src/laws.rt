@@ -1,5 +1,5 @@
 //! Laws of every run in synchronous mode.
-ghost use Rattle.std.specs.Prelude.{ℕ, ◌≡◌, true, false, List, []};
+ghost use Rattle.std.specs.Prelude.{ℕ, ◌≡◌, true, false, List, [], Some};
 ghost use Rattle.pat_base.specs.declared.member_id.MemberId.{MemberId};
 ghost use Rattle.cluster_script.specs.declared.line.Command.{Command};
 ghost use Rattle.cluster_script.specs.Script.{HeadText, IsHead};
@@ -7,15 +7,18 @@ ghost use Rattle.event_book.specs.declared.event.Event.{Event};
 ghost use Rattle.event_book.specs.declared.event.EventKind.TheVariants.{Message, Note};
 ghost use Rattle.event_book.specs.declared.event.MessageEvent.TheVariants.{Lost};
 ghost use Rattle.event_book.specs.declared.event.Note.{Note as SaidNote};
+ghost use Rattle.event_book.specs.declared.link.LinkEnd.TheVariants.{Store};
 ghost use Rattle.event_book.specs.declared.member.Member.{Member};
+ghost use Rattle.event_book.specs.Flight.{InFlightFacts, in_flight};
 ghost use Rattle.cluster_model.specs.Commands.{kinds_of};
+ghost use Rattle.cluster_model.specs.Messages.{arrival_events_at};
 ghost use Rattle.cluster_model.specs.Next.{acknowledge_events, command_kind, declared, promote_events, receive_events_at_most, restart_events};
 ghost use Rattle.cluster_model.specs.Parts.{event_of, events_of, for_some};
 ghost use Rattle.cluster_model.specs.Starting.{cluster_of};
 ghost use Rattle.cluster_model.specs.State.{Cluster};
 ghost use Rattle.cluster_model.specs.Ticking.{tick_events};
 ghost use Rattle.commit_law.specs.Books.{KeepsNow};
-ghost use Rattle.run_law.specs.Promise.{IsComposable, UpholdsAlways};
+ghost use Rattle.run_law.specs.Promise.{IsComposable, Upholds, UpholdsAlways};
 ghost use Rattle.commit_run_law.specs.Bridged.{CommitsBridged, kept_commits};
 ghost use Rattle.commit_run_law.specs.Reading.{past_of};
 
@@ -29,14 +32,16 @@ pub fn runs_begin_bridged()
 {}
 
 /// While synchronous mode is on and the premises of one writer are met, these parts of a step uphold kept commits, at each moment inside
-/// them too: all but inputs of agents, and messages that come to the key store.
+/// them too: all but inputs of agents.
 pub fn parts_uphold_commits()
     // The clock, with resets, expiries, and the starts and stops of primaries that are complete.
     ensures ticks { (head : HeadText) → IsHead head → UpholdsAlways (kept_commits head) tick_events }
     // What a member's server receives and confirms, and the commits that it acknowledges.
     ensures receipts { (head : HeadText) (most : ℕ) (member : Member) → IsHead head → UpholdsAlways (kept_commits head) (λ (cluster : Cluster). receive_events_at_most cluster most member) }
     ensures acknowledgements { (head : HeadText) (member : Member) → UpholdsAlways (kept_commits head) (λ (cluster : Cluster). acknowledge_events cluster member) }
-    // A message that is lost, and what is told beside.
+    // A message that comes to the key store, which answers it; one that is lost; and what is told beside.
+    ensures arrivals { (head : HeadText) (book : List Event) (cluster : Cluster) (number : ℕ) (message : InFlightFacts) → CommitsBridged head book cluster
+        → in_flight cluster.book.flight number ≡ Some message → message.message.to ≡ Store → Upholds (kept_commits head) book cluster (arrival_events_at cluster number message Store) }
     ensures losses { (head : HeadText) (number : ℕ) → UpholdsAlways (kept_commits head) (λ (cluster : Cluster). event_of cluster (Message (Lost number))) }
     ensures notes { (head : HeadText) (note : SaidNote) → UpholdsAlways (kept_commits head) (λ (cluster : Cluster). event_of cluster (Note note)) }
     // Agents that start, operators that promote, which breaks a premise, and the commands that bring one event at most.

@@ -1,3 +1,4 @@
+use Rattle.commit_run_law.proofs.Arrivals.{upheld-arrival}
 use Rattle.commit_run_law.proofs.Commands.{upheld-command, upheld-restarts, upholds-loss, upholds-promote}
 use Rattle.commit_run_law.proofs.First.{few-names}
 use Rattle.commit_run_law.proofs.Servers.{upholds-acknowledge, upholds-note, upholds-receive}
@@ -9,6 +10,7 @@ returns c = record {
   ticks = λ head is. upholds-tick head (few-names head is);
   receipts = λ head most member is. upholds-receive head (few-names head is) most member;
   acknowledgements = upholds-acknowledge;
+  arrivals = upheld-arrival;
   losses = upholds-loss;
   notes = upholds-note;
   restarts = λ head id is book cluster good. upheld-restarts head (few-names head is) book cluster good id;
