@@ -43,9 +43,13 @@ last-both volatile_states (t ∷ first) second = last-both t.volatile_states fir
 allowed-both : (setup : Setup) (past : Past) (volatile_states : ℕ → VolatileState) (first second : List Transition) → AreAllowed setup past volatile_states first
     → AreAllowed setup (past_over past (book_of first)) (volatile_last volatile_states first) second → AreAllowed setup past volatile_states (first ++ second)
 allowed-both setup past volatile_states [] second one other = other
-allowed-both setup past volatile_states (t ∷ first) second one other =
-    (one.0, one.1, one.2, allowed-both setup (past_over past t.events) t.volatile_states first second one.3
-    (subst (λ (p : Past). AreAllowed setup p (volatile_last t.volatile_states first) second) (past-append past t.events (book_of first)) other))
+allowed-both setup past volatile_states (t ∷ first) second one other = (
+  one.0,
+  one.1,
+  one.2,
+  allowed-both setup (past_over past t.events) t.volatile_states first second one.3
+      (subst (λ (p : Past). AreAllowed setup p (volatile_last t.volatile_states first) second) (past-append past t.events (book_of first)) other),
+)
 
 pub moves-none : (setup : Setup) (past : Past) (cluster : Cluster) → Fits past cluster.book (volatile_of cluster) → Moves setup past cluster []
 moves-none setup past cluster fits = record { transitions = []; whole = refl; allowed = tt; last = refl; fits = fits }

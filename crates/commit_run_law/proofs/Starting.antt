@@ -89,9 +89,9 @@ module _ (cluster : Cluster) (member : Member) (run : ℕ) where
       let k : ℕ = member.id.number in
       let states : (ℕ → VolatileState) = put_at (volatile_of cluster) k (record (volatile_of cluster k) { agent = Some (fresh_agent (past.runs k + 1)) }) in
       let same : states ≡ volatile_of later =
-          volatile-put (volatile_of cluster) (volatile_of later) k (Some (fresh_agent (past.runs k + 1))) (λ m. refl)
-          (ap agent_now (get-here cluster.agents k _) ∙ starts-at cluster.agents k Started (fresh_agent (past.runs k + 1)) small (ap (λ (r : ℕ). Some (fresh_agent r)) next))
-          (λ m other. ap agent_now (get-elsewhere cluster.agents k m _ other)) in
+      volatile-put (volatile_of cluster) (volatile_of later) k (Some (fresh_agent (past.runs k + 1))) (λ m. refl)
+      (ap agent_now (get-here cluster.agents k _) ∙ starts-at cluster.agents k Started (fresh_agent (past.runs k + 1)) small (ap (λ (r : ℕ). Some (fresh_agent r)) next))
+      (λ m other. ap agent_now (get-elsewhere cluster.agents k m _ other)) in
       record {
         transitions = record { action = Start k; events = event_of cluster Kind; volatile_states = states } ∷ [];
         whole = refl;
@@ -106,7 +106,7 @@ module _ (cluster : Cluster) (member : Member) (run : ℕ) where
       → AreAgentsSynchronous count (lease_past.past_after named Kind).asked (past_after past Kind).asked (cluster_after cluster Kind).agents
   agents-start count named past all = record {
     each = λ m agent is. started-there member.id.number Started (m == member.id.number) (slice_get cluster.agents m) agent (IsAgentSynchronous named.asked past.asked m)
-      (record { on = fresh-asks (who_of cluster.scope cluster.options cluster.book.members member) (record { 0 = cluster.book.clock + 1 }) run; writes = λ waited waits. absurd (none-some waited waits) })
+        (record { on = fresh-asks (who_of cluster.scope cluster.options cluster.book.members member) (record { 0 = cluster.book.clock + 1 }) run; writes = λ waited waits. absurd (none-some waited waits) })
         (all.each m agent) (sym (get-changed cluster.agents member.id.number m _) ∙ is);
     members = all.members;
   }
