@@ -8,7 +8,7 @@ use Rattle.lease_store.specs.declared.txn.Txn.TheVariants as txns
 use Rattle.lease_store.specs.TxnKinds.{txn_kind_of}
 use Rattle.event_book.specs.declared.event.Event.{Event}
 use Rattle.event_book.specs.declared.event.EventKind.TheVariants as kinds
-use Rattle.event_book.specs.declared.event.MessageEvent.TheVariants.{Delivered, Lost}
+use Rattle.event_book.specs.declared.event.MessageEvent.TheVariants.{Delivered}
 use Rattle.event_book.specs.declared.link.LinkEnd.{LinkEnd}
 use Rattle.event_book.specs.declared.link.LinkEnd.TheVariants as ends
 use Rattle.event_book.specs.declared.member.Member.{Member}
@@ -32,10 +32,10 @@ use Rattle.lease_law.specs.Showing.{granted_events, read_events, refused_events}
 use Rattle.lease_law.specs.Stores.{IsSpannedTxn}
 use Rattle.lease_law.proofs.Tools.{put-there}
 use Rattle.commit_law.specs.Actions.{Action, IsNumbered}
-use Rattle.commit_law.specs.Books.{AreAllowed, Transition, book_of}
-use Rattle.commit_law.specs.Past.{OtherQuery, Past, Setup, VolatileState, past_after, past_over, state_of}
+use Rattle.commit_law.specs.Books.{Transition}
+use Rattle.commit_law.specs.Past.{OtherQuery, Past, Setup, VolatileState, past_after, past_over}
 use Rattle.commit_law.specs.States.{State}
-use Rattle.commit_bridge_law.specs.Deliveries.{ComparesNoSync, IsDelivered, MayBeGranted, granted_actions, granted_if, is_told}
+use Rattle.commit_bridge_law.specs.Deliveries.{ComparesNoSync, IsDelivered, MayBeGranted, granted_if, is_told}
 use Rattle.commit_bridge_law.specs.Flights.{AreCausal}
 use Rattle.commit_bridge_law.proofs.Delivering.{granted-delivery, read-delivery, refused-delivery}
 use Rattle.commit_bridge_law.proofs.Groups.{granted-causal, read-causal, refused-causal}
@@ -52,7 +52,6 @@ use Rattle.commit_run_law.specs.Reading.{agent_now, past_of, setup_of, state_of_
 use Rattle.commit_run_law.proofs.Commands.{goes-loss}
 use Rattle.commit_run_law.proofs.Given.{numbered-request, snapshot-allowed}
 use Rattle.commit_run_law.proofs.Going.{Goes, GoesFrom, goes-after, goes-none, upheld-gone}
-use Rattle.commit_run_law.proofs.Moving.{Moves}
 use Rattle.commit_run_law.proofs.Over.{AskAsOn}
 use Rattle.commit_run_law.proofs.Transitions.{volatile_last}
 

@@ -1,10 +1,7 @@
 -- Messages that are lost, and the commands of a script, uphold commits.
-use Rattle.std.proofs.Common.{ℕ, ◌≡◌, ◌<◌, ◌≤◌, ◌+◌, ◌++◌, Bool, true, false, cond, List, [], ◌∷◌, length, slice_get, Option, Some, None, option_and_then, option_map, refl, ◌∙◌, ap, sym, subst}
-use Rattle.std.proofs.Math.Path.{fun_ext}
+use Rattle.std.proofs.Common.{ℕ, ◌≡◌, ◌<◌, ◌≤◌, ◌++◌, Bool, true, false, cond, List, [], ◌∷◌, length, slice_get, Option, Some, None, option_and_then, option_map, refl, sym, subst}
 use Rattle.pat_base.specs.declared.member_id.MemberId.{MemberId}
-use Rattle.wal_model.specs.declared.entry.Entry.{Entry}
 use Rattle.pg_model.specs.Facts.{ServerFacts, is_replica}
-use Rattle.pg_model.specs.Servers.{entry_for}
 use Rattle.event_book.specs.declared.agent_process.AgentProcess.{AgentProcess}
 use Rattle.event_book.specs.declared.event.AgentEvent.TheVariants as agents
 use Rattle.event_book.specs.declared.event.Event.{Event}
@@ -13,7 +10,6 @@ use Rattle.event_book.specs.declared.event.EventKind.TheVariants as kinds
 use Rattle.event_book.specs.declared.event.MessageEvent.TheVariants.{Lost}
 use Rattle.event_book.specs.declared.event.ServerEvent.TheVariants as servers
 use Rattle.event_book.specs.declared.event.LinkEvent.TheVariants as changes
-use Rattle.event_book.specs.declared.link.Link.{Link}
 use Rattle.event_book.specs.declared.member.Member.{Member}
 use Rattle.event_book.specs.Facts.{Facts}
 use Rattle.event_book.specs.Links.{is_cut}
@@ -25,15 +21,14 @@ use Rattle.cluster_model.specs.Cluster.{cluster_after}
 use Rattle.cluster_model.specs.Commands.{cut_of, hold_of, join_of, kill_of, kinds_of, link_of, resume_of}
 use Rattle.cluster_model.specs.Next.{command_kind, declared, process_kind, promote_events, restart_events}
 use Rattle.cluster_model.specs.Parts.{event_of, events_of, for_some}
-use Rattle.cluster_model.specs.ServerCommands.{commit_of, crash_of, freezing_of, is_gone, slow_of}
+use Rattle.cluster_model.specs.ServerCommands.{crash_of, freezing_of, is_gone, slow_of}
 use Rattle.cluster_model.specs.State.{Cluster}
 use Rattle.lease_law.specs.Premises.{IsHandsOffKind}
 use Rattle.lease_law.proofs.Runs.{head-is, none-more}
 use Rattle.commit_law.specs.Actions.{Lose}
 use Rattle.commit_law.specs.Books.{KeepsNow}
-use Rattle.commit_law.specs.Past.{Setup, VolatileState, past_after}
+use Rattle.commit_law.specs.Past.{Setup}
 use Rattle.commit_law.proofs.Showing.{lost-shown}
-use Rattle.commit_log_law.specs.Acting.{Fits}
 use Rattle.commit_log_law.specs.Happening.{MayHappen}
 use Rattle.commit_log_law.proofs.Beginning.{fits-aside}
 use Rattle.commit_log_law.proofs.Commits.{commit-may}
@@ -46,7 +41,7 @@ use Rattle.run_law.proofs.Ending.{kept-loss}
 use Rattle.run_law.proofs.Lists.{HoldsIf}
 use Rattle.run_law.proofs.Members.{declared-now, declared-within}
 use Rattle.run_law.proofs.Promoting.{hands-off-back}
-use Rattle.run_law.proofs.Upholding.{upheld-for_some, upheld-none, upheld-then}
+use Rattle.run_law.proofs.Upholding.{upheld-for_some, upheld-none}
 use Rattle.commit_run_law.specs.Bridged.{CommitsBridged, MeetsMode, kept_commits}
 use Rattle.commit_run_law.specs.Reading.{past_of, setup_of, volatile_of}
 use Rattle.commit_run_law.proofs.Agents.{upheld-kill}

@@ -1,5 +1,5 @@
 -- Before the first event, what both laws carry holds of a cluster whose head has synchronous mode on.
-use Rattle.std.proofs.Common.{ℕ, ◌≡◌, ◌≤◌, ◌+◌, Bool, true, false, List, [], length, slice_get, Option, Some, None, option_map, refl, ◌∙◌, ap, sym, subst}
+use Rattle.std.proofs.Common.{ℕ, ◌≡◌, ◌≤◌, ◌+◌, true, false, List, [], length, slice_get, Option, Some, None, option_map, refl, ◌∙◌, ap, sym, subst}
 use Rattle.std.proofs.Math.ListN.{length-map}
 use Rattle.std.proofs.Math.Path.{fun_ext}
 use Rattle.std.proofs.lemmas.Option.{slice_get-map}
@@ -20,16 +20,15 @@ use Rattle.commit_law.specs.Actions.{fresh_agent}
 use Rattle.commit_law.specs.Books.{first_volatile_states}
 use Rattle.commit_law.specs.Carried.{IsSound}
 use Rattle.commit_law.specs.Past.{VolatileState, state_of}
-use Rattle.commit_law.specs.States.{Agent}
 use Rattle.commit_law.proofs.Fronts.{inv-first}
 use Rattle.commit_bridge_law.proofs.Groups.{book-first}
 use Rattle.commit_log_law.specs.Acting.{Fits}
 use Rattle.commit_log_law.proofs.First.{bytes-first, fits-first}
 use Rattle.run_law.specs.Declaring.{declared_members}
 use Rattle.run_law.proofs.First.{bridged-first}
-use Rattle.commit_run_law.specs.Agents.{AreAgentsSynchronous, IsAgentSynchronous}
+use Rattle.commit_run_law.specs.Agents.{IsAgentSynchronous}
 use Rattle.commit_run_law.specs.Bridged.{CommitsBridged}
-use Rattle.commit_run_law.specs.Reading.{agent_now, first_past_of, past_of, setup_of, volatile_of}
+use Rattle.commit_run_law.specs.Reading.{agent_now, past_of, setup_of, volatile_of}
 use Rattle.commit_run_law.proofs.Modes.{synchronous-first}
 use Rattle.commit_run_law.proofs.Still.{volatile-same}
 

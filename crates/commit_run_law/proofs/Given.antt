@@ -1,5 +1,5 @@
 -- What the timed lease, and how agents number their questions, give to deliveries to the key store.
-use Rattle.std.proofs.Common.{ℕ, ◌≡◌, ◌≤◌, ◌<◌, Bool, true, false, List, [], length, slice_get, Option, Some, None, refl, ◌∙◌, ap, sym, subst}
+use Rattle.std.proofs.Common.{ℕ, ◌≡◌, ◌≤◌, ◌<◌, true, List, [], length, slice_get, Option, Some, None, refl, ◌∙◌, ap, sym, subst}
 use Rattle.lease_store.specs.declared.txn.Txn.{Txn}
 use Rattle.event_book.specs.declared.event.Event.{Event}
 use Rattle.event_book.specs.declared.link.LinkEnd.TheVariants as ends
@@ -17,13 +17,13 @@ use Rattle.lease_law.proofs.Tools.{both, none-some, some-is}
 use Rattle.bridge_law.proofs.Hearing.{heard-asked}
 use Rattle.commit_law.specs.Actions.{IsAllowed, IsNumbered, SendSnapshot}
 use Rattle.commit_law.specs.Past.{is_keyless, is_leaderless, leader_revision}
-use Rattle.commit_law.specs.States.{Acts, Agent, State, is_ready}
+use Rattle.commit_law.specs.States.{Agent, is_ready}
 use Rattle.commit_law.proofs.FromLease.{grant-absent, grant-free, same-failsafe, same-leader}
 use Rattle.run_law.specs.Declaring.{declared_of, member_count}
 use Rattle.run_law.specs.Volatile as run_volatile
 use Rattle.run_law.proofs.Places.{there}
 use Rattle.commit_run_law.specs.Bridged.{CommitsBridged}
-use Rattle.commit_run_law.specs.Reading.{agent_now, past_of, state_of_run, volatile_of}
+use Rattle.commit_run_law.specs.Reading.{agent_now, past_of, state_of_run}
 use Rattle.commit_run_law.proofs.Starting.{runs-now}
 
 module _ (head : HeadText) (book : List Event) (cluster : Cluster) (good : CommitsBridged head book cluster) where

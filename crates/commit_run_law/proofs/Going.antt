@@ -1,9 +1,8 @@
 -- Events that are actions one after another, with what they leave of agents and messages.
-use Rattle.std.proofs.Common.{ℕ, ◌≡◌, ◌++◌, List, [], ◌∷◌, Option, Some, None, refl, sym, subst}
+use Rattle.std.proofs.Common.{◌++◌, List, [], ◌∷◌, refl, sym, subst}
 use Rattle.cluster_script.specs.Script.{HeadText}
 use Rattle.event_book.specs.declared.event.Event.{Event}
 use Rattle.cluster_model.specs.Cluster.{cluster_after, cluster_over}
-use Rattle.cluster_model.specs.Parts.{each, for_some}
 use Rattle.cluster_model.specs.State.{Cluster}
 use Rattle.lease_law.specs.Past as lease_past
 use Rattle.lease_law.specs.Premises.{AllAre}
@@ -13,11 +12,10 @@ use Rattle.commit_law.proofs.Fronts.{past-append}
 use Rattle.commit_bridge_law.specs.Flights.{AreCausal}
 use Rattle.commit_log_law.specs.Acting.{Fits}
 use Rattle.commit_log_law.specs.Happening.{MayFollow}
-use Rattle.event_book.specs.Facts.{Facts, facts_after}
 use Rattle.run_law.specs.Declaring.{member_count}
 use Rattle.run_law.specs.Kept.{IsKept}
 use Rattle.run_law.specs.Promise.{Upholds}
-use Rattle.run_law.proofs.Upholding.{Each, over-append}
+use Rattle.run_law.proofs.Upholding.{over-append}
 use Rattle.commit_run_law.specs.Bridged.{CommitsBridged, kept_commits}
 use Rattle.commit_run_law.specs.Reading.{past_of, setup_of, volatile_of}
 use Rattle.commit_run_law.proofs.Moving.{Moves, OnlyLeave, agents-leave, leave-then, moves-none, moves-then, upheld-moves}

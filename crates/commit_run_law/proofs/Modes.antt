@@ -1,5 +1,5 @@
 -- Synchronous mode stays on.
-use Rattle.std.proofs.Common.{ℕ, ◌≡◌, ◌+◌, true, List, Option, Some, None, refl, ◌∙◌, ap, sym, subst}
+use Rattle.std.proofs.Common.{ℕ, ◌≡◌, ◌+◌, true, List, Option, Some, None, ap, sym, subst}
 use Rattle.std.specs.FinMap.{find}
 use Rattle.pat_base.specs.declared.member_id.MemberId.{MemberId}
 use Rattle.pat_base.specs.declared.name.Name.{Name}
@@ -11,7 +11,7 @@ use Rattle.lease_store.specs.declared.txn.Txn.TheVariants as txns
 use Rattle.lease_store.specs.declared.value.KeyEntry.{KeyEntry}
 use Rattle.lease_store.specs.Kept.{IsKept, IsLasting}
 use Rattle.lease_store.specs.KeyOrder.{key_cmp}
-use Rattle.lease_store.specs.Keys.{Keys, is_present, present}
+use Rattle.lease_store.specs.Keys.{Keys, present}
 use Rattle.lease_store.specs.Settings.{Settings}
 use Rattle.lease_store.specs.Writes.{keys_after_grant, writes_of}
 use Rattle.lease_store.proofs.Fences.{kept_first}
@@ -19,7 +19,7 @@ use Rattle.lease_store.proofs.Keeping.{find_present, kept_after, kept_present}
 use Rattle.lease_store.proofs.OneKey.{find_all_written}
 use Rattle.event_book.specs.declared.event.EventKind.{EventKind}
 use Rattle.event_book.specs.declared.event.EventKind.TheVariants as kinds
-use Rattle.event_book.specs.declared.event.MessageEvent.TheVariants.{Sent, Delivered, Lost}
+use Rattle.event_book.specs.declared.event.MessageEvent.TheVariants.{Sent}
 use Rattle.event_book.specs.declared.event.StoreEvent.TheVariants as stores
 use Rattle.event_book.specs.declared.message.Body.{Body}
 use Rattle.event_book.specs.declared.message.Body.TheVariants as bodies

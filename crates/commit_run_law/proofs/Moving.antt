@@ -1,5 +1,5 @@
 -- Events that are actions one after another, behind which books and clusters fit.
-use Rattle.std.proofs.Common.{ℕ, ◌≡◌, ◌++◌, List, [], ◌∷◌, Option, Some, None, slice_get, true, refl, ◌∙◌, ap, sym, subst}
+use Rattle.std.proofs.Common.{ℕ, ◌≡◌, ◌++◌, List, [], ◌∷◌, Some, slice_get, refl, ◌∙◌, ap, sym, subst}
 use Rattle.cluster_script.specs.Script.{HeadText}
 use Rattle.event_book.specs.declared.event.Event.{Event}
 use Rattle.ha_loop.specs.Agents.{AgentFacts}
@@ -10,7 +10,7 @@ use Rattle.lease_law.specs.Past as lease_past
 use Rattle.lease_law.proofs.Runs.{assoc}
 use Rattle.lease_law.proofs.Showing.{past-append as lease-append}
 use Rattle.commit_law.specs.Books.{AreAllowed, Transition, book_of}
-use Rattle.commit_law.specs.Past.{Past, Query, Setup, VolatileState, past_over}
+use Rattle.commit_law.specs.Past.{Past, Setup, VolatileState, past_over}
 use Rattle.commit_law.proofs.Fronts.{past-append}
 use Rattle.commit_bridge_law.specs.Flights.{AreCausal}
 use Rattle.commit_log_law.specs.Acting.{Fits}

@@ -1,5 +1,5 @@
 -- Store, mode and requests of a cluster behind events.
-use Rattle.std.proofs.Common.{ℕ, ◌≡◌, List, [], ◌∷◌, true, Option, Some, None}
+use Rattle.std.proofs.Common.{List, [], ◌∷◌, true}
 use Rattle.event_book.specs.declared.event.Event.{Event}
 use Rattle.event_book.specs.declared.event.EventKind.{EventKind}
 use Rattle.event_book.specs.declared.event.EventKind.TheVariants as kinds

@@ -1,8 +1,8 @@
 -- An agent that starts upholds commits.
-use Rattle.std.proofs.Common.{ℕ, ◌≡◌, ◌≢◌, ◌<◌, ◌≤◌, ◌+◌, ◌==◌, ◌++◌, Bool, true, false, cond, List, [], ◌∷◌, length, slice_get, Option, Some, None, option_map, refl, ◌∙◌, ap, sym, subst}
+use Rattle.std.proofs.Common.{ℕ, ◌≡◌, ◌<◌, ◌+◌, ◌==◌, ◌++◌, Bool, true, false, cond, List, [], ◌∷◌, length, slice_get, Option, Some, None, option_map, refl, ◌∙◌, ap, sym, subst}
 use Rattle.pat_base.specs.ServerState.{live}
 use Rattle.pat_base.specs.declared.ticks.Ticks.{Ticks}
-use Rattle.cluster_script.specs.Script.{HeadText, names_of}
+use Rattle.cluster_script.specs.Script.{HeadText}
 use Rattle.event_book.specs.declared.agent_process.AgentProcess.{AgentProcess}
 use Rattle.event_book.specs.declared.event.AgentEvent.TheVariants as agents
 use Rattle.event_book.specs.declared.event.Event.{Event}
@@ -14,9 +14,9 @@ use Rattle.event_book.specs.Facts.{Facts}
 use Rattle.event_book.specs.Functions.{put_at}
 use Rattle.ha_loop.specs.declared.machine.Machine.{Machine}
 use Rattle.ha_loop.specs.Agents.{AgentFacts}
-use Rattle.ha_loop.proofs.CommitInputs.{fresh-asks, fresh-seen}
+use Rattle.ha_loop.proofs.CommitInputs.{fresh-asks}
 use Rattle.cluster_model.specs.Cluster.{cluster_after, cluster_over}
-use Rattle.cluster_model.specs.Commands.{disarm_at_start, disarm_if, disarm_of, kinds_of, restarted}
+use Rattle.cluster_model.specs.Commands.{disarm_if, disarm_of, kinds_of}
 use Rattle.cluster_model.specs.Inputs.{starting_agent}
 use Rattle.cluster_model.specs.Machines.{machine_of, who_of}
 use Rattle.cluster_model.specs.Next.{restart_events, restart_events_of}
@@ -43,9 +43,9 @@ use Rattle.run_law.proofs.Starting.{kept-restart}
 use Rattle.run_law.proofs.Upholding.{upheld-none}
 use Rattle.commit_run_law.specs.Agents.{AreAgentsSynchronous, IsAgentSynchronous}
 use Rattle.commit_run_law.specs.Bridged.{CommitsBridged, kept_commits}
-use Rattle.commit_run_law.specs.Reading.{agent_now, first_past_of, past_of, setup_of, volatile_of}
+use Rattle.commit_run_law.specs.Reading.{agent_now, past_of, setup_of, volatile_of}
 use Rattle.commit_run_law.proofs.Agents.{volatile-put}
-use Rattle.commit_run_law.proofs.Moving.{Moves, OnlyLeave, agents-leave, moves-then, upheld-moves}
+use Rattle.commit_run_law.proofs.Moving.{Moves, agents-leave, moves-then, upheld-moves}
 use Rattle.commit_run_law.proofs.Still.{IsStill}
 use Rattle.commit_run_law.proofs.Servers.{leave-follow, moves-follow, upheld-still}
 use Rattle.commit_run_law.proofs.Transitions.{composable}

@@ -1,8 +1,6 @@
 -- Events beside agents and messages that may happen to servers and logs: each is one action.
-use Rattle.std.proofs.Common.{ℕ, ◌≡◌, ◌==◌, ◌++◌, Bool, true, false, cond, List, [], ◌∷◌, Option, Some, None, slice_get, refl, ◌∙◌, ap, sym, subst}
+use Rattle.std.proofs.Common.{ℕ, ◌≡◌, ◌==◌, Bool, true, false, cond, List, [], ◌∷◌, Option, slice_get, refl, ◌∙◌, ap, sym, subst}
 use Rattle.std.proofs.Math.Path.{fun_ext}
-use Rattle.pat_base.specs.declared.ticks.Ticks.{Ticks}
-use Rattle.cluster_script.specs.Script.{HeadText}
 use Rattle.event_book.specs.declared.event.AgentEvent.TheVariants as agents
 use Rattle.event_book.specs.declared.event.Event.{Event}
 use Rattle.event_book.specs.declared.event.EventKind.{EventKind}
@@ -10,32 +8,22 @@ use Rattle.event_book.specs.declared.event.EventKind.TheVariants as kinds
 use Rattle.event_book.specs.declared.event.ServerEvent.TheVariants as servers
 use Rattle.event_book.specs.declared.event.StoreEvent.TheVariants as stores
 use Rattle.event_book.specs.declared.event.WatchdogEvent.TheVariants as watchdogs
-use Rattle.event_book.specs.Facts.{Facts}
 use Rattle.ha_loop.specs.Agents.{AgentFacts}
 use Rattle.cluster_model.specs.Cluster.{agent_facts_after, cluster_after}
-use Rattle.cluster_model.specs.Parts.{event_of, events_of}
+use Rattle.cluster_model.specs.Parts.{event_of}
 use Rattle.cluster_model.specs.State.{Cluster}
-use Rattle.lease_law.specs.Leases.{Question as Asked}
 use Rattle.lease_law.specs.Past as lease_past
-use Rattle.lease_law.proofs.Showing.{past-append as lease-append}
 use Rattle.lease_law.proofs.Tools.{eq-from}
-use Rattle.commit_law.specs.Books.{Transition}
 use Rattle.commit_law.specs.Past.{Past, Setup, VolatileState, past_after}
-use Rattle.commit_law.specs.Showing.{with_server_down}
 use Rattle.commit_law.specs.States.{Agent}
 use Rattle.commit_bridge_law.specs.Flights.{AreCausal}
 use Rattle.commit_log_law.specs.Acting.{Fits, Leads}
-use Rattle.commit_log_law.specs.Happening.{MayFollow, MayHappen}
-use Rattle.commit_log_law.specs.Matching.{live_in, volatile_after}
+use Rattle.commit_log_law.specs.Happening.{MayHappen}
+use Rattle.commit_log_law.specs.Matching.{volatile_after}
 use Rattle.commit_log_law.proofs.Acting.{leads-to}
 use Rattle.commit_log_law.proofs.Kept.{change-once}
-use Rattle.run_law.specs.Kept.{IsKept}
-use Rattle.run_law.specs.Promise.{Upholds}
-use Rattle.summary.specs.Claims.{KeepMode}
-use Rattle.commit_run_law.specs.Agents.{AreAgentsSynchronous}
-use Rattle.commit_run_law.specs.Bridged.{CommitsBridged, FitsBy, kept_commits}
-use Rattle.commit_run_law.specs.Reading.{agent_now, past_of, setup_of, volatile_of}
-use Rattle.commit_run_law.proofs.Moving.{Moves, OnlyLeave, upheld-moves}
+use Rattle.commit_run_law.specs.Reading.{agent_now, volatile_of}
+use Rattle.commit_run_law.proofs.Moving.{Moves, OnlyLeave}
 use Rattle.commit_run_law.proofs.Over.{AskAsOn}
 
 -- an event at which no agent starts, ends or acts

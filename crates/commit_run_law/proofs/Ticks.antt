@@ -5,14 +5,12 @@ use Rattle.pat_base.specs.declared.ticks.Ticks.{Ticks}
 use Rattle.lease_store.specs.declared.key.Key.{Key}
 use Rattle.lease_store.specs.declared.key.Key.TheVariants as keys
 use Rattle.pg_model.specs.Facts.{ServerFacts}
-use Rattle.event_book.specs.declared.agent_process.AgentProcess.{AgentProcess}
-use Rattle.event_book.specs.declared.event.AgentEvent.TheVariants as agents
 use Rattle.event_book.specs.declared.event.Event.{Event}
 use Rattle.event_book.specs.declared.event.EventKind.{EventKind}
 use Rattle.event_book.specs.declared.event.EventKind.TheVariants as kinds
 use Rattle.event_book.specs.declared.event.WatchdogEvent.TheVariants as watchdogs
 use Rattle.event_book.specs.declared.member.Member.{Member}
-use Rattle.event_book.specs.Facts.{Facts, facts_after}
+use Rattle.event_book.specs.Facts.{Facts}
 use Rattle.event_book.specs.Functions.{put_at}
 use Rattle.cluster_script.specs.Script.{HeadText, names_of}
 use Rattle.cluster_model.specs.Cluster.{cluster_after, cluster_over}
@@ -22,7 +20,6 @@ use Rattle.cluster_model.specs.State.{Cluster}
 use Rattle.cluster_model.specs.Ticking.{completion_events, expiries_of, expiry_of, leader_expiry, next_expiries, reset_events, reset_of, tick_events}
 use Rattle.leader_key.specs.Watchdog.{is_due_at}
 use Rattle.lease_law.specs.Leases.{LeaderKey}
-use Rattle.lease_law.specs.Past as lease_past
 use Rattle.lease_law.specs.Premises.{AllAre}
 use Rattle.lease_law.specs.States.{kept_if, leader_kept}
 use Rattle.commit_law.specs.Actions.{Expire, Kill, Note}
@@ -32,11 +29,11 @@ use Rattle.commit_law.specs.Showing.{event_at}
 use Rattle.commit_law.proofs.Showing.{expired-shown, tick-shown}
 use Rattle.commit_log_law.specs.Acting.{Fits, Leads}
 use Rattle.commit_log_law.specs.Happening.{MayFollow, MayHappen}
-use Rattle.commit_log_law.specs.Matching.{live_in, volatile_after}
+use Rattle.commit_log_law.specs.Matching.{volatile_after}
 use Rattle.commit_log_law.proofs.Acting.{leads-to}
 use Rattle.commit_log_law.proofs.Beginning.{fits-agents, fits-aside, killed-shown}
 use Rattle.commit_log_law.proofs.Kept.{change-once}
-use Rattle.run_law.specs.Promise.{Upholds, UpholdsAlways}
+use Rattle.run_law.specs.Promise.{UpholdsAlways}
 use Rattle.run_law.proofs.Places.{length-changed}
 use Rattle.run_law.proofs.Upholding.{Each}
 use Rattle.wal_model.specs.declared.entry.Entry.{Entry}

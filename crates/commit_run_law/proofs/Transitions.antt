@@ -1,5 +1,5 @@
 -- Actions one after another keep what the law carries, and commits at each moment inside them.
-use Rattle.std.proofs.Common.{ℕ, ◌≡◌, ◌++◌, true, List, [], ◌∷◌, refl, ◌∙◌, sym, subst, inl, inr}
+use Rattle.std.proofs.Common.{ℕ, ◌≡◌, ◌++◌, true, List, [], ◌∷◌, refl, sym, subst, inl, inr}
 use Rattle.cluster_script.specs.Script.{HeadText}
 use Rattle.event_book.specs.declared.event.Event.{Event}
 use Rattle.cluster_model.specs.Cluster.{cluster_over}
@@ -15,8 +15,8 @@ use Rattle.run_law.specs.Kept.{IsKept}
 use Rattle.run_law.specs.Promise.{IsComposable, Upholds}
 use Rattle.run_law.proofs.Composing.{premises-front}
 use Rattle.summary.specs.Claims.{KeepMode}
-use Rattle.commit_run_law.specs.Bridged.{CommitsBridged, FitsCommits, MeetsMode, kept_commits}
-use Rattle.commit_run_law.specs.Reading.{first_past_of, past_of, setup_of, volatile_of}
+use Rattle.commit_run_law.specs.Bridged.{CommitsBridged, FitsCommits, kept_commits}
+use Rattle.commit_run_law.specs.Reading.{past_of, setup_of, volatile_of}
 
 -- what no event says of members after these actions
 abbrev pub volatile_last : (ℕ → VolatileState) → List Transition → ℕ → VolatileState

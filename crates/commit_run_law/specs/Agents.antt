@@ -1,24 +1,20 @@
 -- What agents in synchronous mode wait for, and what they ask.
-use Rattle.std.specs.Prelude.{ℕ, ◌≡◌, ◌<◌, Bool, true, false, List, Option, Some, None, slice_get}
+use Rattle.std.specs.Prelude.{ℕ, ◌≡◌, ◌<◌, true, false, List, Option, Some, slice_get}
 use Rattle.std.specs.Option.{ForSome}
-use Rattle.pat_base.specs.declared.member_set.MemberSet.{MemberSet}
 use Rattle.lease_store.specs.declared.txn.Txn.{Txn}
 use Rattle.lease_store.specs.declared.txn.Txn.TheVariants as txns
 use Rattle.lease_law.specs.Leases.{Question as Asked}
-use Rattle.lease_law.specs.Past as lease_past
 use Rattle.event_book.specs.declared.message.Body.{Body}
 use Rattle.event_book.specs.declared.message.Body.TheVariants as bodies
 use Rattle.event_book.specs.Flight.{Flight, InFlightFacts, in_flight}
 use Rattle.ha_loop.specs.declared.knowledge.Question.{Question}
-use Rattle.ha_loop.specs.declared.knowledge.Question.TheVariants.{Claiming, Syncing}
-use Rattle.ha_loop.specs.declared.knowledge.Settling.TheVariants.{Lists}
 use Rattle.ha_loop.specs.declared.knowledge.Waited.{Waited}
 use Rattle.ha_loop.specs.Agents.{AgentFacts}
 use Rattle.ha_loop.specs.Committing.{AsksOn, IsAskedBy}
 use Rattle.ha_loop.specs.Decisions.{asks_sync}
 use Rattle.commit_law.specs.Actions.{sync_key_by}
 use Rattle.commit_law.specs.Flights.{SyncRequest}
-use Rattle.commit_law.specs.Past.{Past, Query, SyncQuery}
+use Rattle.commit_law.specs.Past.{Query, SyncQuery}
 use Rattle.commit_bridge_law.specs.Flights.{is_creating}
 
 -- a request as synchronous mode has it: a create compares no sync key, and nobody removes that key
