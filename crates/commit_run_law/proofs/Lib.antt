@@ -12,4 +12,5 @@ pub mod Ticks
 pub mod Commands
 pub mod Given
 pub mod Arrivals
+pub mod Standing
 pub mod First

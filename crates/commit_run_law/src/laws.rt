@@ -1,5 +1,5 @@
 //! Laws of every run in synchronous mode.
-ghost use Rattle.std.specs.Prelude.{ℕ, ◌≡◌, true, false, List, [], Some};
+ghost use Rattle.std.specs.Prelude.{ℕ, ◌≡◌, ◌<◌, true, false, List, [], Some, slice_get};
 ghost use Rattle.pat_base.specs.declared.member_id.MemberId.{MemberId};
 ghost use Rattle.cluster_script.specs.declared.line.Command.{Command};
 ghost use Rattle.cluster_script.specs.Script.{HeadText, IsHead};
@@ -10,7 +10,11 @@ ghost use Rattle.event_book.specs.declared.event.Note.{Note as SaidNote};
 ghost use Rattle.event_book.specs.declared.link.LinkEnd.TheVariants.{Store};
 ghost use Rattle.event_book.specs.declared.member.Member.{Member};
 ghost use Rattle.event_book.specs.Flight.{InFlightFacts, in_flight};
+ghost use Rattle.ha_loop.specs.declared.machine.Machine.{Machine};
+ghost use Rattle.ha_loop.specs.Agents.{AgentFacts, made};
+ghost use Rattle.ha_loop.specs.Committing.{IsStrict, StandsToCommit};
 ghost use Rattle.cluster_model.specs.Commands.{kinds_of};
+ghost use Rattle.cluster_model.specs.Machines.{machine_of};
 ghost use Rattle.cluster_model.specs.Messages.{arrival_events_at};
 ghost use Rattle.cluster_model.specs.Next.{acknowledge_events, command_kind, declared, promote_events, receive_events_at_most, restart_events};
 ghost use Rattle.cluster_model.specs.Parts.{event_of, events_of, for_some};
@@ -18,9 +22,11 @@ ghost use Rattle.cluster_model.specs.Starting.{cluster_of};
 ghost use Rattle.cluster_model.specs.State.{Cluster};
 ghost use Rattle.cluster_model.specs.Ticking.{tick_events};
 ghost use Rattle.commit_law.specs.Books.{KeepsNow};
+ghost use Rattle.commit_law.specs.Keys.{SyncKey};
+ghost use Rattle.run_law.specs.Declaring.{member_count};
 ghost use Rattle.run_law.specs.Promise.{IsComposable, Upholds, UpholdsAlways};
 ghost use Rattle.commit_run_law.specs.Bridged.{CommitsBridged, kept_commits};
-ghost use Rattle.commit_run_law.specs.Reading.{past_of};
+ghost use Rattle.commit_run_law.specs.Reading.{past_of, state_of_run};
 
 /// Before the first event, what both laws carry holds of a cluster whose head has synchronous mode on, and no pause. Where it holds,
 /// each server that accepts writes has each acknowledged commit.
@@ -48,4 +54,16 @@ pub fn parts_uphold_commits()
     ensures restarts { (head : HeadText) (id : MemberId) → IsHead head → UpholdsAlways (kept_commits head) (λ (cluster : Cluster). for_some (declared cluster id) (restart_events cluster)) }
     ensures promotions { (head : HeadText) (member : Member) → UpholdsAlways (kept_commits head) (λ (cluster : Cluster). promote_events cluster member) }
     ensures commands { (head : HeadText) (command : Command) → IsHead head → UpholdsAlways (kept_commits head) (λ (cluster : Cluster). events_of cluster (kinds_of (command_kind cluster command))) }
+{}
+
+/// An agent that is there stands in the state that commits read of its cluster, on the machine that it finds, where each standby in the sync
+/// key is a member: so its inputs are lawful, by the clause `commits` of `Agent::step`.
+pub fn agents_stand()
+    ensures { (head : HeadText) (book : List Event) (cluster : Cluster) (member : Member) (agent : AgentFacts) (machine : Machine)
+        → CommitsBridged head book cluster
+        → slice_get cluster.agents member.id.number ≡ Some (Some agent)
+        → member.id.number < member_count head
+        → ((key : SyncKey) → (past_of head book).sync ≡ Some key → IsStrict (member_count head) key)
+        → machine_of cluster member ≡ Some machine
+        → StandsToCommit (state_of_run head book cluster) member.id.number (made agent.role agent.knows machine []) }
 {}

@@ -4,4 +4,4 @@
 
 mod laws;
 
-pub use laws::{parts_uphold_commits, runs_begin_bridged};
+pub use laws::{agents_stand, parts_uphold_commits, runs_begin_bridged};
