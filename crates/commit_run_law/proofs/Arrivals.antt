@@ -42,6 +42,7 @@ use Rattle.commit_bridge_law.proofs.Groups.{granted-causal, read-causal, refused
 use Rattle.commit_log_law.specs.Acting.{Fits, IsAside}
 use Rattle.commit_log_law.specs.Matching.{live_in}
 use Rattle.commit_log_law.proofs.Beginning.{fits-aside}
+use Rattle.run_law.specs.Declaring.{member_count}
 use Rattle.run_law.specs.Kept.{IsKept}
 use Rattle.run_law.specs.Promise.{Upholds}
 use Rattle.run_law.specs.Waiting.{IsAddressed}
@@ -68,17 +69,17 @@ same-volatile before later agents servers =
     ∙ ap (λ (known : List ServerFacts). λ (m : ℕ). let state : VolatileState = record { live = live_in known m; agent = agent_now (slice_get later.agents m) } in state) (sym servers)
 
 -- what a delivery leaves as it was, and what it asks
-record LeavesAsked (named : lease_past.Past) (past : Past) (cluster : Cluster) (number : ℕ) (events : List Event) : Type 0 where
+record LeavesAsked (count : ℕ) (named : lease_past.Past) (past : Past) (cluster : Cluster) (number : ℕ) (events : List Event) : Type 0 where
   agents : (cluster_over cluster events).agents ≡ cluster.agents
   servers : (cluster_over cluster events).book.servers ≡ cluster.book.servers
   named_same : (lease_past.past_over named events).asked ≡ named.asked
   asked : (i : ℕ) → i < number → (past_over past events).asked i ≡ past.asked i
   asides : AllAre IsAside events
-  asks : AskAsOn events
+  asks : AskAsOn count events
 
 goes-delivery : (setup : Setup) (named : lease_past.Past) (past : Past) (cluster : Cluster) (number : ℕ) (events : List Event) (transitions : List Transition) → Fits past cluster.book (volatile_of cluster)
     → IsDelivered setup past cluster.book (volatile_of cluster) events transitions → volatile_last (volatile_of cluster) transitions ≡ volatile_of cluster
-    → ((i : ℕ) (question : Question) → named.asked i ≡ Some question → i < number) → AreCausal past cluster.book events → LeavesAsked named past cluster number events
+    → ((i : ℕ) (question : Question) → named.asked i ≡ Some question → i < number) → AreCausal past cluster.book events → LeavesAsked setup.member_count named past cluster number events
     → Goes setup named past cluster events
 goes-delivery setup named past cluster number events transitions fits delivered last before causal leaves =
     let later : Cluster = cluster_over cluster events in
@@ -122,31 +123,31 @@ last-granted : (states : ℕ → VolatileState) (told : Bool) (tick : Ticks) (nu
 last-granted states true tick number answer by run sequence txn standbys action = refl
 last-granted states false tick number answer by run sequence txn standbys action = refl
 
-compares-none : (txn : Txn) → IsSynchronousTxn txn → ComparesNoSync txn
-compares-none (txns.Create info ttl failsafe None) is = tt
-compares-none (txns.Create info ttl failsafe (Some sync)) is = absurd is
-compares-none (txns.Touch info ttl) is = tt
-compares-none (txns.Renew revision info ttl status row failsafe) is = tt
-compares-none (txns.Release revision) is = tt
-compares-none (txns.Claim revision sync) is = tt
-compares-none (txns.SetSync revision sync standbys) is = tt
-compares-none (txns.DropSync revision sync) is = tt
-compares-none (txns.SetFailover failover ttl) is = tt
-compares-none (txns.DropFailover revision) is = tt
-compares-none (txns.SetConfig revision config) is = tt
+compares-none : (count : ℕ) (txn : Txn) → IsSynchronousTxn count txn → ComparesNoSync txn
+compares-none count (txns.Create info ttl failsafe None) is = tt
+compares-none count (txns.Create info ttl failsafe (Some sync)) is = absurd is
+compares-none count (txns.Touch info ttl) is = tt
+compares-none count (txns.Renew revision info ttl status row failsafe) is = tt
+compares-none count (txns.Release revision) is = tt
+compares-none count (txns.Claim revision sync) is = tt
+compares-none count (txns.SetSync revision sync standbys) is = tt
+compares-none count (txns.DropSync revision sync) is = tt
+compares-none count (txns.SetFailover failover ttl) is = tt
+compares-none count (txns.DropFailover revision) is = tt
+compares-none count (txns.SetConfig revision config) is = tt
 
-granted-may : (s : State) (m run sequence : ℕ) (txn : Txn) → IsSynchronousTxn txn → IsNumbered (s.members m) run sequence → MayBeGranted s m run sequence txn
-granted-may s m run sequence (txns.Create info ttl failsafe None) is numbered = numbered
-granted-may s m run sequence (txns.Create info ttl failsafe (Some sync)) is numbered = absurd is
-granted-may s m run sequence (txns.Renew revision info ttl status row failsafe) is numbered = numbered
-granted-may s m run sequence (txns.DropSync revision sync) is numbered = absurd is
-granted-may s m run sequence (txns.Touch info ttl) is numbered = tt
-granted-may s m run sequence (txns.Release revision) is numbered = tt
-granted-may s m run sequence (txns.Claim revision sync) is numbered = tt
-granted-may s m run sequence (txns.SetSync revision sync standbys) is numbered = tt
-granted-may s m run sequence (txns.SetFailover failover ttl) is numbered = tt
-granted-may s m run sequence (txns.DropFailover revision) is numbered = tt
-granted-may s m run sequence (txns.SetConfig revision config) is numbered = tt
+granted-may : (count : ℕ) (s : State) (m run sequence : ℕ) (txn : Txn) → IsSynchronousTxn count txn → IsNumbered (s.members m) run sequence → MayBeGranted s m run sequence txn
+granted-may count s m run sequence (txns.Create info ttl failsafe None) is numbered = numbered
+granted-may count s m run sequence (txns.Create info ttl failsafe (Some sync)) is numbered = absurd is
+granted-may count s m run sequence (txns.Renew revision info ttl status row failsafe) is numbered = numbered
+granted-may count s m run sequence (txns.DropSync revision sync) is numbered = absurd is
+granted-may count s m run sequence (txns.Touch info ttl) is numbered = tt
+granted-may count s m run sequence (txns.Release revision) is numbered = tt
+granted-may count s m run sequence (txns.Claim revision sync) is numbered = tt
+granted-may count s m run sequence (txns.SetSync revision sync standbys) is numbered = tt
+granted-may count s m run sequence (txns.SetFailover failover ttl) is numbered = tt
+granted-may count s m run sequence (txns.DropFailover revision) is numbered = tt
+granted-may count s m run sequence (txns.SetConfig revision config) is numbered = tt
 
 module _ (head : HeadText) (book : List Event) (cluster : Cluster) (number : ℕ) (message : InFlightFacts) (good : CommitsBridged head book cluster)
     (found : in_flight cluster.book.flight number ≡ Some message) (by : Member) (run sequence : ℕ) where
@@ -194,7 +195,7 @@ module _ (head : HeadText) (book : List Event) (cluster : Cluster) (number : ℕ
       (read-causal (past_of head book) cluster.book Moment number Answer by run sequence above)
       (record { agents = reached bodies.Read is; servers = refl; named_same = refl; asked = not-asked; asides = (tt, (tt, tt)); asks = (tt, (tt, tt)) })) kept
 
-  decision-upheld : (txn : Txn) (decision : Decision) → message.message ≡ Says (bodies.Request txn) → IsSpannedTxn txn → IsSynchronousTxn txn → decision_on cluster.book.keys cluster.book.clock txn ≡ decision
+  decision-upheld : (txn : Txn) (decision : Decision) → message.message ≡ Says (bodies.Request txn) → IsSpannedTxn txn → IsSynchronousTxn (member_count head) txn → decision_on cluster.book.keys cluster.book.clock txn ≡ decision
       → IsKept head book cluster (event_of cluster (kinds.Message (Delivered number)) ++ decision_events Later number (Says (bodies.Request txn)) txn decision (ends.Member by))
       → Upholds (kept_commits head) book cluster (event_of cluster (kinds.Message (Delivered number)) ++ decision_events Later number (Says (bodies.Request txn)) txn decision (ends.Member by))
   decision-upheld txn Grant is span on decides kept =
@@ -204,22 +205,22 @@ module _ (head : HeadText) (book : List Event) (cluster : Cluster) (number : ℕ
       answered (bodies.Request txn) events
       (goes-delivery (setup_of head) (lease_past.past_of book) (past_of head book) cluster Answer events _ good.fits.servers
       (granted-delivery (setup_of head) (past_of head book) cluster.book (volatile_of cluster) Moment number Answer message by run sequence txn names refl good.fits.store found is above span decides
-      (granted-may (state_of_run head book cluster) by.id.number run sequence txn on (numbered-request head book cluster good number message by run sequence txn found is)))
+      (granted-may (member_count head) (state_of_run head book cluster) by.id.number run sequence txn on (numbered-request head book cluster good number message by run sequence txn found is)))
       (last-granted (volatile_of cluster) (is_told txn) Moment number Answer by run sequence txn names _) before
       (granted-causal (past_of head book) cluster.book Moment number Answer message by run sequence txn names good.fits.store found is above span decides)
-      (record { agents = reached (bodies.Request txn) is; servers = refl; named_same = refl; asked = not-asked; asides = (tt, (tt, (tt, tt))); asks = (tt, (tt, (tt, tt))) })) kept
+      (record { agents = reached (bodies.Request txn) is; servers = refl; named_same = refl; asked = not-asked; asides = (tt, (tt, (tt, tt))); asks = (tt, (on, (tt, tt))) })) kept
   decision-upheld txn (Refusal key expected) is span on decides kept =
       let events : List Event = refused_events Moment number Answer by run sequence (txn_kind_of txn) key expected in
       let above = more-sent cluster.book.sent in
       answered (bodies.Request txn) events
       (goes-delivery (setup_of head) (lease_past.past_of book) (past_of head book) cluster Answer events _ good.fits.servers
-      (refused-delivery (setup_of head) (past_of head book) cluster.book (volatile_of cluster) Moment number Answer message by run sequence txn (txn_kind_of txn) key expected good.fits.store found is above decides (compares-none txn on)) refl before
+      (refused-delivery (setup_of head) (past_of head book) cluster.book (volatile_of cluster) Moment number Answer message by run sequence txn (txn_kind_of txn) key expected good.fits.store found is above decides (compares-none (member_count head) txn on)) refl before
       (refused-causal (past_of head book) cluster.book Moment number Answer by run sequence (txn_kind_of txn) key expected above)
       (record { agents = reached (bodies.Request txn) is; servers = refl; named_same = refl; asked = not-asked; asides = (tt, (tt, (tt, tt))); asks = (tt, (tt, (tt, tt))) })) kept
 
 -- by whom it comes, and what it says
 store-by : (head : HeadText) (book : List Event) (cluster : Cluster) (number : ℕ) (message : InFlightFacts) (from : LinkEnd) (run sequence : ℕ) (body : Body) → CommitsBridged head book cluster
-    → in_flight cluster.book.flight number ≡ Some message → message.message ≡ record { from = from; to = ends.Store; run = run; sequence = sequence; body = body } → IsAddressed from ends.Store body → IsSynchronousBody body
+    → in_flight cluster.book.flight number ≡ Some message → message.message ≡ record { from = from; to = ends.Store; run = run; sequence = sequence; body = body } → IsAddressed from ends.Store body → IsSynchronousBody (member_count head) body
     → IsKept head book cluster (event_of cluster (kinds.Message (Delivered number)) ++ answer_events (cluster_after cluster (kinds.Message (Delivered number))) number (record { from = from; to = ends.Store; run = run; sequence = sequence; body = body }))
     → Upholds (kept_commits head) book cluster (event_of cluster (kinds.Message (Delivered number)) ++ answer_events (cluster_after cluster (kinds.Message (Delivered number))) number (record { from = from; to = ends.Store; run = run; sequence = sequence; body = body }))
 store-by head book cluster number message ends.Store run sequence body good found is addressed on kept = absurd addressed

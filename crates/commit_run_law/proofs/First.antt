@@ -68,6 +68,7 @@ commits-first head is on unpaused =
         store = book-first (logs_in start.servers) (required_in start.servers) (confirmed_in start.servers) head.config (names_of head) head.base;
         servers = subst (λ (v : ℕ → VolatileState). Fits (past_of head []) (cluster_of head).book v) (sym same) fits;
         mode = synchronous-first head.config (names_of head) head.base on;
+        strict = λ key e. absurd (none-some key e);
         requests = λ i carried e. absurd (none-some carried e);
         agents = record {
           each = λ m agent e. waits-nothing lease_past.first_past head m (slice_get members m) agent (sym (slice_get-map (first_agent head.cluster (options_of head) members) members m) ∙ e);

@@ -1,5 +1,5 @@
 -- Events that are actions one after another, with what they leave of agents and messages.
-use Rattle.std.proofs.Common.{◌++◌, List, [], ◌∷◌, refl, sym, subst}
+use Rattle.std.proofs.Common.{ℕ, ◌++◌, List, [], ◌∷◌, refl, sym, subst}
 use Rattle.cluster_script.specs.Script.{HeadText}
 use Rattle.event_book.specs.declared.event.Event.{Event}
 use Rattle.cluster_model.specs.Cluster.{cluster_after, cluster_over}
@@ -26,7 +26,7 @@ use Rattle.commit_run_law.proofs.Still.{IsStill}
 -- these events are allowed actions which they show, nobody comes in them, and nothing is asked
 pub record Goes (setup : Setup) (named : lease_past.Past) (past : Past) (cluster : Cluster) (events : List Event) : Type 0 where
   pub moves : Moves setup past cluster events
-  pub left : LeaveAgents named past cluster events
+  pub left : LeaveAgents setup.member_count named past cluster events
 
 -- whatever both laws read of a book whose servers fit
 abbrev pub GoesFrom : Setup → Cluster → List Event → Type 0
@@ -36,9 +36,9 @@ causal-then : (past : Past) (cluster : Cluster) (xs ys : List Event) → AreCaus
 causal-then past cluster [] ys first second = second
 causal-then past cluster (x ∷ xs) ys first second = (first.0, (first.1.0, causal-then (past_after past x.kind) (cluster_after cluster x.kind) xs ys first.1.1 second))
 
-asks-then : (xs ys : List Event) → AskAsOn xs → AskAsOn ys → AskAsOn (xs ++ ys)
-asks-then [] ys first second = second
-asks-then (x ∷ xs) ys first second = (first.0, asks-then xs ys first.1 second)
+asks-then : (count : ℕ) (xs ys : List Event) → AskAsOn count xs → AskAsOn count ys → AskAsOn count (xs ++ ys)
+asks-then count [] ys first second = second
+asks-then count (x ∷ xs) ys first second = (first.0, asks-then count xs ys first.1 second)
 
 module _ (setup : Setup) where
   pub goes-none : (cluster : Cluster) → GoesFrom setup cluster []
@@ -58,7 +58,7 @@ module _ (setup : Setup) where
               (subst (λ (c : Cluster). OnlyLeave named past cluster (lease_past.past_over (lease_past.past_over named xs) ys) (past_over (past_over past xs) ys) c) (sym (over-append cluster xs ys))
               (leave-then _ _ _ _ _ _ _ _ _ one.left.leave other.left.leave)));
           causal = causal-then past cluster xs ys one.left.causal other.left.causal;
-          asks = asks-then xs ys one.left.asks other.left.asks;
+          asks = asks-then setup.member_count xs ys one.left.asks other.left.asks;
         };
       }
 
@@ -66,7 +66,7 @@ module _ (setup : Setup) where
   goes-then cluster xs ys first second named past fits = goes-after named past cluster xs ys (first named past fits) second
 
   pub goes-follow : (cluster : Cluster) (events : List Event) → AllAre IsStill events → MayFollow cluster.book events → GoesFrom setup cluster events
-  goes-follow cluster events still may named past fits = record { moves = moves-follow setup past cluster events fits still may; left = leave-follow named past cluster events still may }
+  goes-follow cluster events still may named past fits = record { moves = moves-follow setup past cluster events fits still may; left = leave-follow setup.member_count named past cluster events still may }
 
 -- such events uphold commits, where they keep the law of one writer
 pub upheld-gone : (head : HeadText) (book : List Event) (cluster : Cluster) (events : List Event) → CommitsBridged head book cluster

@@ -103,7 +103,7 @@ agents-leave count named past cluster named' past' cluster' leave all = record {
 -- such events uphold commits, where they keep the law of one writer, and agents know behind them what they wait for
 pub upheld-moves : (head : HeadText) (book : List Event) (cluster : Cluster) (events : List Event) → CommitsBridged head book cluster
     → Moves (setup_of head) (past_of head book) cluster events → IsKept head book cluster events
-    → AreCausal (past_of head book) cluster.book events → AskAsOn events
+    → AreCausal (past_of head book) cluster.book events → AskAsOn (member_count head) events
     → AreAgentsSynchronous (member_count head) (lease_past.past_over (lease_past.past_of book) events).asked (past_over (past_of head book) events).asked (cluster_over cluster events).agents
     → Upholds (kept_commits head) book cluster events
 upheld-moves head book cluster events good moves kept causal asks agents =
@@ -114,12 +114,13 @@ upheld-moves head book cluster events good moves kept causal asks agents =
   where
     fits : FitsBehind head book cluster events
     fits mode lease =
-        let store = store-over (past_of head book) cluster events causal mode asks (record { store = good.fits.store; mode = good.fits.mode; requests = good.fits.requests }) in
+        let store = store-over (member_count head) (past_of head book) cluster events causal mode asks (record { store = good.fits.store; mode = good.fits.mode; strict = good.fits.strict; requests = good.fits.requests }) in
         subst (λ (p : Past). FitsBy (member_count head) p (lease_past.past_of (book ++ events)) (cluster_over cluster events)) (sym (past-more head book events))
         (subst (λ (n : lease_past.Past). FitsBy (member_count head) (past_over (past_of head book) events) n (cluster_over cluster events)) (sym (lease-append lease_past.first_past book events)) (record {
           store = store.store;
           servers = moves.fits;
           mode = store.mode;
+          strict = store.strict;
           requests = store.requests;
           agents = agents;
         }))

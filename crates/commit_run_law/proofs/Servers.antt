@@ -55,27 +55,27 @@ module _ (setup : Setup) where
       (λ later. moves-follow (past_after past event.kind) (cluster_after cluster event.kind) events later still.1 may.1)
 
 -- what such events leave as it was
-pub record LeaveAgents (named : lease_past.Past) (past : Past) (cluster : Cluster) (events : List Event) : Type 0 where
+pub record LeaveAgents (count : ℕ) (named : lease_past.Past) (past : Past) (cluster : Cluster) (events : List Event) : Type 0 where
   pub leave : OnlyLeave named past cluster (lease_past.past_over named events) (past_over past events) (cluster_over cluster events)
   pub causal : AreCausal past cluster.book events
-  pub asks : AskAsOn events
+  pub asks : AskAsOn count events
 
-pub leave-follow : (named : lease_past.Past) (past : Past) (cluster : Cluster) (events : List Event) → AllAre IsStill events → MayFollow cluster.book events → LeaveAgents named past cluster events
-leave-follow named past cluster [] still may = record { leave = record { agents = λ m agent is. is; asked = λ i question is. (is, refl) }; causal = tt; asks = tt }
-leave-follow named past cluster (event ∷ events) still may =
+pub leave-follow : (count : ℕ) (named : lease_past.Past) (past : Past) (cluster : Cluster) (events : List Event) → AllAre IsStill events → MayFollow cluster.book events → LeaveAgents count named past cluster events
+leave-follow count named past cluster [] still may = record { leave = record { agents = λ m agent is. is; asked = λ i question is. (is, refl) }; causal = tt; asks = tt }
+leave-follow count named past cluster (event ∷ events) still may =
     let first = leaves-still named past cluster event.kind still.0 may.0 in
-    let rest = leave-follow (lease_past.past_after named event.kind) (past_after past event.kind) (cluster_after cluster event.kind) events still.1 may.1 in
+    let rest = leave-follow count (lease_past.past_after named event.kind) (past_after past event.kind) (cluster_after cluster event.kind) events still.1 may.1 in
     record {
       leave = leave-then _ _ _ _ _ _ _ _ _ first.leave rest.leave;
       causal = (first.causal.0, (first.causal.1.0, rest.causal));
-      asks = (first.asks.0, rest.asks);
+      asks = ((first.asks count).0, rest.asks);
     }
 
 -- events at servers uphold commits, where they keep the law of one writer
 pub upheld-follow : (head : HeadText) (book : List Event) (cluster : Cluster) (events : List Event) → CommitsBridged head book cluster → AllAre IsStill events → MayFollow cluster.book events
     → IsKept head book cluster events → Upholds (kept_commits head) book cluster events
 upheld-follow head book cluster events good still may kept =
-    let left = leave-follow (lease_past.past_of book) (past_of head book) cluster events still may in
+    let left = leave-follow (member_count head) (lease_past.past_of book) (past_of head book) cluster events still may in
     upheld-moves head book cluster events good (moves-follow (setup_of head) (past_of head book) cluster events good.fits.servers still may) kept left.causal left.asks
     (agents-leave (member_count head) (lease_past.past_of book) (past_of head book) cluster (lease_past.past_over (lease_past.past_of book) events) (past_over (past_of head book) events) (cluster_over cluster events) left.leave good.fits.agents)
 

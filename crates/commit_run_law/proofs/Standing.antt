@@ -17,13 +17,12 @@ use Rattle.event_book.specs.Links.{CutLinks}
 use Rattle.ha_loop.specs.declared.machine.Machine.{Machine}
 use Rattle.ha_loop.specs.declared.machine.Replication.{Replication}
 use Rattle.ha_loop.specs.Agents.{AgentFacts, made}
-use Rattle.ha_loop.specs.Committing.{IsEndOf, IsStrict, StandsToCommit}
+use Rattle.ha_loop.specs.Committing.{IsEndOf, StandsToCommit}
 use Rattle.cluster_script.specs.declared.head.MemberOptions.{MemberOptions}
 use Rattle.cluster_script.specs.Script.{HeadText}
 use Rattle.cluster_model.specs.Machines.{connected_end, connected_ends, is_connected, machine_from, machine_of, nothing_confirmed, replication_of}
 use Rattle.cluster_model.specs.State.{Cluster}
 use Rattle.lease_law.proofs.Tools.{none-some, some-is}
-use Rattle.commit_law.specs.Keys.{SyncKey}
 use Rattle.commit_law.specs.Past.{Past, log_found, need_in, need_of, position_in, position_of}
 use Rattle.commit_law.specs.States.{HasLog}
 use Rattle.commit_log_law.specs.Matching.{live_now}
@@ -93,11 +92,9 @@ module _ (head : HeadText) (book : List Event) (cluster : Cluster) (good : Commi
   abbrev Seen : Replication
   Seen = replication_of cluster.book.members cluster.book.servers cluster.book.cuts member s
 
-  -- where each standby in the sync key is a member
-  pub stands : (machine : Machine) → IsMadeOf s Seen machine → member.id.number < member_count head
-      → ((key : SyncKey) → (past_of head book).sync ≡ Some key → IsStrict (member_count head) key)
+  stands : (machine : Machine) → IsMadeOf s Seen machine → member.id.number < member_count head
       → StandsToCommit (state_of_run head book cluster) member.id.number (made agent.role agent.knows machine [])
-  stands machine made_is small strict =
+  stands machine made_is small =
       let k : ℕ = member.id.number in
       let past : Past = past_of head book in
       let same = good.fits.servers.same in
@@ -117,13 +114,12 @@ module _ (head : HeadText) (book : List Event) (cluster : Cluster) (good : Commi
             };
         me = (good.lease.matched.agents k agent there).me;
         counts = small;
-        strict = strict;
+        strict = good.fits.strict;
       }
 
 -- the same of the machine that it finds
 module _ (head : HeadText) (book : List Event) (cluster : Cluster) (good : CommitsBridged head book cluster) (member : Member) (agent : AgentFacts)
-    (there : slice_get cluster.agents member.id.number ≡ Some (Some agent)) (small : member.id.number < member_count head)
-    (strict : (key : SyncKey) → (past_of head book).sync ≡ Some key → IsStrict (member_count head) key) where
+    (there : slice_get cluster.agents member.id.number ≡ Some (Some agent)) (small : member.id.number < member_count head) where
   stands-by : (machine : Machine) (receives : Bool) (found : Option ServerFacts) → slice_get cluster.book.servers member.id.number ≡ found
       → machine_from receives (option_map (replication_of cluster.book.members cluster.book.servers cluster.book.cuts member) found) (slice_get cluster.options member.id.number)
       (slice_get cluster.book.deadlines member.id.number) (slice_get cluster.book.holds member.id.number) found ≡ Some machine
@@ -132,7 +128,7 @@ module _ (head : HeadText) (book : List Event) (cluster : Cluster) (good : Commi
   stands-by machine receives (Some s) found is =
       stands head book cluster good member agent s there found machine
       (made-of receives (replication_of cluster.book.members cluster.book.servers cluster.book.cuts member s) (slice_get cluster.options member.id.number) (slice_get cluster.book.deadlines member.id.number) (slice_get cluster.book.holds member.id.number) s machine is)
-      small strict
+      small
 
   pub agent-stands : (machine : Machine) → machine_of cluster member ≡ Some machine → StandsToCommit (state_of_run head book cluster) member.id.number (made agent.role agent.knows machine [])
   agent-stands machine is = stands-by machine _ (slice_get cluster.book.servers member.id.number) refl is

@@ -139,7 +139,7 @@ module _ (head : HeadText) (book : List Event) (cluster : Cluster) (member : Mem
       let parts = disarm-still started found is in
       let named : lease_past.Past = lease_past.past_after (lease_past.past_of book) kind in
       let past : Past = past_after (past_of head book) kind in
-      let left = leave-follow named past started rest parts.0 parts.1 in
+      let left = leave-follow (member_count head) named past started rest parts.0 parts.1 in
       upheld-moves head book cluster (event_of cluster kind ++ rest) good
       (moves-then (setup_of head) (past_of head book) cluster (event_of cluster kind) rest
       (moves-start cluster member run (setup_of head) (past_of head book) (next ∙ ap (λ (r : ℕ). r + 1) (sym (runs-now head book cluster good member.id.number)))

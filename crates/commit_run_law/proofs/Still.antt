@@ -41,7 +41,7 @@ pub record LeavesAgents (named : lease_past.Past) (past : Past) (cluster : Clust
   pub agents : agent_facts_after cluster kind ≡ cluster.agents
   pub leave : OnlyLeave named past cluster (lease_past.past_after named kind) (past_after past kind) (cluster_after cluster kind)
   pub causal : AreCausal past cluster.book (event_of cluster kind)
-  pub asks : AskAsOn (event_of cluster kind)
+  pub asks : (count : ℕ) → AskAsOn count (event_of cluster kind)
 
 pub leaves-still : (named : lease_past.Past) (past : Past) (cluster : Cluster) (kind : EventKind) → IsStill kind → MayHappen cluster.book kind → LeavesAgents named past cluster kind
 leaves-still named past cluster kinds.Tick still may = absurd still
@@ -52,7 +52,7 @@ leaves-still named past cluster (kinds.Agent (agents.Woken agent)) still may = a
 leaves-still named past cluster (kinds.Agent (agents.Started agent run)) still may = absurd still
 leaves-still named past cluster (kinds.Agent (agents.Killed agent)) still may = absurd still
 leaves-still named past cluster _ still may =
-    record { agents = refl; leave = record { agents = λ m agent is. is; asked = λ i question is. (is, refl) }; causal = (tt, (tt, tt)); asks = (tt, tt) }
+    record { agents = refl; leave = record { agents = λ m agent is. is; asked = λ i question is. (is, refl) }; causal = (tt, (tt, tt)); asks = λ count. (tt, tt) }
 
 down-agent : (volatile_states : ℕ → VolatileState) (k m : ℕ) (here : Bool) → (m == k) ≡ here
     → (cond here (record (volatile_states k) { live = false }) (volatile_states m)).agent ≡ (volatile_states m).agent

@@ -14,7 +14,7 @@ use Rattle.run_law.specs.Declaring.{member_count}
 use Rattle.run_law.specs.Kept.{MeetsPremises}
 use Rattle.run_law.specs.Promise.{Promise}
 use Rattle.summary.specs.Claims.{KeepMode}
-use Rattle.commit_run_law.specs.Agents.{AreAgentsSynchronous, AreSynchronous}
+use Rattle.commit_run_law.specs.Agents.{AreAgentsSynchronous, AreSynchronous, NamesMembers}
 use Rattle.commit_run_law.specs.Modes.{IsSynchronous}
 use Rattle.commit_run_law.specs.Reading.{past_of, state_of_run, volatile_of}
 
@@ -23,7 +23,8 @@ pub record FitsBy (count : ℕ) (past : Past) (named : lease_past.Past) (cluster
   pub store : IsSameBook past cluster.book
   pub servers : Fits past cluster.book (volatile_of cluster)
   pub mode : IsSynchronous cluster.book
-  pub requests : AreSynchronous cluster.book.flight
+  pub strict : NamesMembers count past.sync
+  pub requests : AreSynchronous count cluster.book.flight
   pub agents : AreAgentsSynchronous count named.asked past.asked cluster.agents
 
 -- a book fits a cluster of this head

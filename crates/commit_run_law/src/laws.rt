@@ -12,7 +12,7 @@ ghost use Rattle.event_book.specs.declared.member.Member.{Member};
 ghost use Rattle.event_book.specs.Flight.{InFlightFacts, in_flight};
 ghost use Rattle.ha_loop.specs.declared.machine.Machine.{Machine};
 ghost use Rattle.ha_loop.specs.Agents.{AgentFacts, made};
-ghost use Rattle.ha_loop.specs.Committing.{IsStrict, StandsToCommit};
+ghost use Rattle.ha_loop.specs.Committing.{StandsToCommit};
 ghost use Rattle.cluster_model.specs.Commands.{kinds_of};
 ghost use Rattle.cluster_model.specs.Machines.{machine_of};
 ghost use Rattle.cluster_model.specs.Messages.{arrival_events_at};
@@ -22,7 +22,6 @@ ghost use Rattle.cluster_model.specs.Starting.{cluster_of};
 ghost use Rattle.cluster_model.specs.State.{Cluster};
 ghost use Rattle.cluster_model.specs.Ticking.{tick_events};
 ghost use Rattle.commit_law.specs.Books.{KeepsNow};
-ghost use Rattle.commit_law.specs.Keys.{SyncKey};
 ghost use Rattle.run_law.specs.Declaring.{member_count};
 ghost use Rattle.run_law.specs.Promise.{IsComposable, Upholds, UpholdsAlways};
 ghost use Rattle.commit_run_law.specs.Bridged.{CommitsBridged, kept_commits};
@@ -56,14 +55,13 @@ pub fn parts_uphold_commits()
     ensures commands { (head : HeadText) (command : Command) → IsHead head → UpholdsAlways (kept_commits head) (λ (cluster : Cluster). events_of cluster (kinds_of (command_kind cluster command))) }
 {}
 
-/// An agent that is there stands in the state that commits read of its cluster, on the machine that it finds, where each standby in the sync
-/// key is a member: so its inputs are lawful, by the clause `commits` of `Agent::step`.
+/// An agent that is there stands in the state that commits read of its cluster, on the machine that it finds: so an input of it is lawful that
+/// hears what the law has in flight, by the clause `commits` of `Agent::step`.
 pub fn agents_stand()
     ensures { (head : HeadText) (book : List Event) (cluster : Cluster) (member : Member) (agent : AgentFacts) (machine : Machine)
         → CommitsBridged head book cluster
         → slice_get cluster.agents member.id.number ≡ Some (Some agent)
         → member.id.number < member_count head
-        → ((key : SyncKey) → (past_of head book).sync ≡ Some key → IsStrict (member_count head) key)
         → machine_of cluster member ≡ Some machine
         → StandsToCommit (state_of_run head book cluster) member.id.number (made agent.role agent.knows machine []) }
 {}
