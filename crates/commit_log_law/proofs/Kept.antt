@@ -46,7 +46,8 @@ sound-over setup past facts volatile_states [] all sound = sound
 sound-over setup past facts volatile_states (event ∷ events) all sound =
     sound-over setup (past_after past event.kind) (facts_after facts event.kind) (volatile_after volatile_states event.kind) events all.1 (sound-one setup past facts volatile_states event all.0 sound)
 
-keeps-now : (setup : Setup) (past : Past) (volatile_states : ℕ → VolatileState) → IsSound (state_of setup past volatile_states) → KeepsNow past
+-- where the law's state is carried, commits are kept
+pub keeps-now : (setup : Setup) (past : Past) (volatile_states : ℕ → VolatileState) → IsSound (state_of setup past volatile_states) → KeepsNow past
 keeps-now setup past volatile_states sound = kept-inside setup past volatile_states (record { action = Note; events = []; volatile_states = volatile_states }) [] [] sound tt refl tt refl
 
 no-events : (x : Event) (xs : List Event) → ◌≡◌ {A = List Event} (x ∷ xs) [] → ⊥

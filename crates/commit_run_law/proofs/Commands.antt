@@ -33,7 +33,7 @@ use Rattle.commit_log_law.specs.Happening.{MayHappen}
 use Rattle.commit_log_law.proofs.Beginning.{fits-aside}
 use Rattle.commit_log_law.proofs.Commits.{commit-may}
 use Rattle.commit_log_law.proofs.Completions.{freezing-may, slow-may}
-use Rattle.commit_log_law.proofs.Kept.{change-once}
+use Rattle.commit_log_law.proofs.Kept.{change-once, keeps-now}
 use Rattle.run_law.specs.Declaring.{member_count}
 use Rattle.run_law.specs.Promise.{Upholds, UpholdsAlways}
 use Rattle.run_law.proofs.Commands.{IsQuietCommand, command-quiet}
@@ -48,7 +48,7 @@ use Rattle.commit_run_law.proofs.Agents.{upheld-kill}
 use Rattle.commit_run_law.proofs.Going.{GoesFrom, upheld-goes}
 use Rattle.commit_run_law.proofs.Servers.{upheld-quiet-if, upholds-crash}
 use Rattle.commit_run_law.proofs.Starting.{upheld-restart}
-use Rattle.commit_run_law.proofs.Transitions.{composable, keeps-now}
+use Rattle.commit_run_law.proofs.Transitions.{composable}
 
 -- ---- a message is lost
 pub goes-loss : (setup : Setup) (cluster : Cluster) (number : ℕ) → GoesFrom setup cluster (event_of cluster (kinds.Message (Lost number)))

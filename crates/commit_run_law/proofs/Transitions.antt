@@ -4,10 +4,10 @@ use Rattle.cluster_script.specs.Script.{HeadText}
 use Rattle.event_book.specs.declared.event.Event.{Event}
 use Rattle.cluster_model.specs.Cluster.{cluster_over}
 use Rattle.cluster_model.specs.State.{Cluster}
-use Rattle.commit_law.specs.Actions.{Note}
 use Rattle.commit_law.specs.Books.{AreAllowed, KeepsNow, Transition, book_of}
 use Rattle.commit_law.specs.Carried.{IsSound}
 use Rattle.commit_law.specs.Past.{Past, Setup, VolatileState, past_over, state_of}
+use Rattle.commit_log_law.proofs.Kept.{keeps-now}
 use Rattle.commit_law.proofs.Fronts.{kept-after, kept-inside, past-append}
 use Rattle.lease_law.proofs.Runs.{cuts, no-cons}
 use Rattle.run_law.specs.Bridged.{Bridged}
@@ -22,9 +22,6 @@ use Rattle.commit_run_law.specs.Reading.{past_of, setup_of, volatile_of}
 abbrev pub volatile_last : (ℕ → VolatileState) → List Transition → ℕ → VolatileState
 volatile_last volatile_states [] = volatile_states
 volatile_last volatile_states (transition ∷ transitions) = volatile_last transition.volatile_states transitions
-
-pub keeps-now : (setup : Setup) (past : Past) (volatile_states : ℕ → VolatileState) → IsSound (state_of setup past volatile_states) → KeepsNow past
-keeps-now setup past volatile_states sound = kept-inside setup past volatile_states (record { action = Note; events = []; volatile_states = volatile_states }) [] [] sound tt refl tt refl
 
 sound-last : (setup : Setup) (past : Past) (volatile_states : ℕ → VolatileState) (transitions : List Transition) → AreAllowed setup past volatile_states transitions → IsSound (state_of setup past volatile_states)
     → IsSound (state_of setup (past_over past (book_of transitions)) (volatile_last volatile_states transitions))

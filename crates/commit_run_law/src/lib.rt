@@ -1,5 +1,5 @@
-//! The law of kept commits of every run: what happens in a cluster with synchronous mode on is a run of actions that keep each acknowledged
-//! commit on every server that accepts writes.
+//! Which parts of a run keep each acknowledged commit on every server that accepts writes, with synchronous mode on: all but inputs of
+//! agents, and where an agent stands as one begins.
 #![tactic(auto)]
 
 mod laws;
