@@ -44,7 +44,8 @@ use Rattle.cluster_script.specs.declared.line.SlowedCall.{SlowedCall}
 use Rattle.cluster_script.specs.declared.line.SlowedCall.TheVariants as slowed_calls
 use Rattle.cluster_script.specs.declared.member_option.MemberOption.{MemberOption}
 use Rattle.cluster_script.specs.declared.member_option.MemberOption.TheVariants as options
-use Rattle.cluster_script.proofs.OptionLaws.{margin-fits, options-enough}
+use Rattle.cluster_script.proofs.OptionCanonLaws.{options-enough}
+use Rattle.cluster_script.proofs.OptionWords.{margin-fits}
 use Rattle.cluster_script.proofs.PriorityLaws.{fits-from-zero, fits-below-zero}
 use Rattle.cluster_script.proofs.SpellLaws.{size-fits, delay-fits, base-fits, spelled-is-read}
 use Rattle.cluster_script.proofs.WordLaws.{spelled-counts}

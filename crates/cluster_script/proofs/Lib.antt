@@ -9,7 +9,10 @@ pub mod LimitLaws
 pub mod MemberLaws
 pub mod NameLaws
 pub mod NumberLaws
-pub mod OptionLaws
+pub mod OptionCanonLaws
+pub mod OptionReadLaws
+pub mod OptionSpellLaws
+pub mod OptionWords
 pub mod Outcomes
 pub mod Places
 pub mod PriorityLaws

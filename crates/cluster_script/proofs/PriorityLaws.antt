@@ -1,5 +1,5 @@
 -- Priorities, their numbers and their text.
-use Rattle.std.proofs.Common.{◌≡◌, ℕ, zero, suc, ℤ, pos, negsuc, neg_ℤ, ◌-ℤ◌, ◌≤◌, ◌<◌, ◌^◌, ◌==◌, ◌≤ℤ◌, nat_le, Bool, true, false, cond, List, [], ◌∷◌, Option, Some, None, Ok, refl, ◌∙◌, ap, sym, subst, arith}
+use Rattle.std.proofs.Common.{◌≡◌, ℕ, zero, suc, ℤ, pos, negsuc, neg_ℤ, ◌-ℤ◌, ◌≤◌, ◌<◌, ◌^◌, ◌==◌, ◌≤ℤ◌, nat_le, Bool, true, false, cond, List, [], ◌∷◌, Some, None, Ok, refl, ◌∙◌, ap, sym, subst, arith}
 use Rattle.std.specs.Fmt.{decimal, signed_decimal}
 use Rattle.std.specs.Option.{ok_or, option_and_then}
 use Rattle.std.proofs.lemmas.Bool.{eqb-true, leb-true}

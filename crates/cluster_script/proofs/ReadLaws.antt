@@ -34,7 +34,8 @@ use Rattle.cluster_script.specs.declared.member_option.SaidOptions.{SaidOptions}
 use Rattle.cluster_script.proofs.ArgumentLaws.{number_in-Ok, line_of_words-Ok}
 use Rattle.cluster_script.proofs.NameLaws.{AreDifferent-push}
 use Rattle.cluster_script.proofs.NumberLaws.{number-is}
-use Rattle.cluster_script.proofs.OptionLaws.{options_in-Ok, options-behind}
+use Rattle.cluster_script.proofs.OptionReadLaws.{options_in-Ok}
+use Rattle.cluster_script.proofs.OptionWords.{options-behind}
 use Rattle.cluster_script.proofs.Outcomes.{none_is, ok_is, err_is, on_ok-Ok, on_ok-made, ok_or-Ok, both-Ok, at_line-Ok, cond-Ok, cond-Err}
 use Rattle.cluster_script.proofs.WordLaws.{cut_word-None, cut_word-Some, keyword_of-is}
 

@@ -54,7 +54,8 @@ use Rattle.cluster_script.specs.declared.ranges.Delay.{Delay}
 use Rattle.cluster_script.proofs.Outcomes.{err_is}
 use Rattle.cluster_script.proofs.NameLaws.{place_of-Some, place_of-None}
 use Rattle.cluster_script.proofs.NumberLaws.{number-decimal, first_at-decimal}
-use Rattle.cluster_script.proofs.OptionLaws.{options-cut, options_in-again}
+use Rattle.cluster_script.proofs.OptionSpellLaws.{options_in-again}
+use Rattle.cluster_script.proofs.OptionWords.{options-cut}
 use Rattle.cluster_script.proofs.RangeLaws.{commit_size_of-Some, delay_of-Some}
 use Rattle.cluster_script.proofs.WordLaws.{cut_word-again, cut_word-alone, cut_word-spelled, keyword_of-word_of}
 
