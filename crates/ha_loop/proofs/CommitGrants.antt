@@ -25,14 +25,14 @@ use Rattle.ha_loop.specs.declared.output.Output.TheVariants as outputs
 use Rattle.ha_loop.specs.declared.output.Target.TheVariants as targets
 use Rattle.ha_loop.specs.Acting.{deadline_after}
 use Rattle.ha_loop.specs.Agents.{RoleFacts, Ready, Leader, Outcome, is_ready, is_leader}
-use Rattle.ha_loop.specs.Committing.{StandsToCommit, IsAwaitedWrite, HearsLease, HearsWrite, IsCommitInputOf, IsLawfulAs}
+use Rattle.ha_loop.specs.Committing.{StandsToCommit, IsAwaitedWrite, HearsLease, HearsWrite, GrowsByConnected, IsCommitInputOf, IsLawfulAs}
 use Rattle.ha_loop.specs.Planning.{naming}
 use Rattle.ha_loop.specs.Powers.{IsAwaitedLease}
 use Rattle.ha_loop.specs.Synchronous.{sync_read_in, expected_of}
 use Rattle.ha_loop.proofs.CommitGrounds.{IsBehind, lease_granted_as, write_granted_as, hears-lease, hears-write, leads-live, IsLedBy, compared-as, has-confirmed, confirmed-any}
 use Rattle.ha_loop.proofs.CommitIdling.{Idle, idle-then, waits-nothing, waits-new}
 use Rattle.ha_loop.proofs.CommitLawful.{was_of, lawful-as, keeps-turn, keeps-live, keeps-server, keeps-ready, keeps-noted, sends-nothing, sends-one, idle-lawful}
-use Rattle.ha_loop.proofs.CommitQuiet.{IsQuiet, quiet-fed, quiet-none, quiet-unbegun, last-request, last-unbegun}
+use Rattle.ha_loop.proofs.CommitQuiet.{IsQuiet, IsUnasking, asks-none, asks-unbegun, quiet-fed, last-request, last-unbegun}
 use Rattle.ha_loop.proofs.CommitTools.{IsWithin, HasReached, covers-required}
 use Rattle.ha_loop.proofs.Granting.{Told}
 use Rattle.ha_loop.proofs.Knowing.{Onward}
@@ -74,7 +74,7 @@ pub record Changes (s : State) (m : ℕ) (o x : Outcome) : Type 0 where
   pub ready : is_ready x.role ≡ false
   pub turn : x.knows.turn_sync ≡ o.knows.turn_sync
   pub waited : x.knows.waited ≡ None
-  pub quiet : All IsQuiet x.outputs
+  pub unasking : All IsUnasking x.outputs
   pub notes : (noted_position x.knows.noted ≡ end_of (entries_of (s.members m).log)) ⊎ (Narrows (s.members m).required (need_in x.machine.replication.required) × (x.knows.noted ≡ o.knows.noted))
 
 notes-shown : (s : State) (m : ℕ) (input : AgentInput) (o x : Outcome) → IsCommitInputOf s m o x input → Changes s m o x
@@ -93,14 +93,14 @@ overlaps-shown s m input o x key standbys is quorum same over =
 
 -- in a turn
 pub changes-lawful : (now : Ticks) (sequence : ℕ) (grant : Granted) (snapshot : SnapshotFacts) (s : State) (m : ℕ) (input : AgentInput) (o b x : Outcome) → Ground s m o b → Leased s m sequence grant snapshot input o → IsLedBy s m snapshot o → is_leader b.role ≡ true → Changes s m o x
-    → Overlaps s.member_count (set_members (published_in snapshot)) 0 (need_in x.machine.replication.required) → Lawful now sequence grant snapshot s m input o x
-changes-lawful now sequence grant snapshot s m input o b x ground leased led leads changes over onward is =
+    → Overlaps s.member_count (set_members (published_in snapshot)) 0 (need_in x.machine.replication.required) → GrowsByConnected o (s.members m).required (need_in x.machine.replication.required) → Lawful now sequence grant snapshot s m input o x
+changes-lawful now sequence grant snapshot s m input o b x ground leased led leads changes over grows onward is =
     lawful-as now (HeardGranted sequence grant snapshot) (Some snapshot) s m input o x ground.stands is onward (waits-nothing o x changes.waited)
     (ChangingRequired (record {
       grant = lease_granted_as m sequence grant.revision snapshot o;
       hears = hears-lease s m sequence grant snapshot input o leased.hears leased.awaited;
-      live = keeps-live s m input o x ground.stands is (quiet-unbegun x.outputs changes.quiet);
-      sends = sends-nothing s m input o x is (quiet-none m o.knows.run x.outputs changes.quiet);
+      live = keeps-live s m input o x ground.stands is (asks-unbegun x.outputs changes.unasking);
+      sends = sends-nothing s m input o x is (asks-none m o.knows.run x.outputs changes.unasking);
       ready = keeps-ready s m input o x is (λ e. absurd (no-way (sym changes.ready ∙ e)));
       leads = λ _. ground.behind.idle.leads leads;
       turn = keeps-turn s m input o x is changes.turn;
@@ -108,24 +108,24 @@ changes-lawful now sequence grant snapshot s m input o b x ground leased led lea
       key_is = led.seen;
       overlaps = overlaps-shown s m input o x led.key (set_members (published_in snapshot)) is led.quorum led.standbys over;
       notes = notes-shown s m input o x is changes;
-    })) tt
+    })) (subst (GrowsByConnected o (s.members m).required) (sym is.required) grows)
 
 -- on a granted write of the sync key
 pub settles-lawful : (now : Ticks) (sequence : ℕ) (grant : Granted) (snapshot : SnapshotFacts) (s : State) (m : ℕ) (input : AgentInput) (o b x : Outcome) → Ground s m o b → (awaited : IsAwaitedWrite sequence grant o.knows) → (hears : HearsWrite s m input.heard sequence awaited.waited.question o.knows)
-    → is_leader b.role ≡ true → Changes s m o x → hears.key.quorum ≡ 0 → Overlaps s.member_count hears.key.standbys 0 (need_in x.machine.replication.required) → Lawful now sequence grant snapshot s m input o x
-settles-lawful now sequence grant snapshot s m input o b x ground awaited hears leads changes quorum over onward is =
+    → is_leader b.role ≡ true → Changes s m o x → hears.key.quorum ≡ 0 → Overlaps s.member_count hears.key.standbys 0 (need_in x.machine.replication.required) → GrowsByConnected o (s.members m).required (need_in x.machine.replication.required) → Lawful now sequence grant snapshot s m input o x
+settles-lawful now sequence grant snapshot s m input o b x ground awaited hears leads changes quorum over grows onward is =
     lawful-as now (HeardGranted sequence grant snapshot) (Some snapshot) s m input o x ground.stands is onward (waits-nothing o x changes.waited)
     (SettlingRequired (record {
       sync_grant = write_granted_as m sequence hears.key o;
       hears = hears-write s m sequence grant input o awaited hears;
-      live = keeps-live s m input o x ground.stands is (quiet-unbegun x.outputs changes.quiet);
-      sends = sends-nothing s m input o x is (quiet-none m o.knows.run x.outputs changes.quiet);
+      live = keeps-live s m input o x ground.stands is (asks-unbegun x.outputs changes.unasking);
+      sends = sends-nothing s m input o x is (asks-none m o.knows.run x.outputs changes.unasking);
       ready = keeps-ready s m input o x is (λ e. absurd (no-way (sym changes.ready ∙ e)));
       leads = λ _. ground.behind.idle.leads leads;
       turn = keeps-turn s m input o x is changes.turn;
       overlaps = overlaps-shown s m input o x hears.key hears.key.standbys is quorum refl over;
       notes = notes-shown s m input o x is changes;
-    })) tt
+    })) (subst (GrowsByConnected o (s.members m).required) (sym is.required) grows)
 
 -- a leader that asks for standbys that are required, and are published already or have confirmed the noted position
 pub publishes-lawful : (now ttl : Ticks) (sequence : ℕ) (grant : Granted) (snapshot : SnapshotFacts) (s : State) (m : ℕ) (input : AgentInput) (o b : Outcome) → Ground s m o b → Leased s m sequence grant snapshot input o → IsLedBy s m snapshot o → is_leader b.role ≡ true → (settling : Settling) (set : MemberSet)

@@ -33,10 +33,10 @@ use Rattle.ha_loop.specs.declared.knowledge.Waited.{Waited}
 use Rattle.ha_loop.specs.declared.role.Why.{Why}
 use Rattle.ha_loop.specs.declared.role.Why.TheVariants.{HandOver, Lost}
 use Rattle.ha_loop.specs.declared.who.Who.{Who}
-use Rattle.ha_loop.specs.Agents.{RoleFacts, Leader, Outcome, is_leader}
-use Rattle.ha_loop.specs.Before.{has_ended, before}
+use Rattle.ha_loop.specs.Agents.{RoleFacts, Leader, Outcome, Ready, is_leader, is_ready}
+use Rattle.ha_loop.specs.Before.{before, before_as, finds_live, has_ended}
 use Rattle.ha_loop.specs.Committing.{sync_seen, number_waited, IsConnected, IsStrict, IsEndOf, StandsToCommit, IsAwaitedWrite, HearsLease, HearsWrite}
-use Rattle.ha_loop.specs.Decisions.{asks_lease, asks_sync, is_lease_of, is_write_of}
+use Rattle.ha_loop.specs.Decisions.{asks_lease, asks_sync, is_lease_of, is_write_of, may_create}
 use Rattle.ha_loop.specs.Fits.{Fits}
 use Rattle.ha_loop.specs.Powers.{IsAwaitedLease}
 use Rattle.ha_loop.specs.Synchronous.{sync_read_by, sync_read_of_entry, sync_read_in, expected_of, is_named_if}
@@ -48,7 +48,8 @@ use Rattle.ha_loop.proofs.Fitting.{before-fits}
 use Rattle.ha_loop.proofs.Knowing.{Onward, before-onward}
 use Rattle.ha_loop.proofs.LawfulSteps.{before-waits}
 use Rattle.ha_loop.proofs.Living.{no-way}
-use Rattle.ha_loop.proofs.Rows.{before-by}
+use Rattle.ha_loop.proofs.Rows.{before-by, if-cases}
+use Rattle.ha_loop.specs.Acting.{disarming}
 
 -- what stands after what comes before an input
 pub record IsBehind (o b : Outcome) : Type 0 where
@@ -254,3 +255,15 @@ end-is (Some end) (Some log) is = is
 -- the end of the server's log, once it is noted
 pub noted-end : (s : State) (m : ℕ) (o b : Outcome) → StandsToCommit s m o → IsBehind o b → noted_position b.machine.server.end ≡ end_of (entries_of (s.members m).log)
 noted-end s m o b stands behind = ap (λ (x : ServerStatus). noted_position x.end) behind.server ∙ end-is o.machine.server.end (s.members m).log stands.end
+
+-- who may take the leader key wasn't about to begin
+unready-as : (now : Ticks) (role : RoleFacts) (o : Outcome) → o.role ≡ role → may_create (before_as now role o).role ≡ true → is_ready role ≡ false
+unready-as now (Ready held) o is creates =
+    absurd (if-cases (λ (x : Outcome). may_create x.role ≡ true → ⊥) (live o.machine.server.state) (finds_live (disarming o)) o (λ _ e. no-way e) (λ _ e. no-way (subst (λ (r : RoleFacts). may_create r ≡ true) is e)) creates)
+  where
+    no-way : false ≡ true → ⊥
+    no-way e = cc
+unready-as now _ o is creates = refl
+
+pub before-unready : (now : Ticks) (o : Outcome) → may_create (before now o).role ≡ true → is_ready o.role ≡ false
+before-unready now o creates = unready-as now o.role o refl creates

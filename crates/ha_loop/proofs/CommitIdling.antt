@@ -215,7 +215,7 @@ read-idle now snapshot o = record {
 }
 
 renewing-idle : (told : Option SnapshotFacts) (now : Ticks) (points : List HistoryPoint) (revision : ℕ) (o : Outcome) → Idle told o (renewing now points revision o)
-renewing-idle told now points revision o = stays told o (renewing now points revision o) refl refl refl refl (waits-new o (renewing now points revision o) _ refl (omega arith)) (λ q. quietly o.outputs _ q tt)
+renewing-idle told now points revision o = stays told o (renewing now points revision o) refl refl refl refl (waits-new o (renewing now points revision o) _ refl (omega arith)) (λ q. quietly o.outputs _ q refl)
 
 pub got-idle : (now : Ticks) (points : List HistoryPoint) (sequence : ℕ) (snapshot : SnapshotFacts) (o : Outcome) → Idle (Some snapshot) o (got now points sequence snapshot o)
 got-idle now points sequence snapshot o = let read : Outcome = record o { knows = read_noted now snapshot o.knows } in

@@ -1,6 +1,7 @@
 -- Each input of the table is lawful for kept commits, and leaves the synchronous mode on.
-use Rattle.std.proofs.Common.{◌≡◌, ℕ, ◌+◌, Bool, List, [], Option, Some, None, All, refl, sym, subst, ap, ◌∙◌}
-use Rattle.std.proofs.lemmas.List.Elements.{All-nil}
+use Rattle.std.proofs.Common.{◌≡◌, ℕ, ◌+◌, ◌<◌, Bool, true, ◌∷◌, slice_get, List, [], Option, Some, None, All, refl, sym, subst, ap, ◌∙◌, false}
+use Rattle.std.proofs.lemmas.List.Elements.{All-nil, All-push}
+use Rattle.std.proofs.lemmas.List.{append_assoc}
 use Rattle.pat_base.specs.declared.member_set.MemberSet.{MemberSet}
 use Rattle.pat_base.specs.declared.server_state.Required.{Required}
 use Rattle.pat_base.specs.declared.server_state.Required.TheVariants as requireds
@@ -9,10 +10,13 @@ use Rattle.lease_store.specs.declared.granted.Granted.{Granted}
 use Rattle.lease_store.specs.declared.txn.Txn.TheVariants as txns
 use Rattle.lease_store.specs.Writes.{nobody}
 use Rattle.wal_model.specs.declared.entry.HistoryPoint.{HistoryPoint}
+use Rattle.pg_model.specs.declared.status.ServerStatus.{ServerStatus}
 use Rattle.cluster_config.specs.Snapshots.{SnapshotFacts}
+use Rattle.event_book.specs.declared.message.Body.{Body}
 use Rattle.event_book.specs.declared.message.Body.TheVariants as bodies
 use Rattle.event_book.specs.declared.reason.Reason.TheVariants.{StartTooLong, WatchdogNotArmed}
-use Rattle.lease_law.proofs.Tools.{some-is, none-some}
+use Rattle.lease_law.specs.Past.{set_members}
+use Rattle.lease_law.proofs.Tools.{some-is, none-some, not-false}
 use Rattle.sync_state.specs.Published.{published_in}
 use Rattle.sync_state.specs.Sets.{both, either}
 use Rattle.commit_law.specs.Actions.{fresh_agent}
@@ -24,23 +28,26 @@ use Rattle.ha_loop.specs.declared.knowledge.Knowledge.{Knowledge}
 use Rattle.ha_loop.specs.declared.knowledge.Question.{Question}
 use Rattle.ha_loop.specs.declared.knowledge.Question.TheVariants.{Syncing}
 use Rattle.ha_loop.specs.declared.knowledge.Settling.{Settling}
-use Rattle.ha_loop.specs.declared.knowledge.Settling.TheVariants.{Stays, Lists}
+use Rattle.ha_loop.specs.declared.knowledge.Settling.TheVariants as settlings
+use Rattle.ha_loop.specs.declared.knowledge.Settling.TheVariants.{Lists}
 use Rattle.ha_loop.specs.declared.knowledge.Waited.{Waited}
 use Rattle.ha_loop.specs.declared.machine.Machine.{Machine}
+use Rattle.ha_loop.specs.declared.machine.Replication.{Replication}
 use Rattle.ha_loop.specs.declared.output.Output.{Output}
 use Rattle.ha_loop.specs.declared.output.Output.TheVariants as outputs
 use Rattle.ha_loop.specs.declared.output.Target.TheVariants as targets
-use Rattle.ha_loop.specs.declared.role.Why.TheVariants.{HandOver}
+use Rattle.ha_loop.specs.declared.role.Why.{Why}
+use Rattle.ha_loop.specs.declared.role.Why.TheVariants.{HandOver, Lost}
 use Rattle.ha_loop.specs.declared.who.Who.{Who}
-use Rattle.ha_loop.specs.Acting.{deadline_after, ending_server, arming, requiring, waiting_no_more}
+use Rattle.ha_loop.specs.Acting.{deadline_after, disarmed, ending_server, arming, requiring, waiting_no_more}
 use Rattle.ha_loop.specs.Agents.{RoleFacts, Follower, Ending, Outcome, made, fresh_knowledge}
-use Rattle.ha_loop.specs.Before.{before}
-use Rattle.ha_loop.specs.Claiming.{begins, claims, postpones}
-use Rattle.ha_loop.specs.Committing.{sync_seen, committer_seen, ArmsOn, DoesAs, IsOn, HearsOn, HearsToCommit, AsksOn, FollowsOn, requests_of, IsOneAtMost, IsNoRemoval, StaysOn, CommitsFrom}
+use Rattle.ha_loop.specs.Before.{before, has_ended}
+use Rattle.ha_loop.specs.Claiming.{begins, can_begin_on_claim, claims, postpones}
+use Rattle.ha_loop.specs.Committing.{sync_seen, committer_seen, ArmsOn, DoesAs, IsOn, HearsOn, HearsToCommit, KnowsBelow, AsksOn, FollowsOn, requests_of, is_begin, IsOneAtMost, IsCovered, IsSynchronousBody, IsSynchronousOutput, InOrder, Apart, Asks, Requires, Begins, StaysOn, CommitsFrom}
 use Rattle.ha_loop.specs.Decisions.{takes_over, gives_back, granted, refused}
-use Rattle.ha_loop.specs.Outputs.{listed}
+use Rattle.ha_loop.specs.Outputs.{has_one, listed}
 use Rattle.ha_loop.specs.Peers.{asked, answered}
-use Rattle.ha_loop.specs.Planning.{naming, noting}
+use Rattle.ha_loop.specs.Planning.{leader_view, naming, noting}
 use Rattle.ha_loop.specs.Snapshots.{got}
 use Rattle.ha_loop.specs.Synchronous.{expected_of, sync_read_in, unnamed, waiting_for}
 use Rattle.ha_loop.specs.Table.{step, act}
@@ -48,26 +55,59 @@ use Rattle.ha_loop.specs.Wake.{woken}
 use Rattle.ha_loop.proofs.CommitAsking.{before-asks, wake-asks, got-asks, refused-asks, answered-asks, leases-on}
 use Rattle.ha_loop.proofs.CommitIdling.{Idle, idle-then, before-idle, wake-idle, got-idle, refused-idle, answered-idle, asked-idle, postpones-idle}
 use Rattle.ha_loop.proofs.CommitLawful.{idle-lawful}
-use Rattle.ha_loop.proofs.CommitQuiet.{IsQuiet, quietly, quiet-armed, quiet-fed, quiet-one, last-one, quiet-keeps, last-keeps}
+use Rattle.ha_loop.proofs.CommitQuiet.{IsQuiet, IsUnasking, all-armed, all-disarmed, all-fed, alone, covered, keeps-mode, last-one, last-unbegun, quiet-fed, quiet-one, quiet-unbegun, quietly, unasked, unasking}
 use Rattle.ha_loop.proofs.CommitRows.{grant-commits}
-use Rattle.ha_loop.proofs.CommitSteps.{wanted_at, required_at, PlanSteps, LeaseSteps, WriteSteps, granted-steps}
+use Rattle.ha_loop.proofs.CommitGrounds.{IsBehind, before-behind}
+use Rattle.ha_loop.proofs.CommitTools.{both-first, confirmed-reached, no-members, within-set}
+use Rattle.ha_loop.proofs.CommitSteps.{confirmed_at, wanted_at, required_at, PlanSteps, LeaseSteps, WriteSteps, granted-steps}
 use Rattle.ha_loop.proofs.Granting.{Told}
 use Rattle.ha_loop.proofs.Knowing.{Onward, before-onward, wake-onward, got-onward, refused-onward, answered-onward, asked-onward, onward-then}
-use Rattle.ha_loop.proofs.Rows.{led_on}
+use Rattle.ha_loop.proofs.Rows.{before-by, led_on}
 
--- behind quiet outputs the mode stays on, with one more output or without
-quiet-stays : (o x : Outcome) → AsksOn x.knows → All IsQuiet x.outputs → StaysOn o x
-quiet-stays o x asks quiet = record { asks = asks; one = quiet-one o.knows.who.me.number o.knows.run x.outputs quiet; keeps = quiet-keeps x.outputs quiet }
+-- what comes before an input is covered by it
+pub before-covered : (now : Ticks) (o : Outcome) → All IsCovered o.outputs → All IsCovered (before now o).outputs
+before-covered now o all = before-by (λ (x : Outcome). All IsCovered x.outputs) now o (record {
+  kept = λ _. all;
+  leader = λ held _ _. disarms;
+  ending = λ held why _ _. ended-covered why held;
+  follower = λ _ _. all;
+  holder = λ held _ _. all;
+  ready = λ held _ _. disarms;
+  stray = λ _ _. disarms;
+})
+  where
+    disarms : All IsCovered (disarmed o.machine.watchdog.deadline o.outputs)
+    disarms = all-disarmed IsCovered o.outputs all o.machine.watchdog.deadline tt
 
-abbrev IsOneIn : Outcome → List Output → Type 0
-IsOneIn o outs = IsOneAtMost (requests_of o.knows.who.me.number o.knows.run outs)
+    ended-covered : (why : Why) (held : ℕ) → All IsCovered (has_ended why held o).outputs
+    ended-covered HandOver held = All-push IsCovered (disarmed o.machine.watchdog.deadline o.outputs) _ disarms tt
+    ended-covered Lost held = disarms
 
-last-stays : (o x : Outcome) (outs : List Output) (output : Output) → AsksOn x.knows → x.outputs ≡ listed output outs → All IsQuiet outs → IsNoRemoval output → StaysOn o x
-last-stays o x outs output asks is quiet keeps = record {
+-- behind quiet outputs the mode stays on
+quiet-stays : (heard : Heard) (o x : Outcome) → AsksOn x.knows → All IsQuiet x.outputs → StaysOn heard o x
+quiet-stays heard o x asks quiet = record {
   asks = asks;
-  one = subst (λ (l : List Output). IsOneIn o l) (sym is) (last-one o.knows.who.me.number o.knows.run outs output quiet);
-  keeps = subst (λ (l : List Output). All IsNoRemoval l) (sym is) (last-keeps outs output quiet keeps);
+  one = quiet-one o.knows.who.me.number o.knows.run x.outputs quiet;
+  sends = λ count below. keeps-mode count x.outputs (unasking x.outputs quiet);
+  order = Apart (alone x.outputs quiet);
+  begins = λ e. absurd (not-false (has_one is_begin x.outputs) (quiet-unbegun x.outputs quiet) e);
 }
+
+-- with one more output behind those that the input covers
+last-stays : (heard : Heard) (o x : Outcome) (outs : List Output) (output : Output) → AsksOn x.knows → x.outputs ≡ listed output outs → is_begin output ≡ false → All IsCovered outs → InOrder x.outputs → ((count : ℕ) → KnowsBelow count heard o → IsSynchronousOutput count output) → StaysOn heard o x
+last-stays heard o x outs output asks is unbegun all order sends =
+    let still : All IsUnasking outs = unasking outs (covered outs all) in
+    record {
+      asks = asks;
+      one = subst (λ (l : List Output). IsOneAtMost (requests_of o.knows.who.me.number o.knows.run l)) (sym is) (last-one o.knows.who.me.number o.knows.run outs output still);
+      sends = λ count below. subst (λ (l : List Output). All (IsSynchronousOutput count) l) (sym is) (All-push (IsSynchronousOutput count) outs output (keeps-mode count outs still) (sends count below));
+      order = order;
+      begins = λ e. absurd (not-false (has_one is_begin x.outputs) (ap (has_one is_begin) is ∙ last-unbegun outs output (covered outs all) unbegun) e);
+    }
+
+-- a question to the key store is the last output
+asks-stays : (heard : Heard) (o x : Outcome) (outs : List Output) (sequence : ℕ) (body : Body) → AsksOn x.knows → x.outputs ≡ listed (outputs.Send targets.Store sequence body) outs → All IsCovered outs → ((count : ℕ) → KnowsBelow count heard o → IsSynchronousBody count body) → StaysOn heard o x
+asks-stays heard o x outs sequence body asks is all sends = last-stays heard o x outs (outputs.Send targets.Store sequence body) asks is refl all (Asks outs sequence body all (sym is)) sends
 
 -- nothing is waited for, or this question
 rest : (knows : Knowledge) → knows.waited ≡ None → AsksOn knows
@@ -76,77 +116,109 @@ rest knows none waited is = absurd (none-some waited (sym none ∙ is))
 asks-this : (knows : Knowledge) (asked : Waited) → knows.waited ≡ Some asked → FollowsOn knows.turn_settings.synchronous_mode asked.question → AsksOn knows
 asks-this knows asked is follows waited waits = subst (λ (w : Waited). FollowsOn knows.turn_settings.synchronous_mode w.question) (some-is asked waited (sym is ∙ waits)) follows
 
--- a leader that asks for a write of the sync key
-names-stays : (now ttl : Ticks) (revision : ℕ) (snapshot : SnapshotFacts) (o b : Outcome) (settling : Settling) (set : MemberSet) → All IsQuiet b.outputs → ((on : Bool) → FollowsOn on (Syncing settling)) → StaysOn o (naming now revision settling set (led_on now ttl revision (Told snapshot b)))
-names-stays now ttl revision snapshot o b settling set quiet follows =
-    let fed : Outcome = led_on now ttl revision (Told snapshot b) in
-    let x : Outcome = naming now revision settling set fed in
-    last-stays o x fed.outputs (outputs.Send targets.Store (b.knows.sequence + 1) (bodies.Request (txns.SetSync revision (expected_of (sync_read_in snapshot)) set)))
-    (asks-this x.knows _ refl (follows b.knows.turn_settings.synchronous_mode)) refl (quiet-fed (deadline_after now ttl b.machine.watchdog) b.outputs quiet) tt
+requires-stays : (heard : Heard) (o y : Outcome) (required : Required) → y.knows.waited ≡ None → All IsCovered y.outputs → StaysOn heard o (requiring required y)
+requires-stays heard o y required none all =
+    last-stays heard o (requiring required y) y.outputs (outputs.Require required) (rest y.knows none) refl refl all (Requires y.outputs required all refl) (λ count below. tt)
 
-requires-stays : (o y : Outcome) (required : Required) → y.knows.waited ≡ None → All IsQuiet y.outputs → StaysOn o (requiring required y)
-requires-stays o y required none quiet = quiet-stays o (requiring required y) (rest y.knows none) (quietly y.outputs (outputs.Require required) quiet tt)
+-- the rows of a grant, on what comes before it
+module _ (now : Ticks) (sequence : ℕ) (grant : Granted) (snapshot : SnapshotFacts) (o b : Outcome) (behind : IsBehind o b) (all : All IsCovered b.outputs) where
+  abbrev Hears : Heard
+  Hears = HeardGranted sequence grant snapshot
 
-plan-stays : (now ttl : Ticks) (revision : ℕ) (snapshot : SnapshotFacts) (o b : Outcome) → All IsQuiet b.outputs → PlanSteps (StaysOn o) now revision snapshot (led_on now ttl revision (Told snapshot b))
-plan-stays now ttl revision snapshot o b quiet =
-    let fed : Outcome = led_on now ttl revision (Told snapshot b) in
-    let still : All IsQuiet fed.outputs = quiet-fed (deadline_after now ttl b.machine.watchdog) b.outputs quiet in
-    let published : MemberSet = published_in snapshot in let wanted : MemberSet = wanted_at now snapshot fed in record {
-      kept = quiet-stays o fed (rest fed.knows refl) still;
-      mark = λ _. names-stays now ttl revision snapshot o b (Lists nobody) nobody quiet (λ on. tt);
-      withdraws = names-stays now ttl revision snapshot o b (Lists (both published wanted)) (both published wanted) quiet (λ on. tt);
-      adds = requires-stays o (noting fed) (requireds.All (either (required_at fed) wanted)) refl still;
-      publishes = λ _ _. names-stays now ttl revision snapshot o b Stays wanted quiet (λ on. tt);
-      drops = λ _. requires-stays o fed (waiting_for fed.knows.settings (either published wanted)) refl still;
-    }
+  abbrev Stays : Outcome → Type 0
+  Stays x = StaysOn Hears o x
 
-lease-stays : (now ttl : Ticks) (revision : ℕ) (snapshot : SnapshotFacts) (o b : Outcome) → All IsQuiet b.outputs → LeaseSteps (StaysOn o) now ttl revision snapshot b
-lease-stays now ttl revision snapshot o b quiet =
-    let told : Outcome = Told snapshot b in
-    let fed : Outcome = led_on now ttl revision told in
-    let arm : Outcome = arming now ttl told in
-    let armed-quiet : All IsQuiet arm.outputs = quiet-armed (deadline_after now ttl b.machine.watchdog) b.outputs quiet in
-    let ended : Outcome = record (ending_server now StartTooLong fed) { role = Ending revision HandOver } in
-    let stopped : Outcome = ending_server now WatchdogNotArmed told in
-    let over : Outcome = takes_over now revision arm in
-    let back : Outcome = gives_back revision told in
-    let refused-it : Outcome = gives_back revision (record told { outputs = listed outputs.CannotArm b.outputs }) in
-    let claimed : Outcome = claims now revision arm in record {
-      other = quiet-stays o told (rest told.knows refl) quiet;
-      ends = quiet-stays o ended (rest ended.knows refl) (quietly fed.outputs (outputs.Stop StartTooLong) (quiet-fed (deadline_after now ttl b.machine.watchdog) b.outputs quiet) tt);
-      plans = λ held _. plan-stays now ttl revision snapshot o b quiet;
-      stops = λ _. quiet-stays o stopped (rest stopped.knows refl) (quietly b.outputs (outputs.Stop WatchdogNotArmed) quiet tt);
-      takes_over = λ _. quiet-stays o over (rest over.knows refl) armed-quiet;
-      returns = quiet-stays o back (rest back.knows refl) (quietly b.outputs _ quiet tt);
-      refuses = quiet-stays o refused-it (rest refused-it.knows refl) (quietly (listed outputs.CannotArm b.outputs) _ (quietly b.outputs outputs.CannotArm quiet tt) tt);
-      claims = λ _ _. last-stays o claimed arm.outputs (outputs.Send targets.Store (b.knows.sequence + 1) (bodies.Request (txns.Claim revision (expected_of b.knows.turn_sync)))) (asks-this claimed.knows _ refl tt) refl armed-quiet tt;
-    }
+  quiet : All IsQuiet b.outputs
+  quiet = covered b.outputs all
 
-write-stays : (now : Ticks) (question : Question) (snapshot : SnapshotFacts) (o b : Outcome) → All IsQuiet b.outputs → WriteSteps (StaysOn o) now question snapshot b
-write-stays now question snapshot o b quiet =
-    let told : Outcome = Told snapshot b in record {
-      other = quiet-stays o told (rest told.knows refl) quiet;
-      begins = λ revision _ _ _. let x : Outcome = begins now revision told in let required : Output = outputs.Require (unnamed b.knows.turn_settings) in
-          last-stays o x (listed required b.outputs) outputs.Begin (rest x.knows refl) refl (quietly b.outputs required quiet tt) tt;
-      postpones = λ revision. let x : Outcome = postpones revision told in quiet-stays o x (rest x.knows refl) ((postpones-idle None revision told).quiet quiet);
-      lists = λ set _ _. requires-stays o told (waiting_for told.knows.settings set) refl quiet;
-      empties = λ _. requires-stays o told requireds.Nobody refl quiet;
-    }
+  -- a leader that asks for a write of the sync key
+  names-stays : (ttl : Ticks) (settling : Settling) (set : MemberSet) → ((on : Bool) → FollowsOn on (Syncing settling)) → ((count : ℕ) → KnowsBelow count Hears o → (n : ℕ) → set_members set n ≡ true → n < count)
+      → Stays (naming now grant.revision settling set (led_on now ttl grant.revision (Told snapshot b)))
+  names-stays ttl settling set follows below =
+      let fed : Outcome = led_on now ttl grant.revision (Told snapshot b) in
+      let x : Outcome = naming now grant.revision settling set fed in
+      asks-stays Hears o x fed.outputs (b.knows.sequence + 1) (bodies.Request (txns.SetSync grant.revision (expected_of (sync_read_in snapshot)) set))
+      (asks-this x.knows _ refl (follows b.knows.turn_settings.synchronous_mode)) refl (all-fed IsCovered b.outputs all (deadline_after now ttl b.machine.watchdog) (λ until. tt)) below
 
-grant-stays : (now : Ticks) (sequence : ℕ) (grant : Granted) (snapshot : SnapshotFacts) (o b : Outcome) → AsksOn b.knows → IsOn snapshot → All IsQuiet b.outputs → StaysOn o (granted now sequence grant snapshot b)
-grant-stays now sequence grant snapshot o b asks on quiet = granted-steps (StaysOn o) now sequence grant snapshot b on (record {
-  kept = quiet-stays o b asks quiet;
-  quiet = quiet-stays o (waiting_no_more b) (rest (waiting_no_more b).knows refl) quiet;
-  mode = λ awaited. leases-on sequence grant b.knows asks awaited;
-  leases = λ awaited. lease-stays now awaited.waited.ttl grant.revision snapshot o b quiet;
-  writes = λ awaited. write-stays now awaited.waited.question snapshot o b quiet;
-})
+  nobody-below : (count n : ℕ) → set_members nobody n ≡ true → n < count
+  nobody-below count n is = absurd (not-false (set_members nobody n) (no-members nobody refl n) is)
+
+  plan-stays : (ttl : Ticks) → PlanSteps Stays now grant.revision snapshot (led_on now ttl grant.revision (Told snapshot b))
+  plan-stays ttl =
+      let fed : Outcome = led_on now ttl grant.revision (Told snapshot b) in
+      let still : All IsCovered fed.outputs = all-fed IsCovered b.outputs all (deadline_after now ttl b.machine.watchdog) (λ until. tt) in
+      let published : MemberSet = published_in snapshot in let wanted : MemberSet = wanted_at now snapshot fed in record {
+        kept = quiet-stays Hears o fed (rest fed.knows refl) (covered fed.outputs still);
+        mark = λ _. names-stays ttl (Lists nobody) nobody (λ on. tt) (λ count _. nobody-below count);
+        withdraws = names-stays ttl (Lists (both published wanted)) (both published wanted) (λ on. tt) (λ count below n is. below.published n (both-first published wanted n is));
+        adds = requires-stays Hears o (noting fed) (requireds.All (either (required_at fed) wanted)) refl still;
+        publishes = λ _ confirmed. names-stays ttl settlings.Stays wanted (λ on. tt) (λ count below n is.
+            let reached = confirmed-reached (leader_view now fed.knows fed.machine) n (within-set wanted (confirmed_at now fed) confirmed n is) in
+            below.connected n reached.end (subst (λ (r : Replication). slice_get r.connected n ≡ Some (Some reached.end)) behind.replication reached.is));
+        drops = λ _. requires-stays Hears o fed (waiting_for fed.knows.settings (either published wanted)) refl still;
+      }
+
+  lease-stays : (ttl : Ticks) → LeaseSteps Stays now ttl grant.revision snapshot b
+  lease-stays ttl =
+      let told : Outcome = Told snapshot b in
+      let revision : ℕ = grant.revision in
+      let fed : Outcome = led_on now ttl revision told in
+      let arm : Outcome = arming now ttl told in
+      let armed : All IsCovered arm.outputs = all-armed IsCovered b.outputs all (deadline_after now ttl b.machine.watchdog) (λ until. tt) in
+      let ended : Outcome = record (ending_server now StartTooLong fed) { role = Ending revision HandOver } in
+      let stopped : Outcome = ending_server now WatchdogNotArmed told in
+      let over : Outcome = takes_over now revision arm in
+      let back : Outcome = gives_back revision told in
+      let refused-it : Outcome = gives_back revision (record told { outputs = listed outputs.CannotArm b.outputs }) in
+      let claimed : Outcome = claims now revision arm in record {
+        other = quiet-stays Hears o told (rest told.knows refl) quiet;
+        ends = quiet-stays Hears o ended (rest ended.knows refl) (quietly fed.outputs (outputs.Stop StartTooLong) (quiet-fed (deadline_after now ttl b.machine.watchdog) b.outputs quiet) tt);
+        plans = λ held _. plan-stays ttl;
+        stops = λ _. quiet-stays Hears o stopped (rest stopped.knows refl) (quietly b.outputs (outputs.Stop WatchdogNotArmed) quiet tt);
+        takes_over = λ _. quiet-stays Hears o over (rest over.knows refl) (covered arm.outputs armed);
+        returns = quiet-stays Hears o back (rest back.knows refl) (quietly b.outputs _ quiet tt);
+        refuses = quiet-stays Hears o refused-it (rest refused-it.knows refl) (quietly (listed outputs.CannotArm b.outputs) _ (quietly b.outputs outputs.CannotArm quiet tt) tt);
+        claims = λ _ _. asks-stays Hears o claimed arm.outputs (b.knows.sequence + 1) (bodies.Request (txns.Claim revision (expected_of b.knows.turn_sync))) (asks-this claimed.knows _ refl tt) refl armed (λ count below. tt);
+      }
+
+  begins-stays : (revision : ℕ) → can_begin_on_claim b.machine.server.was_primary b.machine.server.state ≡ true → Stays (begins now revision (Told snapshot b))
+  begins-stays revision can =
+      let x : Outcome = begins now revision (Told snapshot b) in
+      let list : Required = unnamed b.knows.turn_settings in
+      let required : Output = outputs.Require list in
+      let asking-none : All IsUnasking (listed required b.outputs) = unasked b.outputs list quiet in
+      record {
+        asks = rest x.knows refl;
+        one = last-one o.knows.who.me.number o.knows.run (listed required b.outputs) outputs.Begin asking-none;
+        sends = λ count below. All-push (IsSynchronousOutput count) (listed required b.outputs) outputs.Begin (keeps-mode count (listed required b.outputs) asking-none) tt;
+        order = Begins b.outputs list all (sym (append_assoc b.outputs (required ∷ []) (outputs.Begin ∷ [])));
+        begins = λ _. subst (λ (server : ServerStatus). can_begin_on_claim server.was_primary server.state ≡ true) behind.server can;
+      }
+
+  write-stays : (question : Question) → WriteSteps Stays now question snapshot b
+  write-stays question =
+      let told : Outcome = Told snapshot b in record {
+        other = quiet-stays Hears o told (rest told.knows refl) quiet;
+        begins = λ revision _ _ can. begins-stays revision can;
+        postpones = λ revision. let x : Outcome = postpones revision told in quiet-stays Hears o x (rest x.knows refl) ((postpones-idle None revision told).quiet quiet);
+        lists = λ set _ _. requires-stays Hears o told (waiting_for told.knows.settings set) refl all;
+        empties = λ _. requires-stays Hears o told requireds.Nobody refl all;
+      }
+
+  grant-stays : AsksOn b.knows → IsOn snapshot → Stays (granted now sequence grant snapshot b)
+  grant-stays asks on = granted-steps Stays now sequence grant snapshot b on (record {
+    kept = quiet-stays Hears o b asks quiet;
+    quiet = quiet-stays Hears o (waiting_no_more b) (rest (waiting_no_more b).knows refl) quiet;
+    mode = λ awaited. leases-on sequence grant b.knows asks awaited;
+    leases = λ awaited. lease-stays awaited.waited.ttl;
+    writes = λ awaited. write-stays awaited.waited.question;
+  })
 
 -- an input that leaves what commits depend on
 rests : (now : Ticks) (heard : Heard) (told onto : Option SnapshotFacts) (o x : Outcome) → All IsQuiet o.outputs → Onward onto o x → Idle told o x → (AsksOn o.knows → HearsOn heard → AsksOn x.knows)
     → ((s : State) (m : ℕ) (input : AgentInput) → HearsToCommit s m input heard o → (snapshot : SnapshotFacts) → told ≡ Some snapshot → HearsSnapshot s input (sync_seen (sync_read_in snapshot))) → CommitsFrom now heard o x
 rests now heard told onto o x quiet onward idle asks hears = record {
-  stays = λ on hears-on. quiet-stays o x (asks on hears-on) (idle.quiet quiet);
+  stays = λ on hears-on. quiet-stays heard o x (asks on hears-on) (idle.quiet quiet);
   lawful = λ on hears-on s m input sound stands heard-it is. idle-lawful now heard told onto s m input o x stands is onward idle quiet (hears s m input heard-it);
 }
 
@@ -157,41 +229,41 @@ told-is : (told snapshot : SnapshotFacts) → ◌≡◌ {A = Option SnapshotFact
 told-is told snapshot e = cc
 
 -- an input that hears none leaves it
-pub step-commits : (now : Ticks) (points : List HistoryPoint) (heard : Heard) (o : Outcome) → All IsQuiet o.outputs → CommitsFrom now heard o (step now points heard o)
-step-commits now points Wake o quiet = rests now Wake None None o (woken now o) quiet (wake-onward None now o) (wake-idle None now o) (λ on _. wake-asks now o on) (λ s m input _ snapshot e. absurd (none-told snapshot e))
-step-commits now points (Got sequence snapshot) o quiet = let b : Outcome = before now o in let x : Outcome = got now points sequence snapshot b in
-    rests now (Got sequence snapshot) (Some snapshot) (Some snapshot) o x quiet (onward-then (Some snapshot) o b x (before-onward (Some snapshot) now o) (got-onward now points sequence snapshot b))
+step-commits : (now : Ticks) (points : List HistoryPoint) (heard : Heard) (o : Outcome) → All IsCovered o.outputs → CommitsFrom now heard o (step now points heard o)
+step-commits now points Wake o all = rests now Wake None None o (woken now o) (covered o.outputs all) (wake-onward None now o) (wake-idle None now o) (λ on _. wake-asks now o on) (λ s m input _ snapshot e. absurd (none-told snapshot e))
+step-commits now points (Got sequence snapshot) o all = let b : Outcome = before now o in let x : Outcome = got now points sequence snapshot b in
+    rests now (Got sequence snapshot) (Some snapshot) (Some snapshot) o x (covered o.outputs all) (onward-then (Some snapshot) o b x (before-onward (Some snapshot) now o) (got-onward now points sequence snapshot b))
     (idle-then (Some snapshot) o b x (before-idle (Some snapshot) now o) (got-idle now points sequence snapshot b) (before-onward None now o).last)
     (λ on is. got-asks now points sequence snapshot b is (before-asks now o on))
     (λ s m input hears told e. subst (λ (y : SnapshotFacts). HearsSnapshot s input (sync_seen (sync_read_in y))) (told-is snapshot told e) hears)
-step-commits now points (HeardGranted sequence grant snapshot) o quiet = let b : Outcome = before now o in record {
-  stays = λ on is. grant-stays now sequence grant snapshot o b (before-asks now o on) is ((before-idle None now o).quiet quiet);
-  lawful = λ on is s m input sound stands hears input-is. grant-commits now sequence grant snapshot s m input o sound stands quiet on is hears input-is;
+step-commits now points (HeardGranted sequence grant snapshot) o all = let b : Outcome = before now o in record {
+  stays = λ on is. grant-stays now sequence grant snapshot o b (before-behind now o) (before-covered now o all) (before-asks now o on) is;
+  lawful = λ on is s m input sound stands hears input-is. grant-commits now sequence grant snapshot s m input o sound stands (covered o.outputs all) on is hears input-is;
 }
-step-commits now points (Mismatch sequence key found) o quiet = let b : Outcome = before now o in let x : Outcome = refused now sequence b in
-    rests now (Mismatch sequence key found) None None o x quiet (onward-then None o b x (before-onward None now o) (refused-onward None now sequence b))
+step-commits now points (Mismatch sequence key found) o all = let b : Outcome = before now o in let x : Outcome = refused now sequence b in
+    rests now (Mismatch sequence key found) None None o x (covered o.outputs all) (onward-then None o b x (before-onward None now o) (refused-onward None now sequence b))
     (idle-then None o b x (before-idle None now o) (refused-idle None now sequence b) (before-onward None now o).last) (λ on _. refused-asks now sequence b (before-asks now o on)) (λ s m input _ snapshot e. absurd (none-told snapshot e))
-step-commits now points (Asked from run sequence) o quiet = let b : Outcome = before now o in let x : Outcome = asked from run sequence b in
-    rests now (Asked from run sequence) None None o x quiet (onward-then None o b x (before-onward None now o) (asked-onward None from run sequence b))
+step-commits now points (Asked from run sequence) o all = let b : Outcome = before now o in let x : Outcome = asked from run sequence b in
+    rests now (Asked from run sequence) None None o x (covered o.outputs all) (onward-then None o b x (before-onward None now o) (asked-onward None from run sequence b))
     (idle-then None o b x (before-idle None now o) (asked-idle None from run sequence b) (before-onward None now o).last) (λ on _. before-asks now o on) (λ s m input _ snapshot e. absurd (none-told snapshot e))
-step-commits now points (Answered sequence answer) o quiet = let b : Outcome = before now o in let x : Outcome = answered now sequence answer b in
-    rests now (Answered sequence answer) None None o x quiet (onward-then None o b x (before-onward None now o) (answered-onward None now sequence answer b))
+step-commits now points (Answered sequence answer) o all = let b : Outcome = before now o in let x : Outcome = answered now sequence answer b in
+    rests now (Answered sequence answer) None None o x (covered o.outputs all) (onward-then None o b x (before-onward None now o) (answered-onward None now sequence answer b))
     (idle-then None o b x (before-idle None now o) (answered-idle None now sequence answer b) (before-onward None now o).last) (λ on _. answered-asks now sequence answer b (before-asks now o on)) (λ s m input _ snapshot e. absurd (none-told snapshot e))
 
 -- so is a request of an operator
-pub action-commits : (now : Ticks) (o : Outcome) → All IsQuiet o.outputs → CommitsFrom now Wake o (act now o)
-action-commits now o quiet = rests now Wake None None o (before now o) quiet (before-onward None now o) (before-idle None now o) (λ on _. before-asks now o on) (λ s m input _ snapshot e. absurd (none-told snapshot e))
+action-commits : (now : Ticks) (o : Outcome) → All IsCovered o.outputs → CommitsFrom now Wake o (act now o)
+action-commits now o all = rests now Wake None None o (before now o) (covered o.outputs all) (before-onward None now o) (before-idle None now o) (λ on _. before-asks now o on) (λ s m input _ snapshot e. absurd (none-told snapshot e))
 
 -- the same of what is made of an input, where no output stood before
 pub input-commits-as : (now : Ticks) (points : List HistoryPoint) (heard : Heard) (role : RoleFacts) (knows : Knowledge) (machine : Machine) (outs : List Output) (after : Outcome) → after ≡ step now points heard (made role knows machine outs)
     → outs ≡ [] → CommitsFrom now heard (made role knows machine []) after
 input-commits-as now points heard role knows machine outs after is none = let same : after ≡ step now points heard (made role knows machine []) = is ∙ ap (λ (l : List Output). step now points heard (made role knows machine l)) none in
-    subst (λ (x : Outcome). CommitsFrom now heard (made role knows machine []) x) (sym same) (step-commits now points heard (made role knows machine []) (All-nil IsQuiet))
+    subst (λ (x : Outcome). CommitsFrom now heard (made role knows machine []) x) (sym same) (step-commits now points heard (made role knows machine []) (All-nil IsCovered))
 
 pub action-commits-as : (now : Ticks) (role : RoleFacts) (knows : Knowledge) (machine : Machine) (outs : List Output) (after : Outcome) → after ≡ act now (made role knows machine outs)
     → outs ≡ [] → CommitsFrom now Wake (made role knows machine []) after
 action-commits-as now role knows machine outs after is none = let same : after ≡ act now (made role knows machine []) = is ∙ ap (λ (l : List Output). act now (made role knows machine l)) none in
-    subst (λ (x : Outcome). CommitsFrom now Wake (made role knows machine []) x) (sym same) (action-commits now (made role knows machine []) (All-nil IsQuiet))
+    subst (λ (x : Outcome). CommitsFrom now Wake (made role knows machine []) x) (sym same) (action-commits now (made role knows machine []) (All-nil IsCovered))
 
 -- an agent that starts waits for nothing, and is to the law one that starts
 pub fresh-asks : (who : Who) (first : Ticks) (run : ℕ) → AsksOn (fresh_knowledge who first run)
@@ -201,12 +273,13 @@ pub fresh-seen : (who : Who) (first : Ticks) (run : ℕ) → committer_seen Foll
 fresh-seen who first run = refl
 
 -- what the timed lease gives to an input: to one that arms, that it hears the present leader key and that nobody else acts
-pub given-by-lease : (now : Ticks) (heard : Heard) (o : Outcome) (s : State) (m : ℕ) (input : AgentInput) (was : Agent) (does : Does s m input was) → DoesAs now heard o s m input was does → ((revision : ℕ) → ArmsOn now heard o revision → ArmsAlone s m revision) → IsGivenByLease s m input was does
+pub given-by-lease : (now : Ticks) (heard : Heard) (o : Outcome) (s : State) (m : ℕ) (input : AgentInput) (was : Agent) (does : Does s m input was) → DoesAs now heard o s m input was does
+    → ((revision : ℕ) → ArmsOn now heard o revision → (s.members m).live ≡ false → input.agent.ready ≡ true → ArmsAlone s m revision) → IsGivenByLease s m input was does
 given-by-lease now heard o s m input was (Racing races) as-it gives = absurd as-it
 given-by-lease now heard o s m input was (HearingAnswer answer) as-it gives = absurd as-it
 given-by-lease now heard o s m input was (WinningRace wins) as-it gives = absurd as-it
 given-by-lease now heard o s m input was (CreatingLeader creates) as-it gives = absurd as-it
-given-by-lease now heard o s m input was (Arming arms) as-it gives = gives arms.grant.revision as-it
+given-by-lease now heard o s m input was (Arming arms) as-it gives = gives arms.grant.revision as-it.0 arms.not_live as-it.1
 given-by-lease now heard o s m input was (Idling idles) as-it gives = tt
 given-by-lease now heard o s m input was (TakingOver takes) as-it gives = tt
 given-by-lease now heard o s m input was (ChangingRequired changes) as-it gives = tt

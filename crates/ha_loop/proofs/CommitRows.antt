@@ -1,5 +1,5 @@
 -- Each granted request is lawful for kept commits: who takes the leader key, claims and begins, and all rows together.
-use Rattle.std.proofs.Common.{◌≡◌, ℕ, ◌+◌, ◌&&◌, Bool, true, false, if◌then◌else◌, not, Option, Some, None, All, refl, sym, subst, ap, ◌∙◌, arith, inl, inr}
+use Rattle.std.proofs.Common.{◌≡◌, ℕ, ◌+◌, ◌&&◌, Bool, true, false, if◌then◌else◌, not, Option, Some, None, All, refl, sym, subst, ap, ◌∙◌, arith, inl, inr, slice_get}
 use Rattle.pat_base.specs.declared.lsn.Lsn.{Lsn}
 use Rattle.pat_base.specs.declared.member_set.MemberSet.{MemberSet}
 use Rattle.pat_base.specs.declared.server_state.Required.{Required}
@@ -38,10 +38,10 @@ use Rattle.ha_loop.specs.declared.output.Target.TheVariants as targets
 use Rattle.ha_loop.specs.declared.role.Why.TheVariants.{HandOver}
 use Rattle.ha_loop.specs.declared.who.Who.{Who}
 use Rattle.ha_loop.specs.Acting.{deadline_after, ending_server, arming, requiring, is_hold_active, waiting_no_more}
-use Rattle.ha_loop.specs.Agents.{Ready, Ending, Outcome, is_leader}
+use Rattle.ha_loop.specs.Agents.{Ready, Ending, Outcome, is_leader, is_ready}
 use Rattle.ha_loop.specs.Before.{before}
 use Rattle.ha_loop.specs.Claiming.{begins, claims, postpones, can_begin_on_claim}
-use Rattle.ha_loop.specs.Committing.{sync_seen, StandsToCommit, IsAwaitedWrite, IsAskedBy, HearsWrite, HearsGranted, IsOn, FollowsOn, AsksOn, IsCommitInputOf, IsLawfulAs}
+use Rattle.ha_loop.specs.Committing.{sync_seen, StandsToCommit, IsAwaitedWrite, IsAskedBy, HearsWrite, HearsGranted, IsOn, FollowsOn, AsksOn, NeedsOne, IsCommitInputOf, IsLawfulAs}
 use Rattle.ha_loop.specs.Decisions.{can_begin, takes_over, gives_back, may_create, may_take, granted}
 use Rattle.ha_loop.specs.Outputs.{listed}
 use Rattle.ha_loop.specs.Planning.{leader_view, noting}
@@ -49,14 +49,15 @@ use Rattle.ha_loop.specs.Powers.{IsAwaitedLease}
 use Rattle.ha_loop.specs.Synchronous.{expected_of, is_named_if, may_lead_in_sync, unnamed, waiting_for}
 use Rattle.ha_loop.proofs.CommitAsking.{before-asks, leases-on}
 use Rattle.ha_loop.proofs.CommitGrants.{Ground, Lawful, rests, Leased, unready, changes-lawful, settles-lawful, publishes-lawful}
-use Rattle.ha_loop.proofs.CommitGrounds.{IsBehind, before-behind, lease-before, write-before, lease_granted_as, write_granted_as, hears-lease, hears-write, leads-live, IsLedBy, key-covers, led-by, written, compared-as, wins-named, noted-end}
+use Rattle.ha_loop.proofs.CommitGrounds.{IsBehind, before-behind, before-unready, lease-before, write-before, lease_granted_as, write_granted_as, hears-lease, hears-write, leads-live, IsLedBy, key-covers, led-by, written, compared-as, wins-named, noted-end}
 use Rattle.ha_loop.proofs.CommitIdling.{Idle, idle-then, waits-nothing, waits-new, stays, falls, same-idle, quiet-idle, postpones-idle}
 use Rattle.ha_loop.proofs.CommitLawful.{lawful-as, keeps-turn, keeps-server, keeps-ready, sends-nothing, sends-one}
-use Rattle.ha_loop.proofs.CommitQuiet.{IsQuiet, quietly, quiet-armed, quiet-fed, quiet-none, quiet-unbegun, last-request, last-unbegun}
+use Rattle.ha_loop.proofs.CommitGrowing.{narrows-grows, required-needs, wanted-connected}
+use Rattle.ha_loop.proofs.CommitQuiet.{IsQuiet, IsUnasking, asks-last, quietly, quiet-armed, quiet-fed, quiet-none, quiet-unbegun, last-request, last-unbegun, unasked}
 use Rattle.ha_loop.proofs.CommitSteps.{IsForeign, wanted_at, confirmed_at, required_at, PlanSteps, LeaseSteps, WriteSteps, granted-steps}
-use Rattle.ha_loop.proofs.CommitTools.{IsWithin, HasReached, within-set, both-first, either-first, either-within, unnamed-need, waiting-covers, waiting-narrows, confirmed-reached}
+use Rattle.ha_loop.proofs.CommitTools.{IsWithin, HasReached, within-set, both-first, either-first, either-one, either-within, unnamed-need, waiting-covers, waiting-narrows, confirmed-reached}
 use Rattle.ha_loop.proofs.Fitting.{ended-for}
-use Rattle.ha_loop.proofs.Granting.{take-free, Told, both-true}
+use Rattle.ha_loop.proofs.Granting.{Told, both-true}
 use Rattle.ha_loop.proofs.Knowing.{before-onward, granted-onward, onward-then}
 use Rattle.ha_loop.proofs.Living.{no-way}
 use Rattle.ha_loop.proofs.Rows.{led_on}
@@ -66,9 +67,9 @@ chosen true named is e = e
 chosen false named is e = absurd (no-way is)
 
 -- a member that takes the key claims the sync key that its turn read, which names it
-arms-lawful : (now ttl : Ticks) (sequence : ℕ) (grant : Granted) (snapshot : SnapshotFacts) (s : State) (m : ℕ) (input : AgentInput) (o b : Outcome) → Ground s m o b → Leased s m sequence grant snapshot input o → b.knows.turn_settings.synchronous_mode ≡ true → may_create b.role ≡ true
+arms-lawful : (now ttl : Ticks) (sequence : ℕ) (grant : Granted) (snapshot : SnapshotFacts) (s : State) (m : ℕ) (input : AgentInput) (o b : Outcome) → Ground s m o b → Leased s m sequence grant snapshot input o → b.knows.turn_settings.synchronous_mode ≡ true → may_create b.role ≡ true → is_ready o.role ≡ false
     → may_take now (Told snapshot b).knows b.machine ≡ true → Lawful now sequence grant snapshot s m input o (claims now grant.revision (arming now ttl (Told snapshot b)))
-arms-lawful now ttl sequence grant snapshot s m input o b ground leased mode creates may onward is =
+arms-lawful now ttl sequence grant snapshot s m input o b ground leased mode creates unready-before may onward is =
     let behind : IsBehind o b = ground.behind in
     let arm : Outcome = arming now ttl (Told snapshot b) in
     let x : Outcome = claims now grant.revision arm in
@@ -77,7 +78,6 @@ arms-lawful now ttl sequence grant snapshot s m input o b ground leased mode cre
     let request : SyncRequest = claim_request m o.knows.run (b.knows.sequence + 1) grant.revision (expected_of b.knows.turn_sync) in
     let can : Bool = can_begin now (Told snapshot b).knows b.machine.server b.machine.server.state in
     let leads : Bool = may_lead_in_sync (Told snapshot b).knows in
-    let free : is_hold_active now b.machine.hold ≡ false = take-free (is_hold_active now b.machine.hold) (can && leads) may in
     let may-lead : leads ≡ true = (both-true can leads (both-true (not (is_hold_active now b.machine.hold)) (can && leads) may).1).1 in
     let named : WinsByName (sync_seen b.knows.turn_sync) m = wins-named b.knows.who.me m b.knows.turn_sync (ap (λ (w : Who). w.me.number) behind.who ∙ ground.stands.me)
     (chosen b.knows.turn_settings.synchronous_mode (is_named_if b.knows.who.me b.knows.turn_sync) mode may-lead) in
@@ -95,7 +95,7 @@ arms-lawful now ttl sequence grant snapshot s m input o b ground leased mode cre
       sync = compared-as b.knows.turn_sync ∙ ap (λ (r : Option SyncRead). sync_revision_of (sync_seen r)) behind.turn;
       counts = ground.stands.counts;
       named = inl (subst (λ (r : Option SyncRead). WinsByName (sync_seen r) m) behind.turn named);
-    })) (leased.awaited, refl, subst (λ (h : Option Ticks). is_hold_active now h ≡ false) behind.hold free)
+    })) ((leased.awaited, refl, unready-before), ap (λ (a : Agent). a.ready) is.agent)
 
 -- a server that runs without its lease is taken over, and the end of its log is noted
 takes-over-lawful : (now ttl : Ticks) (sequence : ℕ) (grant : Granted) (snapshot : SnapshotFacts) (s : State) (m : ℕ) (input : AgentInput) (o b : Outcome) → Ground s m o b → Lawful now sequence grant snapshot s m input o (takes_over now grant.revision (arming now ttl (Told snapshot b)))
@@ -112,7 +112,7 @@ takes-over-lawful now ttl sequence grant snapshot s m input o b ground onward is
       turn = keeps-turn s m input o x is behind.turn;
     })) tt
 
-begins-data : (was_primary : Bool) (state : ServerState) → can_begin_on_claim was_primary state ≡ true → has_data state ≡ true
+pub begins-data : (was_primary : Bool) (state : ServerState) → can_begin_on_claim was_primary state ≡ true → has_data state ≡ true
 begins-data was_primary states.Replica e = refl
 begins-data was_primary states.Stopped e = refl
 begins-data was_primary states.Crashed e = refl
@@ -128,7 +128,7 @@ promotes-lawful now sequence revision grant snapshot s m input o b ground awaite
     let behind : IsBehind o b = ground.behind in
     let x : Outcome = begins now revision (Told snapshot b) in
     let required : Output = outputs.Require (unnamed b.knows.turn_settings) in
-    let quiet : All IsQuiet (listed required b.outputs) = quietly b.outputs required (behind.idle.quiet ground.quiet) tt in
+    let all : All IsUnasking (listed required b.outputs) = unasked b.outputs (unnamed b.knows.turn_settings) (behind.idle.quiet ground.quiet) in
     let asked : (n : ℕ) → hears.key.standbys n ≡ false = subst (λ (q : Question). IsAskedBy q hears.key) question hears.asked in
     lawful-as now (HeardGranted sequence grant snapshot) (Some snapshot) s m input o x ground.stands is onward (waits-nothing o x refl)
     (Promoting (record {
@@ -137,7 +137,7 @@ promotes-lawful now sequence revision grant snapshot s m input o b ground awaite
       was_ready = behind.idle.ready (rw role refl);
       ready = ap (λ (a : Agent). a.ready) is.agent;
       required = is.required ∙ unnamed-need b.knows.turn_settings;
-      sends = sends-nothing s m input o x is (last-request m o.knows.run (listed required b.outputs) outputs.Begin quiet);
+      sends = sends-nothing s m input o x is (asks-last m o.knows.run (listed required b.outputs) outputs.Begin all);
       turn = keeps-turn s m input o x is behind.turn;
       log = ground.stands.has_log (ap (λ (y : ServerStatus). has_data y.state) (sym behind.server) ∙ begins-data b.machine.server.was_primary b.machine.server.state can);
       claim = asked;
@@ -154,13 +154,15 @@ withdrawn-lawful now sequence grant snapshot s m input o b ground awaited hears 
     let sync : s.sync ≡ Some hears.key = written s m sequence grant input o awaited hears ground.sound ground.stands lives in
     let asked : (n : ℕ) → hears.key.standbys n ≡ set_members set n = subst (λ (q : Question). IsAskedBy q hears.key) question hears.asked in
     let covers : IsWithin hears.key.standbys (set_members (required_members o.machine.replication.required)) = key-covers s m o hears.key ground.sound ground.stands lives sync in
+    let narrows : Narrows (s.members m).required (need_in required) =
+    subst (λ (n : Need). Narrows n (need_in required)) (sym ground.stands.required) (waiting-narrows o.machine.replication.required (Told snapshot b).knows.settings set (λ n e. covers n (asked n ∙ e))) in
     settles-lawful now sequence grant snapshot s m input o b x ground awaited hears leads (record {
       ready = unready b.role leads;
       turn = behind.turn;
       waited = refl;
-      quiet = quietly b.outputs (outputs.Require required) (behind.idle.quiet ground.quiet) tt;
-      notes = inr (subst (λ (n : Need). Narrows n (need_in required)) (sym ground.stands.required) (waiting-narrows o.machine.replication.required (Told snapshot b).knows.settings set (λ n e. covers n (asked n ∙ e))), behind.idle.noted);
-    }) (ground.stands.strict hears.key sync).quorum (waiting-covers s.member_count hears.key.standbys (Told snapshot b).knows.settings set (λ n e. sym (asked n) ∙ e))
+      unasking = unasked b.outputs required (behind.idle.quiet ground.quiet);
+      notes = inr (narrows, behind.idle.noted);
+    }) (ground.stands.strict hears.key sync).quorum (waiting-covers s.member_count hears.key.standbys (Told snapshot b).knows.settings set (λ n e. sym (asked n) ∙ e)) (narrows-grows o (s.members m).required (need_in required) narrows)
 
 -- a renewed leader without a step
 led-idle : (now ttl : Ticks) (revision : ℕ) (snapshot : SnapshotFacts) (b : Outcome) → is_leader b.role ≡ true → Idle None b (led_on now ttl revision (Told snapshot b))
@@ -207,25 +209,31 @@ plan-lawful now ttl sequence grant snapshot s m input o b ground leased leads =
             ready = refl;
             turn = behind.turn;
             waited = refl;
-            quiet = quietly fed.outputs (outputs.Require (requireds.All set)) quiet tt;
+            unasking = unasked fed.outputs (requireds.All set) quiet;
             notes = inl (noted-end s m o b ground.stands behind);
-          }) (λ n e. either-first (required_at b) wanted n (subst (λ (f : ℕ → Bool). f n ≡ true) (sym (required-before o b behind)) (led.covers n e)));
+          }) (λ n e. either-first (required_at b) wanted n (subst (λ (f : ℕ → Bool). f n ≡ true) (sym (required-before o b behind)) (led.covers n e)))
+          (λ n e. elim (either-one (required_at b) wanted n e) [
+            | inl before-it ↦ inl (subst (λ (need : Need). NeedsOne need n) (sym ground.stands.required) (required-needs o.machine.replication.required n (subst (λ (f : ℕ → Bool). f n ≡ true) (required-before o b behind) before-it)))
+            | inr new ↦ let there = wanted-connected (leader_view now fed.knows fed.machine) snapshot n new in inr (there.0, subst (λ (r : Replication). slice_get r.connected n ≡ Some (Some there.0)) behind.replication there.1)
+          ]);
       publishes = λ covered confirmed. publishes-lawful now ttl sequence grant snapshot s m input o b ground leased led leads Stays wanted (within covered)
           (λ n e. inr (reached-before o b n behind (confirmed-reached (leader_view now fed.knows fed.machine) n (within-set wanted (confirmed_at now fed) confirmed n e))));
       drops = λ covered. let set : MemberSet = either published wanted in let list : Required = waiting_for fed.knows.settings set in
+          let narrows : Narrows (s.members m).required (need_in list) =
+          subst (λ (n : Need). Narrows n (need_in list)) (sym ground.stands.required) (waiting-narrows o.machine.replication.required fed.knows.settings set (either-within published wanted required led.covers (within covered))) in
           changes-lawful now sequence grant snapshot s m input o b (requiring list fed) ground leased led leads (record {
             ready = refl;
             turn = behind.turn;
             waited = refl;
-            quiet = quietly fed.outputs (outputs.Require list) quiet tt;
-            notes = inr (subst (λ (n : Need). Narrows n (need_in list)) (sym ground.stands.required) (waiting-narrows o.machine.replication.required fed.knows.settings set (either-within published wanted required led.covers (within covered))), behind.idle.noted);
-          }) (waiting-covers s.member_count (set_members published) fed.knows.settings set (either-first published wanted));
+            unasking = unasked fed.outputs list quiet;
+            notes = inr (narrows, behind.idle.noted);
+          }) (waiting-covers s.member_count (set_members published) fed.knows.settings set (either-first published wanted)) (narrows-grows o (s.members m).required (need_in list) narrows);
     }
 
 -- what each role does with a lease
-lease-lawful : (now ttl : Ticks) (sequence : ℕ) (grant : Granted) (snapshot : SnapshotFacts) (s : State) (m : ℕ) (input : AgentInput) (o b : Outcome) → Ground s m o b → Leased s m sequence grant snapshot input o → b.knows.turn_settings.synchronous_mode ≡ true
+lease-lawful : (now ttl : Ticks) (sequence : ℕ) (grant : Granted) (snapshot : SnapshotFacts) (s : State) (m : ℕ) (input : AgentInput) (o b : Outcome) → Ground s m o b → Leased s m sequence grant snapshot input o → b.knows.turn_settings.synchronous_mode ≡ true → (may_create b.role ≡ true → is_ready o.role ≡ false)
     → LeaseSteps (Lawful now sequence grant snapshot s m input o) now ttl grant.revision snapshot b
-lease-lawful now ttl sequence grant snapshot s m input o b ground leased mode =
+lease-lawful now ttl sequence grant snapshot s m input o b ground leased mode unready-before =
     let told : Outcome = Told snapshot b in
     let fed : Outcome = led_on now ttl grant.revision told in
     let ended : Outcome = record (ending_server now StartTooLong fed) { role = Ending grant.revision HandOver } in
@@ -241,7 +249,7 @@ lease-lawful now ttl sequence grant snapshot s m input o b ground leased mode =
       takes_over = λ _. takes-over-lawful now ttl sequence grant snapshot s m input o b ground;
       returns = still back (falls None b back refl refl refl refl refl (waits-nothing b back refl) (λ q. quietly b.outputs _ q tt));
       refuses = still refused (falls None b refused refl refl refl refl refl (waits-nothing b refused refl) (λ q. quietly (listed outputs.CannotArm b.outputs) _ (quietly b.outputs outputs.CannotArm q tt) tt));
-      claims = λ creates may. arms-lawful now ttl sequence grant snapshot s m input o b ground leased mode creates may;
+      claims = λ creates may. arms-lawful now ttl sequence grant snapshot s m input o b ground leased mode creates (unready-before creates) may;
     }
 
 -- what a granted write of the sync key comes to
@@ -269,7 +277,7 @@ grant-commits now sequence grant snapshot s m input o sound stands quiet asks on
       quiet = rests now sequence grant snapshot s m input o b (waiting_no_more b) ground (quiet-idle None b);
       mode = mode;
       leases = λ awaited. let before-it : IsAwaitedLease sequence grant o.knows = lease-before sequence grant o b behind awaited in
-          lease-lawful now awaited.waited.ttl sequence grant snapshot s m input o b ground (record { awaited = before-it; hears = hears.lease before-it }) (mode awaited);
+          lease-lawful now awaited.waited.ttl sequence grant snapshot s m input o b ground (record { awaited = before-it; hears = hears.lease before-it }) (mode awaited) (before-unready now o);
       writes = λ awaited. let before-it : IsAwaitedWrite sequence grant o.knows = write-before sequence grant o b behind awaited in
           write-lawful now sequence grant snapshot s m input o b ground before-it (hears.write before-it) (asks before-it.waited before-it.is);
     })

@@ -29,7 +29,7 @@ use Rattle.ha_loop.proofs.Rows.{if-cases}
 abbrev pub IsWithin : (ℕ → Bool) → (ℕ → Bool) → Type 0
 IsWithin a b = (n : ℕ) → a n ≡ true → b n ≡ true
 
-is-one : (n : ℕ) → (n == 1) ≡ true → n ≡ 1
+pub is-one : (n : ℕ) → (n == 1) ≡ true → n ≡ 1
 is-one n e = grind (arith, nat_tests)
 
 one-is : (n : ℕ) → n ≡ 1 → (n == 1) ≡ true
@@ -66,13 +66,17 @@ either-first one other n is = one-is (bit_at (bit_or one.bits other.bits) n)
 max-cases : (a b : ℕ) → a ≤ 1 → b ≤ 1 → max a b ≡ 1 → (a ≡ 1) ⊎ (b ≡ 1)
 max-cases a b first second is = grind arith
 
+-- who is of either set is of one of them
+pub either-one : (one other : MemberSet) (n : ℕ) → set_members (either one other) n ≡ true → (set_members one n ≡ true) ⊎ (set_members other n ≡ true)
+either-one one other n is =
+    elim (max-cases (bit_at one.bits n) (bit_at other.bits n) (bit-small one.bits n) (bit-small other.bits n) (sym (bit_at_or one.bits other.bits n) ∙ is-one (bit_at (bit_or one.bits other.bits) n) is)) [
+      | inl a ↦ inl (one-is (bit_at one.bits n) a)
+      | inr b ↦ inr (one-is (bit_at other.bits n) b)
+    ]
+
 -- what holds of each of two sets holds of either
 pub either-within : (one other : MemberSet) (set : ℕ → Bool) → IsWithin (set_members one) set → IsWithin (set_members other) set → IsWithin (set_members (either one other)) set
-either-within one other set first second n is =
-    elim (max-cases (bit_at one.bits n) (bit_at other.bits n) (bit-small one.bits n) (bit-small other.bits n) (sym (bit_at_or one.bits other.bits n) ∙ is-one (bit_at (bit_or one.bits other.bits) n) is)) [
-      | inl a ↦ first n (one-is (bit_at one.bits n) a)
-      | inr b ↦ second n (one-is (bit_at other.bits n) b)
-    ]
+either-within one other set first second n is = elim (either-one one other n is) [ inl a ↦ first n a | inr b ↦ second n b ]
 
 zero-out : (n : ℕ) → n ≡ 0 → (n == 1) ≡ false
 zero-out n e = grind (arith, nat_tests)
@@ -146,7 +150,7 @@ reached-as : (connected : List (Option Lsn)) (noted : Option Lsn) (n : ℕ) (fou
 reached-as connected noted n None is has = absurd (no-both has)
 reached-as connected noted n (Some end) is has = record { end = end; is = is; reached = le-from (noted_position noted) end.position has }
 
-where-one : (b : Bool) → bit_where b ≡ 1 → b ≡ true
+pub where-one : (b : Bool) → bit_where b ≡ 1 → b ≡ true
 where-one true e = refl
 where-one false e = absurd (omega (arith, e))
 

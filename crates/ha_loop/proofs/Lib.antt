@@ -18,6 +18,7 @@ pub mod FreeKey
 pub mod Beginning
 pub mod Replying
 pub mod CommitTools
+pub mod CommitGrowing
 pub mod CommitQuiet
 pub mod CommitIdling
 pub mod CommitSteps

@@ -1,8 +1,9 @@
 -- Which inputs of the law of kept commits an input of the table stands for, and that they are lawful while the synchronous mode is on.
-use Rattle.std.specs.Prelude.{ℕ, ◌≡◌, ◌<◌, ◌||◌, if◌then◌else◌, Bool, true, false, List, [], ◌∷◌, Option, Some, None, All, slice_get}
+use Rattle.std.specs.Prelude.{ℕ, ◌≡◌, ◌⊎◌, ◌<◌, ◌++◌, ◌||◌, if◌then◌else◌, Bool, true, false, List, [], ◌∷◌, Option, Some, None, All, slice_get}
 use Rattle.std.specs.List.{filter_map}
 use Rattle.std.specs.Option.{ForSome}
 use Rattle.pat_base.specs.declared.lsn.Lsn.{Lsn}
+use Rattle.pat_base.specs.declared.server_state.Required.{Required}
 use Rattle.pat_base.specs.declared.ticks.Ticks.{Ticks}
 use Rattle.pat_base.specs.ServerState.{live}
 use Rattle.lease_store.specs.declared.granted.Granted.{Granted}
@@ -16,11 +17,12 @@ use Rattle.cluster_config.specs.Snapshots.{SnapshotFacts}
 use Rattle.event_book.specs.declared.message.Body.{Body}
 use Rattle.event_book.specs.declared.message.Body.TheVariants as bodies
 use Rattle.lease_law.specs.Past.{set_members}
+use Rattle.sync_state.specs.Published.{published_in}
 use Rattle.sync_state.specs.Standbys.{noted_position}
-use Rattle.commit_law.specs.Keys.{SyncKey}
+use Rattle.commit_law.specs.Keys.{SyncKey, Need, Nobody, All as AllOf, AtLeast}
 use Rattle.commit_law.specs.Flights.{SyncRequest, LeaseGranted, SyncGranted}
 use Rattle.commit_law.specs.States.{Agent, State, HasLog}
-use Rattle.commit_law.specs.Inputs.{Sending, AgentInput, HearsSnapshot, IsLawful, Does, Racing, HearingAnswer, WinningRace, CreatingLeader, Arming}
+use Rattle.commit_law.specs.Inputs.{Sending, AgentInput, HearsSnapshot, IsLawful, Does, Racing, HearingAnswer, WinningRace, CreatingLeader, Arming, ChangingRequired, SettlingRequired}
 use Rattle.commit_law.specs.Carried.{IsSound}
 use Rattle.commit_law.specs.Past.{Query, SyncQuery, query_of, need_in}
 use Rattle.ha_loop.specs.declared.heard.Heard.{Heard}
@@ -34,8 +36,8 @@ use Rattle.ha_loop.specs.declared.knowledge.Waited.{Waited}
 use Rattle.ha_loop.specs.declared.output.Output.{Output}
 use Rattle.ha_loop.specs.declared.output.Output.TheVariants as outputs
 use Rattle.ha_loop.specs.declared.output.Target.TheVariants as targets
-use Rattle.ha_loop.specs.Acting.{is_hold_active}
 use Rattle.ha_loop.specs.Agents.{RoleFacts, Outcome, is_ready, is_leader}
+use Rattle.ha_loop.specs.Claiming.{can_begin_on_claim}
 use Rattle.ha_loop.specs.Decisions.{asks_lease, asks_sync, is_sync_decision, is_write_of}
 use Rattle.ha_loop.specs.Outputs.{has_one}
 use Rattle.ha_loop.specs.Powers.{IsAwaitedLease}
@@ -185,20 +187,80 @@ IsSent [] sends = sends ≡ None
 IsSent (request ∷ []) sends = (number : ℕ) × (sends ≡ Some (record { number = number; request = request }))
 IsSent (request ∷ other ∷ more) sends = ⊥
 
--- no request that the sync key be removed
-abbrev pub IsNoRemovalTxn : Txn → Type 0
-IsNoRemovalTxn (txns.DropSync revision sync) = ⊥
-IsNoRemovalTxn _ = Unit {0}
+-- a request as synchronous mode has it, among so many members: a create compares no sync key, no renewal lists members for failsafe mode,
+-- nobody removes the sync key, and whom it comes to name are members
+abbrev pub IsSynchronousTxn : ℕ → Txn → Type 0
+IsSynchronousTxn count (txns.Create info ttl failsafe (Some sync)) = ⊥
+IsSynchronousTxn count (txns.Renew revision info ttl status row (Some members)) = ⊥
+IsSynchronousTxn count (txns.DropSync revision sync) = ⊥
+IsSynchronousTxn count (txns.SetSync revision sync standbys) = (n : ℕ) → set_members standbys n ≡ true → n < count
+IsSynchronousTxn count _ = Unit {0}
 
--- the same of a body
-abbrev pub IsNoRemovalBody : Body → Type 0
-IsNoRemovalBody (bodies.Request txn) = IsNoRemovalTxn txn
-IsNoRemovalBody _ = Unit {0}
+-- the same of what a message says
+abbrev pub IsSynchronousBody : ℕ → Body → Type 0
+IsSynchronousBody count (bodies.Request txn) = IsSynchronousTxn count txn
+IsSynchronousBody count _ = Unit {0}
 
 -- the same of an output
-abbrev pub IsNoRemoval : Output → Type 0
-IsNoRemoval (outputs.Send to sequence body) = IsNoRemovalBody body
-IsNoRemoval _ = Unit {0}
+abbrev pub IsSynchronousOutput : ℕ → Output → Type 0
+IsSynchronousOutput count (outputs.Send to sequence body) = IsSynchronousBody count body
+IsSynchronousOutput count _ = Unit {0}
+
+-- the standbys that the sync key of a snapshot names have numbers below this one
+abbrev pub PublishesBelow : ℕ → SnapshotFacts → Type 0
+PublishesBelow count snapshot = (n : ℕ) → set_members (published_in snapshot) n ≡ true → n < count
+
+-- so they have in the snapshot that comes with what is heard, if one does
+abbrev pub HearsBelow : ℕ → Heard → Type 0
+HearsBelow count (heards.Got sequence snapshot) = PublishesBelow count snapshot
+HearsBelow count (heards.Granted sequence grant snapshot) = PublishesBelow count snapshot
+HearsBelow count _ = Unit {0}
+
+-- and so have the members to which the server is connected
+pub record KnowsBelow (count : ℕ) (heard : Heard) (o : Outcome) : Type 0 where
+  pub published : HearsBelow count heard
+  pub connected : (n : ℕ) (end : Lsn) → slice_get o.machine.replication.connected n ≡ Some (Some end) → n < count
+
+-- a request that neither compares the sync key nor writes it
+abbrev pub IsQuietTxn : Txn → Type 0
+IsQuietTxn (txns.Create info ttl failsafe sync) = sync ≡ None
+IsQuietTxn (txns.Renew revision info ttl status row failsafe) = failsafe ≡ None
+IsQuietTxn (txns.Claim revision sync) = ⊥
+IsQuietTxn (txns.SetSync revision sync standbys) = ⊥
+IsQuietTxn (txns.DropSync revision sync) = ⊥
+IsQuietTxn _ = Unit {0}
+
+-- the same of what a message says
+abbrev pub IsQuietBody : Body → Type 0
+IsQuietBody (bodies.Request txn) = IsQuietTxn txn
+IsQuietBody _ = Unit {0}
+
+-- an output that changes neither the server nor its log, and asks for no write of the sync key: the law's input covers it
+abbrev pub IsCovered : Output → Type 0
+IsCovered (outputs.Send to sequence body) = IsQuietBody body
+IsCovered (outputs.Armed until) = Unit {0}
+IsCovered (outputs.Fed until) = Unit {0}
+IsCovered outputs.Disarmed = Unit {0}
+IsCovered outputs.CannotArm = Unit {0}
+IsCovered outputs.PostponesPromotion = Unit {0}
+IsCovered (outputs.DoesNotRace bar) = Unit {0}
+IsCovered _ = ⊥
+
+-- an output that may be an action of its own: neither does it ask for a write of the sync key, nor are others required by it, nor does
+-- the server begin
+abbrev pub StandsAlone : Output → Type 0
+StandsAlone (outputs.Send to sequence body) = IsQuietBody body
+StandsAlone (outputs.Require required) = ⊥
+StandsAlone outputs.Begin = ⊥
+StandsAlone _ = Unit {0}
+
+-- the outputs of an input in their order: each may be an action of its own; or the law's input covers all up to a question, or up to whom
+-- commits wait for from now on, and that is the last one, or the server begins behind it
+pub data InOrder (outs : List Output) : Type 0 where
+  Apart : (alone : All StandsAlone outs) → InOrder outs
+  Asks : (front : List Output) → (sequence : ℕ) → (body : Body) → (covered : All IsCovered front) → (whole : front ++ outputs.Send targets.Store sequence body ∷ [] ≡ outs) → InOrder outs
+  Requires : (front : List Output) → (required : Required) → (covered : All IsCovered front) → (whole : front ++ outputs.Require required ∷ [] ≡ outs) → InOrder outs
+  Begins : (front : List Output) → (required : Required) → (covered : All IsCovered front) → (whole : front ++ outputs.Require required ∷ outputs.Begin ∷ [] ≡ outs) → InOrder outs
 
 -- the server comes to accept writes by this output, or will when its start is complete
 abbrev pub is_begin : Output → Bool
@@ -217,18 +279,35 @@ pub record IsCommitInputOf (s : State) (m : ℕ) (o after : Outcome) (input : Ag
   pub sends : IsSent (requests_of m o.knows.run after.outputs) input.sends
   pub holder_was_live : input.holder_was_live ≡ s.holder_was_live
 
--- on a lease of this revision an agent claims the sync key: it hears the grant that it waits for, and no hold is active
+-- on a lease of this revision an agent claims the sync key: it hears the grant that it waits for, and wasn't about to begin
 abbrev pub ArmsOn : Ticks → Heard → Outcome → ℕ → Type 0
-ArmsOn now (heards.Granted sequence grant snapshot) o revision = IsAwaitedLease sequence grant o.knows × (grant.revision ≡ revision) × (is_hold_active now o.machine.hold ≡ false)
+ArmsOn now (heards.Granted sequence grant snapshot) o revision = IsAwaitedLease sequence grant o.knows × (grant.revision ≡ revision) × (is_ready o.role ≡ false)
 ArmsOn now _ o revision = ⊥
 
--- what an input does, so far as the timed lease is to give something to it: no race counts, and no create compares the sync key
+-- a need waits for this member by name
+abbrev pub NeedsOne : Need → ℕ → Type 0
+NeedsOne Nobody n = ⊥
+NeedsOne (AllOf members) n = members n ≡ true
+NeedsOne (AtLeast number members) n = members n ≡ true
+
+-- the server is connected to this member
+abbrev pub IsConnectedTo : Outcome → ℕ → Type 0
+IsConnectedTo o n = (end : Lsn) × (slice_get o.machine.replication.connected n ≡ Some (Some end))
+
+-- whom commits come to wait for they waited for before, or the server is connected to it
+abbrev pub GrowsByConnected : Outcome → Need → Need → Type 0
+GrowsByConnected o before after = (n : ℕ) → NeedsOne after n → NeedsOne before n ⊎ IsConnectedTo o n
+
+-- what an input does, so far as the law leaves open what the table settles: no race counts, no create compares the sync key, an agent claims
+-- on the lease that it waits for, and a required list grows by connected members
 abbrev pub DoesAs : Ticks → Heard → Outcome → (s : State) (m : ℕ) (input : AgentInput) (was : Agent) → Does s m input was → Type 0
 DoesAs now heard o s m input was (Racing races) = ⊥
 DoesAs now heard o s m input was (HearingAnswer answer) = ⊥
 DoesAs now heard o s m input was (WinningRace wins) = ⊥
 DoesAs now heard o s m input was (CreatingLeader creates) = ⊥
-DoesAs now heard o s m input was (Arming arms) = ArmsOn now heard o arms.grant.revision
+DoesAs now heard o s m input was (Arming arms) = ArmsOn now heard o arms.grant.revision × (input.agent.ready ≡ true)
+DoesAs now heard o s m input was (ChangingRequired changes) = GrowsByConnected o (s.members m).required input.required
+DoesAs now heard o s m input was (SettlingRequired settles) = GrowsByConnected o (s.members m).required input.required
 DoesAs now heard o s m input was _ = Unit {0}
 
 -- an input of the law is lawful, and does what it may
@@ -237,13 +316,16 @@ pub record IsLawfulAs (now : Ticks) (heard : Heard) (o : Outcome) (s : State) (m
   pub does : DoesAs now heard o s m input lawful.was lawful.does
 
 -- an input leaves the synchronous mode on: what it waits for it asked with the mode on; it sends one request at most that compares the
--- sync key, and none that removes it
-pub record StaysOn (o after : Outcome) : Type 0 where
+-- sync key; what it sends is as the mode has it, among members of whom it knows; its outputs are in order; and the server begins only where
+-- it can
+pub record StaysOn (heard : Heard) (o after : Outcome) : Type 0 where
   pub asks : AsksOn after.knows
   pub one : IsOneAtMost (requests_of o.knows.who.me.number o.knows.run after.outputs)
-  pub keeps : All IsNoRemoval after.outputs
+  pub sends : (count : ℕ) → KnowsBelow count heard o → All (IsSynchronousOutput count) after.outputs
+  pub order : InOrder after.outputs
+  pub begins : has_one is_begin after.outputs ≡ true → can_begin_on_claim o.machine.server.was_primary o.machine.server.state ≡ true
 
 -- while the synchronous mode is on, whatever input of the law stands for this one of the table is lawful
 pub record CommitsFrom (now : Ticks) (heard : Heard) (o after : Outcome) : Type 0 where
-  pub stays : AsksOn o.knows → HearsOn heard → StaysOn o after
+  pub stays : AsksOn o.knows → HearsOn heard → StaysOn heard o after
   pub lawful : AsksOn o.knows → HearsOn heard → (s : State) (m : ℕ) (input : AgentInput) → IsSound s → StandsToCommit s m o → HearsToCommit s m input heard o → IsCommitInputOf s m o after input → IsLawfulAs now heard o s m input
