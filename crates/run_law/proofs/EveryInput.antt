@@ -54,7 +54,7 @@ unchanged-at : (agents : List (Option AgentFacts)) (k : ℕ) (found : Option (Op
 unchanged-at agents k None is = refl
 unchanged-at agents k (Some agent) is = ap (λ (a : Option AgentFacts). slice_set agents k a) (sym (get_or_from_slice_get agents k agent agent is)) ∙ set-get_or agents k agent
 
-unchanged : (agents : List (Option AgentFacts)) (k : ℕ) → with_changed agents k (agent_after None) ≡ agents
+pub unchanged : (agents : List (Option AgentFacts)) (k : ℕ) → with_changed agents k (agent_after None) ≡ agents
 unchanged agents k = unchanged-at agents k (slice_get agents k) refl
 
 -- a wake that nobody hears
@@ -89,11 +89,11 @@ found-at : (found : Option (Option AgentFacts)) (agent : AgentFacts) → option_
 found-at None agent e = absurd (none-some agent e)
 found-at (Some found) agent e = ap Some e
 
-agent-here : (cluster : Cluster) (member : Member) (agent : AgentFacts) → agent_at cluster.agents member.id.number ≡ Some agent → slice_get cluster.agents member.id.number ≡ Some (Some agent)
+pub agent-here : (cluster : Cluster) (member : Member) (agent : AgentFacts) → agent_at cluster.agents member.id.number ≡ Some agent → slice_get cluster.agents member.id.number ≡ Some (Some agent)
 agent-here cluster member agent e = found-at (slice_get cluster.agents member.id.number) agent e
 
 -- what it makes of what it hears
-the-outcome : (cluster : Cluster) (member : Member) (heard : Heard) (agent : Option AgentFacts) (machine : Option Machine) → agent_at cluster.agents member.id.number ≡ agent → machine_of cluster member ≡ machine
+pub the-outcome : (cluster : Cluster) (member : Member) (heard : Heard) (agent : Option AgentFacts) (machine : Option Machine) → agent_at cluster.agents member.id.number ≡ agent → machine_of cluster member ≡ machine
     → outcome_of cluster member heard ≡ outcome_at (moment_of cluster) (points_of cluster member) heard agent machine
 the-outcome cluster member heard agent machine a m =
     ap (λ (x : Option AgentFacts). outcome_at (moment_of cluster) (points_of cluster member) heard x (machine_of cluster member)) a
@@ -121,10 +121,10 @@ or-second true b e = absurd (both (sym e))
 or-second false b e = e
 
 -- nothing does: the process that it comes to doesn't find it stale
-record IsOpen (message : Message) (found : Option AgentProcess) : Type 0 where
-  process : AgentProcess
-  is : found ≡ Some process
-  fresh : is_stale message process ≡ false
+pub record IsOpen (message : Message) (found : Option AgentProcess) : Type 0 where
+  pub process : AgentProcess
+  pub is : found ≡ Some process
+  pub fresh : is_stale message process ≡ false
 
 cut-open : deliveries.Cut ≡ deliveries.Open → ⊥
 cut-open e = cc
@@ -145,7 +145,7 @@ open-to : (message : Message) (found : Option AgentProcess) → delivery_to_agen
 open-to message None e = absurd (gone-open e)
 open-to message (Some process) e = record { process = process; is = refl; fresh = open-by message process process.suspended (not process.running || is_stale message process) refl e }
 
-open-of : (message : Message) (found : Option AgentProcess) (cut : Bool) → cond cut deliveries.Cut (delivery_to_agent message found) ≡ deliveries.Open → IsOpen message found
+pub open-of : (message : Message) (found : Option AgentProcess) (cut : Bool) → cond cut deliveries.Cut (delivery_to_agent message found) ≡ deliveries.Open → IsOpen message found
 open-of message found true e = absurd (cut-open e)
 open-of message found false e = open-to message found e
 
@@ -161,7 +161,7 @@ not-not true false is e = absurd (both (sym e))
 not-not false b is e = absurd (both is)
 
 -- from whom it comes
-addressed-to : (from to : LinkEnd) (body : Body) (member : Member) → to ≡ ends.Member member → IsAddressed from to body → ((from ≡ ends.Store) × IsAnswer body) ⊎ IsPeerBody body
+pub addressed-to : (from to : LinkEnd) (body : Body) (member : Member) → to ≡ ends.Member member → IsAddressed from to body → ((from ≡ ends.Store) × IsAnswer body) ⊎ IsPeerBody body
 addressed-to from to body member is addressed = store-to from body member (subst (λ (end : LinkEnd). IsAddressed from end body) is addressed)
   where
     store-to : (from : LinkEnd) (body : Body) (member : Member) → IsAddressed from (ends.Member member) body → ((from ≡ ends.Store) × IsAnswer body) ⊎ IsPeerBody body
@@ -174,20 +174,20 @@ module _ (head : HeadText) (book : List Event) (cluster : Cluster) (number : ℕ
   Arrived = kinds.Message (Delivered number)
 
   -- who acts on it
-  acted : (cluster_after cluster Arrived).agents ≡ agent_facts_with cluster.agents member (outcome_of_heard cluster member (heard_from cluster message))
+  pub acted : (cluster_after cluster Arrived).agents ≡ agent_facts_with cluster.agents member (outcome_of_heard cluster member (heard_from cluster message))
   acted = ap (agent_facts_reached cluster) found ∙ ap (λ (end : LinkEnd). agent_facts_reached_at cluster message end) to
 
   idle : outcome_of_heard cluster member (heard_from cluster message) ≡ None → IsKept head book cluster (event_of cluster Arrived)
   idle none = idle-arrival head book cluster number good (acted ∙ ap (λ (o : Option Outcome). agent_facts_with cluster.agents member o) none ∙ unchanged cluster.agents member.id.number)
 
-  sender : ((message.message.from ≡ ends.Store) × IsAnswer message.message.body) ⊎ IsPeerBody message.message.body
+  pub sender : ((message.message.from ≡ ends.Store) × IsAnswer message.message.body) ⊎ IsPeerBody message.message.body
   sender = addressed-to message.message.from message.message.to message.message.body member to (good.matched.waiting.carried number message found).addressed
 
-  opened : IsOpen message.message (slice_get cluster.book.agents member.id.number)
+  pub opened : IsOpen message.message (slice_get cluster.book.agents member.id.number)
   opened = open-of message.message (slice_get cluster.book.agents member.id.number) (is_cut cluster.book.cuts (link_of_message message.message))
       (ap (λ (end : LinkEnd). cond (is_cut cluster.book.cuts (link_of_message message.message)) deliveries.Cut (delivery_to cluster.book.agents message.message end)) (sym to) ∙ open_is)
 
-  same-run : IsAnswer message.message.body → (agent : AgentFacts) → slice_get cluster.agents member.id.number ≡ Some (Some agent) → message.message.run ≡ agent.knows.run
+  pub same-run : IsAnswer message.message.body → (agent : AgentFacts) → slice_get cluster.agents member.id.number ≡ Some (Some agent) → message.message.run ≡ agent.knows.run
   same-run answered agent here =
       let knows = good.matched.agents member.id.number agent here in
       let one : knows.found ≡ opened.process = some-is knows.found opened.process (sym knows.is ∙ opened.is) in

@@ -40,15 +40,16 @@ use Rattle.cluster_model.specs.Machines.{points_of}
 use Rattle.cluster_model.specs.Messages.{output_events}
 use Rattle.cluster_model.specs.Parts.{each}
 use Rattle.cluster_model.specs.State.{Cluster}
-use Rattle.lease_law.specs.Leases.{Requested, Taking, Question}
+use Rattle.lease_law.specs.Leases.{Grant, Question, Requested, Taking}
 use Rattle.lease_law.specs.Actions.{Input}
 use Rattle.lease_law.specs.Books.{IsShown}
 use Rattle.lease_law.specs.Claims.{BeginsBehind, MayBeginBehind, ShowsIt, IsArmedIn}
-use Rattle.lease_law.specs.Inputs.{AgentInput}
+use Rattle.lease_law.specs.Inputs.{AgentInput, Fed, HeardGrant, IsOnTime, Kept, Removed, SetAlone, SetByFailsafe, SetByGrant, Undone, WatchdogMay}
 use Rattle.lease_law.specs.Past.{Past, VolatileState, first_past, past_after, past_of, past_over, state_of, machine_of as machine_told, taken_after}
-use Rattle.lease_law.specs.Premises.{AllAre, KeepsMomentOf, IsFedBy}
+use Rattle.lease_law.specs.Premises.{AllAre, IsFedBy, IsTimely, KeepsMomentOf}
 use Rattle.lease_law.specs.Showing.{IsOwn, input_of}
-use Rattle.lease_law.specs.States.{Machine as MachineSeen, State}
+use Rattle.lease_law.specs.States.{Acts, Agent, Machine as MachineSeen, State}
+use Rattle.lease_law.proofs.Feeding.{input-in-time}
 use Rattle.lease_law.proofs.Showing.{input-shown-of, past-append}
 use Rattle.lease_law.proofs.Tools.{none-some, some-is, put-here, not-false, decide-eq, put-there}
 use Rattle.bridge_law.specs.Groups.{IsOfMembers as IsFromMembers, AreNumberedAbove}
@@ -59,7 +60,7 @@ use Rattle.run_law.proofs.Lists.{all-more}
 use Rattle.run_law.specs.Bridged.{Bridged, IsMatched, KnowThemselves, KnowsItself}
 use Rattle.run_law.specs.Declaring.{declared_of, member_count, works_of}
 use Rattle.run_law.specs.InputEvents.{IsMessageOf, Asks, AsksPeer, AnswersPeer, IsOfInput}
-use Rattle.run_law.specs.Kept.{IsKept}
+use Rattle.run_law.specs.Kept.{IsKept, MeetsPremises}
 use Rattle.run_law.specs.Machines.{live_now, run_in, run_now}
 use Rattle.run_law.specs.Questions.{IsQuestion, SendsBetween, AsksAnew}
 use Rattle.run_law.specs.Volatile.{agent_now, volatile_of}
@@ -124,6 +125,12 @@ kept-if-works head book cluster events kept = record {
 volatile-same : (a b : Bool) (x y : Option _) → a ≡ b → x ≡ y → ◌≡◌ {A = VolatileState} (record { live = a; agent = x }) (record { live = b; agent = y })
 volatile-same a b x y p q = cc
 
+-- an agent hears a grant in time, on which it may come to act, since no hold of it is active
+pub record ArmsInTime (s : State) (m : ℕ) (heard : Option ℕ) : Type 0 where
+  pub fed : Fed s m heard
+  pub in_time : IsOnTime (s.declared.margin m) s.clock fed.grant.moment
+  pub free : (s.members m).hold ≤ s.clock
+
 -- what is in an input's outputs
 both-all : (P Q : Output → Type 0) (outs : List Output) → All P outs → All Q outs → All (λ out. P out × Q out) outs
 both-all P Q outs p q = λ k d h. (p k d h, q k d h)
@@ -165,39 +172,39 @@ module _ (head : HeadText) (book : List Event) (cluster : Cluster) (good : Bridg
   abbrev Theirs : AgentInput
   Theirs = input_of Told M (volatile_of Later M) hn (has_one is_feeding After.outputs) None Events
 
-  anew : AsksAnew Now agent.knows After.knows After.outputs
+  pub anew : AsksAnew Now agent.knows After.knows After.outputs
   anew = step-asks-anew Now (points_of cluster member) heard agent.role agent.knows machine
 
   abbrev Q : Output → Type 0
   Q out = Contains After.outputs out × SendsBetween agent.knows.sequence After.knows.sequence out
 
-  table : All IsOfTable After.outputs
+  pub table : All IsOfTable After.outputs
   table = (step-carried-out Now (points_of cluster member) heard agent.role agent.knows machine).kinds
 
-  begun : IsBegun M cluster First
+  pub begun : IsBegun M cluster First
   begun = begun-by M cluster hn opening opens
 
-  knows-it : KnowsItself M (slice_get cluster.book.agents M) agent
+  pub knows-it : KnowsItself M (slice_get cluster.book.agents M) agent
   knows-it = good.matched.agents M agent here
 
   same-process : (a b process : AgentProcess) (o : Option AgentProcess) → o ≡ Some a → o ≡ Some process → a ≡ process
   same-process a b process o e f = some-is a process (sym e ∙ f)
 
-  runs : (process : AgentProcess) → slice_get First.book.agents M ≡ Some process → process.run ≡ agent.knows.run
+  pub runs : (process : AgentProcess) → slice_get First.book.agents M ≡ Some process → process.run ≡ agent.knows.run
   runs process e = ap (λ (p : AgentProcess). p.run) (some-is process knows-it.found (sym e ∙ ap (λ (l : List AgentProcess). slice_get l M) begun.processes ∙ knows-it.is)) ∙ sym knows-it.run
 
-  mine : AllAre (IsOfInput member agent.knows.run message.number Q) Rest
+  pub mine : AllAre (IsOfInput member agent.knows.run message.number Q) Rest
   mine = each-mine member agent.knows.run message.number Q First message refl runs After.outputs table
       (both-all (Contains After.outputs) (SendsBetween agent.knows.sequence After.knows.sequence) After.outputs (All-contains_itself After.outputs) anew.sends)
 
-  stays : Stays M First Later
+  pub stays : Stays M First Later
   stays = stays-over member agent.knows.run message.number Q First Rest mine
 
   -- ---- all its events
   all-events : (P : EventKind → Type 0) → P opening → ((kind : EventKind) → IsOfInput member agent.knows.run message.number Q kind → P kind) → AllAre P Events
   all-events P first rest = (first, all-more (IsOfInput member agent.knows.run message.number Q) P Rest rest mine)
 
-  numbers : AreNumberedAbove cluster.book.sent Events
+  pub numbers : AreNumberedAbove cluster.book.sent Events
   numbers = (
     opening-above cluster.book.sent hn opening opens,
     subst (λ (n : ℕ). AreNumberedAbove n Rest) (begun.sent ∙ sym (opening-sent hn opening cluster.book.sent opens)) (each-numbered member agent.knows.run message First After.outputs runs table),
@@ -211,10 +218,10 @@ module _ (head : HeadText) (book : List Event) (cluster : Cluster) (good : Bridg
   asks : (sequence : ℕ) (body : Body) → Q (outputs.Send targets.Store sequence body) → IsQuestion body
   asks sequence body is = is.1.2
 
-  small : M < member_count head
+  pub small : M < member_count head
   small = subst (λ (n : ℕ). M < n) good.matched.agents_sized (slice_get_within cluster.agents M (Some agent) here)
 
-  fitting : AllAre (IsFitting (member_count head)) Events
+  pub fitting : AllAre (IsFitting (member_count head)) Events
   fitting = all-events (IsFitting (member_count head)) (opening-hands_off hn opening opens, opening-members (member_count head) hn opening opens, opening-addressed hn opening opens)
       (λ kind is. (mine-hands_off member agent.knows.run message.number Q kind is, mine-members member agent.knows.run message.number Q (member_count head) small kind is, mine-addressed member agent.knows.run message.number Q asks kind is))
 
@@ -227,17 +234,17 @@ module _ (head : HeadText) (book : List Event) (cluster : Cluster) (good : Bridg
   clock-is : Now.0 ≡ Told.clock
   clock-is = sym good.matched.store.clock
 
-  questions : (i : ℕ) (q : Question) → (past_over Told Events).asked i ≡ Some q → (Told.asked i ≡ Some q) ⊎ IsSentBy M agent.knows.run Told.clock After.outputs (Requested q)
+  pub questions : (i : ℕ) (q : Question) → (past_over Told Events).asked i ≡ Some q → (Told.asked i ≡ Some q) ⊎ IsSentBy M agent.knows.run Told.clock After.outputs (Requested q)
   questions = asked-over (IsSentBy M agent.knows.run Told.clock After.outputs) Told.clock Told Events refl sends
 
   run-is : agent.knows.run ≡ run_in cluster.book.agents M
   run-is = knows-it.run ∙ sym (ap run_now knows-it.is)
 
   module _ (acts : agent_facts_after cluster opening ≡ with_changed cluster.agents M (agent_after (Some After))) where
-    agents-are : Later.agents ≡ with_changed cluster.agents M (agent_after (Some After))
+    pub agents-are : Later.agents ≡ with_changed cluster.agents M (agent_after (Some After))
     agents-are = stays.agents ∙ acts
 
-    processes-are : Later.book.agents ≡ cluster.book.agents
+    pub processes-are : Later.book.agents ≡ cluster.book.agents
     processes-are = stays.processes ∙ begun.processes
 
     ends-alone : EndsAlone After.role After.knows.waited
@@ -275,7 +282,7 @@ module _ (head : HeadText) (book : List Event) (cluster : Cluster) (good : Bridg
       hold = ap (λ (l : List (Option Ticks)). slice_get l M) begun.holds ∙ found.mirrors.hold;
     }
 
-    resembles-later : Resembles Later M After.machine
+    pub resembles-later : Resembles Later M After.machine
     resembles-later =
         let carried = step-carried-out Now (points_of cluster member) heard agent.role agent.knows machine in
         subst (λ (x : Machine). Resembles Later M x) (sym carried.machine_is)
@@ -287,7 +294,7 @@ module _ (head : HeadText) (book : List Event) (cluster : Cluster) (good : Bridg
         ∙ seen-of Later M (record { role = After.role; knows = After.knows }) After.machine resembles-later after-here
         ∙ ap (λ (p : List AgentProcess). machine_seen After.role After.knows After.machine false (run_in p M)) processes-are
 
-    stands : StandsIn S M (run_in cluster.book.agents M) Now Before
+    pub stands : StandsIn S M (run_in cluster.book.agents M) Now Before
     stands = record {
       member = machine-is head Told cluster good.matched M ∙ seen-of cluster M agent machine (mirrored cluster M machine found.mirrors) here;
       me = knows-it.me;
@@ -411,3 +418,31 @@ module _ (head : HeadText) (book : List Event) (cluster : Cluster) (good : Bridg
           shown = shown;
           matched = matched;
         }))
+
+    -- ---- who comes to act
+    fed-in-time : MeetsPremises head (book ++ Events) → Theirs.feeds ≡ true → Theirs.machine.by_failsafe ≡ false → (grant : Grant) → HeardGrant S M hn grant → IsOnTime (S.declared.margin M) S.clock grant.moment
+    fed-in-time meets feeds by_grant grant heard_it = elim (shows-if (has_one is_feeding After.outputs) refl) [
+      | inl none ↦ absurd (not-false (has_one is_feeding After.outputs) none feeds)
+      | inr told ↦
+          (input-in-time (declared_of head) book (volatile_of cluster) M Theirs told.0 told.1 told.2 (subst (λ (l : List Event). IsTimely (declared_of head).margin (book ++ l)) (sym told.3) meets.timely) told.4).by_grant feeds by_grant grant heard_it
+    ]
+
+    comes-to-act : MeetsPremises head (book ++ Events) → Acts Theirs.machine → (Acts (S.members M) → ⊥) → (was agent_behind : Agent) → WatchdogMay S M Theirs was agent_behind → ArmsInTime S M hn
+    comes-to-act meets acts_behind rests was agent_behind (Kept same basis before) = absurd (rests (before acts_behind))
+    comes-to-act meets acts_behind rests was agent_behind (Removed none) = absurd (none acts_behind)
+    comes-to-act meets acts_behind rests was agent_behind (SetByGrant fed is none free) = record {
+      fed = fed.fed;
+      in_time = fed-in-time meets fed.feeds fed.by_grant fed.fed.grant fed.fed.hears;
+      free = elim (free acts_behind) [ inl before ↦ absurd (rests before) | inr ended ↦ ended ];
+    }
+    comes-to-act meets acts_behind rests was agent_behind (SetByFailsafe deadline feeds is basis before all) = absurd (rests (before acts_behind))
+    comes-to-act meets acts_behind rests was agent_behind (SetAlone deadline is basis before nobody) = absurd (rests (before acts_behind))
+    comes-to-act meets acts_behind rests was agent_behind (Undone ready live_before) = absurd (rests (inl live_before))
+
+    -- where the premises are met, whoever comes to act in an input armed its watchdog in time, on the grant that it hears
+    pub arms-in-time : ((m : ℕ) → works_of head m ≡ true) → Hears S M hn Now heard Before → MeetsPremises head (book ++ Events) → Acts (machine_seen After.role After.knows After.machine false (run_in cluster.book.agents M)) → (Acts (S.members M) → ⊥) → ArmsInTime S M hn
+    arms-in-time works hears meets acts_behind rests =
+        let sound = good.matched.waiting.agents M agent here in
+        let lawful = input-lawful-from Now (points_of cluster member) heard agent.role agent.knows machine (λ waited is. (sound.waits waited is).span) sound.ends
+        S M (run_in cluster.book.agents M) Theirs stands hears is-input in
+        comes-to-act meets (subst (λ (x : MachineSeen). Acts x) (sym machine-later) acts_behind) rests lawful.lawful.was lawful.lawful.agent lawful.lawful.watchdog

@@ -73,7 +73,7 @@ module _ (member : Member) (run heard : ℕ) (Q : Output → Type 0) where
   processes-one processes (kinds.Agent happening) is = absurd is
   processes-one processes _ is = refl
 
-  clock-one : (now : ℕ) (kind : EventKind) → Mine kind → now_after now kind ≡ now
+  pub clock-one : (now : ℕ) (kind : EventKind) → Mine kind → now_after now kind ≡ now
   clock-one now kinds.Tick is = absurd is
   clock-one now _ is = refl
 

@@ -38,15 +38,15 @@ span-is _ query e = absurd (none-way query e)
     none-way query e = cc
 
 -- a question that the input asks
-record IsNew (m run clock : ℕ) (outs : List Output) (q : Question) : Type 0 where
-  sequence : ℕ
-  body : Body
-  query : Query
-  among : Contains outs (outputs.Send targets.Store sequence body)
-  query_is : query_in body ≡ Some query
-  is : q ≡ record { member = m; run = run; sequence = sequence; sent = clock; query = query }
+pub record IsNew (m run clock : ℕ) (outs : List Output) (q : Question) : Type 0 where
+  pub sequence : ℕ
+  pub body : Body
+  pub query : Query
+  pub among : Contains outs (outputs.Send targets.Store sequence body)
+  pub query_is : query_in body ≡ Some query
+  pub is : q ≡ record { member = m; run = run; sequence = sequence; sent = clock; query = query }
 
-new-of : (m run clock : ℕ) (outs : List Output) (q : Question) → IsSentBy m run clock outs (Requested q) → IsNew m run clock outs q
+pub new-of : (m run clock : ℕ) (outs : List Output) (q : Question) → IsSentBy m run clock outs (Requested q) → IsNew m run clock outs q
 new-of m run clock outs q sent = record {
   sequence = sent.sequence;
   body = sent.body;
@@ -61,7 +61,7 @@ module _ (m clock : ℕ) (now : Ticks) (known knows : Knowledge) (outs : List Ou
   abbrev Questions : Type 0
   Questions = (i : ℕ) (q : Question) → after i ≡ Some q → (asked i ≡ Some q) ⊎ IsSentBy m known.run clock outs (Requested q)
 
-  new-number : (q : Question) (new : IsNew m known.run clock outs q) → All (SendsBetween known.sequence knows.sequence) outs → (known.sequence < q.sequence) × (q.sequence ≤ knows.sequence)
+  pub new-number : (q : Question) (new : IsNew m known.run clock outs q) → All (SendsBetween known.sequence knows.sequence) outs → (known.sequence < q.sequence) × (q.sequence ≤ knows.sequence)
   new-number q new sends =
       let between = All-contains (SendsBetween known.sequence knows.sequence) outs (outputs.Send targets.Store new.sequence new.body) sends new.among in
       let is : q.sequence ≡ new.sequence = ap (λ (x : Question). x.sequence) new.is in
@@ -96,7 +96,7 @@ module _ (m clock : ℕ) (now : Ticks) (known knows : Knowledge) (outs : List Ou
           let new = new-of m known.run clock outs q sent in
           let for-it = All-contains (AsksFor waited) outs (outputs.Send targets.Store new.sequence new.body) asks new.among in (
             ap (λ (x : Question). x.sent) new.is ∙ sym at ∙ sym (ap (λ (t : Ticks). t.0) sent-at),
-            ap (λ (x : Question). lease_span x.query) new.is ∙ span-is new.body new.query new.query_is ∙ for-it (sym (ap (λ (x : Question). x.sequence) new.is) ∙ sequence) leasing,
+            ap (λ (x : Question). lease_span x.query) new.is ∙ span-is new.body new.query new.query_is ∙ (for-it (sym (ap (λ (x : Question). x.sequence) new.is) ∙ sequence)).lease leasing,
           )
     ];
   }
@@ -129,7 +129,7 @@ other-after m run clock n outs asked after agent other questions old =
       ends = old.ends;
     }
 
-the-after : (found : Option (Option AgentFacts)) (outcome : Outcome) (agent : AgentFacts) → option_map (agent_after (Some outcome)) found ≡ Some (Some agent) → ◌≡◌ {A = AgentFacts} (record { role = outcome.role; knows = outcome.knows }) agent
+pub the-after : (found : Option (Option AgentFacts)) (outcome : Outcome) (agent : AgentFacts) → option_map (agent_after (Some outcome)) found ≡ Some (Some agent) → ◌≡◌ {A = AgentFacts} (record { role = outcome.role; knows = outcome.knows }) agent
 the-after None outcome agent e = absurd (none-some (Some agent) e)
 the-after (Some found) outcome agent e = some-is (record { role = outcome.role; knows = outcome.knows }) agent (some-is (Some (record { role = outcome.role; knows = outcome.knows })) (Some agent) e)
 

@@ -9,17 +9,24 @@ use Rattle.lease_store.specs.declared.config.Config.{Config}
 use Rattle.lease_store.specs.declared.granted.Granted.{Granted}
 use Rattle.lease_store.specs.declared.txn.Txn.{Txn}
 use Rattle.lease_store.specs.declared.txn.Txn.TheVariants as txns
+use Rattle.lease_store.specs.Writes.{nobody}
 use Rattle.wal_model.specs.declared.entry.HistoryPoint.{HistoryPoint}
 use Rattle.cluster_config.specs.Snapshots.{SnapshotFacts}
 use Rattle.event_book.specs.declared.message.Body.{Body}
 use Rattle.event_book.specs.declared.message.Body.TheVariants as bodies
+use Rattle.event_book.specs.declared.reason.Reason.TheVariants.{StartTooLong}
 use Rattle.leader_key.specs.Watchdog.{IsLeaseSpan}
+use Rattle.sync_state.specs.declared.steps.Plan.{Plan}
+use Rattle.sync_state.specs.declared.steps.Plan.TheVariants as plans
+use Rattle.sync_state.specs.Plans.{plan_of}
 use Rattle.ha_loop.specs.declared.heard.Heard.{Heard}
 use Rattle.ha_loop.specs.declared.heard.Heard.TheVariants.{Wake, Got, Granted as HeardGranted, Mismatch, Asked, Answered}
 use Rattle.ha_loop.specs.declared.knowledge.Knowledge.{Knowledge}
 use Rattle.ha_loop.specs.declared.knowledge.Question.{Question}
 use Rattle.ha_loop.specs.declared.knowledge.Question.TheVariants.{Reading, Asking, Creating, Renewing, Claiming, Syncing}
 use Rattle.ha_loop.specs.declared.knowledge.Settling.{Settling}
+use Rattle.ha_loop.specs.declared.knowledge.Settling.TheVariants.{Stays, Lists, Empties}
+use Rattle.ha_loop.specs.declared.knowledge.SyncRead.{SyncRead}
 use Rattle.ha_loop.specs.declared.knowledge.Waited.{Waited}
 use Rattle.ha_loop.specs.declared.machine.Machine.{Machine}
 use Rattle.ha_loop.specs.declared.output.Output.{Output}
@@ -27,25 +34,27 @@ use Rattle.ha_loop.specs.declared.output.Output.TheVariants as outputs
 use Rattle.ha_loop.specs.declared.output.Target.TheVariants as targets
 use Rattle.ha_loop.specs.declared.role.Why.{Why}
 use Rattle.ha_loop.specs.declared.role.Why.TheVariants.{HandOver, Lost}
-use Rattle.ha_loop.specs.Acting.{requiring, seconds_after, lease_span, counted, arming, feeding, armed, fed_until, disarmed, disarming, sending, asking, touching, starting_replica, is_refusing, deadline_after, waiting_no_more}
-use Rattle.ha_loop.specs.Agents.{RoleFacts, Follower, Outcome, made}
+use Rattle.ha_loop.specs.Acting.{requiring, ending_server, seconds_after, lease_span, counted, arming, feeding, armed, fed_until, disarmed, disarming, sending, asking, touching, starting_replica, is_refusing, deadline_after, waiting_no_more}
+use Rattle.ha_loop.specs.Agents.{RoleFacts, Follower, Ending, Outcome, made}
 use Rattle.ha_loop.specs.Before.{has_ended, before}
 use Rattle.ha_loop.specs.Claiming.{begins, claims, begins_or_claims, postpones}
-use Rattle.ha_loop.specs.Decisions.{asks_lease, leader_renewed, takes_over, stray_renewed, may_take, gives_back, arms, takes_key, granted, refused}
-use Rattle.ha_loop.specs.Planning.{writing_sync, noting}
-use Rattle.ha_loop.specs.Synchronous.{unnamed}
+use Rattle.ha_loop.specs.Decisions.{asks_lease, asks_sync, is_start_too_long, leader_renewed, takes_over, stray_renewed, may_take, gives_back, arms, takes_key, granted, refused}
+use Rattle.ha_loop.specs.Planning.{writing_sync, switching_off, planned_as, planned_on, planned, leader_view, noting}
+use Rattle.ha_loop.specs.Synchronous.{expected_of, sync_read_if, unnamed, waiting_for}
 use Rattle.pat_base.specs.declared.server_state.Required.{Required}
+use Rattle.pat_base.specs.declared.server_state.Required.TheVariants as needs
 use Rattle.ha_loop.specs.Outputs.{listed}
 use Rattle.ha_loop.specs.Racing.{finds_free, judged, answers_until, asking_others, unheard}
 use Rattle.ha_loop.specs.Repairs.{repair_of}
 use Rattle.ha_loop.specs.Snapshots.{informed, follows, read_noted, got, follow_row}
 use Rattle.ha_loop.specs.Table.{step}
 use Rattle.ha_loop.specs.Wake.{turn_noted, overdue, turned, woken}
-use Rattle.ha_loop.proofs.Rows.{WritesSync, led_on, if-cases, renewed-by, begins-or-claims-by, before-by, overdue-by, turn-by, wake-by, got-by, refused-by, follow-by, repaired-by, free-by, granted-by, judged-by, answered-by}
+use Rattle.ha_loop.proofs.Rows.{led_on, if-cases, begins-or-claims-by, before-by, overdue-by, turn-by, wake-by, got-by, refused-by, follow-by, repaired-by, free-by, granted-by, judged-by, answered-by}
 use Rattle.ha_loop.specs.declared.who.Who.{Who}
 use Rattle.ha_loop.specs.Answers.{is_other, most_answers, asking_one, asking_first}
 use Rattle.ha_loop.specs.Peers.{keeping, answered}
-use Rattle.run_law.specs.Questions.{IsQuestion, span_asked, SendsBetween, AsksFor, WaitsOn, Same, Nothing, New, AsksAnew}
+use Rattle.lease_law.proofs.Tools.{both}
+use Rattle.run_law.specs.Questions.{IsQuestion, IsPutBy, IsPutByBody, span_asked, SendsBetween, AsksFor, WaitsOn, Same, Nothing, New, AsksAnew}
 
 all-of : {X : Type 0} (P Q : X → Type 0) (xs : List X) → ((x : X) → P x → Q x) → All P xs → All Q xs
 all-of P Q xs more all = λ k d h. more _ (all k d h)
@@ -68,7 +77,7 @@ between-later low high more h _ is = tt
 
 -- a number above all that were sent is none of theirs
 above-all : (low high : ℕ) (waited : Waited) → high < waited.sequence → (output : Output) → SendsBetween low high output → AsksFor waited output
-above-all low high waited h (outputs.Send to sequence body) is = λ e _. absurd (omega (arith, e, h, is.1))
+above-all low high waited h (outputs.Send to sequence body) is = λ e. absurd (omega (arith, e, h, is.1))
 above-all low high waited h _ is = tt
 
 -- ---- what holds of an outcome so far, from what the agent knew at first
@@ -127,7 +136,7 @@ next-waits : (now : Ticks) (known knows : Knowledge) (outs : List Output) (body 
 next-waits now known knows outs body (Same is) = Same is
 next-waits now known knows outs body (Nothing is) = Nothing is
 next-waits now known knows outs body (New waited is later counts sent span asks) =
-    New waited is later (omega (arith, counts)) sent span (All-push (AsksFor waited) outs (outputs.Send targets.Store (knows.sequence + 1) body) asks (λ e _. absurd (omega (arith, e, counts))))
+    New waited is later (omega (arith, counts)) sent span (All-push (AsksFor waited) outs (outputs.Send targets.Store (knows.sequence + 1) body) asks (λ e. absurd (omega (arith, e, counts))))
 
 send-reaches : (now : Ticks) (known : Knowledge) (body : Body) (o : Outcome) → IsQuestion body → Reaches now known o → Reaches now known (sending body o)
 send-reaches now known body o span r = record {
@@ -143,8 +152,8 @@ is-lease settings = record { least = omega (arith, settings.ttl_range.0); greate
 
 -- a question whose answer is waited for
 ask-reaches : (now : Ticks) (known : Knowledge) (question : Question) (until : Ticks) (body : Body) (o : Outcome) → IsQuestion body → (asks_lease question ≡ true → span_asked body ≡ (lease_span o.knows.settings).0)
-    → Reaches now known o → Reaches now known (asking now question until body o)
-ask-reaches now known question until body o span asks r =
+    → (asks_sync question ≡ true → IsPutByBody question body) → Reaches now known o → Reaches now known (asking now question until body o)
+ask-reaches now known question until body o span asks puts r =
     let waited : Waited = record { question = question; sequence = o.knows.sequence + 1; until = until; ttl = lease_span o.knows.settings; sent = now } in
     record {
       who = r.who;
@@ -154,7 +163,7 @@ ask-reaches now known question until body o span asks r =
       waits = New waited refl (omega (arith, r.last)) (omega arith) refl (is-lease o.knows.settings)
           (All-push (AsksFor waited) o.outputs (outputs.Send targets.Store (o.knows.sequence + 1) body)
           (all-of (SendsBetween known.sequence o.knows.sequence) (AsksFor waited) o.outputs (above-all known.sequence o.knows.sequence waited (omega arith)) r.sends)
-          (λ _ leasing. asks leasing));
+          (λ _. record { lease = asks; write = puts }));
     }
 
 disarms : (now : Ticks) (known knows : Knowledge) (outs : List Output) (deadline : Option Ticks) → AsksAnew now known knows outs → AsksAnew now known knows (disarmed deadline outs)
@@ -195,7 +204,7 @@ judged-reaches : (now : Ticks) (known : Knowledge) (o : Outcome) → Reaches now
 judged-reaches now known o r =
     let quiet : Reaches now known (waiting_no_more o) = rests now known o.knows _ o.outputs refl refl refl refl r in
     judged-by (Reaches now known) now o
-    (ask-reaches now known Creating (seconds_after now o.knows.settings.retry_timeout) _ (waiting_no_more o) (is-spanned o.knows.settings) (λ _. refl) quiet)
+    (ask-reaches now known Creating (seconds_after now o.knows.settings.retry_timeout) _ (waiting_no_more o) (is-spanned o.knows.settings) (λ _. refl) (λ e. absurd (both e)) quiet)
     (λ bar. send-reaches now known _ (record (waiting_no_more o) { outputs = listed (outputs.DoesNotRace bar) o.outputs }) tt (one-more now known (waiting_no_more o).knows o.outputs (outputs.DoesNotRace bar) tt quiet))
 
 -- the asks to other members, all under the next number
@@ -209,13 +218,13 @@ asks-send : (low high : ℕ) (who : Who) (sequence count : ℕ) (outs : List Out
 asks-send low high who sequence zero outs later less all = all
 asks-send low high who sequence (suc count) outs later less all = ask-sends low high who sequence (member_of count) (asking_first who sequence count outs) later less (asks-send low high who sequence count outs later less all)
 
--- they ask for no lease
-asks-none : (waited : Waited) (output : Output) → asks_lease waited.question ≡ false → AsksFor waited output
-asks-none waited (outputs.Send to sequence body) none = λ _ leasing. absurd (no-lease (sym none ∙ leasing))
-  where
-    no-lease : false ≡ true → ⊥
-    no-lease e = cc
-asks-none waited _ none = tt
+-- they ask for no lease, and for no write
+asks-none : (waited : Waited) (output : Output) → asks_lease waited.question ≡ false → asks_sync waited.question ≡ false → AsksFor waited output
+asks-none waited (outputs.Send to sequence body) lease write = λ _. record {
+  lease = λ leasing. absurd (both (sym lease ∙ leasing));
+  write = λ writing. absurd (both (sym write ∙ writing));
+}
+asks-none waited _ lease write = tt
 
 others-reach : (now : Ticks) (known : Knowledge) (o : Outcome) → Reaches now known o → Reaches now known (asking_others now o)
 others-reach now known o r =
@@ -226,7 +235,7 @@ others-reach now known o r =
       last = omega (arith, r.last);
       sends = asks-send known.sequence (o.knows.sequence + 1) o.knows.who (o.knows.sequence + 1) most_answers o.outputs (omega (arith, r.last)) (omega arith)
           (all-of (SendsBetween known.sequence o.knows.sequence) (SendsBetween known.sequence (o.knows.sequence + 1)) o.outputs (between-later known.sequence o.knows.sequence (o.knows.sequence + 1) (omega arith)) r.sends);
-      waits = New waited refl (omega (arith, r.last)) (omega arith) refl (is-lease o.knows.settings) (λ k d h. asks-none waited _ refl);
+      waits = New waited refl (omega (arith, r.last)) (omega arith) refl (is-lease o.knows.settings) (λ k d h. asks-none waited _ refl refl);
     }
 
 -- a promotion that is postponed
@@ -249,10 +258,7 @@ turn-reaches : (now : Ticks) (known : Knowledge) (o : Outcome) → Reaches now k
 turn-reaches now known o r =
     let noted : Outcome = record o { knows = turn_noted now o.knows } in
     let begun : Reaches now known noted = goes-on now known o.knows noted.knows o.outputs refl refl refl refl r in
-    turn-by (Reaches now known) now o (record { kept = r; quiet = begun; reads = λ _. ask-reaches now known Reading (seconds_after now noted.knows.settings.retry_timeout) bodies.Read noted tt (λ e. absurd (no-lease e)) begun })
-  where
-    no-lease : asks_lease Reading ≡ true → ⊥
-    no-lease e = cc
+    turn-by (Reaches now known) now o (record { kept = r; quiet = begun; reads = λ _. ask-reaches now known Reading (seconds_after now noted.knows.settings.retry_timeout) bodies.Read noted tt (λ e. absurd (both e)) (λ e. absurd (both e)) begun })
 
 wake-reaches : (now : Ticks) (known : Knowledge) (o : Outcome) → Reaches now known o → Reaches now known (woken now o)
 wake-reaches now known o r = let first = before-reaches now known o r in
@@ -302,7 +308,7 @@ got-reaches now points known sequence snapshot o r =
       other = told;
       leader = λ held _. one-more now known read.knows o.outputs _ tt told;
       stray = λ _. one-more now known read.knows o.outputs _ tt told;
-      renews = λ _ leader _ _. ask-reaches now known Renewing _ _ read tt (λ _. refl) told;
+      renews = λ _ leader _ _. ask-reaches now known Renewing _ _ read tt (λ _. refl) (λ e. absurd (both e)) told;
       touches = touch-reaches now known read told;
       follows = λ leader _ _. follow-reaches now known leader.holder read told;
       free = λ _ _. free-reaches now known read told;
@@ -326,30 +332,42 @@ feed-reaches now ttl known o r = feeds now known o.knows o.outputs (deadline_aft
 arm-reaches : (now ttl : Ticks) (known : Knowledge) (o : Outcome) → Reaches now known o → Reaches now known (arming now ttl o)
 arm-reaches now ttl known o r = arms-it now known o.knows o.outputs (deadline_after now ttl o.machine.watchdog) r
 
--- a write of the sync key
-writes-question : (txn : Txn) → WritesSync txn → IsQuestion (bodies.Request txn)
-writes-question (txns.SetSync revision sync standbys) writes = tt
-writes-question (txns.DropSync revision sync) writes = tt
-writes-question _ writes = absurd writes
+-- a write of the sync key, which says what it settles
+writes-question : (settling : Settling) (txn : Txn) → IsPutBy (Syncing settling) txn → IsQuestion (bodies.Request txn)
+writes-question Stays (txns.SetSync revision sync standbys) puts = tt
+writes-question (Lists set) (txns.SetSync revision sync standbys) puts = tt
+writes-question Empties (txns.DropSync revision sync) puts = tt
+writes-question _ _ puts = absurd puts
 
-write-reaches : (now : Ticks) (known : Knowledge) (settling : Settling) (txn : Txn) (o : Outcome) → WritesSync txn → Reaches now known o → Reaches now known (writing_sync now settling txn o)
-write-reaches now known settling txn o writes r = ask-reaches now known (Syncing settling) _ (bodies.Request txn) o (writes-question txn writes) (λ e. absurd (no-lease e)) r
-  where
-    no-lease : asks_lease (Syncing settling) ≡ true → ⊥
-    no-lease e = cc
+write-reaches : (now : Ticks) (known : Knowledge) (settling : Settling) (txn : Txn) (o : Outcome) → IsPutBy (Syncing settling) txn → Reaches now known o → Reaches now known (writing_sync now settling txn o)
+write-reaches now known settling txn o puts r = ask-reaches now known (Syncing settling) _ (bodies.Request txn) o (writes-question settling txn puts) (λ e. absurd (both e)) (λ _. puts) r
 
 require-reaches : (now : Ticks) (known : Knowledge) (required : Required) (o : Outcome) → Reaches now known o → Reaches now known (requiring required o)
 require-reaches now known required o r = one-more now known o.knows o.outputs (outputs.Require required) tt r
 
+-- a leader's step
+off-reaches : (now : Ticks) (known : Knowledge) (revision : ℕ) (read : Option SyncRead) (o : Outcome) → Reaches now known o → Reaches now known (switching_off now revision read o)
+off-reaches now known revision None o r = r
+off-reaches now known revision (Some read) o r = write-reaches now known Empties (txns.DropSync revision read.revision) o tt r
+
+plan-reaches : (now : Ticks) (known : Knowledge) (revision : ℕ) (plan : Plan) (o : Outcome) → Reaches now known o → Reaches now known (planned_as now revision plan o)
+plan-reaches now known revision plans.Keep o r = r
+plan-reaches now known revision plans.SwitchOff o r = off-reaches now known revision (sync_read_if o.knows.seen) o r
+plan-reaches now known revision plans.Mark o r = write-reaches now known (Lists nobody) (txns.SetSync revision (expected_of (sync_read_if o.knows.seen)) nobody) o refl r
+plan-reaches now known revision (plans.Withdraw standbys) o r = write-reaches now known (Lists standbys) (txns.SetSync revision (expected_of (sync_read_if o.knows.seen)) standbys) o refl r
+plan-reaches now known revision (plans.AddRequired members) o r = require-reaches now known (needs.All members) (noting o) (goes-on now known o.knows (noting o).knows o.outputs refl refl refl refl r)
+plan-reaches now known revision (plans.Publish standbys) o r = write-reaches now known Stays (txns.SetSync revision (expected_of (sync_read_if o.knows.seen)) standbys) o tt r
+plan-reaches now known revision (plans.DropRequired members) o r = require-reaches now known (waiting_for o.knows.settings members) o r
+
+planned-reaches : (now : Ticks) (known : Knowledge) (revision : ℕ) (seen : Option SnapshotFacts) (o : Outcome) → Reaches now known o → Reaches now known (planned_on now revision seen o)
+planned-reaches now known revision None o r = r
+planned-reaches now known revision (Some snapshot) o r = plan-reaches now known revision (plan_of (leader_view now o.knows o.machine) snapshot) o r
+
 renewed-reaches : (now ttl : Ticks) (known : Knowledge) (revision : ℕ) (o : Outcome) → Reaches now known o → Reaches now known (leader_renewed now ttl revision o)
 renewed-reaches now ttl known revision o r = let led : Outcome = led_on now ttl revision o in
     let fed : Reaches now known led = feed-reaches now ttl known o r in
-    renewed-by (Reaches now known) now ttl revision o (one-more now known led.knows led.outputs _ tt fed) (record {
-      kept = fed;
-      writes = λ settling txn writes. write-reaches now known settling txn led writes fed;
-      adds = λ required. require-reaches now known required (noting led) (goes-on now known led.knows (noting led).knows led.outputs refl refl refl refl fed);
-      drops = λ required. require-reaches now known required led fed;
-    })
+    if-cases (Reaches now known) (is_start_too_long now led.knows led.machine.server.state) (record (ending_server now StartTooLong led) { role = Ending revision HandOver }) (planned now revision led)
+    (λ _. one-more now known led.knows led.outputs _ tt fed) (λ _. planned-reaches now known revision led.knows.seen led fed)
 
 stray-reaches : (now ttl : Ticks) (known : Knowledge) (revision : ℕ) (o : Outcome) → Reaches now known o → Reaches now known (stray_renewed now ttl revision o)
 stray-reaches now ttl known revision o r = let armed-now : Outcome = arming now ttl o in
@@ -360,10 +378,7 @@ begin-reaches : (now : Ticks) (known : Knowledge) (revision : ℕ) (o : Outcome)
 begin-reaches now known revision o r = goes-on now known o.knows _ _ refl refl refl refl (one-more now known o.knows _ outputs.Begin tt (require-reaches now known (unnamed o.knows.turn_settings) o r))
 
 claim-reaches : (now : Ticks) (known : Knowledge) (revision : ℕ) (o : Outcome) → Reaches now known o → Reaches now known (claims now revision o)
-claim-reaches now known revision o r = ask-reaches now known Claiming _ _ o tt (λ e. absurd (no-lease e)) r
-  where
-    no-lease : asks_lease Claiming ≡ true → ⊥
-    no-lease e = cc
+claim-reaches now known revision o r = ask-reaches now known Claiming _ _ o tt (λ e. absurd (both e)) (λ _. tt) r
 
 arms-reaches : (now ttl : Ticks) (known : Knowledge) (revision : ℕ) (o : Outcome) → Reaches now known o → Reaches now known (arms now ttl revision o)
 arms-reaches now ttl known revision o r =

@@ -1,16 +1,21 @@
 -- What an input of an agent asks, and what the agent waits for after it.
 use Rattle.std.specs.Prelude.{ℕ, ◌≡◌, ◌≤◌, ◌<◌, true, List, Some, None, All}
 use Rattle.pat_base.specs.declared.ticks.Ticks.{Ticks}
+use Rattle.lease_store.specs.declared.txn.Txn.{Txn}
+use Rattle.lease_store.specs.declared.txn.Txn.TheVariants as txns
 use Rattle.leader_key.specs.Watchdog.{IsLeaseSpan}
 use Rattle.event_book.specs.declared.message.Body.{Body}
 use Rattle.event_book.specs.declared.message.Body.TheVariants as bodies
 use Rattle.ha_loop.specs.declared.knowledge.Knowledge.{Knowledge}
+use Rattle.ha_loop.specs.declared.knowledge.Question.{Question}
+use Rattle.ha_loop.specs.declared.knowledge.Question.TheVariants.{Claiming, Syncing}
+use Rattle.ha_loop.specs.declared.knowledge.Settling.TheVariants.{Stays, Lists, Empties}
 use Rattle.ha_loop.specs.declared.knowledge.Waited.{Waited}
 use Rattle.ha_loop.specs.declared.output.Output.{Output}
 use Rattle.ha_loop.specs.declared.output.Output.TheVariants as outputs
 use Rattle.ha_loop.specs.declared.output.Target.{Target}
 use Rattle.ha_loop.specs.declared.output.Target.TheVariants as targets
-use Rattle.ha_loop.specs.Decisions.{asks_lease}
+use Rattle.ha_loop.specs.Decisions.{asks_lease, asks_sync}
 use Rattle.ha_loop.specs.Orders.{IsAsk}
 use Rattle.lease_law.specs.Past.{lease_span, query_of}
 use Rattle.lease_law.specs.Stores.{IsSpannedTxn}
@@ -36,9 +41,27 @@ abbrev pub SendsBetween : ℕ → ℕ → Output → Type 0
 SendsBetween low high (outputs.Send to sequence body) = (low < sequence) × (sequence ≤ high) × IsAskedOf to body
 SendsBetween low high _ = Unit {0}
 
--- a message with the number of what is waited for asks for a lease of the span that is waited for, if one is
+-- the question is put by this request: a claim, or a write of the sync key that names the standbys to which the required list settles
+abbrev pub IsPutBy : Question → Txn → Type 0
+IsPutBy Claiming (txns.Claim revision sync) = Unit {0}
+IsPutBy (Syncing Stays) (txns.SetSync revision sync standbys) = Unit {0}
+IsPutBy (Syncing (Lists set)) (txns.SetSync revision sync standbys) = standbys ≡ set
+IsPutBy (Syncing Empties) (txns.DropSync revision sync) = Unit {0}
+IsPutBy _ _ = ⊥
+
+-- the same of what a message says
+abbrev pub IsPutByBody : Question → Body → Type 0
+IsPutByBody question (bodies.Request txn) = IsPutBy question txn
+IsPutByBody question _ = ⊥
+
+-- a message says what is waited for: it asks for a lease of its span, or for that write of the sync key
+pub record SaysWaited (waited : Waited) (body : Body) : Type 0 where
+  pub lease : asks_lease waited.question ≡ true → span_asked body ≡ waited.ttl.0
+  pub write : asks_sync waited.question ≡ true → IsPutByBody waited.question body
+
+-- a message with the number of what is waited for says it
 abbrev pub AsksFor : Waited → Output → Type 0
-AsksFor waited (outputs.Send to sequence body) = sequence ≡ waited.sequence → asks_lease waited.question ≡ true → span_asked body ≡ waited.ttl.0
+AsksFor waited (outputs.Send to sequence body) = sequence ≡ waited.sequence → SaysWaited waited body
 AsksFor waited _ = Unit {0}
 
 -- what an agent that knew the first waits for when it knows the second, behind these outputs of this moment: what it waited for, nothing,
