@@ -1,0 +1,4 @@
+pub mod Asides
+pub mod Claims
+pub mod Inside
+pub mod Publishing
