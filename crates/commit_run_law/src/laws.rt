@@ -1,67 +1,28 @@
-//! Laws of every run in synchronous mode.
-ghost use Rattle.std.specs.Prelude.{ℕ, ◌≡◌, ◌<◌, true, false, List, [], Some, slice_get};
-ghost use Rattle.pat_base.specs.declared.member_id.MemberId.{MemberId};
-ghost use Rattle.cluster_script.specs.declared.line.Command.{Command};
+//! Laws of every run.
+ghost use Rattle.std.specs.Prelude.{List, []};
+ghost use Rattle.cluster_script.specs.declared.line.Step.{Step};
 ghost use Rattle.cluster_script.specs.Script.{HeadText, IsHead};
-ghost use Rattle.event_book.specs.declared.event.Event.{Event};
-ghost use Rattle.event_book.specs.declared.event.EventKind.TheVariants.{Message, Note};
-ghost use Rattle.event_book.specs.declared.event.MessageEvent.TheVariants.{Lost};
-ghost use Rattle.event_book.specs.declared.event.Note.{Note as SaidNote};
-ghost use Rattle.event_book.specs.declared.link.LinkEnd.TheVariants.{Store};
-ghost use Rattle.event_book.specs.declared.member.Member.{Member};
-ghost use Rattle.event_book.specs.Flight.{InFlightFacts, in_flight};
-ghost use Rattle.ha_loop.specs.declared.machine.Machine.{Machine};
-ghost use Rattle.ha_loop.specs.Agents.{AgentFacts, made};
-ghost use Rattle.ha_loop.specs.Committing.{StandsToCommit};
-ghost use Rattle.cluster_model.specs.Commands.{kinds_of};
-ghost use Rattle.cluster_model.specs.Machines.{machine_of};
-ghost use Rattle.cluster_model.specs.Messages.{arrival_events_at};
-ghost use Rattle.cluster_model.specs.Next.{acknowledge_events, command_kind, declared, promote_events, receive_events_at_most, restart_events};
-ghost use Rattle.cluster_model.specs.Parts.{event_of, events_of, for_some};
+ghost use Rattle.cluster_model.specs.Next.{run_events};
 ghost use Rattle.cluster_model.specs.Starting.{cluster_of};
-ghost use Rattle.cluster_model.specs.State.{Cluster};
-ghost use Rattle.cluster_model.specs.Ticking.{tick_events};
-ghost use Rattle.commit_law.specs.Books.{KeepsNow};
-ghost use Rattle.run_law.specs.Declaring.{member_count};
-ghost use Rattle.run_law.specs.Promise.{IsComposable, Upholds, UpholdsAlways};
-ghost use Rattle.commit_run_law.specs.Bridged.{CommitsBridged, kept_commits};
-ghost use Rattle.commit_run_law.specs.Reading.{past_of, state_of_run};
+ghost use Rattle.summary.specs.Telling.{TellLosses};
+ghost use Rattle.commit_run_law.specs.Runs.{KeepsCommitsIn, KeepsOrderIn, first_logs};
 
-/// Before the first event, what both laws carry holds of a cluster whose head has synchronous mode on, and no pause. Where it holds,
-/// each server that accepts writes has each acknowledged commit.
-pub fn runs_begin_bridged()
-    ensures first { (head : HeadText) → IsHead head → head.config.config.synchronous_mode ≡ true → head.config.config.pause ≡ false → CommitsBridged head [] (cluster_of head) }
-    ensures now { (head : HeadText) (book : List Event) (cluster : Cluster) → CommitsBridged head book cluster → KeepsNow (past_of head book) }
-    // So parts of a step that uphold it do so one after another.
-    ensures composable { (head : HeadText) → IsComposable (kept_commits head) }
+/// Every run of a cluster whose head has synchronous mode on keeps commits: each server that accepts writes has each acknowledged commit in
+/// its log, at each moment up to which the premises of one writer are met and the mode stays on, also inside a step.
+pub fn runs_keep_commits()
+    ensures { (head : HeadText) (steps : List Step) → IsHead head → KeepsCommitsIn head (run_events (cluster_of head) steps) }
 {}
 
-/// While synchronous mode is on and the premises of one writer are met, these parts of a step uphold kept commits, at each moment inside
-/// them too: all but inputs of agents.
-pub fn parts_uphold_commits()
-    // The clock, with resets, expiries, and the starts and stops of primaries that are complete.
-    ensures ticks { (head : HeadText) → IsHead head → UpholdsAlways (kept_commits head) tick_events }
-    // What a member's server receives and confirms, and the commits that it acknowledges.
-    ensures receipts { (head : HeadText) (most : ℕ) (member : Member) → IsHead head → UpholdsAlways (kept_commits head) (λ (cluster : Cluster). receive_events_at_most cluster most member) }
-    ensures acknowledgements { (head : HeadText) (member : Member) → UpholdsAlways (kept_commits head) (λ (cluster : Cluster). acknowledge_events cluster member) }
-    // A message that comes to the key store, which answers it; one that is lost; and what is told beside.
-    ensures arrivals { (head : HeadText) (book : List Event) (cluster : Cluster) (number : ℕ) (message : InFlightFacts) → CommitsBridged head book cluster
-        → in_flight cluster.book.flight number ≡ Some message → message.message.to ≡ Store → Upholds (kept_commits head) book cluster (arrival_events_at cluster number message Store) }
-    ensures losses { (head : HeadText) (number : ℕ) → UpholdsAlways (kept_commits head) (λ (cluster : Cluster). event_of cluster (Message (Lost number))) }
-    ensures notes { (head : HeadText) (note : SaidNote) → UpholdsAlways (kept_commits head) (λ (cluster : Cluster). event_of cluster (Note note)) }
-    // Agents that start, operators that promote, which breaks a premise, and the commands that bring one event at most.
-    ensures restarts { (head : HeadText) (id : MemberId) → IsHead head → UpholdsAlways (kept_commits head) (λ (cluster : Cluster). for_some (declared cluster id) (restart_events cluster)) }
-    ensures promotions { (head : HeadText) (member : Member) → UpholdsAlways (kept_commits head) (λ (cluster : Cluster). promote_events cluster member) }
-    ensures commands { (head : HeadText) (command : Command) → IsHead head → UpholdsAlways (kept_commits head) (λ (cluster : Cluster). events_of cluster (kinds_of (command_kind cluster command))) }
+/// Such a run keeps the order of required lists and sync key too, at each of those moments. The sync key names who accepts writes as the leader, whose
+/// commits wait for each standby there. A claim was granted only where there was no sync key, or one that named its sender. Each standby that a
+/// member asked to add was one that its commits waited for, and had confirmed the end of the log that the member noted when it last
+/// added to its required list or took over its server (Patroni, "Replication modes").
+pub fn runs_keep_sync_order()
+    ensures { (head : HeadText) (steps : List Step) → IsHead head → KeepsOrderIn head (run_events (cluster_of head) steps) }
 {}
 
-/// An agent that is there stands in the state that commits read of its cluster, on the machine that it finds: so an input of it is lawful that
-/// hears what the law has in flight, by the clause `commits` of `Agent::step`.
-pub fn agents_stand()
-    ensures { (head : HeadText) (book : List Event) (cluster : Cluster) (member : Member) (agent : AgentFacts) (machine : Machine)
-        → CommitsBridged head book cluster
-        → slice_get cluster.agents member.id.number ≡ Some (Some agent)
-        → member.id.number < member_count head
-        → machine_of cluster member ≡ Some machine
-        → StandsToCommit (state_of_run head book cluster) member.id.number (made agent.role agent.knows machine []) }
+/// Each run tells the first loss of an acknowledged commit behind the event that brings it, and tells none before, in every mode. It needs
+/// no premise.
+pub fn runs_tell_losses()
+    ensures { (head : HeadText) (steps : List Step) → IsHead head → TellLosses (first_logs head) [] (run_events (cluster_of head) steps) }
 {}

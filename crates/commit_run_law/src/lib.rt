@@ -1,7 +1,7 @@
-//! Which parts of a run keep each acknowledged commit on every server that accepts writes, with synchronous mode on: all but inputs of
-//! agents, and where an agent stands as one begins.
+//! With synchronous mode on, runs keep each acknowledged commit on every server that accepts writes, and required lists and sync key in order;
+//! and in every mode they tell the first loss.
 #![tactic(auto)]
 
 mod laws;
 
-pub use laws::{agents_stand, parts_uphold_commits, runs_begin_bridged};
+pub use laws::{runs_keep_commits, runs_keep_sync_order, runs_tell_losses};

@@ -1,0 +1,226 @@
+-- Each input of an agent upholds commits: whoever is woken, and whatever message comes to one.
+use Rattle.std.proofs.Common.{ℕ, ◌≡◌, ◌≤◌, ◌++◌, List, [], Option, Some, None, option_map, slice_get, true, refl, sym, ap, ◌∙◌, subst, arith, inl, inr}
+use Rattle.std.proofs.Math.Path.{fun_ext}
+use Rattle.event_book.specs.declared.event.AgentEvent.TheVariants as agents
+use Rattle.event_book.specs.declared.event.Event.{Event}
+use Rattle.event_book.specs.declared.event.EventKind.{EventKind}
+use Rattle.event_book.specs.declared.event.EventKind.TheVariants as kinds
+use Rattle.event_book.specs.declared.event.MessageEvent.TheVariants.{Delivered}
+use Rattle.event_book.specs.declared.link.LinkEnd.{LinkEnd}
+use Rattle.event_book.specs.declared.link.LinkEnd.TheVariants as ends
+use Rattle.event_book.specs.declared.member.Member.{Member}
+use Rattle.event_book.specs.declared.message.Body.{Body}
+use Rattle.event_book.specs.declared.message.Body.TheVariants as bodies
+use Rattle.event_book.specs.Flight.{InFlightFacts, in_flight}
+use Rattle.cluster_script.specs.Script.{HeadText}
+use Rattle.ha_loop.specs.declared.heard.Heard.{Heard}
+use Rattle.ha_loop.specs.declared.heard.Heard.TheVariants as heards
+use Rattle.ha_loop.specs.declared.machine.Machine.{Machine}
+use Rattle.lease_store.specs.declared.granted.Granted.{Granted}
+use Rattle.ha_loop.specs.Agents.{AgentFacts, Outcome, made}
+use Rattle.ha_loop.specs.Lawful.{Hears}
+use Rattle.cluster_model.specs.declared.delivery.Delivery.TheVariants as deliveries
+use Rattle.cluster_model.specs.Cluster.{agent_facts_with, cluster_after}
+use Rattle.cluster_model.specs.Deliveries.{delivery_of}
+use Rattle.cluster_model.specs.Hearing.{heard_from, heard_in, member_at_end, snapshot_in}
+use Rattle.cluster_model.specs.Inputs.{agent_at, moment_of, outcome_at, outcome_of_heard}
+use Rattle.cluster_model.specs.Machines.{machine_of, points_of}
+use Rattle.cluster_model.specs.Messages.{hear_events, heard_message, input_events, no_message, wake_events_of}
+use Rattle.cluster_model.specs.Parts.{event_of}
+use Rattle.cluster_model.specs.State.{Cluster}
+use Rattle.lease_law.specs.Past as lease_past
+use Rattle.lease_law.proofs.Tools.{none-some, some-is}
+use Rattle.commit_law.specs.Actions.{IsNumbered, Lose, Note}
+use Rattle.commit_law.specs.Books.{IsShown}
+use Rattle.commit_law.specs.Past.{VolatileState}
+use Rattle.commit_law.proofs.Showing.{idle-shown}
+use Rattle.run_law.specs.Declaring.{declared_of, member_count, works_of}
+use Rattle.run_law.specs.Kept.{IsKept}
+use Rattle.run_law.specs.Parts.{InputsUphold}
+use Rattle.run_law.specs.Promise.{Upholds}
+use Rattle.run_law.specs.Volatile as run_volatile
+use Rattle.run_law.specs.Waiting.{IsAnswer}
+use Rattle.run_law.proofs.EveryInput.{acted, agent-here, kept-hearing, kept-wake, sender, same-run, the-outcome, unchanged}
+use Rattle.run_law.proofs.InputHears.{hears-by, peers-hear}
+use Rattle.run_law.proofs.InputSeen.{IsFound, found-of}
+use Rattle.run_law.proofs.Members.{numbered}
+use Rattle.commit_log_law.specs.Matching.{live_in}
+use Rattle.commit_step_law.specs.Agents.{AreAgentsSynchronous, IsAskNumbered}
+use Rattle.commit_step_law.specs.Bridged.{CommitsBridged, kept_commits}
+use Rattle.commit_step_law.specs.Reading.{agent_now, past_of, setup_of, state_of_run, volatile_of}
+use Rattle.commit_input_law.proofs.Hearing.{hears-below, hears-commits, hears-on}
+use Rattle.commit_step_law.proofs.Moving.{moves-one, upheld-moves}
+use Rattle.commit_step_law.proofs.Still.{volatile-same}
+use Rattle.commit_input_law.proofs.Upheld.{MayAnswer, input-upheld}
+
+-- ---- nobody acts
+states-same : (before later : Cluster) → later.book.servers ≡ before.book.servers → later.agents ≡ before.agents → volatile_of before ≡ volatile_of later
+states-same before later servers same =
+    fun_ext (λ m. volatile-same _ _ _ _ (ap (λ known. live_in known m) (sym servers)) (ap (λ (known : List (Option AgentFacts)). agent_now (slice_get known m)) (sym same)))
+
+-- an agent is woken that isn't there
+idle-wake : (head : HeadText) (book : List Event) (cluster : Cluster) (member : Member) → CommitsBridged head book cluster → (cluster_after cluster (kinds.Agent (agents.Woken member))).agents ≡ cluster.agents
+    → IsKept head book cluster (event_of cluster (kinds.Agent (agents.Woken member))) → Upholds (kept_commits head) book cluster (event_of cluster (kinds.Agent (agents.Woken member)))
+idle-wake head book cluster member good same kept =
+    let kind : EventKind = kinds.Agent (agents.Woken member) in
+    let later : Cluster = cluster_after cluster kind in
+    let states = states-same cluster later refl same in
+    upheld-moves head book cluster (event_of cluster kind) good
+    (moves-one (setup_of head) (past_of head book) (volatile_of cluster) cluster kind Note good.fits.servers.same good.fits.servers.sound tt tt tt
+    (subst (λ (v : ℕ → VolatileState). IsShown (setup_of head) (past_of head book) (volatile_of cluster) (record { action = Note; events = event_of cluster kind; volatile_states = v })) states
+    (idle-shown (setup_of head) (past_of head book) (volatile_of cluster) (event_of cluster kind) (tt, tt))))
+    kept (tt, (tt, tt)) (tt, tt) (tt, tt)
+    (subst (λ (known : List (Option AgentFacts)). AreAgentsSynchronous (member_count head) (lease_past.past_of book).asked (past_of head book).asked known) (sym same) good.fits.agents)
+
+-- a message says nothing to its receiver, or comes to none: it is gone, as if it were lost
+idle-arrival : (head : HeadText) (book : List Event) (cluster : Cluster) (number : ℕ) → CommitsBridged head book cluster → (cluster_after cluster (kinds.Message (Delivered number))).agents ≡ cluster.agents
+    → IsKept head book cluster (event_of cluster (kinds.Message (Delivered number))) → Upholds (kept_commits head) book cluster (event_of cluster (kinds.Message (Delivered number)))
+idle-arrival head book cluster number good same kept =
+    let kind : EventKind = kinds.Message (Delivered number) in
+    let later : Cluster = cluster_after cluster kind in
+    let states = states-same cluster later refl same in
+    upheld-moves head book cluster (event_of cluster kind) good
+    (moves-one (setup_of head) (past_of head book) (volatile_of cluster) cluster kind (Lose number) good.fits.servers.same good.fits.servers.sound tt tt tt
+    (subst (λ (v : ℕ → VolatileState). IsShown (setup_of head) (past_of head book) (volatile_of cluster) (record { action = Lose number; events = event_of cluster kind; volatile_states = v })) states refl))
+    kept (tt, (tt, tt)) (tt, tt) (tt, tt)
+    (subst (λ (known : List (Option AgentFacts)). AreAgentsSynchronous (member_count head) (lease_past.past_of book).asked (past_of head book).asked known) (sym same) good.fits.agents)
+
+from-none : (n : ℕ) → 0 ≤ n
+from-none n = omega arith
+
+-- ---- an agent is woken
+module _ (head : HeadText) (few : member_count head ≤ 16) (book : List Event) (cluster : Cluster) (member : Member) (good : CommitsBridged head book cluster) where
+  abbrev Woken : EventKind
+  Woken = kinds.Agent (agents.Woken member)
+
+  wake-by : (agent : Option AgentFacts) (machine : Option Machine) → agent_at cluster.agents member.id.number ≡ agent → machine_of cluster member ≡ machine
+      → IsKept head book cluster (event_of cluster Woken ++ input_events (cluster_after cluster Woken) member no_message (outcome_at (moment_of cluster) (points_of cluster member) heards.Wake agent machine))
+      → Upholds (kept_commits head) book cluster (event_of cluster Woken ++ input_events (cluster_after cluster Woken) member no_message (outcome_at (moment_of cluster) (points_of cluster member) heards.Wake agent machine))
+  wake-by None machine a m kept = idle-wake head book cluster member good (ap (λ (o : Option Outcome). agent_facts_with cluster.agents member o) (the-outcome cluster member heards.Wake None machine a m) ∙ unchanged cluster.agents member.id.number) kept
+  wake-by (Some agent) None a m kept = idle-wake head book cluster member good (ap (λ (o : Option Outcome). agent_facts_with cluster.agents member o) (the-outcome cluster member heards.Wake (Some agent) None a m) ∙ unchanged cluster.agents member.id.number) kept
+  wake-by (Some agent) (Some machine) a m kept = input-upheld head book cluster good few (record {
+    member = member;
+    agent = agent;
+    here = agent-here cluster member agent a;
+    machine = machine;
+    machine_is = m;
+    heard = heards.Wake;
+    number = None;
+    message = no_message;
+    opening = Woken;
+    opening_is = refl;
+    acts = ap (λ (o : Option Outcome). agent_facts_with cluster.agents member o) (the-outcome cluster member heards.Wake (Some agent) (Some machine) a m);
+    hears = λ input is. tt;
+    on = tt;
+    below = tt;
+    hears_lease = λ works. tt;
+    numbered = λ n e. absurd (none-some n e);
+    low = from-none cluster.book.sent;
+  }) tt kept
+
+  pub upheld-wake : Upholds (kept_commits head) book cluster (wake_events_of cluster member)
+  upheld-wake =
+      wake-by (agent_at cluster.agents member.id.number) (machine_of cluster member) refl refl (kept-wake head book cluster member good.lease)
+
+-- ---- a message comes to an agent
+module _ (head : HeadText) (few : member_count head ≤ 16) (book : List Event) (cluster : Cluster) (number : ℕ) (message : InFlightFacts) (member : Member) (good : CommitsBridged head book cluster)
+    (found : in_flight cluster.book.flight number ≡ Some message) (to : message.message.to ≡ ends.Member member) (open_is : delivery_of cluster.book.cuts cluster.book.agents message.message ≡ deliveries.Open) where
+  abbrev Arrived : EventKind
+  Arrived = kinds.Message (Delivered number)
+
+  abbrev Kept : List Event → Type 0
+  Kept events = IsKept head book cluster events
+
+  abbrev Up : List Event → Type 0
+  Up events = Upholds (kept_commits head) book cluster events
+
+  who-acts : (cluster_after cluster Arrived).agents ≡ agent_facts_with cluster.agents member (outcome_of_heard cluster member (heard_from cluster message))
+  who-acts = acted head book cluster number message member good.lease found to open_is
+
+  idle : outcome_of_heard cluster member (heard_from cluster message) ≡ None → Kept (event_of cluster Arrived) → Up (event_of cluster Arrived)
+  idle none kept = idle-arrival head book cluster number good (who-acts ∙ ap (λ (o : Option Outcome). agent_facts_with cluster.agents member o) none ∙ unchanged cluster.agents member.id.number) kept
+
+  run-same : (agent : AgentFacts) → slice_get cluster.agents member.id.number ≡ Some (Some agent) → IsAnswer message.message.body → message.message.run ≡ agent.knows.run
+  run-same agent here answered = same-run head book cluster number message member good.lease found to open_is answered agent here
+
+  -- the law of the lease hears it
+  hears-lease-by : ((m : ℕ) → works_of head m ≡ true) → (agent : AgentFacts) (machine : Machine) → IsFound cluster member machine → slice_get cluster.agents member.id.number ≡ Some (Some agent) → (heard : Heard) → heard_from cluster message ≡ Some heard
+      → Hears (lease_past.state_of (declared_of head) (lease_past.past_of book) (run_volatile.volatile_of cluster)) member.id.number (Some number) (moment_of cluster) heard (made agent.role agent.knows machine [])
+  hears-lease-by works agent machine machine_found here heard h = elim (sender head book cluster number message member good.lease found to open_is) [
+    | inl store ↦ hears-by head (lease_past.past_of book) cluster good.lease.matched (declared_of head) (run_volatile.volatile_of cluster) member agent machine machine_found here (works member.id.number)
+        number message found store.0 to (run-same agent here store.1) (moment_of cluster) message.message.body refl store.1 heard h
+    | inr peer ↦ peers-hear _ member.id.number (Some number) (moment_of cluster) (made agent.role agent.knows machine []) cluster message message.message.body peer heard h
+  ]
+
+  -- a member that asks is one that may be answered
+  abbrev May : Heard → Type 0
+  May heard = MayAnswer head book cluster heard
+
+  ask-may : (by : Member) → IsNumbered ((state_of_run head book cluster).members by.id.number) message.message.run message.message.sequence → May (heards.Asked by.id message.message.run message.message.sequence)
+  ask-may by is peer there =
+      let at : peer.id.number ≡ by.id.number = numbered head few by.id.number peer (ap (λ (members : List Member). slice_get members by.id.number) (sym good.lease.matched.members) ∙ there) in
+      subst (λ (m : ℕ). IsNumbered ((state_of_run head book cluster).members m) message.message.run message.message.sequence) (sym at) is
+
+  asked-may : (from : LinkEnd) (heard : Heard) → IsAskNumbered (state_of_run head book cluster) from message.message.run message.message.sequence bodies.Ask
+      → option_map (λ by. heards.Asked by message.message.run message.message.sequence) (member_at_end from) ≡ Some heard → May heard
+  asked-may ends.Store heard is e = absurd (none-some heard e)
+  asked-may (ends.Member by) heard is e = subst May (some-is (heards.Asked by.id message.message.run message.message.sequence) heard e) (ask-may by is)
+
+  granted-may : (given : Option Granted) (heard : Heard) → option_map (λ grant. heards.Granted message.message.sequence grant (snapshot_in cluster message)) given ≡ Some heard → May heard
+  granted-may None heard e = absurd (none-some heard e)
+  granted-may (Some grant) heard e = subst May (some-is (heards.Granted message.message.sequence grant (snapshot_in cluster message)) heard e) tt
+
+  may-by : (body : Body) (heard : Heard) → IsAskNumbered (state_of_run head book cluster) message.message.from message.message.run message.message.sequence body → heard_in cluster message body ≡ Some heard → May heard
+  may-by bodies.Ask heard is e = asked-may message.message.from heard is e
+  may-by bodies.Snapshot heard is e = subst May (some-is (heards.Got message.message.sequence (snapshot_in cluster message)) heard e) tt
+  may-by (bodies.Granted request leased) heard is e = granted-may message.grant heard e
+  may-by (bodies.Refused request key held) heard is e = subst May (some-is (heards.Mismatch message.message.sequence key held) heard e) tt
+  may-by (bodies.Answer answer) heard is e = subst May (some-is (heards.Answered message.message.sequence answer) heard e) tt
+  may-by _ heard is e = absurd (none-some heard e)
+
+  may-answer : (heard : Heard) → heard_from cluster message ≡ Some heard → May heard
+  may-answer heard h = may-by message.message.body heard (good.asks number message found) h
+
+  hear-by : (heard : Heard) (agent : Option AgentFacts) (machine : Option Machine) → heard_from cluster message ≡ Some heard → agent_at cluster.agents member.id.number ≡ agent → machine_of cluster member ≡ machine
+      → Kept (event_of cluster Arrived ++ input_events (cluster_after cluster Arrived) member (heard_message number message) (outcome_at (moment_of cluster) (points_of cluster member) heard agent machine))
+      → Up (event_of cluster Arrived ++ input_events (cluster_after cluster Arrived) member (heard_message number message) (outcome_at (moment_of cluster) (points_of cluster member) heard agent machine))
+  hear-by heard None machine h a m kept = idle (ap (outcome_of_heard cluster member) h ∙ the-outcome cluster member heard None machine a m) kept
+  hear-by heard (Some agent) None h a m kept = idle (ap (outcome_of_heard cluster member) h ∙ the-outcome cluster member heard (Some agent) None a m) kept
+  hear-by heard (Some agent) (Some machine) h a m kept =
+      let here = agent-here cluster member agent a in
+      let flown = good.lease.matched.flight.flown number message found in
+      input-upheld head book cluster good few (record {
+        member = member;
+        agent = agent;
+        here = here;
+        machine = machine;
+        machine_is = m;
+        heard = heard;
+        number = Some number;
+        message = heard_message number message;
+        opening = Arrived;
+        opening_is = refl;
+        acts = who-acts ∙ ap (λ (o : Option Outcome). agent_facts_with cluster.agents member o) (ap (outcome_of_heard cluster member) h ∙ the-outcome cluster member heard (Some agent) (Some machine) a m);
+        hears = λ input is. hears-commits head book cluster good member agent here number message found to (run-same agent here) machine heard h input is;
+        on = hears-on head book cluster good member agent here number message found to (run-same agent here) heard h;
+        below = hears-below head book cluster good member agent here number message found to (run-same agent here) heard h;
+        hears_lease = λ works. hears-lease-by works agent machine (found-of cluster member machine m) here heard h;
+        numbered = λ n e. let same : number ≡ n = some-is number n e in (same, subst (λ (k : ℕ). k ≤ cluster.book.sent) same flown);
+        low = flown;
+      }) (may-answer heard h) kept
+
+  heard-by : (heard : Option Heard) → heard_from cluster message ≡ heard
+      → Kept (event_of cluster Arrived ++ input_events (cluster_after cluster Arrived) member (heard_message number message) (outcome_of_heard cluster member heard))
+      → Up (event_of cluster Arrived ++ input_events (cluster_after cluster Arrived) member (heard_message number message) (outcome_of_heard cluster member heard))
+  heard-by None h kept = idle (ap (outcome_of_heard cluster member) h) kept
+  heard-by (Some heard) h kept = hear-by heard (agent_at cluster.agents member.id.number) (machine_of cluster member) h refl refl kept
+
+  pub upheld-hearing : Upholds (kept_commits head) book cluster (hear_events cluster number message member)
+  upheld-hearing = heard-by (heard_from cluster message) refl (kept-hearing head book cluster number message member good.lease found to open_is)
+
+-- all of them do
+pub inputs-uphold : (head : HeadText) → member_count head ≤ 16 → InputsUphold head (kept_commits head)
+inputs-uphold head few = record {
+  wakes = λ book cluster member process good declared found acts. upheld-wake head few book cluster member good;
+  hears = λ book cluster number message member good found to opened. upheld-hearing head few book cluster number message member good found to opened;
+}

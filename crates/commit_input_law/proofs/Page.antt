@@ -1,0 +1,230 @@
+-- The events of an input that the law's input covers, and where they lead.
+use Rattle.std.proofs.Common.{inr, ℕ, ◌≡◌, ◌≤◌, ◌<◌, ◌+◌, ◌||◌, Bool, true, false, cond, if◌then◌else◌, List, [], ◌∷◌, ◌++◌, Option, Some, None, slice_get, All, refl, sym, ap, ◌∙◌, subst, arith, ◌==◌, option_map}
+use Rattle.std.proofs.lemmas.List.Elements.{All-head, All-tail}
+use Rattle.pat_base.specs.declared.server_state.Required.{Required}
+use Rattle.pat_base.specs.declared.server_state.Required.TheVariants as requireds
+use Rattle.pat_base.specs.declared.ticks.Ticks.{Ticks}
+use Rattle.pat_base.specs.ServerState.{live}
+use Rattle.pg_model.specs.Facts.{ServerFacts}
+use Rattle.pg_model.specs.Servers.{requiring}
+use Rattle.event_book.specs.declared.event.AgentEvent.TheVariants as agents
+use Rattle.event_book.specs.declared.event.Event.{Event}
+use Rattle.event_book.specs.declared.event.EventKind.{EventKind}
+use Rattle.event_book.specs.declared.event.EventKind.TheVariants as kinds
+use Rattle.event_book.specs.declared.event.MessageEvent.TheVariants.{Delivered}
+use Rattle.event_book.specs.declared.event.ReplicationEvent.TheVariants as replications
+use Rattle.event_book.specs.declared.member.Member.{Member}
+use Rattle.event_book.specs.Facts.{Facts}
+use Rattle.event_book.specs.Flight.{in_flight}
+use Rattle.event_book.specs.Members.{server_of}
+use Rattle.ha_loop.specs.declared.machine.Machine.{Machine}
+use Rattle.ha_loop.specs.declared.output.Output.{Output}
+use Rattle.ha_loop.specs.declared.output.Output.TheVariants as outputs
+use Rattle.ha_loop.specs.Committing.{IsCovered, StandsAlone, is_begin}
+use Rattle.ha_loop.specs.Orders.{machine_after_output, machine_after_outputs}
+use Rattle.ha_loop.specs.Outputs.{has_one}
+use Rattle.cluster_model.specs.Cluster.{cluster_after, cluster_over}
+use Rattle.cluster_model.specs.Commands.{kinds_of}
+use Rattle.cluster_model.specs.Orders.{is_same_required, require_of, required_names}
+use Rattle.cluster_model.specs.Parts.{event_of, events_of}
+use Rattle.cluster_model.specs.State.{Cluster}
+use Rattle.lease_law.proofs.Tools.{both}
+use Rattle.commit_law.specs.Flights.{Flying}
+use Rattle.commit_law.specs.Functions.{forget}
+use Rattle.commit_law.specs.Past.{Past, VolatileState, need_in, need_of, past_after, past_over}
+use Rattle.commit_bridge_law.specs.Flights.{IsSameFlight, flying_if}
+use Rattle.commit_log_law.specs.Acting.{Fits}
+use Rattle.commit_log_law.specs.Matching.{live_in}
+use Rattle.commit_log_law.specs.Sound.{WaitsForMembers, IsServerSound}
+use Rattle.commit_log_law.proofs.Acting.{required-at}
+use Rattle.commit_log_law.proofs.Kept.{others-by}
+use Rattle.commit_log_law.proofs.Matching.{same-by}
+use Rattle.commit_log_law.proofs.Keeping.{sound-by}
+use Rattle.run_law.proofs.InputKinds.{IsOpening}
+use Rattle.run_law.proofs.Places.{get-here}
+use Rattle.sync_order_law.specs.Changes.{ChangeOrderOnce}
+use Rattle.commit_input_law.proofs.Covering.{NoneAbove, Told, told_of}
+use Rattle.event_book.specs.Logs.{logs_in}
+use Rattle.event_book.specs.Required.{required_in, confirmed_in}
+use Rattle.commit_law.specs.Showing.{AreOwn}
+use Rattle.commit_law.specs.Books.{AllLeaveCommits}
+use Rattle.pat_base.specs.declared.member_set.MemberSet.{MemberSet}
+use Rattle.std.proofs.lemmas.Bool.Decides.{nat_tests}
+use Rattle.event_book.specs.Writers.{writes_in}
+
+-- ---- nothing is in flight above the last number
+flown-none : (asked : _) (found : Option _) → found ≡ None → flying_if asked found ≡ None
+flown-none asked found is = ap (flying_if asked) is
+
+pub none-above : (past : Past) (cluster : Cluster) → IsSameFlight past cluster.book → NoneAbove past cluster
+none-above past cluster same i above = by (in_flight cluster.book.flight i) refl
+  where
+    too-far : (a b : ℕ) → a < b → b ≤ a → ⊥
+    too-far a b first second = omega (arith, first, second)
+
+    by : (found : Option _) → in_flight cluster.book.flight i ≡ found → past.flight i ≡ None
+    by None is = same.same i ∙ flown-none past.asked (in_flight cluster.book.flight i) is
+    by (Some carried) is = absurd (too-far cluster.book.sent i above (same.flown i carried is))
+
+-- ---- the event with which an input begins
+pub record Opens (m : ℕ) (heard : Option ℕ) (past : Past) (cluster : Cluster) (kind : EventKind) : Type 0 where
+  pub flight : (i : ℕ) → (past_after past kind).flight i ≡ forget heard past.flight i
+  pub live : (past_after past kind).holder_was_live ≡ past.holder_was_live
+  pub told : told_of (past_after past kind) ≡ told_of past
+  pub servers : (cluster_after cluster kind).book.servers ≡ cluster.book.servers
+  pub commits : (cluster_after cluster kind).book.commits ≡ cluster.book.commits
+  pub acknowledged : (cluster_after cluster kind).book.acknowledged ≡ cluster.book.acknowledged
+  pub processes : (cluster_after cluster kind).book.agents ≡ cluster.book.agents
+  pub sent : (cluster_after cluster kind).book.sent ≡ cluster.book.sent
+
+pub opens : (m : ℕ) (heard : Option ℕ) (past : Past) (cluster : Cluster) (kind : EventKind) → IsOpening heard kind → Opens m heard past cluster kind
+opens m heard past cluster (kinds.Agent (agents.Woken by)) is =
+    record { flight = λ i. ap (λ (h : Option ℕ). forget h past.flight i) (sym is); live = refl; told = refl; servers = refl; commits = refl; acknowledged = refl; processes = refl; sent = refl }
+opens m heard past cluster (kinds.Message (Delivered number)) is =
+    record { flight = λ i. ap (λ (h : Option ℕ). forget h past.flight i) (sym is); live = refl; told = refl; servers = refl; commits = refl; acknowledged = refl; processes = refl; sent = refl }
+opens m heard past cluster _ is = absurd is
+
+forgot-none : (heard : Option ℕ) (flight : ℕ → Option Flying) (i : ℕ) → flight i ≡ None → forget heard flight i ≡ None
+forgot-none None flight i is = is
+forgot-none (Some number) flight i is = by (i == number)
+  where
+    by : (here : Bool) → cond here None (flight i) ≡ None
+    by true = refl
+    by false = is
+
+pub opened-none : (m : ℕ) (heard : Option ℕ) (past : Past) (cluster : Cluster) (kind : EventKind) → Opens m heard past cluster kind → NoneAbove past cluster → NoneAbove (past_after past kind) (cluster_after cluster kind)
+opened-none m heard past cluster kind open_is none i above = open_is.flight i ∙ forgot-none heard past.flight i (none i (subst (λ (n : ℕ). n < i) open_is.sent above))
+
+-- ---- whom commits wait for, by the outputs
+abbrev pub RequiresNone : Output → Type 0
+RequiresNone (outputs.Require required) = ⊥
+RequiresNone _ = Unit {0}
+
+abbrev pub BeginsNone : Output → Type 0
+BeginsNone outputs.Begin = ⊥
+BeginsNone _ = Unit {0}
+
+pub covered-requires : (output : Output) → IsCovered output → RequiresNone output
+covered-requires (outputs.Require required) covered = covered
+covered-requires _ covered = tt
+
+pub covered-begins : (output : Output) → IsCovered output → BeginsNone output
+covered-begins outputs.Begin covered = covered
+covered-begins _ covered = tt
+
+pub alone-requires : (output : Output) → StandsAlone output → RequiresNone output
+alone-requires (outputs.Require required) alone = alone
+alone-requires _ alone = tt
+
+pub alone-begins : (output : Output) → StandsAlone output → BeginsNone output
+alone-begins outputs.Begin alone = alone
+alone-begins _ alone = tt
+
+stays-by : (now : Ticks) (machine : Machine) (output : Output) → RequiresNone output → (machine_after_output now machine output).replication ≡ machine.replication
+stays-by now machine (outputs.Require required) none = absurd none
+stays-by now machine _ none = refl
+
+pub required-stays : (now : Ticks) (machine : Machine) (outs : List Output) → All RequiresNone outs → (machine_after_outputs now machine outs).replication ≡ machine.replication
+required-stays now machine [] none = refl
+required-stays now machine (output ∷ more) none =
+    required-stays now (machine_after_output now machine output) more (All-tail RequiresNone output more none) ∙ stays-by now machine output (All-head RequiresNone output more none)
+
+-- behind others one sets it
+pub required-set : (now : Ticks) (machine : Machine) (front : List Output) (required : Required) (behind : List Output) → All RequiresNone behind → (machine_after_outputs now machine (front ++ outputs.Require required ∷ behind)).replication.required ≡ required
+required-set now machine [] required behind none = ap (λ r. r.required) (required-stays now (machine_after_output now machine (outputs.Require required)) behind none)
+required-set now machine (output ∷ front) required behind none = required-set now (machine_after_output now machine output) front required behind none
+
+unbegun : (output : Output) → BeginsNone output → is_begin output ≡ false
+unbegun outputs.Begin none = absurd none
+unbegun _ none = refl
+
+pub none-begins : (outs : List Output) → All BeginsNone outs → has_one is_begin outs ≡ false
+none-begins [] none = refl
+none-begins (output ∷ more) none =
+    ap (λ (b : Bool). b || has_one is_begin more) (unbegun output (All-head BeginsNone output more none)) ∙ none-begins more (All-tail BeginsNone output more none)
+
+-- ---- servers fit behind what changes none of them
+told-logs : (a b : Told) → a ≡ b → a.logs ≡ b.logs
+told-logs a b e = ap (λ (t : Told). t.logs) e
+
+pub fits-told : (past later : Past) (before after : Facts) (states next : ℕ → VolatileState) → told_of later ≡ told_of past → after.servers ≡ before.servers → after.commits ≡ before.commits → after.acknowledged ≡ before.acknowledged
+    → ((n : ℕ) → (next n).live ≡ (states n).live) → Fits past before states → Fits later after next
+fits-told past later before after states next told servers commits acknowledged live fits = record {
+  same = record {
+    logs = ap (λ (t : Told). t.logs) told ∙ fits.same.logs ∙ ap (λ (known : List ServerFacts). logs_in known) (sym servers);
+    required = ap (λ (t : Told). t.required) told ∙ fits.same.required ∙ ap (λ (known : List ServerFacts). required_in known) (sym servers);
+    confirmed = ap (λ (t : Told). t.confirmed) told ∙ fits.same.confirmed ∙ ap (λ (known : List ServerFacts). confirmed_in known) (sym servers);
+    writes = λ m. ap (λ (t : Told). t.writes m) told ∙ fits.same.writes m ∙ ap (λ (known : List ServerFacts). writes_in known m) (sym servers);
+    acknowledged = ap (λ (t : Told). t.acknowledged) told ∙ fits.same.acknowledged ∙ sym acknowledged;
+  };
+  live = record { live = λ m. live m ∙ fits.live.live m ∙ ap (λ (known : List ServerFacts). live_in known m) (sym servers) };
+  sound = record { each = λ m s is. subst (λ (n : ℕ). IsServerSound n s) (sym commits) (fits.sound.each m s (ap (λ (known : List ServerFacts). slice_get known m) (sym servers) ∙ is)) };
+}
+
+-- ---- whom commits wait for is set
+-- another one from the number
+apart : (n : ℕ) → n ≡ n + 1 → ⊥
+apart n e = omega (arith, e)
+
+module _ (past : Past) (cluster : Cluster) (member : Member) (states : ℕ → VolatileState) (fits : Fits past cluster.book states) (required : Required) (waits : WaitsForMembers required) (s : ServerFacts)
+    (found : slice_get cluster.book.servers member.id.number ≡ Some s) where
+  abbrev M : ℕ
+  M = member.id.number
+
+  abbrev Setting : EventKind
+  Setting = kinds.Replication (replications.RequiredSet (server_of member) required (required_names cluster.book.members required))
+
+  abbrev Set : List Event
+  Set = events_of cluster (kinds_of (require_of cluster.book.members member required s))
+
+  -- what these events leave
+  pub record Sets (events : List Event) : Type 0 where
+    pub own : AreOwn M events
+    pub leaves : AllLeaveCommits events
+    pub once : ChangeOrderOnce events
+    pub flight : (past_over past events).flight ≡ past.flight
+    pub live : (past_over past events).holder_was_live ≡ past.holder_was_live
+    pub fits_behind : Fits (past_over past events) (cluster_over cluster events).book states
+    pub needs : need_of (slice_get (past_over past events).required M) ≡ need_in required
+    pub agents_same : (cluster_over cluster events).agents ≡ cluster.agents
+    pub lives : (n : ℕ) → live_in (cluster_over cluster events).book.servers n ≡ live_in cluster.book.servers n
+    pub server : ServerFacts
+    pub server_is : slice_get (cluster_over cluster events).book.servers M ≡ Some server
+    pub state_same : server.state ≡ s.state
+
+  set-fits : Fits (past_after past Setting) (cluster_after cluster Setting).book states
+  set-fits = record {
+    same = same-by past cluster.book Setting tt fits.same;
+    live = record { live = λ n. fits.live.live n ∙ sym (others-by cluster.book Setting (n + 1) n tt (apart n)) };
+    sound = sound-by cluster.book Setting waits fits.sound;
+  }
+
+  set-need : need_of (slice_get (past_after past Setting).required M) ≡ need_in required
+  set-need = ap need_of (get-here past.required M (λ before. required) ∙ ap (option_map (λ (before : Required). required)) (required-at past cluster.book fits.same M s found))
+
+  sets-new : Sets (event_of cluster Setting)
+  sets-new = record { own = (refl, tt); leaves = (tt, tt); once = inr tt; flight = refl; live = refl; fits_behind = set-fits; needs = set-need; agents_same = refl; lives = λ n. others-by cluster.book Setting (n + 1) n tt (apart n); server = requiring required s; server_is = get-here cluster.book.servers M (requiring required) ∙ ap (option_map (requiring required)) found; state_same = refl }
+
+  sets-old : need_in s.required ≡ need_in required → Sets []
+  sets-old same = record { own = tt; leaves = tt; once = tt; flight = refl; live = refl; fits_behind = fits; needs = ap need_of (required-at past cluster.book fits.same M s found) ∙ same; agents_same = refl; lives = λ n. refl; server = s; server_is = found; state_same = refl }
+
+  sets-by : (same : Bool) → (same ≡ true → need_in s.required ≡ need_in required) → Sets (events_of cluster (kinds_of (if same then None else Some Setting)))
+  sets-by true is = sets-old (is refl)
+  sets-by false is = sets-new
+
+  same-bits : (a b : _) → (a == b) ≡ true → a ≡ b
+  same-bits a b e = grind (arith, nat_tests)
+
+  same-need : (a b : Required) → is_same_required a b ≡ true → need_in a ≡ need_in b
+  same-need requireds.Nobody requireds.Nobody e = refl
+  same-need requireds.AnyOne requireds.AnyOne e = refl
+  same-need (requireds.All first) (requireds.All second) e = ap (λ (bits : ℕ). let set : MemberSet = record { bits = bits } in need_in (requireds.All set)) (same-bits first.bits second.bits e)
+  same-need requireds.Nobody requireds.AnyOne e = absurd (both e)
+  same-need requireds.Nobody (requireds.All second) e = absurd (both e)
+  same-need requireds.AnyOne requireds.Nobody e = absurd (both e)
+  same-need requireds.AnyOne (requireds.All second) e = absurd (both e)
+  same-need (requireds.All first) requireds.Nobody e = absurd (both e)
+  same-need (requireds.All first) requireds.AnyOne e = absurd (both e)
+
+  pub sets : Sets Set
+  sets = sets-by (is_same_required s.required required) (same-need s.required required)

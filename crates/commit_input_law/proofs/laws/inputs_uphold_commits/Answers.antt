@@ -1,0 +1,6 @@
+use Rattle.commit_step_law.proofs.First.{few-names}
+use Rattle.commit_input_law.proofs.EveryInput.{inputs-uphold}
+use Rattle.commit_input_law.proofs.laws.inputs_uphold_commits.Goals as goal
+
+pub returns : goal.returns
+returns c = λ head is. inputs-uphold head (few-names head is)

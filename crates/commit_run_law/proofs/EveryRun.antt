@@ -1,0 +1,62 @@
+-- Commits are kept, and required lists and sync key in order, at each moment of each run in synchronous mode up to which the premises are met.
+use Rattle.std.proofs.Common.{ℕ, ◌≡◌, true, List, [], Option, Some, None, slice_get}
+use Rattle.wal_model.specs.declared.entry.Entry.{Entry}
+use Rattle.cluster_script.specs.declared.line.Step.{Step}
+use Rattle.cluster_script.specs.Script.{HeadText, IsHead}
+use Rattle.event_book.specs.declared.event.Event.{Event}
+use Rattle.cluster_model.specs.Next.{run_events}
+use Rattle.cluster_model.specs.Starting.{cluster_of}
+use Rattle.commit_law.specs.Books.{HasCommit, KeepsNow}
+use Rattle.commit_law.specs.Past.{log_found}
+use Rattle.run_law.specs.Parts.{PartsUphold}
+use Rattle.run_law.proofs.Walking.{upholds-run}
+use Rattle.summary.specs.Lacking.{has_serial}
+use Rattle.summary.specs.Seeing.{WritersHold, entries_found}
+use Rattle.summary.proofs.Losing.{looked-up}
+use Rattle.commit_step_law.specs.Bridged.{KeepsInOrder, kept_commits}
+use Rattle.commit_step_law.specs.Reading.{past_of}
+use Rattle.commit_run_law.specs.Runs.{InSynchronousMode, KeepsCommitsIn, KeepsOrderIn, first_logs}
+use Rattle.commit_step_law.proofs.Arrivals.{upheld-arrival}
+use Rattle.commit_step_law.proofs.Commands.{upheld-command, upheld-restarts, upholds-loss, upholds-promote}
+use Rattle.commit_input_law.proofs.EveryInput.{inputs-uphold}
+use Rattle.commit_step_law.proofs.First.{commits-first, few-names}
+use Rattle.commit_run_law.proofs.Holding.{held-by-book}
+use Rattle.commit_step_law.proofs.Servers.{upholds-acknowledge, upholds-note, upholds-receive}
+use Rattle.commit_step_law.proofs.Ticks.{upholds-tick}
+use Rattle.commit_step_law.proofs.Transitions.{composable}
+
+-- ---- in the summary's words
+found-serial : (found : Option (Option (List Entry))) (commit : ℕ) → HasCommit (log_found found) commit → has_serial (entries_found found) commit ≡ true
+found-serial None commit has = absurd has
+found-serial (Some None) commit has = absurd has
+found-serial (Some (Some log)) commit has = (looked-up log commit).1 (record { front = has.front; entry = has.entry; rest = has.rest; whole = has.whole; serial_is = has.serial })
+
+hold-now : (head : HeadText) (book : List Event) → KeepsNow (past_of head book) → WritersHold (first_logs head) book
+hold-now head book kept = held-by-book head book (λ server writes commit told. found-serial (slice_get (past_of head book).logs server) commit (kept server writes commit told))
+
+-- ---- every run
+pub parts : (head : HeadText) → IsHead head → PartsUphold head (kept_commits head)
+parts head is = record {
+  members = λ book cluster good. good.lease.matched.members;
+  inputs = inputs-uphold head (few-names head is);
+  arrivals = upheld-arrival head;
+  losses = upholds-loss head;
+  notes = upholds-note head;
+  ticks = upholds-tick head (few-names head is);
+  receipts = upholds-receive head (few-names head is);
+  acknowledgements = upholds-acknowledge head;
+  restarts = λ id book cluster good. upheld-restarts head (few-names head is) book cluster good id;
+  promotions = upholds-promote head;
+  commands = λ command book cluster good. upheld-command head (few-names head is) book cluster good command;
+}
+
+promised : (head : HeadText) → IsHead head → (steps : List Step) → InSynchronousMode head (run_events (cluster_of head) steps) (KeepsInOrder head)
+promised head is steps on front rest whole met mode =
+    (upholds-run head (few-names head is) (kept_commits head) (composable head) (parts head is) steps [] (cluster_of head) (commits-first head is on met.hands_off.unpaused)).inside front rest whole
+    (record { timely = met; mode = mode })
+
+pub runs-keep : (head : HeadText) → IsHead head → (steps : List Step) → KeepsCommitsIn head (run_events (cluster_of head) steps)
+runs-keep head is steps on front rest whole met mode = hold-now head front (promised head is steps on front rest whole met mode).kept
+
+pub runs-in-order : (head : HeadText) → IsHead head → (steps : List Step) → KeepsOrderIn head (run_events (cluster_of head) steps)
+runs-in-order head is steps on front rest whole met mode = (promised head is steps on front rest whole met mode).order

@@ -1,0 +1,155 @@
+-- Each run tells the first loss of an acknowledged commit behind the event that brings it.
+use Rattle.std.proofs.Common.{ℕ, ◌≡◌, ◌≤◌, ◌++◌, ◌==◌, ◌&&◌, Bool, true, false, cond, List, [], ◌∷◌, length, slice_get, Option, Some, None, option_and_then, refl}
+use Rattle.std.proofs.lemmas.List.{length-replicate}
+use Rattle.pg_model.specs.Facts.{ServerFacts, is_down, is_replica, is_up}
+use Rattle.pg_model.specs.Running.{is_primary}
+use Rattle.cluster_script.specs.declared.line.Step.{Step}
+use Rattle.cluster_script.specs.Script.{HeadText, IsHead, names_of}
+use Rattle.event_book.specs.declared.agent_process.AgentProcess.{AgentProcess}
+use Rattle.event_book.specs.declared.event.AgentEvent.TheVariants.{Woken}
+use Rattle.event_book.specs.declared.event.Event.{Event}
+use Rattle.event_book.specs.declared.event.EventKind.{EventKind}
+use Rattle.event_book.specs.declared.event.EventKind.TheVariants as kinds
+use Rattle.event_book.specs.declared.event.MessageEvent.TheVariants.{Delivered}
+use Rattle.event_book.specs.declared.event.ServerEvent.TheVariants as servers
+use Rattle.event_book.specs.declared.link.LinkEnd.{LinkEnd}
+use Rattle.event_book.specs.declared.member.Member.{Member}
+use Rattle.event_book.specs.declared.message.Body.{Body}
+use Rattle.event_book.specs.declared.message.Body.TheVariants as bodies
+use Rattle.event_book.specs.Members.{server_of}
+use Rattle.pg_model.specs.Facts.{fresh}
+use Rattle.ha_loop.specs.declared.heard.Heard.TheVariants.{Wake}
+use Rattle.ha_loop.specs.declared.output.Output.{Output}
+use Rattle.ha_loop.specs.declared.output.Output.TheVariants as outputs
+use Rattle.ha_loop.specs.declared.output.Target.TheVariants as targets
+use Rattle.ha_loop.specs.Agents.{Outcome}
+use Rattle.cluster_model.specs.declared.beginning.Beginning.{Beginning}
+use Rattle.cluster_model.specs.declared.beginning.Beginning.TheVariants as beginnings
+use Rattle.cluster_model.specs.declared.heard_message.HeardMessage.{HeardMessage}
+use Rattle.cluster_model.specs.Beginnings.{beginning_of, kinds_by}
+use Rattle.cluster_model.specs.Cluster.{cluster_after}
+use Rattle.cluster_model.specs.Commands.{kinds_of}
+use Rattle.cluster_model.specs.Hearing.{heard_from}
+use Rattle.cluster_model.specs.Inputs.{outcome_of, outcome_of_heard, outputs_of}
+use Rattle.cluster_model.specs.Messages.{agent_message, heard_message, input_events, no_message, output_events, receiver_of, replying_events, sending_events}
+use Rattle.cluster_model.specs.Next.{run_events}
+use Rattle.cluster_model.specs.Orders.{declared_member, following_of, is_same_required, order_kind, repair_over, replica_start_kinds, server_at, stop_kind, stop_kinds, stop_of}
+use Rattle.cluster_model.specs.Parts.{event_of, events_of}
+use Rattle.cluster_model.specs.Starting.{cluster_of}
+use Rattle.cluster_model.specs.State.{Cluster}
+use Rattle.lease_law.specs.Premises.{AllAre}
+use Rattle.commit_log_law.specs.Happening.{MayFollow}
+use Rattle.commit_log_law.proofs.Matching.{same-first}
+use Rattle.commit_log_law.proofs.Repairing.{repair-follow}
+use Rattle.run_law.specs.Parts.{PartsUphold}
+use Rattle.run_law.specs.Promise.{Upholds, UpholdsAlways}
+use Rattle.run_law.proofs.InputEvents.{holds-if, holds-then, repaired-holds}
+use Rattle.run_law.proofs.Lists.{HoldsIf}
+use Rattle.run_law.proofs.Upholding.{upheld-for_some, upheld-none, upheld-then, upholds-all}
+use Rattle.run_law.proofs.Walking.{upholds-run}
+use Rattle.summary.specs.Telling.{TellLosses}
+use Rattle.commit_run_law.specs.Runs.{first_logs}
+use Rattle.commit_step_law.proofs.First.{few-names}
+use Rattle.commit_run_law.proofs.Losses.{LosesNone, TellsSoFar, composable, losses_told, upheld-loseless}
+use Rattle.commit_run_law.proofs.LossGroups.{IsRepair, upheld-acknowledge, upheld-begun, upheld-repair}
+use Rattle.commit_run_law.proofs.LossParts.{holds-cond, holds-mapped, kind-cond, none-if, sends-none, upheld-arrival, upholds-command, upholds-promote, upholds-receive, upholds-restart, upholds-tick}
+
+-- ---- the orders of agents
+follow-none : (member : Member) (leader : Option Member) → HoldsIf LosesNone (following_of member leader)
+follow-none member None = tt
+follow-none member (Some leader) = tt
+
+stop-none : (member : Member) (s : ServerFacts) → HoldsIf LosesNone (stop_of member s)
+stop-none member s =
+    holds-if LosesNone (is_up s.state) (stop_kind member s.state s.stop_delay) (kind-cond (is_primary s.state && s.stop_delay.0 == 0) (kinds.Server (servers.Ended (server_of member))) (kinds.Server (servers.Stops (server_of member))) tt tt)
+
+order-none : (cluster : Cluster) (member : Member) (heard : HeardMessage) (output : Output) → HoldsIf LosesNone (order_kind cluster member heard output)
+order-none cluster member heard (outputs.Follow leader) =
+    holds-then LosesNone _ (server_at cluster member) (λ s. holds-cond (is_replica s.state) (following_of member (slice_get cluster.book.members leader.number)) None (follow-none member (slice_get cluster.book.members leader.number)) tt)
+order-none cluster member heard outputs.ShutDown = holds-then LosesNone (stop_of member) (server_at cluster member) (stop-none member)
+order-none cluster member heard (outputs.Require required) = holds-then LosesNone _ (server_at cluster member) (λ s. holds-cond (is_same_required s.required required) None _ tt tt)
+order-none cluster member heard (outputs.HoldTaken until from sequence) = holds-mapped (slice_get cluster.book.members from.number) _ (λ m. tt)
+order-none cluster member heard (outputs.DoesNotRace bar) = tt
+order-none cluster member heard outputs.Disarmed = tt
+order-none cluster member heard outputs.CannotArm = tt
+order-none cluster member heard outputs.PostponesPromotion = tt
+order-none cluster member heard _ = tt
+
+sending-none : (cluster : Cluster) (member : Member) (found : Option AgentProcess) (to : Option LinkEnd) (sequence : ℕ) (body : Body) → AllAre LosesNone (sending_events cluster member found to sequence body)
+sending-none cluster member None to sequence body = tt
+sending-none cluster member (Some process) None sequence body = tt
+sending-none cluster member (Some process) (Some to) sequence body = sends-none cluster (agent_message member to process.run sequence body)
+
+replying-none : (cluster : Cluster) (member : Member) (to : Option LinkEnd) (run sequence : ℕ) (body : Body) → AllAre LosesNone (replying_events cluster member to run sequence body)
+replying-none cluster member None run sequence body = tt
+replying-none cluster member (Some to) run sequence body = sends-none cluster (agent_message member to run sequence body)
+
+started-none : (cluster : Cluster) (member : Member) (leader : Option Member) (test : Bool)
+    → AllAre LosesNone (events_of cluster (cond test (kinds.Server (servers.StartsAsReplica (server_of member)) ∷ kinds_of (following_of member leader)) []))
+started-none cluster member leader true = (tt, none-if _ (following_of member leader) (follow-none member leader))
+started-none cluster member leader false = tt
+
+module _ (head : HeadText) where
+  begins-upheld : (book : List Event) (cluster : Cluster) (member : Member) (s : ServerFacts) (found : Option Beginning) → TellsSoFar head book cluster → slice_get cluster.book.servers member.id.number ≡ Some s
+      → Upholds (losses_told head) book cluster (events_of cluster (kinds_by member cluster.book.acknowledged s.log found))
+  begins-upheld book cluster member s None good is = upheld-none (losses_told head) (composable head) book cluster good
+  begins-upheld book cluster member s (Some (beginnings.AtOnce timeline)) good is = upheld-begun head book cluster good member timeline s is
+  begins-upheld book cluster member s (Some beginnings.WithItsStart) good is = upheld-loseless head book cluster _ good (tt, tt)
+
+  repaired-upheld : (book : List Event) (cluster : Cluster) (found : Option EventKind) → TellsSoFar head book cluster → HoldsIf IsRepair found → MayFollow cluster.book (events_of cluster (kinds_of found))
+      → Upholds (losses_told head) book cluster (events_of cluster (kinds_of found))
+  repaired-upheld book cluster None good is may = upheld-none (losses_told head) (composable head) book cluster good
+  repaired-upheld book cluster (Some kind) good is may = upheld-repair head book cluster kind good is may.0
+
+  -- an output
+  upholds-output : (member : Member) (heard : HeardMessage) (output : Output) → UpholdsAlways (losses_told head) (λ cluster. output_events member heard cluster output)
+  upholds-output member heard (outputs.Send to sequence body) book cluster good =
+      upheld-loseless head book cluster _ good (sending-none cluster member (slice_get cluster.book.agents member.id.number) (receiver_of cluster.book.members to) sequence body)
+  upholds-output member heard (outputs.Answer to run sequence answer) book cluster good =
+      upheld-loseless head book cluster _ good (replying-none cluster member (receiver_of cluster.book.members (targets.Member to)) run sequence (bodies.Answer answer))
+  upholds-output member heard outputs.Begin book cluster good =
+      upheld-for_some (losses_told head) (composable head) book cluster (server_at cluster member) _ good (λ s is. begins-upheld book cluster member s (beginning_of s) good is)
+  upholds-output member heard (outputs.Armed until) book cluster good = upheld-loseless head book cluster _ good (tt, (tt, tt))
+  upholds-output member heard (outputs.Fed until) book cluster good = upheld-loseless head book cluster _ good (tt, (tt, tt))
+  upholds-output member heard (outputs.StartReplica leader) book cluster good =
+      upheld-for_some (losses_told head) (composable head) book cluster (server_at cluster member) (λ s. events_of cluster (replica_start_kinds member (declared_member cluster.book.members leader) s)) good
+      (λ s is. upheld-loseless head book cluster _ good (started-none cluster member (declared_member cluster.book.members leader) (is_down s.state)))
+  upholds-output member heard (outputs.Stop reason) book cluster good =
+      upheld-for_some (losses_told head) (composable head) book cluster (server_at cluster member) (λ s. events_of cluster (stop_kinds member reason s)) good
+      (λ s is. upheld-loseless head book cluster _ good (tt, none-if _ (stop_of member s) (stop-none member s)))
+  upholds-output member heard (outputs.Repair leader repair) book cluster good =
+      let found = slice_get cluster.book.members leader.number in
+      repaired-upheld book cluster (option_and_then (repair_over cluster.book.cuts cluster.book.servers member repair) found) good
+      (repaired-holds IsRepair cluster.book.cuts cluster.book.servers member repair found (λ other r. tt) (λ other. tt)) (repair-follow cluster member repair found)
+  upholds-output member heard output book cluster good = upheld-loseless head book cluster _ good (none-if cluster (order_kind cluster member heard output) (order-none cluster member heard output))
+
+  -- what an agent does behind an event
+  input-upheld : (book : List Event) (cluster : Cluster) (kind : EventKind) (member : Member) (heard : HeardMessage) (outcome : Option Outcome) → TellsSoFar head book cluster → LosesNone kind
+      → Upholds (losses_told head) book cluster (event_of cluster kind ++ input_events (cluster_after cluster kind) member heard outcome)
+  input-upheld book cluster kind member heard outcome good none =
+      upheld-then (losses_told head) (composable head) book cluster (event_of cluster kind) (input_events (cluster_after cluster kind) member heard outcome) (upheld-loseless head book cluster _ good (none, tt))
+      (upholds-all (losses_told head) (composable head) (output_events member heard) (upholds-output member heard) (outputs_of outcome) (book ++ event_of cluster kind) (cluster_after cluster kind))
+
+  parts : length (names_of head) ≤ 16 → PartsUphold head (losses_told head)
+  parts few = record {
+    members = λ book cluster good. good.members;
+    inputs = record {
+      wakes = λ book cluster member process good is found acts. input-upheld book cluster (kinds.Agent (Woken member)) member no_message (outcome_of cluster member Wake) good tt;
+      hears = λ book cluster number message member good found to through. input-upheld book cluster (kinds.Message (Delivered number)) member (heard_message number message) (outcome_of_heard cluster member (heard_from cluster message)) good tt;
+    };
+    arrivals = λ book cluster number message good found to. upheld-arrival head book cluster number message good;
+    losses = λ number book cluster good. upheld-loseless head book cluster _ good (tt, tt);
+    notes = λ note book cluster good. upheld-loseless head book cluster _ good (tt, tt);
+    ticks = upholds-tick head;
+    receipts = upholds-receive head;
+    acknowledgements = upheld-acknowledge head few;
+    restarts = upholds-restart head;
+    promotions = upholds-promote head;
+    commands = upholds-command head;
+  }
+
+  tells-first : TellsSoFar head [] (cluster_of head)
+  tells-first = record { told = tt; same = same-first head.config (names_of head) head.base; members = refl; sized = length-replicate (length (names_of head)) (fresh head.base) }
+
+  pub runs-tell : IsHead head → (steps : List Step) → TellLosses (first_logs head) [] (run_events (cluster_of head) steps)
+  runs-tell is steps = ((upholds-run head (few-names head is) (losses_told head) (composable head) (parts (few-names head is)) steps [] (cluster_of head) tells-first).behind tt).told

@@ -1,0 +1,177 @@
+-- Messages that are lost, and the commands of a script, uphold commits.
+use Rattle.std.proofs.Common.{ℕ, ◌≡◌, ◌<◌, ◌≤◌, ◌++◌, Bool, true, false, cond, List, [], ◌∷◌, length, slice_get, Option, Some, None, option_and_then, option_map, refl, sym, subst, inr}
+use Rattle.pat_base.specs.declared.member_id.MemberId.{MemberId}
+use Rattle.pg_model.specs.Facts.{ServerFacts, is_replica}
+use Rattle.event_book.specs.declared.agent_process.AgentProcess.{AgentProcess}
+use Rattle.event_book.specs.declared.event.AgentEvent.TheVariants as agents
+use Rattle.event_book.specs.declared.event.Event.{Event}
+use Rattle.event_book.specs.declared.event.EventKind.{EventKind}
+use Rattle.event_book.specs.declared.event.EventKind.TheVariants as kinds
+use Rattle.event_book.specs.declared.event.MessageEvent.TheVariants.{Lost}
+use Rattle.event_book.specs.declared.event.ServerEvent.TheVariants as servers
+use Rattle.event_book.specs.declared.event.LinkEvent.TheVariants as changes
+use Rattle.event_book.specs.declared.member.Member.{Member}
+use Rattle.event_book.specs.Facts.{Facts}
+use Rattle.event_book.specs.Links.{is_cut}
+use Rattle.event_book.specs.Members.{server_of}
+use Rattle.cluster_script.specs.declared.line.Command.{Command}
+use Rattle.cluster_script.specs.declared.line.Command.TheVariants as commands
+use Rattle.cluster_script.specs.Script.{HeadText, names_of}
+use Rattle.cluster_model.specs.Cluster.{cluster_after}
+use Rattle.cluster_model.specs.Commands.{cut_of, hold_of, join_of, kill_of, kinds_of, link_of, resume_of}
+use Rattle.cluster_model.specs.Next.{command_kind, declared, process_kind, promote_events, restart_events}
+use Rattle.cluster_model.specs.Parts.{event_of, events_of, for_some}
+use Rattle.cluster_model.specs.ServerCommands.{crash_of, freezing_of, is_gone, slow_of}
+use Rattle.cluster_model.specs.State.{Cluster}
+use Rattle.lease_law.specs.Premises.{IsHandsOffKind}
+use Rattle.lease_law.proofs.Runs.{head-is, none-more}
+use Rattle.commit_law.specs.Actions.{Lose}
+use Rattle.commit_law.specs.Past.{Setup}
+use Rattle.commit_law.proofs.Showing.{lost-shown}
+use Rattle.commit_log_law.specs.Happening.{MayHappen}
+use Rattle.commit_log_law.proofs.Beginning.{fits-aside}
+use Rattle.commit_log_law.proofs.Commits.{commit-may}
+use Rattle.commit_log_law.proofs.Completions.{freezing-may, slow-may}
+use Rattle.commit_log_law.proofs.Kept.{change-once}
+use Rattle.run_law.specs.Declaring.{member_count}
+use Rattle.run_law.specs.Promise.{Upholds, UpholdsAlways}
+use Rattle.run_law.proofs.Commands.{IsQuietCommand, command-quiet}
+use Rattle.run_law.proofs.Ending.{kept-loss}
+use Rattle.run_law.proofs.Lists.{HoldsIf}
+use Rattle.run_law.proofs.Members.{declared-now, declared-within}
+use Rattle.run_law.proofs.Promoting.{hands-off-back}
+use Rattle.run_law.proofs.Upholding.{upheld-for_some, upheld-none}
+use Rattle.commit_step_law.specs.Bridged.{CommitsBridged, KeepsInOrder, MeetsMode, kept_commits}
+use Rattle.commit_step_law.specs.Reading.{setup_of, volatile_of}
+use Rattle.commit_step_law.proofs.Agents.{upheld-kill}
+use Rattle.commit_step_law.proofs.Going.{GoesFrom, upheld-goes}
+use Rattle.commit_step_law.proofs.Servers.{upheld-quiet-if, upholds-crash}
+use Rattle.commit_step_law.proofs.Starting.{upheld-restart}
+use Rattle.commit_step_law.proofs.Transitions.{composable, kept-now}
+
+-- ---- a message is lost
+pub goes-loss : (setup : Setup) (cluster : Cluster) (number : ℕ) → GoesFrom setup cluster (event_of cluster (kinds.Message (Lost number)))
+goes-loss setup cluster number named past fits =
+    let kind : EventKind = kinds.Message (Lost number) in
+    let later : Cluster = cluster_after cluster kind in
+    record {
+      moves = record {
+        transitions = record { action = Lose number; events = event_of cluster kind; volatile_states = volatile_of cluster } ∷ [];
+        whole = refl;
+        allowed = (tt, lost-shown setup past (volatile_of cluster) (record { 0 = later.book.clock }) number, change-once (record { 0 = later.book.clock }) kind, tt);
+        once = (inr tt, tt);
+        last = refl;
+        fits = fits-aside past cluster.book (volatile_of cluster) kind tt fits;
+      };
+      left = record { leave = record { agents = λ m agent is. is; asked = λ i question is. (is, refl) }; causal = (tt, (tt, tt)); asks = λ s. (tt, tt); ordered = (tt, tt) };
+    }
+
+pub upholds-loss : (head : HeadText) (number : ℕ) → UpholdsAlways (kept_commits head) (λ cluster. event_of cluster (kinds.Message (Lost number)))
+upholds-loss head number book cluster good =
+    upheld-goes head book cluster (event_of cluster (kinds.Message (Lost number))) good (goes-loss (setup_of head) cluster number) (kept-loss head book cluster number good.lease)
+
+-- ---- what a command brings at a server or a link may happen
+may-found : {X : Type 0} (P : EventKind → Type 0) (found : Option X) (change : X → Option EventKind) → ((x : X) → HoldsIf P (change x)) → HoldsIf P (option_and_then change found)
+may-found P None change all = tt
+may-found P (Some x) change all = all x
+
+may-mapped : {X : Type 0} (P : EventKind → Type 0) (found : Option X) (change : X → EventKind) → ((x : X) → P (change x)) → HoldsIf P (option_map change found)
+may-mapped P None change all = tt
+may-mapped P (Some x) change all = all x
+
+may-cond : (P : EventKind → Type 0) (test : Bool) (first second : Option EventKind) → HoldsIf P first → HoldsIf P second → HoldsIf P (cond test first second)
+may-cond P true first second a b = a
+may-cond P false first second a b = b
+
+may-of : (P : EventKind → Type 0) (found : Option EventKind) → ((kind : EventKind) → found ≡ Some kind → P kind) → HoldsIf P found
+may-of P None all = tt
+may-of P (Some kind) all = all kind refl
+
+process-may : (facts : Facts) (change : Member → AgentProcess → Option EventKind) → ((m : Member) (process : AgentProcess) → HoldsIf (MayHappen facts) (change m process)) → (cluster : Cluster) (id : MemberId)
+    → HoldsIf (MayHappen facts) (process_kind change cluster id)
+process-may facts change all cluster id = may-found (MayHappen facts) (declared cluster id) _ (λ m. may-found (MayHappen facts) (slice_get cluster.book.agents m.id.number) (change m) (all m))
+
+command-may : (cluster : Cluster) (command : Command) → IsQuietCommand command → HoldsIf (MayHappen cluster.book) (command_kind cluster command)
+command-may cluster (commands.Hold id) is = process-may cluster.book hold_of (λ m process. may-cond (MayHappen cluster.book) _ (Some (kinds.Agent (agents.Suspended m))) None tt tt) cluster id
+command-may cluster (commands.Resume id) is = process-may cluster.book resume_of (λ m process. may-cond (MayHappen cluster.book) _ (Some (kinds.Agent (agents.Resumed m))) None tt tt) cluster id
+command-may cluster (commands.Kill id) is = absurd is
+command-may cluster (commands.Crash id) is = absurd is
+command-may cluster (commands.Commit id size) is = may-mapped (MayHappen cluster.book) (declared cluster id) _ (λ m. commit-may cluster.book m size.bytes size.least)
+command-may cluster (commands.Freeze id) is =
+    may-found (MayHappen cluster.book) (declared cluster id) _ (λ m. may-found (MayHappen cluster.book) (slice_get cluster.book.frozen m.id.number) (freezing_of true m)
+    (λ frozen. may-of (MayHappen cluster.book) (freezing_of true m frozen) (freezing-may cluster.book true frozen m)))
+command-may cluster (commands.Thaw id) is =
+    may-found (MayHappen cluster.book) (declared cluster id) _ (λ m. may-found (MayHappen cluster.book) (slice_get cluster.book.frozen m.id.number) (freezing_of false m)
+    (λ frozen. may-of (MayHappen cluster.book) (freezing_of false m frozen) (freezing-may cluster.book false frozen m)))
+command-may cluster (commands.Slow id slowed delay) is =
+    may-found (MayHappen cluster.book) (declared cluster id) _ (λ m. may-found (MayHappen cluster.book) (slice_get cluster.book.servers m.id.number) (slow_of m slowed delay)
+    (λ s. may-of (MayHappen cluster.book) (slow_of m slowed delay s) (slow-may cluster.book m slowed delay s)))
+command-may cluster (commands.Cut first second) is =
+    may-found (MayHappen cluster.book) (link_of cluster.book.members first second) (cut_of cluster.book.cuts) (λ link. may-cond (MayHappen cluster.book) (is_cut cluster.book.cuts link) None (Some (kinds.Link (changes.Cut link))) tt tt)
+command-may cluster (commands.Join first second) is =
+    may-found (MayHappen cluster.book) (link_of cluster.book.members first second) (join_of cluster.book.cuts) (λ link. may-cond (MayHappen cluster.book) (is_cut cluster.book.cuts link) (Some (kinds.Link (changes.Joined link))) None tt tt)
+command-may cluster _ is = tt
+
+-- ---- commands that bring one event at most
+module _ (head : HeadText) (few : length (names_of head) ≤ 16) (book : List Event) (cluster : Cluster) (good : CommitsBridged head book cluster) where
+  none : Upholds (kept_commits head) book cluster []
+  none = upheld-none (kept_commits head) (composable head) book cluster good
+
+  kill-by : (m : Member) (running : Bool) → m.id.number < member_count head → Upholds (kept_commits head) book cluster (events_of cluster (kinds_of (cond running (Some (kinds.Agent (agents.Killed m))) None)))
+  kill-by m true small = upheld-kill head book cluster m small good
+  kill-by m false small = none
+
+  kill-found : (m : Member) (process : Option AgentProcess) → m.id.number < member_count head → Upholds (kept_commits head) book cluster (events_of cluster (kinds_of (option_and_then (kill_of m) process)))
+  kill-found m None small = none
+  kill-found m (Some process) small = kill-by m process.running small
+
+  kill-declared : (found : Option Member) → ((m : Member) → found ≡ Some m → m.id.number < member_count head)
+      → Upholds (kept_commits head) book cluster (events_of cluster (kinds_of (option_and_then (λ m. option_and_then (kill_of m) (slice_get cluster.book.agents m.id.number)) found)))
+  kill-declared None small = none
+  kill-declared (Some m) small = kill-found m (slice_get cluster.book.agents m.id.number) (small m refl)
+
+  crash-by : (m : Member) (gone : Bool) → Upholds (kept_commits head) book cluster (events_of cluster (kinds_of (cond gone None (Some (kinds.Server (servers.Crashed (server_of m)))))))
+  crash-by m true = none
+  crash-by m false = upholds-crash head book cluster (server_of m) good
+
+  crash-found : (m : Member) (s : Option ServerFacts) → Upholds (kept_commits head) book cluster (events_of cluster (kinds_of (option_and_then (crash_of m) s)))
+  crash-found m None = none
+  crash-found m (Some s) = crash-by m (is_gone s.state)
+
+  crash-declared : (found : Option Member) → Upholds (kept_commits head) book cluster (events_of cluster (kinds_of (option_and_then (λ m. option_and_then (crash_of m) (slice_get cluster.book.servers m.id.number)) found)))
+  crash-declared None = none
+  crash-declared (Some m) = crash-found m (slice_get cluster.book.servers m.id.number)
+
+  small-now : (id : MemberId) (m : Member) → declared cluster id ≡ Some m → m.id.number < member_count head
+  small-now id m is = declared-within head few m (declared-now head few cluster good.lease.matched.members id m is)
+
+  pub upheld-command : (command : Command) → Upholds (kept_commits head) book cluster (events_of cluster (kinds_of (command_kind cluster command)))
+  upheld-command (commands.Kill id) = kill-declared (declared cluster id) (small-now id)
+  upheld-command (commands.Crash id) = crash-declared (declared cluster id)
+  upheld-command command = upheld-quiet-if head book cluster (command_kind cluster command) good (command-quiet cluster command tt) (command-may cluster command tt)
+
+  pub upheld-restarts : (id : MemberId) → Upholds (kept_commits head) book cluster (for_some (declared cluster id) (restart_events cluster))
+  upheld-restarts id =
+      upheld-for_some (kept_commits head) (composable head) book cluster (declared cluster id) (restart_events cluster) good (λ m is. upheld-restart head book cluster m (small-now id m is) good)
+
+-- ---- an operator's promotion breaks a premise
+upheld-breach : (head : HeadText) (book : List Event) (cluster : Cluster) (event : Event) (events : List Event) → (IsHandsOffKind event.kind → ⊥) → CommitsBridged head book cluster
+    → Upholds (kept_commits head) book cluster (event ∷ events)
+upheld-breach head book cluster event events breach good = record {
+  inside = inside;
+  behind = λ meets. absurd (breach (hands-off-back book (event ∷ events) meets.timely.hands_off.events).0);
+}
+  where
+    inside : (front rest : List Event) → front ++ rest ≡ event ∷ events → MeetsMode head (book ++ front) → KeepsInOrder head (book ++ front)
+    inside [] rest e meets = subst (λ (l : List Event). KeepsInOrder head l) (sym (none-more book)) (kept-now head book cluster good)
+    inside (x ∷ front) rest e meets =
+        absurd (breach (subst (λ (z : Event). IsHandsOffKind z.kind) (head-is x event (front ++ rest) events e) (hands-off-back book (x ∷ front) meets.timely.hands_off.events).0))
+
+promote-by : (head : HeadText) (book : List Event) (cluster : Cluster) (m : Member) (more : List EventKind) (replica : Bool) → CommitsBridged head book cluster
+    → Upholds (kept_commits head) book cluster (events_of cluster (cond replica (kinds.Server (servers.Promoted (server_of m)) ∷ more) []))
+promote-by head book cluster m more true good = upheld-breach head book cluster _ _ (λ no. no) good
+promote-by head book cluster m more false good = upheld-none (kept_commits head) (composable head) book cluster good
+
+pub upholds-promote : (head : HeadText) (m : Member) → UpholdsAlways (kept_commits head) (λ cluster. promote_events cluster m)
+upholds-promote head m book cluster good =
+    upheld-for_some (kept_commits head) (composable head) book cluster (slice_get cluster.book.servers m.id.number) _ good (λ s is. promote-by head book cluster m _ (is_replica s.state) good)

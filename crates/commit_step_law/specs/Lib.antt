@@ -1,0 +1,5 @@
+pub mod Reading
+pub mod Modes
+pub mod Agents
+pub mod Ordered
+pub mod Bridged
