@@ -17,6 +17,7 @@ pub mod Lacking
 pub mod Losses
 pub mod Numbering
 pub mod OneWriter
+pub mod KeptCommits
 pub mod Passing
 pub mod Promoting
 pub mod Rest

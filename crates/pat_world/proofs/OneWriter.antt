@@ -12,7 +12,7 @@ use Rattle.pat_world.specs.OneWriter.{KeepsOneWriter}
 use Rattle.pat_world.proofs.Taking.{cluster_over-append}
 
 -- the events of steps and of one more
-run_events-last : (start : Cluster) (steps : List Step) (step : Step) → run_events start (steps ++ step ∷ []) ≡ run_events start steps ++ next_events (cluster_over start (run_events start steps)) step
+pub run_events-last : (start : Cluster) (steps : List Step) (step : Step) → run_events start (steps ++ step ∷ []) ≡ run_events start steps ++ next_events (cluster_over start (run_events start steps)) step
 run_events-last start [] step = append-nil (next_events start step)
 run_events-last start (first ∷ steps) step =
     let taken = next_events start first in

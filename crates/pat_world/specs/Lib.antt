@@ -3,6 +3,7 @@ pub mod Book
 pub mod Comes
 pub mod Emits
 pub mod Idle
+pub mod KeptCommits
 pub mod FlightIndex
 pub mod Launches
 pub mod OneWriter

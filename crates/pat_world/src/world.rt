@@ -12,6 +12,7 @@ ghost use Rattle.cluster_model.specs.State.{Cluster};
 ghost use Rattle.cluster_model.specs.Steps.{IsStep};
 ghost use Rattle.pat_world.specs.Book.{StandsFor, left_by, next_of};
 ghost use Rattle.pat_world.specs.Idle.{BringsTicks, IsIdleBefore, IsIdleIn, NothingEnds, NothingIsDue};
+ghost use Rattle.pat_world.specs.KeptCommits.{KeepsCommits};
 ghost use Rattle.pat_world.specs.OneWriter.{KeepsOneWriter};
 ghost use Rattle.pat_world.specs.Emits.{Emits};
 ghost use Rattle.pat_world.specs.Room.{HasRoomFor, step_cost};
@@ -100,6 +101,8 @@ impl World {
             → (events.new.items ≡ events.old.items ++ next_of start book step.now) × StandsFor start (book ++ next_of start book step.now) self.new) }
         // At most one server accepts writes at every moment of it, where a run brought this world and the premises are met.
         ensures one_writer { OnOk result (KeepsOneWriter self.old events.new.items) }
+        // Each server that accepts writes has each acknowledged commit then, where the run began with synchronous mode on, which stays on.
+        ensures commits { OnOk result (KeepsCommits self.old events.new.items) }
         ensures acknowledged { OnOk result (AreAcknowledged self.new.book.members self.new.book.servers) }
         ensures refused { OnErr result (events.new.items ≡ events.old.items) }
     {
@@ -120,6 +123,7 @@ impl World {
         ensures book { (start : Cluster) (book : List Event) → StandsFor start book self.old
             → StandsFor start (book ++ run_events (left_by start book) (replicate result step.now)) self.new }
         ensures one_writer { KeepsOneWriter self.old (run_events self.old (replicate result step.now)) }
+        ensures commits { KeepsCommits self.old (run_events self.old (replicate result step.now)) }
         ensures acknowledged { 0 < result → AreAcknowledged self.new.book.members self.new.book.servers }
     {
         let ticks = self.idle_ticks(step, most);

@@ -5,6 +5,7 @@ use Rattle.cluster_model.specs.State.{Cluster}
 use Rattle.pat_world.specs.Room.{HasRoomFor}
 use Rattle.pat_world.proofs.Idling.{at_moment, idle-commits}
 use Rattle.pat_world.proofs.IdleTicks.{brings-ticks, idle-passed, passed, room-passed, steps-keep, steps-stand}
+use Rattle.pat_world.proofs.KeptCommits.{steps-keep-commits}
 use Rattle.pat_world.proofs.world.World.idle_for.Goals as goal
 
 pub pass-requires : goal.pass-requires
@@ -32,5 +33,6 @@ returns c =
       room = λ more has. subst (λ (s : Cluster). HasRoomFor s more) (sym new) (room-passed old n more has);
       book = λ start book stands. steps-stand start book old c.pass.new.self (replicate n step) left stands;
       one_writer = steps-keep old (replicate n step);
+      commits = steps-keep-commits old (replicate n step);
       acknowledged = λ some. subst (λ (s : Cluster). AreAcknowledged s.book.members s.book.servers) (sym new) (idle-commits step old (old.book.clock + n) (idle some));
     }

@@ -1,5 +1,6 @@
 use Rattle.std.proofs.lemmas.Result.{on_ok_weaker}
 use Rattle.pat_world.specs.Room.{step_cost}
+use Rattle.pat_world.proofs.KeptCommits.{step-keeps-commits}
 use Rattle.pat_world.proofs.OneWriter.{step-keeps}
 use Rattle.pat_world.proofs.Standing.{step-stands}
 use Rattle.pat_world.proofs.world.World.step.Goals as goal
@@ -11,4 +12,10 @@ pub returns-else-is_err-clause-one_writer : goal.returns-else-is_err-clause-one_
 returns-else-is_err-clause-one_writer c =
     on_ok_weaker c.play-taken.result
     (λ took. step-keeps c.args.self.now c.play-taken.new.self c.args.events.now.items c.play-taken.new.events.items c.args.step.now step_cost c.requires.empty took)
+    c.play-taken.ensures.emits
+
+pub returns-else-is_err-clause-commits : goal.returns-else-is_err-clause-commits
+returns-else-is_err-clause-commits c =
+    on_ok_weaker c.play-taken.result
+    (λ took. step-keeps-commits c.args.self.now c.play-taken.new.self c.args.events.now.items c.play-taken.new.events.items c.args.step.now step_cost c.requires.empty took)
     c.play-taken.ensures.emits
