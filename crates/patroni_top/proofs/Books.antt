@@ -1,10 +1,19 @@
 -- The book of a run, step by step.
-use Rattle.std.proofs.Common.{◌≡◌, List, [], ◌∷◌, ◌++◌, refl, ap}
+use Rattle.std.proofs.Common.{◌≡◌, List, [], ◌∷◌, ◌++◌, refl, ap, subst, ◌∙◌}
 use Rattle.cluster_script.specs.declared.line.Step.{Step}
+use Rattle.cluster_script.specs.Script.{HeadText, IsHead}
+use Rattle.event_book.specs.declared.event.Event.{Event}
 use Rattle.cluster_model.specs.Cluster.{cluster_over}
 use Rattle.cluster_model.specs.Next.{next_events, run_events}
+use Rattle.cluster_model.specs.Starting.{cluster_of}
 use Rattle.cluster_model.specs.State.{Cluster}
 use Rattle.summary.specs.Sights.{book_of}
+use Rattle.summary.specs.Telling.{EachTellsLosses, TellLosses}
+use Rattle.commit_run_law.specs.Runs.{first_logs}
+use Rattle.commit_run_law.proofs.Losses.{told-back}
+use Rattle.commit_run_law.proofs.LossRuns.{runs-tell}
+use Rattle.pat_world.proofs.OneWriter.{run_events-last}
+use Rattle.pat_world.proofs.Taking.{cluster_over-append}
 use Rattle.patroni_top.specs.Run.{events_by_step}
 
 -- the events of all steps are the book
@@ -13,3 +22,19 @@ book-by-step cluster [] = refl
 book-by-step cluster (step ∷ more) =
     let events = next_events cluster step in
     ap (λ l. events ++ l) (book-by-step (cluster_over cluster events) more)
+
+-- each step of a run tells the first loss in its own events, behind those of the steps before
+tell-behind : (head : HeadText) → IsHead head → (done more : List Step) → (book : List Event) → run_events (cluster_of head) done ≡ book
+    → EachTellsLosses (first_logs head) book (events_by_step (cluster_over (cluster_of head) book) more)
+tell-behind head is done [] book whole = tt
+tell-behind head is done (step ∷ more) book whole =
+    let start : Cluster = cluster_of head in
+    let now : Cluster = cluster_over start book in
+    let events : List Event = next_events now step in
+    let last : run_events start (done ++ step ∷ []) ≡ book ++ events = run_events-last start done step ∙ ap (λ (b : List Event). b ++ next_events (cluster_over start b) step) whole in (
+      told-back (first_logs head) [] book events (subst (λ (b : List Event). TellLosses (first_logs head) [] b) last (runs-tell head is (done ++ step ∷ []))),
+      subst (λ (c : Cluster). EachTellsLosses (first_logs head) (book ++ events) (events_by_step c more)) (cluster_over-append start book events) (tell-behind head is (done ++ step ∷ []) more (book ++ events) last),
+    )
+
+pub steps-tell : (head : HeadText) → IsHead head → (steps : List Step) → EachTellsLosses (first_logs head) [] (events_by_step (cluster_of head) steps)
+steps-tell head is steps = tell-behind head is [] steps [] refl

@@ -1,7 +1,7 @@
 //! The top call.
 ghost use Rattle.std.specs.Prelude.{◌≡◌, ◌≢◌, ◌↔◌, [], ◌∷◌, map, codes, string_bytes, IfErr, IfOk, IsTrue};
 ghost use Rattle.pat_base.specs.Outside.{Known};
-ghost use Rattle.patroni_top.specs.Claims.{GuardsWriters, KeepsOneWriter};
+ghost use Rattle.patroni_top.specs.Claims.{GuardsCommits, GuardsWriters, KeepsCommits, KeepsOneWriter, KeepsSyncOrder};
 ghost use Rattle.patroni_top.specs.Ended.{IfScript, IsLeftBy, LeavesWorld, ending_in};
 ghost use Rattle.patroni_top.specs.Ends.{Ends};
 ghost use Rattle.patroni_top.specs.Run.{output_in};
@@ -40,6 +40,17 @@ pub fn run<S: Source, K: Sink, E: Sink>(
     // The closing summary says so: where it says that the premises are met it says that two servers never accepted writes, and where
     // it says when they were broken, two servers first did no earlier.
     ensures premises_guard { Known (S.rest input.old) (IfScript GuardsWriters) }
+
+    // With synchronous mode on from the beginning each server that accepts writes has each commit that a client was told of, at each moment of the
+    // run up to which the premises are met, the mode stays on, and no member outside the sync key takes the leader key.
+    ensures kept_commits { Known (S.rest input.old) (IfScript KeepsCommits) }
+    // At each of these moments the sync key names who accepts writes as the leader, and its commits wait for each standby in that key. Each claim
+    // of that key was granted where there was none, or one that named its sender; and who asked to add a standby to it had commits wait for
+    // that one, which had confirmed the end of the log that its leader noted (Patroni, "Replication modes").
+    ensures sync_order { Known (S.rest input.old) (IfScript KeepsSyncOrder) }
+    // The closing summary says so: where it says that the premises are met and the mode is on it says that no commit was ever lost, and where it
+    // says when these were broken, the first loss that it tells is no earlier than the first of these moments.
+    ensures commits_guard { Known (S.rest input.old) (IfScript GuardsCommits) }
 
     // The line told is that of the status; the fault with its line, or the limit, that it names is the input's.
     ensures reported { (ending : Ending) × (status_of ending ≡ result.status) × Known (S.rest input.old) (λ bytes. Says ending bytes)
