@@ -1,0 +1,33 @@
+-- What an agent answers operators, in words.
+use Rattle.std.specs.Prelude.{ℕ, List, ◌++◌, codes}
+use Rattle.pat_base.specs.Name.{name_bytes}
+use Rattle.operator_keys.specs.declared.answer_text.Text.{Text}
+use Rattle.operator_keys.specs.declared.answer_text.Text.TheVariants as texts
+
+-- the words of a text
+abbrev pub answer_text : Text → List ℕ
+answer_text texts.BadBody = codes "Bad body"
+answer_text texts.NoStoreAnswer = codes "No key store answer yet"
+answer_text texts.AnotherWaits = codes "Another request is waiting"
+answer_text texts.LeaderNotNamed = codes "Switchover could be performed only from a specific leader"
+answer_text texts.CandidateNotNamed = codes "Failover could be performed only to a specific candidate"
+answer_text texts.TargetIsSource = codes "Switchover target and source are the same"
+answer_text texts.PausedWithoutCandidate = codes "Switchover is possible only to a specific candidate in a paused state"
+answer_text texts.ScheduledNotBuilt = codes "Scheduled actions are not built"
+answer_text texts.OtherLeader = codes "leader name does not match"
+answer_text texts.CandidateLeads = codes "candidate is the leader"
+answer_text texts.AnotherUnderWay = codes "Another switchover is under way"
+answer_text texts.NoSuchCandidate = codes "candidate does not exist"
+answer_text texts.CandidateNotStandby = codes "candidate name does not match with sync_standby"
+answer_text texts.CandidateMayNotFailOver = codes "candidate may not fail over"
+answer_text texts.NoGoodCandidates = codes "no good candidates have been found"
+answer_text (texts.SwitchedOver name) = codes "Successfully switched over to \"" ++ name_bytes name ++ codes "\""
+answer_text (texts.FailedOver name) = codes "Successfully failed over to \"" ++ name_bytes name ++ codes "\""
+answer_text texts.SwitchoverFailed = codes "Switchover failed"
+answer_text texts.FailoverFailed = codes "Failover failed"
+answer_text texts.NoResultInTime = codes "No result in time"
+answer_text texts.NotRunning = codes "PostgreSQL is not running"
+answer_text texts.Restarted = codes "restarted"
+answer_text texts.IsLeader = codes "I am the leader"
+answer_text texts.ReinitializeStarted = codes "reinitialize started"
+answer_text texts.ConfigurationNotWritten = codes "Configuration was not written"

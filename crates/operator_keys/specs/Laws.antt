@@ -1,0 +1,24 @@
+-- What the laws of the checks say.
+use Rattle.std.specs.Prelude.{◌≡◌, ℕ, true, false, List, slice_get, Some}
+use Rattle.pat_base.specs.declared.member_id.MemberId.{MemberId}
+use Rattle.pat_base.specs.declared.host.Host.{Host}
+use Rattle.pat_base.specs.declared.name.Name.{Name}
+use Rattle.pat_base.specs.Name.{name_bytes}
+use Rattle.lease_store.specs.declared.key.Key.TheVariants as keys
+use Rattle.lease_store.specs.declared.value.MemberInfo.{MemberInfo}
+use Rattle.cluster_config.specs.Snapshots.{SnapshotFacts, entry_in, leader_in}
+use Rattle.leader_race.specs.Eligibility.{may_fail_over}
+use Rattle.operator_keys.specs.Candidates.{leads, info_of_entry}
+
+-- a member may follow whoever leads: it is another one, it has a member key, and by that key it may fail over
+pub record MayFollow (member : MemberId) (seen : SnapshotFacts) : Type 0 where
+  pub other : leads member (leader_in seen) ≡ false
+  pub info : MemberInfo
+  pub told : info_of_entry (entry_in (keys.Member member) seen) ≡ Some info
+  pub may : may_fail_over info.tags ≡ true
+
+-- the member has this name in the cluster
+pub record IsCalled (member : MemberId) (text : List ℕ) (seen : SnapshotFacts) : Type 0 where
+  pub known : Name × Host
+  pub is : slice_get seen.members member.number ≡ Some known
+  pub called : name_bytes known.0 ≡ text

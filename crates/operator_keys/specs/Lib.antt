@@ -1,0 +1,9 @@
+pub mod AnswerTexts
+pub mod Asking
+pub mod Bodies
+pub mod Candidates
+pub mod Checks
+pub mod Laws
+pub mod Refusals
+pub mod Rules
+pub mod ServerChecks

@@ -1,0 +1,92 @@
+//! Who leads and who may take over, by a snapshot.
+ghost use Rattle.std.specs.Prelude.{◌≡◌, option_copied};
+ghost use Rattle.leader_race.specs.Eligibility.{may_fail_over};
+ghost use Rattle.operator_keys.specs.Candidates.{leads, names_leader, info_by, info_of_entry, info_of, may_take_over, may_take_over_by, anyone_may_take_over};
+
+use crate::asked::Named;
+use cluster_config::{LeaderEntry, Snapshot};
+use lease_store::{Key, KeyEntry, MemberInfo, Value};
+use pat_base::{MemberId, Tags};
+
+/// Whether the member leads.
+pub(crate) fn leads(member: MemberId, leader: Option<LeaderEntry>) -> bool
+    ensures { result ≡ leads member leader }
+{
+    match leader {
+        None => false,
+        Some(leader) => leader.holder.number == member.number,
+    }
+}
+
+/// Whether the one who is named leads.
+pub(crate) fn names_leader(who: Named, leader: Option<LeaderEntry>) -> bool
+    ensures { result ≡ names_leader who leader }
+{
+    match who {
+        Named::Member(member) => leads(member, leader),
+        Named::Nobody | Named::Unknown => false,
+    }
+}
+
+/// What the one who is named tells of itself, where it has a member key.
+pub(crate) fn info_of(who: Named, seen: &Snapshot) -> Option<MemberInfo>
+    ensures { result ≡ info_of who seen.now }
+{
+    match who {
+        Named::Member(member) => info_of_entry(seen.entry(Key::Member(member))),
+        Named::Nobody | Named::Unknown => None,
+    }
+}
+
+fn info_of_entry(found: Option<&KeyEntry>) -> Option<MemberInfo>
+    ensures { result ≡ info_of_entry (option_copied found.entry) }
+{
+    match found {
+        None => None,
+        Some(found) => info_by(&found.value),
+    }
+}
+
+fn info_by(value: &Value) -> Option<MemberInfo>
+    ensures { result ≡ info_by value.now }
+{
+    match value {
+        Value::Member(info) => Some(*info),
+        _ => None,
+    }
+}
+
+/// Whether a member's tags let it fail over.
+pub(crate) fn may_fail_over(tags: &Tags) -> bool
+    ensures { result ≡ may_fail_over tags.now }
+{
+    tags.may_fail_over()
+}
+
+/// Whether any member besides the leader may take over.
+pub(crate) fn anyone_may_take_over(seen: &Snapshot) -> bool
+    ensures { result ≡ anyone_may_take_over seen.now }
+{
+    let leader = seen.leader();
+    seen.entries().iter().any(|(key, found)| may_take_over_by(leader, *key, &found.value))
+}
+
+/// Whether this is the member key of one who may take over.
+fn may_take_over_by(leader: Option<LeaderEntry>, key: Key, value: &Value) -> bool
+    ensures { result ≡ may_take_over_by leader key value.now }
+{
+    match key {
+        Key::Member(member) => may_take_over(member, leader, info_by(value)),
+        _ => false,
+    }
+}
+
+/// Whether a member that tells this of itself may take over from the leader.
+fn may_take_over(member: MemberId, leader: Option<LeaderEntry>, info: Option<MemberInfo>) -> bool
+    ensures { result ≡ may_take_over member leader info }
+{
+    match info {
+        None => false,
+        Some(info) => !leads(member, leader) && may_fail_over(&info.tags),
+    }
+}

@@ -1,0 +1,18 @@
+//! Checks of what operators ask of an agent, before it is done: a switchover, a failover, a restart, a reinitialization.
+#![tactic(auto)]
+
+mod answer_text;
+mod asked;
+mod body;
+mod candidates;
+mod checks;
+mod failing_over;
+mod laws;
+mod refusal;
+mod server_checks;
+
+pub use answer_text::Text;
+pub use checks::{check_failover, check_switchover};
+pub use laws::{keys_name_whom_bodies_name, what_a_failover_names, what_a_switchover_names};
+pub use refusal::{CheckFault, Refused};
+pub use server_checks::{check_reinit, check_restart};
