@@ -1,5 +1,5 @@
 //! What a failover key that a check gives comes to. Each is a function without a body whose contract is what is proved.
-ghost use Rattle.std.specs.Prelude.{ℕ, ◌≡◌, List, Option, Some, None, Ok, true, false, codes, IsSome, IsSomeAnd};
+ghost use Rattle.std.specs.Prelude.{ℕ, ◌≡◌, List, Some, None, Ok, true, false, codes, IsSomeAnd};
 ghost use Rattle.std.specs.Option.{option_copied};
 ghost use Rattle.pat_base.specs.declared.member_id.MemberId.{MemberId};
 ghost use Rattle.lease_store.specs.declared.value.FailoverKey.{FailoverKey};

@@ -19,7 +19,9 @@ pub(crate) const SERVICE_UNAVAILABLE: u16 = 503;
 #[derive(Clone, Copy, Debug, PartialEq, Eq, Error)]
 #[error("{text}")]
 pub struct Refused {
+    /// 400, 412 or 503.
     pub status: u16,
+    /// What stands in the way.
     pub text: Text,
 }
 
