@@ -2,11 +2,12 @@
 use Rattle.std.proofs.Common.{ℕ, ◌≡◌, ◌==◌, ◌&&◌, not, nat_le, Bool, cond, true, false, List, map, slice_get, Option, Some, None, refl, ap, sym}
 use Rattle.pat_base.specs.declared.server_state.State.{State}
 use Rattle.pat_base.specs.declared.server_state.State.TheVariants as states
+use Rattle.pat_base.specs.declared.server_id.ServerId.{ServerId}
 use Rattle.pat_base.specs.declared.ticks.Ticks.{Ticks}
 use Rattle.pat_base.specs.ServerState.{writes, live}
 use Rattle.pg_model.specs.Facts.{ServerFacts, is_creating, is_down}
 use Rattle.pg_model.specs.Rewinding.{cloned, is_rewindable, rewound_to}
-use Rattle.pg_model.specs.Running.{completed, crashed, delayed, is_primary, moment_after, replica_started, started, stopped, stopping}
+use Rattle.pg_model.specs.Running.{completed, crashed, delayed, is_primary, moment_after, replica_started, started, stopped, stopping, wiped}
 use Rattle.pg_model.specs.Replication.{following}
 use Rattle.pg_model.specs.Servers.{ticked_unless_live}
 use Rattle.event_book.specs.declared.event.LogEvent.{LogEvent}
@@ -17,7 +18,7 @@ use Rattle.event_book.specs.declared.event.ServerEvent.{ServerEvent}
 use Rattle.event_book.specs.declared.event.ServerEvent.TheVariants as servers
 use Rattle.event_book.specs.declared.event.WatchdogEvent.{WatchdogEvent}
 use Rattle.event_book.specs.declared.event.WatchdogEvent.TheVariants as watchdogs
-use Rattle.event_book.specs.Servers.{stops_quietly, stops, starts_as_replica, servers_by, received_by, cut_to, goes_back, becomes_copy, copied_by, servers_by_log, servers_by_replication, servers_by_watchdog}
+use Rattle.event_book.specs.Servers.{stops_quietly, stops, replica_starts_in, servers_by, received_by, cut_to, goes_back, copied_by, servers_by_log, servers_by_replication, servers_by_watchdog}
 use Rattle.event_book.specs.Writers.{BeginsServer}
 use Rattle.event_book.proofs.Changed.{kept-one, kept-each, same-if}
 
@@ -50,14 +51,17 @@ module _ {B : Type 0} (f : ServerFacts → B)
   primary-kept now s true false = reads (record s { state = states.Starting true (moment_after (record { 0 = now }) s.start_delay) }) s refl refl refl
   primary-kept now s false at_once = refl
 
-  replica-kept : (now : ℕ) (s : ServerFacts) → f (starts_as_replica now s) ≡ f s
-  replica-kept now s =
-      let at : Ticks = record { 0 = now } in
-      let told : ServerFacts = record s { upstream = None; was_primary = false } in
-      let waits : ServerFacts = record told { state = states.Starting false (moment_after at s.start_delay) } in
-      same-if f (is_down s.state) (replica_started at None s) s (f s)
-      (same-if f (s.start_delay.0 == 0) (started false told) waits (f s) (reads (started false told) s refl refl refl) (reads waits s refl refl refl))
-      refl
+  replica-started : (now : Ticks) (upstream : Option ServerId) (s : ServerFacts) → f (replica_started now upstream s) ≡ f s
+  replica-started now upstream s =
+      let told : ServerFacts = record s { upstream = upstream; was_primary = false } in
+      let waits : ServerFacts = record told { state = states.Starting false (moment_after now s.start_delay) } in
+      same-if f (s.start_delay.0 == 0) (started false told) waits (f s) (reads (started false told) s refl refl refl) (reads waits s refl refl refl)
+
+  replica-kept : (now : Ticks) (state : State) (s : ServerFacts) → f (replica_starts_in state now s) ≡ f s
+  replica-kept now states.Stopped s = replica-started now None s
+  replica-kept now states.Crashed s = replica-started now None s
+  replica-kept now states.Replica s = replica-started now s.upstream s
+  replica-kept now _ s = refl
 
   pub others-kept : (now : ℕ) (known : List ServerFacts) (happening : ServerEvent) → BeginsServer (λ number. ⊥) happening
       → map f (servers_by now known happening) ≡ map f known
@@ -66,7 +70,7 @@ module _ {B : Type 0} (f : ServerFacts → B)
   others-kept now known (servers.Crashed server) none = kept-one f known _ _ (λ s. reads (crashed s) s refl refl refl)
   others-kept now known (servers.Stops server) none = kept-one f known _ _ (stops-kept now)
   others-kept now known (servers.StartsAsPrimary server) none = kept-one f known _ _ (λ s. primary-kept now s (is_down s.state) (s.start_delay.0 == 0))
-  others-kept now known (servers.StartsAsReplica server) none = kept-one f known _ _ (replica-kept now)
+  others-kept now known (servers.StartsAsReplica server) none = kept-one f known _ _ (λ s. replica-kept (record { 0 = now }) s.state s)
   others-kept now known (servers.Follows server upstream) none = kept-one f known _ _ (λ s. reads (following upstream.id s) s refl refl refl)
   others-kept now known (servers.Diverged server upstream at) none = kept-one f known _ _ (λ s. reads (record s { diverged = true }) s refl refl refl)
   others-kept now known (servers.Slowed server stop start) none = kept-one f known _ _ (λ s. reads (delayed stop start s) s refl refl refl)
@@ -104,10 +108,20 @@ module _ {B : Type 0} (f : ServerFacts → B)
   copied-kept known number None = refl
   copied-kept known number (Some source) = kept-one f known _ _ (λ s. cloned-kept source s.state s refl)
 
+  -- a server that is wiped accepts no writes, before or after
+  wiped-kept : (state : State) (s : ServerFacts) → s.state ≡ state → f (cond (live state) (record s { log = None }) (wiped s)) ≡ f s
+  wiped-kept states.Primary s is = reads (record s { log = None }) s refl refl refl refl
+  wiped-kept (states.Stopping true at) s is = reads (record s { log = None }) s refl refl refl refl
+  wiped-kept (states.Stopping false at) s is = reads (wiped s) s (sym (ap live is)) (sym (ap writes is)) refl refl
+  wiped-kept (states.Starting true at) s is = reads (record s { log = None }) s refl refl refl refl
+  wiped-kept (states.Starting false at) s is = reads (wiped s) s (sym (ap live is)) (sym (ap writes is)) refl refl
+  wiped-kept _ s is = reads (wiped s) s (sym (ap live is)) (sym (ap writes is)) refl refl
+
   pub logged-kept : (known : List ServerFacts) (happening : LogEvent) → map f (servers_by_log known happening) ≡ map f known
   logged-kept known (logs.Received server from count) = received-kept known server.id.number count (slice_get known from.id.number)
   logged-kept known (logs.Rewound server from kept at) = kept-one f known _ _ (back-kept kept (slice_get known from.id.number))
   logged-kept known (logs.Copied server from) = copied-kept known server.id.number (slice_get known from.id.number)
+  logged-kept known (logs.Wiped server) = kept-one f known _ _ (λ s. wiped-kept s.state s refl)
   logged-kept known _ = kept-one f known _ _ (λ s. reads _ s refl refl refl refl)
 
 -- what only the state and the log determine stays where a required list, what was confirmed, or what waits for acknowledgement changes

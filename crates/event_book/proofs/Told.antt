@@ -8,12 +8,13 @@ use Rattle.std.specs.Option.{unwrap_or}
 use Rattle.std.proofs.Math.ListN.{length-map}
 use Rattle.pat_base.specs.declared.server_state.State.{State}
 use Rattle.pat_base.specs.declared.server_state.State.TheVariants as states
+use Rattle.pat_base.specs.declared.server_id.ServerId.{ServerId}
 use Rattle.pat_base.specs.declared.ticks.Ticks.{Ticks}
 use Rattle.pat_base.specs.Changes.{changed_at, with_changed}
 use Rattle.pat_base.specs.ServerState.{writes, live}
 use Rattle.pg_model.specs.Facts.{ServerFacts, entries_of, is_creating, is_down, is_up, none_confirmed}
 use Rattle.pg_model.specs.Rewinding.{cloned, is_rewindable, rewound_to}
-use Rattle.pg_model.specs.Running.{completed, crashed_state, is_primary, moment_after, replica_started, started, stopped}
+use Rattle.pg_model.specs.Running.{completed, crashed_state, is_primary, moment_after, replica_started, started, stopped, wiped}
 use Rattle.pg_model.specs.Servers.{ticked_unless_live}
 use Rattle.event_book.specs.declared.event.Event.{Event}
 use Rattle.event_book.specs.declared.event.EventKind.{EventKind}
@@ -32,7 +33,7 @@ use Rattle.event_book.specs.Facts.{Facts, facts_after, facts_over}
 use Rattle.event_book.specs.Functions.{put_at}
 use Rattle.event_book.specs.Logs.{log_received, log_copied, logs_in, logs_by, logs_after, logs_over}
 use Rattle.event_book.specs.Required.{required_in, required_after, required_over, confirmed_in, confirmed_after, confirmed_over}
-use Rattle.event_book.specs.Servers.{begun_in, servers_by, received_by, cut_to, goes_back, copied_by, servers_by_log, servers_by_replication, servers_by_watchdog, servers_after}
+use Rattle.event_book.specs.Servers.{begun_in, replica_starts_in, servers_by, received_by, cut_to, goes_back, copied_by, servers_by_log, servers_by_replication, servers_by_watchdog, servers_after}
 use Rattle.event_book.specs.Writers.{writes_now, writes_in, writes_after, writes_by_server, writes_by_watchdog, writes_over}
 use Rattle.event_book.proofs.Parts.{ticked-kept, others-kept, watched-kept, logged-kept, replicated-kept}
 use Rattle.event_book.proofs.Changed.{changed-one, kept-one, kept-each, same-if, length-one}
@@ -81,7 +82,7 @@ logs-logged known (logs.Rewound server from kept at) = changed-one (λ s. s.log)
 logs-logged known (logs.Copied server from) =
     logs-copied known server.id.number (slice_get known from.id.number)
     ∙ ap (λ o. log_copied (logs_in known) server.id.number o) (sym (slice_get-map (λ s. s.log) known from.id.number))
-logs-logged known (logs.Wiped server) = changed-one (λ s. s.log) known server.id.number _ _ (λ s. refl)
+logs-logged known (logs.Wiped server) = changed-one (λ s. s.log) known server.id.number _ _ (λ s. same-if (λ s. s.log) (live s.state) (record s { log = None }) (wiped s) None refl refl)
 
 pub logs-of : (now : ℕ) (known : List ServerFacts) (kind : EventKind) → logs_in (servers_after now known kind) ≡ logs_after (logs_in known) kind
 logs-of now known kinds.Tick = ticked-kept (λ s. s.log) (λ s t log required confirmed. log) (record { 0 = now }) known
@@ -243,16 +244,16 @@ writes-completed now (states.Stopping true at) s is = refl
 writes-completed now (states.Stopping false at) s is = same-if (λ s. writes s.state) (nat_le at.0 now.0) (stopped s) s (writes s.state) (sym (ap writes is)) refl
 writes-completed now _ s is = refl
 
-writes-starts : (now : Ticks) (s : ServerFacts) → writes (replica_started now None s).state ≡ false
-writes-starts now s =
-    let told : ServerFacts = record s { upstream = None; was_primary = false } in
+writes-starts : (now : Ticks) (upstream : Option ServerId) (s : ServerFacts) → writes (replica_started now upstream s).state ≡ false
+writes-starts now upstream s =
+    let told : ServerFacts = record s { upstream = upstream; was_primary = false } in
     same-if (λ s. writes s.state) (s.start_delay.0 == 0) (started false told) (record told { state = states.Starting false (moment_after now s.start_delay) }) false refl refl
 
-writes-down : (now : ℕ) (state : State) (s : ServerFacts) → s.state ≡ state
-    → writes (cond (is_down state) (replica_started (record { 0 = now }) None s) s).state ≡ writes s.state
-writes-down now states.Stopped s is = writes-starts (record { 0 = now }) s ∙ sym (ap writes is)
-writes-down now states.Crashed s is = writes-starts (record { 0 = now }) s ∙ sym (ap writes is)
-writes-down now _ s is = refl
+writes-replica : (now : Ticks) (state : State) (s : ServerFacts) → s.state ≡ state → writes (replica_starts_in state now s).state ≡ writes s.state
+writes-replica now states.Stopped s is = writes-starts now None s ∙ sym (ap writes is)
+writes-replica now states.Crashed s is = writes-starts now None s ∙ sym (ap writes is)
+writes-replica now states.Replica s is = writes-starts now s.upstream s ∙ sym (ap writes is)
+writes-replica now _ s is = refl
 
 -- a shutdown that ends no writing at once
 writes-stops : (now : Ticks) (state : State) (s : ServerFacts) (at_once : Bool) → s.state ≡ state
@@ -289,7 +290,7 @@ writes-by-server now known (servers.Ended server) n small = writes-put known _ n
 writes-by-server now known (servers.Crashed server) n small = writes-put known _ n _ false small (λ s. writes-crashed s.state)
 writes-by-server now known (servers.Stops server) n small = writes-one known _ n _ (λ s. writes-stops (record { 0 = now }) s.state s (s.stop_delay.0 == 0) refl)
 writes-by-server now known (servers.StartsAsPrimary server) n small = writes-one known _ n _ (λ s. writes-slow (record { 0 = now }) s.state s (s.start_delay.0 == 0) refl)
-writes-by-server now known (servers.StartsAsReplica server) n small = writes-one known _ n _ (λ s. writes-down now s.state s refl)
+writes-by-server now known (servers.StartsAsReplica server) n small = writes-one known _ n _ (λ s. writes-replica (record { 0 = now }) s.state s refl)
 writes-by-server now known (servers.Follows server upstream) n small = writes-one known _ n _ (λ s. refl)
 writes-by-server now known (servers.Diverged server upstream at) n small = writes-one known _ n _ (λ s. refl)
 writes-by-server now known (servers.Slowed server stop start) n small = writes-one known _ n _ (λ s. refl)

@@ -2,11 +2,13 @@
 use Rattle.std.specs.Prelude.{ℕ, ◌==◌, ◌&&◌, ◌||◌, not, if◌then◌else◌, Bool, true, List, Option, Some, None, map, take, drop, slice_get}
 use Rattle.pat_base.specs.declared.server_state.State.{State}
 use Rattle.pat_base.specs.declared.server_state.State.TheVariants as states
+use Rattle.pat_base.specs.declared.ticks.Ticks.{Ticks}
 use Rattle.pat_base.specs.Changes.{with_changed}
+use Rattle.pat_base.specs.ServerState.{live}
 use Rattle.pg_model.specs.Facts.{ServerFacts, entries_of, is_creating, is_down, is_up}
 use Rattle.pg_model.specs.Replication.{appended, confirming, following, received_from}
 use Rattle.pg_model.specs.Rewinding.{cloned, is_rewindable, rewound_to}
-use Rattle.pg_model.specs.Running.{crashed, delayed, is_primary, primary_started, promoted, replica_started, started, stopped, stopping}
+use Rattle.pg_model.specs.Running.{crashed, delayed, is_primary, primary_started, promoted, replica_started, started, stopped, stopping, wiped}
 use Rattle.pg_model.specs.Servers.{ticked_unless_live, requiring}
 use Rattle.event_book.specs.declared.event.EventKind.{EventKind}
 use Rattle.event_book.specs.declared.event.EventKind.TheVariants as kinds
@@ -25,9 +27,16 @@ abbrev pub begun_in : State → ServerFacts → ServerFacts
 begun_in states.Replica s = promoted s
 begun_in _ s = started true s
 
--- it starts as a replica of none, where it is down
+-- a server in this state starts as a replica: of none where it is down, and where it runs as one again, of whom it follows
+abbrev pub replica_starts_in : State → Ticks → ServerFacts → ServerFacts
+replica_starts_in states.Stopped now s = replica_started now None s
+replica_starts_in states.Crashed now s = replica_started now None s
+replica_starts_in states.Replica now s = replica_started now s.upstream s
+replica_starts_in _ now s = s
+
+-- it starts as a replica, where it is down or runs as one
 abbrev pub starts_as_replica : ℕ → ServerFacts → ServerFacts
-starts_as_replica now s = if is_down s.state then replica_started (record { 0 = now }) None s else s
+starts_as_replica now s = replica_starts_in s.state (record { 0 = now }) s
 
 -- a stop of it takes time
 abbrev pub stops_slowly : ServerFacts → Bool
@@ -86,13 +95,17 @@ abbrev pub copied_by : List ServerFacts → ℕ → Option ServerFacts → List 
 copied_by known number None = known
 copied_by known number (Some source) = with_changed known number (becomes_copy source)
 
--- the servers after what happens to a log. What a wipe changes beside it is to come with it
+-- its log is gone: it is wiped, unless it accepts writes, or will when its start is complete; of such a server only the log changes
+abbrev pub loses_log : ServerFacts → ServerFacts
+loses_log s = if live s.state then record s { log = None } else wiped s
+
+-- the servers after what happens to a log
 abbrev pub servers_by_log : List ServerFacts → LogEvent → List ServerFacts
 servers_by_log known (logs.Appended server entry) = with_changed known server.id.number (appended entry)
 servers_by_log known (logs.Received server from count) = received_by known server.id.number count (slice_get known from.id.number)
 servers_by_log known (logs.Rewound server from kept at) = with_changed known server.id.number (goes_back kept (slice_get known from.id.number))
 servers_by_log known (logs.Copied server from) = copied_by known server.id.number (slice_get known from.id.number)
-servers_by_log known (logs.Wiped server) = with_changed known server.id.number (λ s. record s { log = None })
+servers_by_log known (logs.Wiped server) = with_changed known server.id.number loses_log
 
 -- the servers after what happens in synchronous replication
 abbrev pub servers_by_replication : List ServerFacts → ReplicationEvent → List ServerFacts

@@ -122,7 +122,8 @@ pub enum ServerEvent {
         server: ServerOf,
         timeline: u64,
     },
-    /// It accepts writes no longer.
+    /// It accepts writes no longer. A restart of a primary is told by this, and then by the start as that of a server that
+    /// was stopped: by `StartsAsPrimary` where that takes time, and by `Began`.
     Ended {
         server: ServerOf,
     },
@@ -143,7 +144,8 @@ pub enum ServerEvent {
     StartsAsPrimary {
         server: ServerOf,
     },
-    /// It starts as a replica.
+    /// It starts as a replica. Of one that is down, it follows nobody then; one that runs as a replica starts again, and follows
+    /// whom it followed: that is all that is told of its restart.
     StartsAsReplica {
         server: ServerOf,
     },
@@ -200,7 +202,7 @@ pub enum LogEvent {
         server: ServerOf,
         from: ServerOf,
     },
-    /// The server has no log any more.
+    /// The server has no log any more: it waits for a copy, unless it accepts writes, or will when its start is complete.
     Wiped {
         server: ServerOf,
     },

@@ -1,5 +1,9 @@
 //! Laws of books.
-ghost use Rattle.std.specs.Prelude.{ℕ, ◌≡◌, ◌<◌, ◌++◌, ◌&&◌, ◌||◌, not, false, List, length};
+ghost use Rattle.std.specs.Prelude.{ℕ, ◌≡◌, ◌<◌, ◌++◌, ◌&&◌, ◌||◌, not, true, false, List, length};
+ghost use Rattle.pat_base.specs.declared.ticks.Ticks.{Ticks};
+ghost use Rattle.pat_base.specs.ServerState.{live};
+ghost use Rattle.pg_model.specs.Facts.{ServerFacts, is_replica};
+ghost use Rattle.pg_model.specs.Running.{is_primary, restarted, stopped, wiped};
 ghost use Rattle.event_book.specs.declared.event.Event.{Event};
 ghost use Rattle.event_book.specs.declared.event.EventKind.{EventKind};
 ghost use Rattle.event_book.specs.declared.event.EventKind.TheVariants as kinds;
@@ -10,6 +14,7 @@ ghost use Rattle.event_book.specs.Facts.{Facts, facts_over};
 ghost use Rattle.event_book.specs.Links.{CutLinks, cuts_after, is_cut, is_same_link, none_cut, place_count};
 ghost use Rattle.event_book.specs.Logs.{logs_in, logs_over};
 ghost use Rattle.event_book.specs.Required.{required_in, required_over, confirmed_in, confirmed_over};
+ghost use Rattle.event_book.specs.Servers.{begun_in, loses_log, starts_as_primary, starts_as_replica, starts_slowly};
 ghost use Rattle.event_book.specs.Writers.{writes_in, writes_over};
 
 /// What a book leaves of the servers is, part by part, what the book alone says: their logs, whose confirmation their commits wait
@@ -22,6 +27,15 @@ pub fn servers_match_events()
     ensures acknowledged { (facts : Facts) (book : List Event) → (facts_over facts book).acknowledged ≡ facts.acknowledged ++ acknowledged_in book }
     // No event adds a server, or takes one away.
     ensures count { (facts : Facts) (book : List Event) → length (facts_over facts book).servers ≡ length facts.servers }
+{}
+
+/// What the events of a restart leave of a server is what the restart makes of it, and that its log is wiped leaves what a wipe
+/// makes of it. A primary ends and starts again, at once or slowly; of a replica the start alone is told.
+pub fn restarts_and_wipes_are_told()
+    ensures at_once { (now : Ticks) (s : ServerFacts) → is_primary s.state ≡ true → starts_slowly s ≡ false → begun_in (stopped s).state (stopped s) ≡ restarted now s }
+    ensures slow { (now : Ticks) (s : ServerFacts) → is_primary s.state ≡ true → starts_slowly s ≡ true → starts_as_primary now.0 (stopped s) ≡ restarted now s }
+    ensures replica { (now : Ticks) (s : ServerFacts) → is_replica s.state ≡ true → starts_as_replica now.0 s ≡ restarted now s }
+    ensures wipe { (s : ServerFacts) → live s.state ≡ false → loses_log s ≡ wiped s }
 {}
 
 /// What the table of links says is what cuts and joins say: after a cut that link is cut and after a join it isn't, whichever

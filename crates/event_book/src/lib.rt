@@ -21,7 +21,7 @@ pub use event::{
     AgentEvent, Event, EventKind, LinkEvent, LogEvent, MessageEvent, Note, ReplicationEvent,
     ServerEvent, StoreEvent, WatchdogEvent,
 };
-pub use laws::{links_are_told, servers_match_events};
+pub use laws::{links_are_told, restarts_and_wipes_are_told, servers_match_events};
 pub use link::{Link, LinkEnd};
 pub use listing::listed;
 pub use member::{Member, ServerOf};

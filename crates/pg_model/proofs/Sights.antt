@@ -8,7 +8,7 @@ use Rattle.pat_base.specs.declared.server_state.State.TheVariants as states
 use Rattle.pat_base.specs.ServerState.{live}
 use Rattle.wal_model.specs.declared.entry.Entry.{Entry}
 use Rattle.pg_model.specs.Facts.{ServerFacts}
-use Rattle.pg_model.specs.Running.{moment_after, started, stopped, starting, replica_started, primary_started, is_primary, stopping, completed, ticked}
+use Rattle.pg_model.specs.Running.{moment_after, started, stopped, starting, replica_started, primary_started, is_primary, stopping, restarted, restarted_in, completed, ticked}
 use Rattle.pg_model.specs.Replication.{may_acknowledge, acknowledged}
 use Rattle.pg_model.specs.Servers.{without_spare, ticked_unless_live, after_entry}
 use Rattle.pg_model.specs.InStep.{LogPosition, log_position_of, upstream_number_of, IsBehind}
@@ -73,6 +73,20 @@ without_spare-stopping now s = without_spare-cond (s.stop_delay.0 == 0) (stopped
 
 pub log_position-stopping : (now : Ticks) (s : ServerFacts) → log_position_of (stopping now s) ≡ log_position_of s
 log_position-stopping now s = log_position-cond (s.stop_delay.0 == 0) (stopped s) (record s { state = states.Stopping (is_primary s.state) (moment_after now s.stop_delay) }) _ refl refl
+
+without_spare-restarted_in : (state : State) (now : Ticks) (s : ServerFacts) → without_spare (restarted_in state now s) ≡ restarted_in state now (without_spare s)
+without_spare-restarted_in states.Primary now s = without_spare-primary_started now (stopped s)
+without_spare-restarted_in _ now s = without_spare-replica_started now s.upstream s
+
+pub without_spare-restarted : (now : Ticks) (s : ServerFacts) → without_spare (restarted now s) ≡ restarted now (without_spare s)
+without_spare-restarted now s = without_spare-restarted_in s.state now s
+
+log_position-restarted_in : (state : State) (now : Ticks) (s : ServerFacts) → log_position_of (restarted_in state now s) ≡ log_position_of s
+log_position-restarted_in states.Primary now s = log_position-primary_started now (stopped s)
+log_position-restarted_in _ now s = log_position-replica_started now s.upstream s
+
+pub log_position-restarted : (now : Ticks) (s : ServerFacts) → log_position_of (restarted now s) ≡ log_position_of s
+log_position-restarted now s = log_position-restarted_in s.state now s
 
 pub without_spare-ticked_unless_live : (now : Ticks) (s : ServerFacts) → without_spare (ticked_unless_live now s) ≡ ticked_unless_live now (without_spare s)
 without_spare-ticked_unless_live now s = without_spare-cond (live s.state) s (ticked now s) ∙ ap (cond (live s.state) (without_spare s)) (without_spare-completed now s.state s)

@@ -91,6 +91,12 @@ is_up states.Replica = true
 is_up states.Primary = true
 is_up _ = false
 
+-- it runs, as a primary or as a replica
+abbrev pub is_running : State → Bool
+is_running states.Replica = true
+is_running states.Primary = true
+is_running _ = false
+
 -- it has a log
 abbrev pub has_data : State → Bool
 has_data states.Creating = false

@@ -67,6 +67,19 @@ crashed_state _ = states.Crashed
 abbrev pub crashed : ServerFacts → ServerFacts
 crashed s = record s { state = crashed_state s.state; diverged = false; waiting = [] }
 
+-- its data is removed: it waits for a copy from then on; no commit waits any more, and nothing diverges without a log
+abbrev pub wiped : ServerFacts → ServerFacts
+wiped s = record s { state = states.Creating; log = None; diverged = false; waiting = [] }
+
+-- it ends, which takes no time, and starts again in its role: as a primary on its timeline, or as a replica of whom it follows
+abbrev pub restarted_in : State → Ticks → ServerFacts → ServerFacts
+restarted_in states.Primary now s = primary_started now (stopped s)
+restarted_in _ now s = replica_started now s.upstream s
+
+-- it is restarted
+abbrev pub restarted : Ticks → ServerFacts → ServerFacts
+restarted now s = restarted_in s.state now s
+
 -- a start or a stop is complete whose moment has come
 abbrev pub completed : Ticks → State → ServerFacts → ServerFacts
 completed now (states.Starting as_primary at) s = if nat_le at.0 now.0 then started as_primary s else s

@@ -1,11 +1,13 @@
 -- What an agent sees of its server, and what its orders make of that.
-use Rattle.std.specs.Prelude.{◌+◌, ◌==◌, ◌&&◌, if◌then◌else◌, Bool, true, false, List, Option, Some}
+use Rattle.std.specs.Prelude.{◌+◌, ◌==◌, ◌&&◌, if◌then◌else◌, Bool, true, false, List, Option, Some, None}
 use Rattle.std.specs.Option.{option_map}
 use Rattle.pat_base.specs.declared.lsn.Lsn.{Lsn}
 use Rattle.pat_base.specs.declared.ticks.Ticks.{Ticks}
 use Rattle.pat_base.specs.declared.server_id.ServerId.{ServerId}
+use Rattle.pat_base.specs.declared.server_state.State.{State}
 use Rattle.pat_base.specs.declared.server_state.State.TheVariants as states
 use Rattle.pat_base.specs.Lsn.{lsn_at}
+use Rattle.pat_base.specs.ServerState.{live}
 use Rattle.wal_model.specs.declared.entry.Entry.{Entry}
 use Rattle.wal_model.specs.Log.{end_of}
 use Rattle.pg_model.specs.declared.status.ServerStatus.{ServerStatus}
@@ -58,6 +60,20 @@ status_ending now s = if s.stop_delay.0 == 0 then record s { state = states.Stop
 -- one that runs or starts shuts down: at once where stops take no time, and else it has ended after the delay; another stays as it is
 abbrev pub status_stopping : Ticks → ServerStatus → ServerStatus
 status_stopping now s = if is_up s.state then status_ending now s else s
+
+-- its data is removed, and it waits for a copy; one that accepts writes, or will when its start is complete, stays as it is
+abbrev pub status_wiped : ServerStatus → ServerStatus
+status_wiped s = if live s.state then s else record s { state = states.Creating; end = None; diverged = false }
+
+-- one that runs starts again in its role, at once or after the start delay; another stays as it is
+abbrev pub status_restarted_in : State → Ticks → ServerStatus → ServerStatus
+status_restarted_in states.Primary now s = status_starting true now s
+status_restarted_in states.Replica now s = status_starting false now (record s { was_primary = false })
+status_restarted_in _ now s = s
+
+-- it is restarted, where it runs
+abbrev pub status_restarted : Ticks → ServerStatus → ServerStatus
+status_restarted now s = status_restarted_in s.state now s
 
 -- a replica follows this server from now on; another server stays as it is
 abbrev pub status_following : ServerId → ServerStatus → ServerStatus

@@ -11,8 +11,8 @@ mod waiting;
 
 pub use answers::{CommitFault, InState, PgFault, Rewound, StreamFault, Streamed};
 pub use laws::{
-    a_clone_has_the_whole_log, a_rewind_keeps_the_common_log, news_are_streamed, required_is_met,
-    status_after_orders,
+    a_clone_has_the_whole_log, a_restart_is_no_promotion, a_rewind_keeps_the_common_log,
+    a_wiped_server_waits_for_a_copy, news_are_streamed, required_is_met, status_after_orders,
 };
 pub use server::Server;
 pub use servers::Servers;

@@ -5,8 +5,8 @@ ghost use Rattle.std.specs.List.{list_any};
 ghost use Rattle.pat_base.specs.ServerState.{writes, live};
 ghost use Rattle.pat_base.specs.Lsn.{lsn_at};
 ghost use Rattle.wal_model.specs.Log.{end_of, IsPrefixOf, received};
-ghost use Rattle.pg_model.specs.Facts.{fresh, entries_of, is_replica, is_creating, is_down, is_up, has_data};
-ghost use Rattle.pg_model.specs.Running.{reserved, promoted, started, starting, replica_started, primary_started, stopping, crashed, crashed_state, ticked, delayed};
+ghost use Rattle.pg_model.specs.Facts.{fresh, entries_of, is_replica, is_creating, is_down, is_up, is_running, has_data};
+ghost use Rattle.pg_model.specs.Running.{reserved, promoted, started, starting, replica_started, primary_started, stopping, crashed, crashed_state, wiped, restarted, ticked, delayed};
 ghost use Rattle.pg_model.specs.Replication.{following, committed, stream_of, streamed, confirming, is_met, all_reach, next_acknowledged, acknowledged, may_acknowledge, reaches, is_free};
 ghost use Rattle.pg_model.specs.declared.answers.CommitFault.TheVariants as commit_faults;
 ghost use Rattle.pg_model.specs.declared.answers.StreamFault.TheVariants as stream_faults;
@@ -28,8 +28,8 @@ const MEMBERS: usize = 16;
 
 /// A PostgreSQL server: its state, its log, its timeline with its history, whom it follows, and what its commits wait for.
 ///
-/// Its log is absent exactly while it is `Creating`: it waits for a copy of another server then. No call brings it there
-/// yet. Moments and delays are in ticks of 100 ms, positions and sizes in bytes.
+/// Its log is absent exactly while it is `Creating`: it waits for a copy of another server then, as after `wipe`. Moments
+/// and delays are in ticks of 100 ms, positions and sizes in bytes.
 #[derive(Drop)]
 pub struct Server {
     state: State,
@@ -151,7 +151,7 @@ impl Server {
         self.upstream
     }
 
-    /// Whether its log was found to be no prefix of its upstream's. It is so until it follows anew or crashes.
+    /// Whether its log was found to be no prefix of its upstream's. It is so until it follows anew, crashes or is wiped.
     pub fn diverged(&self) -> bool
         ensures { result ≡ self.now.diverged }
     {
@@ -318,7 +318,7 @@ impl Server {
 
     /// Starts, at once or after the delay.
     fn start(&mut self, as_primary: bool, now: Ticks)
-        requires down { IsTrue (is_down self.old.state) }
+        requires log { IsTrue (has_data self.old.state) }
         requires moment { now.0 ≤ 2 ^ 62 }
         ensures { self.new ≡ starting as_primary now self.old }
     {
@@ -378,6 +378,53 @@ impl Server {
     {
         self.end(crashed_state(self.state));
         self.diverged = false;
+    }
+
+    /// Loses its data, as when its data directory is removed before it is copied anew (Patroni's documentation,
+    /// "patronictl reinit"): it has no log and waits for a copy from then on. No commit waits any more, and a divergence
+    /// that was noted is forgotten; all else stays, its timeline with its history too. Refused exactly where it accepts
+    /// writes, or will when its start is complete, and then it stays as it was.
+    pub fn wipe(&mut self) -> Result<(), InState>
+        ensures when { IsOk result ↔ (live self.old.state ≡ false) }
+        ensures state { IfErr result (λ refusal. refusal.0 ≡ self.old.state) }
+        ensures ok { OnOk result (self.new ≡ wiped self.old) }
+        ensures err { OnErr result (self.new ≡ self.old) }
+    {
+        if self.live() {
+            return Err(InState(self.state));
+        }
+        self.log = None;
+        self.state = State::Creating;
+        self.diverged = false;
+        self.waiting.clear();
+        Ok(())
+    }
+
+    /// Ends and starts again in its role, as a restart of PostgreSQL does (its documentation, "pg_ctl"): a primary as a
+    /// primary on its timeline, a replica as a replica of whom it follows. It ends at once, and runs again at once or after
+    /// its start delay. No commit of a primary waits any more; they stay in the log, and once it accepts writes again what
+    /// was confirmed to it before is forgotten. Refused exactly unless it runs, and then it stays as it was. The moment is
+    /// at most 2^62 ticks.
+    pub fn restart(&mut self, now: Ticks) -> Result<(), InState>
+        requires { now.0 ≤ 2 ^ 62 }
+        ensures when { IsOk result ↔ IsTrue (is_running self.old.state) }
+        ensures state { IfErr result (λ refusal. refusal.0 ≡ self.old.state) }
+        ensures ok { OnOk result (self.new ≡ restarted now self.old) }
+        ensures err { OnErr result (self.new ≡ self.old) }
+    {
+        match self.state {
+            State::Primary => {
+                self.end(State::Stopped);
+                self.start(true, now);
+                Ok(())
+            }
+            State::Replica => {
+                self.was_primary = false;
+                self.start(false, now);
+                Ok(())
+            }
+            state => Err(InState(state)),
+        }
     }
 
     /// Is in this state from now on, in which no commit waits.

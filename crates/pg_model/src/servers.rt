@@ -2,9 +2,10 @@
 ghost use Rattle.std.specs.Prelude.{ℕ, ◌≡◌, ◌≤◌, ◌<◌, ◌^◌, ◌==◌, ◌&&◌, ◌||◌, ◌↔◌, [], length, map, replicate, Option, Some, slice_get, ◌≢◌, false, IsTrue, IfSome, IfOk, OnOk, OnErr, option_map, option_copied, option_and_then};
 ghost use Rattle.std.specs.Option.{ForSome};
 ghost use Rattle.pat_base.specs.Changes.{with_changed};
+ghost use Rattle.pat_base.specs.ServerState.{live};
 ghost use Rattle.pg_model.specs.Completing.{NoneComplete};
-ghost use Rattle.pg_model.specs.Facts.{ServerFacts, fresh, is_replica, is_down, is_up};
-ghost use Rattle.pg_model.specs.Running.{promoted, replica_started, primary_started, stopping, crashed, ticked, delayed};
+ghost use Rattle.pg_model.specs.Facts.{ServerFacts, fresh, is_replica, is_down, is_up, is_running};
+ghost use Rattle.pg_model.specs.Running.{promoted, replica_started, primary_started, stopping, crashed, wiped, restarted, ticked, delayed};
 ghost use Rattle.pg_model.specs.Replication.{following, confirming, next_acknowledged, acknowledged};
 ghost use Rattle.pg_model.specs.InStep.{Forgets, Renews, CatchesUpAt, AreInStep, log_position_of, upstream_number_of, is_place};
 ghost use Rattle.pg_model.specs.Servers.{without_spare, requiring, ticked_unless_live, entry_at, entry_for, after_entry, committed_at, news_at, streamed_at};
@@ -164,6 +165,34 @@ impl Servers {
         }
         let server = &mut self.servers[place];
         server.stop(now).unwrap();
+    }
+
+    /// Removes the data of the server at a place, if there is one there, as `Server::wipe` does. That server accepts no
+    /// writes, and won't when a start of it is complete. It costs time in the number of servers.
+    pub fn wipe(&mut self, place: usize)
+        requires { IfSome (slice_get self.old place) (λ s. live s.state ≡ false) }
+        ensures { self.new ≡ with_changed self.old place wiped }
+    {
+        if place >= self.servers.len() {
+            return;
+        }
+        let server = &mut self.servers[place];
+        server.wipe().unwrap();
+        forget(&mut self.in_step, &self.servers, place);
+    }
+
+    /// Restarts the server at a place, if there is one there, as `Server::restart` does. That server runs. The moment is at
+    /// most 2^62 ticks.
+    pub fn restart(&mut self, place: usize, now: Ticks)
+        requires moment { now.0 ≤ 2 ^ 62 }
+        requires running { IfSome (slice_get self.old place) (λ s. IsTrue (is_running s.state)) }
+        ensures { self.new ≡ with_changed self.old place (restarted now) }
+    {
+        if place >= self.servers.len() {
+            return;
+        }
+        let server = &mut self.servers[place];
+        server.restart(now).unwrap();
     }
 
     /// Completes a start or a stop of the server at a place, if there is one there and its moment has come.

@@ -1,7 +1,7 @@
 //! What an agent sees of its server.
 ghost use Rattle.std.specs.Prelude.{◌≡◌, ◌≤◌, ◌<◌, ◌^◌, ◌==◌};
 ghost use Rattle.pg_model.specs.Facts.{is_down, is_up, is_replica};
-ghost use Rattle.pg_model.specs.Status.{status_of, status_promoted, status_started, status_starting, status_replica_started, status_primary_started, status_ending, status_stopping, status_following};
+ghost use Rattle.pg_model.specs.Status.{status_of, status_promoted, status_started, status_starting, status_replica_started, status_primary_started, status_ending, status_stopping, status_wiped, status_restarted, status_following};
 
 use crate::Server;
 use crate::server::{is_down, is_up};
@@ -89,6 +89,33 @@ impl ServerStatus {
     {
         if is_up(self.state) {
             self.end(now);
+        }
+    }
+
+    /// What `Server::wipe` makes of it.
+    pub fn wipe(&mut self)
+        ensures { self.new ≡ status_wiped self.old }
+    {
+        if !self.state.live() {
+            self.state = State::Creating;
+            self.end = None;
+            self.diverged = false;
+        }
+    }
+
+    /// What `Server::restart` makes of it.
+    pub fn restart(&mut self, now: Ticks)
+        requires moment { now.0 ≤ 2 ^ 62 }
+        requires delay { self.old.start_delay.0 ≤ 2 ^ 40 }
+        ensures { self.new ≡ status_restarted now self.old }
+    {
+        match self.state {
+            State::Primary => self.start(true, now),
+            State::Replica => {
+                self.was_primary = false;
+                self.start(false, now);
+            }
+            _ => {}
         }
     }
 

@@ -1,6 +1,5 @@
-use Rattle.std.proofs.Common.{List, ap, sym, ◌∙◌}
+use Rattle.std.proofs.Common.{ap, sym, ◌∙◌}
 use Rattle.pg_model.specs.Completing.{first_completion}
-use Rattle.pg_model.specs.Facts.{ServerFacts}
 use Rattle.pg_model.proofs.Completions.{first-seen, next-is}
 use Rattle.pg_model.proofs.servers.Servers.next_completion.Goals as goal
 

@@ -1,4 +1,4 @@
-use Rattle.std.proofs.Common.{◌≡◌, true, map, arith, ap, rules, sym, subst, refl, ◌∙◌}
+use Rattle.std.proofs.Common.{◌≡◌, true, map, ap, rules, sym, subst, refl, ◌∙◌}
 use Rattle.std.specs.Vec.{with_items}
 use Rattle.std.proofs.lemmas.List.{with_items_is}
 use Rattle.pg_model.specs.Rewinding.{may_rewind, may_rewind_at, rewound, rewound_at}
