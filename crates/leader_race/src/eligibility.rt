@@ -44,8 +44,8 @@ fn not_running(state: State) -> Option<Bar>
     }
 }
 
-/// Whether a member's tags let it fail over.
-pub(crate) fn may_fail_over(tags: &Tags) -> bool
+/// Whether a member's tags let it fail over. It takes no memory.
+pub fn may_fail_over(tags: &Tags) -> bool
     ensures { result ≡ may_fail_over tags.now }
 {
     tags.may_fail_over()

@@ -90,7 +90,7 @@ fn barring(racer: &Racer, rule: Rule, answer: &PeerAnswer) -> Option<MemberId>
 }
 
 /// Of two members the one that the script declares first.
-fn earlier(member: Option<MemberId>, other: Option<MemberId>) -> Option<MemberId>
+pub fn earlier(member: Option<MemberId>, other: Option<MemberId>) -> Option<MemberId>
     ensures { result ≡ earlier member other }
 {
     match (member, other) {

@@ -26,6 +26,7 @@ answer_text (texts.FailedOver name) = codes "Successfully failed over to \"" ++ 
 answer_text texts.SwitchoverFailed = codes "Switchover failed"
 answer_text texts.FailoverFailed = codes "Failover failed"
 answer_text texts.NoResultInTime = codes "No result in time"
+answer_text texts.NoScheduledSwitchover = codes "No scheduled switchover"
 answer_text texts.NotRunning = codes "PostgreSQL is not running"
 answer_text texts.Restarted = codes "restarted"
 answer_text texts.IsLeader = codes "I am the leader"

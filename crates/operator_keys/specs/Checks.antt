@@ -51,11 +51,19 @@ switchover_by body seen = switchover_asked (asked_by body seen.members) seen
 abbrev pub failover_by : Data → SnapshotFacts → Result FailoverKey Refused
 failover_by body seen = failover_asked (asked_by body seen.members) seen
 
--- the key by which a switchover is asked for, or the first of these that refuses it: its body, the want of a snapshot, a request that waits,
--- and the rules of switchovers
-abbrev pub switchover_of : AgentView → List ℕ → Result FailoverKey Refused
-switchover_of view bytes = on_ok (body_of bytes) (λ body. on_ok (seen_by view) (switchover_by body))
+-- the key by which a switchover is asked for by this snapshot, or the first of these that refuses it: its body, the want of a snapshot, a
+-- request that waits, and the rules of switchovers
+abbrev pub switchover_on : Option SnapshotFacts → Bool → List ℕ → Result FailoverKey Refused
+switchover_on seen waits bytes = on_ok (body_of bytes) (λ body. on_ok (seen_if seen waits) (switchover_by body))
 
--- the same of a failover
+-- the same by what an agent shows
+abbrev pub switchover_of : AgentView → List ℕ → Result FailoverKey Refused
+switchover_of view bytes = switchover_on (option_copied view.seen) view.waits bytes
+
+-- the same of a failover, by a snapshot
+abbrev pub failover_on : Option SnapshotFacts → Bool → List ℕ → Result FailoverKey Refused
+failover_on seen waits bytes = on_ok (body_of bytes) (λ body. on_ok (seen_if seen waits) (failover_by body))
+
+-- the same by what an agent shows
 abbrev pub failover_of : AgentView → List ℕ → Result FailoverKey Refused
-failover_of view bytes = on_ok (body_of bytes) (λ body. on_ok (seen_by view) (failover_by body))
+failover_of view bytes = failover_on (option_copied view.seen) view.waits bytes

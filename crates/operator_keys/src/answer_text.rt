@@ -47,6 +47,8 @@ pub enum Text {
     FailoverFailed,
     /// `No result in time`
     NoResultInTime,
+    /// `No scheduled switchover`
+    NoScheduledSwitchover,
     /// `PostgreSQL is not running`
     NotRunning,
     /// `restarted`
@@ -95,6 +97,7 @@ impl fmt::Display for Text {
             Text::SwitchoverFailed => f.write_str("Switchover failed"),
             Text::FailoverFailed => f.write_str("Failover failed"),
             Text::NoResultInTime => f.write_str("No result in time"),
+            Text::NoScheduledSwitchover => f.write_str("No scheduled switchover"),
             Text::NotRunning => f.write_str("PostgreSQL is not running"),
             Text::Restarted => f.write_str("restarted"),
             Text::IsLeader => f.write_str("I am the leader"),

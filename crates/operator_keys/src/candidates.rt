@@ -5,6 +5,7 @@ ghost use Rattle.operator_keys.specs.Candidates.{leads, names_leader, info_by, i
 
 use crate::asked::Named;
 use cluster_config::{LeaderEntry, Snapshot};
+use leader_race::may_fail_over;
 use lease_store::{Key, KeyEntry, MemberInfo, Value};
 use pat_base::{MemberId, Tags};
 
@@ -54,13 +55,6 @@ fn info_by(value: &Value) -> Option<MemberInfo>
         Value::Member(info) => Some(*info),
         _ => None,
     }
-}
-
-/// Whether a member's tags let it fail over.
-pub(crate) fn may_fail_over(tags: &Tags) -> bool
-    ensures { result ≡ may_fail_over tags.now }
-{
-    tags.may_fail_over()
 }
 
 /// Whether any member besides the leader may take over.

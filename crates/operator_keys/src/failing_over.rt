@@ -3,12 +3,13 @@ ghost use Rattle.std.specs.Prelude.{◌≡◌};
 ghost use Rattle.operator_keys.specs.Rules.{leader_not_named, candidate_not_named, target_is_source, paused_without_candidate, scheduled, other_leader, candidate_leads, another_under_way, no_such_candidate, is_standby_or_nobody, candidate_not_standby, candidate_may_not_fail_over, no_good_candidates, switchover_refusal, failover_refusal};
 
 use crate::asked::{Asked, Named};
-use crate::candidates::{anyone_may_take_over, info_of, may_fail_over, names_leader};
+use crate::candidates::{anyone_may_take_over, info_of, names_leader};
 use crate::refusal::{
     BAD_REQUEST, PRECONDITION_FAILED, SERVICE_UNAVAILABLE, first_refusal, refused_where,
 };
 use crate::{Refused, Text};
 use cluster_config::{LeaderEntry, Snapshot, is_standby};
+use leader_race::may_fail_over;
 use lease_store::{FailoverKey, MemberInfo, SyncKey};
 
 /// What refuses a switchover that asks this, by the first rule that applies.
