@@ -11,12 +11,12 @@ use Rattle.pat_base.specs.declared.name.Name.{Name}
 use Rattle.pat_base.specs.declared.member_id.MemberId.{MemberId}
 use Rattle.pat_base.proofs.Members.{number-member_of}
 use Rattle.pat_base.proofs.Names.{name_of-text}
-use Rattle.cluster_script.specs.Arguments.{number_in, switch_in, slowed_call_in, commit_size_in, delay_in, known_member, member_in, end_in, line_end, last_word, one_word, word_behind, two_words, words_behind, three_words, same_end, apart, two_ends, commit_in, stream_in, slow_in, command, line_of_words}
+use Rattle.cluster_script.specs.Arguments.{number_in, switch_in, slowed_call_in, commit_size_in, delay_in, known_member, member_in, end_in, line_end, last_word, one_word, word_behind, two_words, words_behind, three_words, same_end, apart, two_ends, commit_in, stream_in, slow_in, command, call_words, body_in, rest_line, plain_line, line_of_words}
 use Rattle.cluster_script.specs.Faults.{on_ok, both}
 use Rattle.cluster_script.specs.Members.{place_of, member_named}
 use Rattle.cluster_script.specs.Numbers.{number}
 use Rattle.cluster_script.specs.Ranges.{commit_size_of, delay_of}
-use Rattle.cluster_script.specs.Script.{text_of_name, member_text, end_word, switch_text, slowed_call_text, two_texts, line_text, IsMember, IsEnd, IsLink, IsLine}
+use Rattle.cluster_script.specs.Script.{text_of_name, member_text, end_word, switch_text, slowed_call_text, two_texts, line_text, IsMember, IsEnd, IsLink, IsLine, SpellsLine, OwnText}
 use Rattle.cluster_script.specs.Words.{spelled, cut_word}
 use Rattle.cluster_script.specs.declared.fault.Fault.{Fault}
 use Rattle.cluster_script.specs.declared.fault.Fault.TheVariants as faults
@@ -36,6 +36,7 @@ use Rattle.cluster_script.proofs.NameLaws.{place_of-Some}
 use Rattle.cluster_script.proofs.NumberLaws.{number-is, number-below}
 use Rattle.cluster_script.proofs.Outcomes.{ok_is, err_is, and_then-Some, on_ok-Ok, on_ok-made, ok_or-Ok, both-Ok, cond-Err}
 use Rattle.cluster_script.proofs.RangeLaws.{commit_size_of-bytes, delay_of-ticks}
+use Rattle.cluster_script.proofs.RequestLaws.{MayBeLine, words_with, call_words-Ok, request-SpellsLine, request-IsRequest}
 use Rattle.cluster_script.proofs.WordLaws.{cut_word-None, cut_word-Some}
 
 -- a member that a word names
@@ -328,24 +329,50 @@ slow-line members rest line e =
       fits = m.member;
     })
 
-pub line_of_words-Ok : (members : List Name) (keyword : Keyword) (rest : Option (List ℕ)) (line : Line) → line_of_words members keyword rest ≡ Ok line → Says members keyword rest line
-line_of_words-Ok members words.Tick rest line e = number-line members words.Tick (λ n. lines.Tick n) (λ n. refl) (λ n h. h) rest line e
-line_of_words-Ok members words.Deliver rest line e = number-line members words.Deliver (λ n. lines.Command (commands.Deliver n)) (λ n. refl) (λ n h. h) rest line e
-line_of_words-Ok members words.Lose rest line e = number-line members words.Lose (λ n. lines.Command (commands.Lose n)) (λ n. refl) (λ n h. h) rest line e
-line_of_words-Ok members words.Run rest line e = number-line members words.Run (λ n. lines.Run n) (λ n. refl) (λ n h. h) rest line e
-line_of_words-Ok members words.Turn rest line e = member-line members words.Turn (λ m. lines.Command (commands.Turn m)) (λ m. refl) (λ m h. h) rest line e
-line_of_words-Ok members words.Hold rest line e = member-line members words.Hold (λ m. lines.Command (commands.Hold m)) (λ m. refl) (λ m h. h) rest line e
-line_of_words-Ok members words.Resume rest line e = member-line members words.Resume (λ m. lines.Command (commands.Resume m)) (λ m. refl) (λ m h. h) rest line e
-line_of_words-Ok members words.Kill rest line e = member-line members words.Kill (λ m. lines.Command (commands.Kill m)) (λ m. refl) (λ m h. h) rest line e
-line_of_words-Ok members words.Restart rest line e = member-line members words.Restart (λ m. lines.Command (commands.Restart m)) (λ m. refl) (λ m h. h) rest line e
-line_of_words-Ok members words.Promote rest line e = member-line members words.Promote (λ m. lines.Command (commands.Promote m)) (λ m. refl) (λ m h. h) rest line e
-line_of_words-Ok members words.Crash rest line e = member-line members words.Crash (λ m. lines.Command (commands.Crash m)) (λ m. refl) (λ m h. h) rest line e
-line_of_words-Ok members words.Freeze rest line e = member-line members words.Freeze (λ m. lines.Command (commands.Freeze m)) (λ m. refl) (λ m h. h) rest line e
-line_of_words-Ok members words.Thaw rest line e = member-line members words.Thaw (λ m. lines.Command (commands.Thaw m)) (λ m. refl) (λ m h. h) rest line e
-line_of_words-Ok members words.Commit rest line e = commit-line members rest line e
-line_of_words-Ok members words.Stream rest line e = stream-line members rest line e
-line_of_words-Ok members words.Slow rest line e = slow-line members rest line e
-line_of_words-Ok members words.Cut rest line e = link-line members words.Cut (λ x y. lines.Command (commands.Cut x y)) (λ x y. refl) (λ x y h. h) rest line e
-line_of_words-Ok members words.Join rest line e = link-line members words.Join (λ x y. lines.Command (commands.Join x y)) (λ x y. refl) (λ x y h. h) rest line e
-line_of_words-Ok members words.Trace rest line e = trace-line members rest line e
-line_of_words-Ok members _ rest line e = absurd (err_is _ line e)
+plain_line-Ok : (members : List Name) (keyword : Keyword) (rest : Option (List ℕ)) (line : Line) → plain_line members keyword rest ≡ Ok line → Says members keyword rest line
+plain_line-Ok members words.Tick rest line e = number-line members words.Tick (λ n. lines.Tick n) (λ n. refl) (λ n h. h) rest line e
+plain_line-Ok members words.Deliver rest line e = number-line members words.Deliver (λ n. lines.Command (commands.Deliver n)) (λ n. refl) (λ n h. h) rest line e
+plain_line-Ok members words.Lose rest line e = number-line members words.Lose (λ n. lines.Command (commands.Lose n)) (λ n. refl) (λ n h. h) rest line e
+plain_line-Ok members words.Run rest line e = number-line members words.Run (λ n. lines.Run n) (λ n. refl) (λ n h. h) rest line e
+plain_line-Ok members words.Turn rest line e = member-line members words.Turn (λ m. lines.Command (commands.Turn m)) (λ m. refl) (λ m h. h) rest line e
+plain_line-Ok members words.Hold rest line e = member-line members words.Hold (λ m. lines.Command (commands.Hold m)) (λ m. refl) (λ m h. h) rest line e
+plain_line-Ok members words.Resume rest line e = member-line members words.Resume (λ m. lines.Command (commands.Resume m)) (λ m. refl) (λ m h. h) rest line e
+plain_line-Ok members words.Kill rest line e = member-line members words.Kill (λ m. lines.Command (commands.Kill m)) (λ m. refl) (λ m h. h) rest line e
+plain_line-Ok members words.Restart rest line e = member-line members words.Restart (λ m. lines.Command (commands.Restart m)) (λ m. refl) (λ m h. h) rest line e
+plain_line-Ok members words.Promote rest line e = member-line members words.Promote (λ m. lines.Command (commands.Promote m)) (λ m. refl) (λ m h. h) rest line e
+plain_line-Ok members words.Crash rest line e = member-line members words.Crash (λ m. lines.Command (commands.Crash m)) (λ m. refl) (λ m h. h) rest line e
+plain_line-Ok members words.Freeze rest line e = member-line members words.Freeze (λ m. lines.Command (commands.Freeze m)) (λ m. refl) (λ m h. h) rest line e
+plain_line-Ok members words.Thaw rest line e = member-line members words.Thaw (λ m. lines.Command (commands.Thaw m)) (λ m. refl) (λ m h. h) rest line e
+plain_line-Ok members words.Commit rest line e = commit-line members rest line e
+plain_line-Ok members words.Stream rest line e = stream-line members rest line e
+plain_line-Ok members words.Slow rest line e = slow-line members rest line e
+plain_line-Ok members words.Cut rest line e = link-line members words.Cut (λ x y. lines.Command (commands.Cut x y)) (λ x y. refl) (λ x y h. h) rest line e
+plain_line-Ok members words.Join rest line e = link-line members words.Join (λ x y. lines.Command (commands.Join x y)) (λ x y. refl) (λ x y h. h) rest line e
+plain_line-Ok members words.Trace rest line e = trace-line members rest line e
+plain_line-Ok members _ rest line e = absurd (err_is _ line e)
+
+-- what a line of the body says, and how it is spelled
+pub record SaysLine (members : List Name) (keyword : Keyword) (rest : Option (List ℕ)) (line : Line) : Type 0 where
+  pub words : List ℕ
+  pub is : rest ≡ Some words
+  pub text : SpellsLine members (spelled keyword words) line
+  pub fits : MayBeLine (spelled keyword words) → IsLine members line
+
+own : (members : List Name) (keyword : Keyword) (rest : Option (List ℕ)) (line : Line) → Says members keyword rest line → SaysLine members keyword rest line
+own members keyword rest line says = record { words = says.words; is = says.is; text = OwnText (sym says.text); fits = λ _. says.fits }
+
+rest_line-Ok : (members : List Name) (rest : Option (List ℕ)) (line : Line) → rest_line members rest ≡ Ok line → SaysLine members words.Rest rest line
+rest_line-Ok members rest line e =
+    on_ok-made (SaysLine members words.Rest rest) (call_words members rest) (λ said. lines.Command (commands.Rest said.0.0 said.1 (body_in rest))) line e (λ said is.
+    let c = call_words-Ok members rest said is in
+    let m = member_in-Ok members c.word said.0.0 c.value in
+    subst (λ (body : List ℕ). SaysLine members words.Rest rest (lines.Command (commands.Rest said.0.0 said.1 body))) (sym c.body) (record {
+      words = two_texts (member_text members said.0.0) (words_with said.1 c.behind);
+      is = c.is ∙ ap (λ t. Some (two_texts t (words_with said.1 c.behind))) (sym m.text);
+      text = request-SpellsLine members said.0.0 said.1 c.behind;
+      fits = λ line. request-IsRequest members said.0.0 said.1 c.behind m.member line;
+    }))
+
+pub line_of_words-Ok : (members : List Name) (keyword : Keyword) (rest : Option (List ℕ)) (line : Line) → line_of_words members keyword rest ≡ Ok line → SaysLine members keyword rest line
+line_of_words-Ok members words.Rest rest line e = rest_line-Ok members rest line e
+line_of_words-Ok members keyword rest line e = own members keyword rest line (plain_line-Ok members keyword rest line e)

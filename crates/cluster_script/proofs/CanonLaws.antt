@@ -1,21 +1,19 @@
 -- The lines of a script and nothing else spell it.
-use Rattle.std.proofs.Common.{◌≡◌, ℕ, ◌+◌, ◌*◌, ◌^◌, ◌≤◌, ◌<◌, ℤ, pos, negsuc, ◌≤ℤ◌, suc, ◌&&◌, ◌==◌, nat_lt, not, Bool, true, false, cond, List, [], ◌∷◌, ◌++◌, length, map, slice_get, codes, Option, Some, None, Result, Ok, ◌%◌, append-nil, refl, ◌∙◌, ap, sym, subst, arith, length-append}
+use Rattle.std.proofs.Common.{◌≡◌, ℕ, ◌+◌, ◌*◌, ◌^◌, ◌≤◌, ◌<◌, ℤ, pos, negsuc, ◌≤ℤ◌, suc, ◌==◌, Bool, true, false, cond, List, [], ◌∷◌, ◌++◌, length, map, slice_get, codes, Option, Some, None, Result, Ok, append-nil, refl, ◌∙◌, ap, sym, subst, arith, length-append}
 use Rattle.std.specs.Fmt.{decimal, signed_decimal}
 use Rattle.std.specs.List.{list_all}
 use Rattle.std.specs.Str.{is_utf8, bytes_eq}
 use Rattle.std.proofs.lemmas.Bool.{and_parts, and_from, eqb-true}
 use Rattle.std.proofs.lemmas.Bool.Decides.{nat_tests}
-use Rattle.std.proofs.lemmas.Fmt.{decimal_by_steps, length-decimal-le}
 use Rattle.std.proofs.lemmas.List.Folds.{list_all-append}
 use Rattle.std.proofs.lemmas.Grind.{flat_map-append}
 use Rattle.std.proofs.lemmas.List.{map-append}
 use Rattle.std.proofs.lemmas.Slice.Eq.{bytes_eq-Decides}
-use Rattle.std.proofs.lemmas.Str.{IsUtf8-append, IsUtf8-from_ascii, IsUtf8-from_is_utf8, is_utf8-from_IsUtf8}
-use Rattle.pat_base.specs.Bounded.{list_all-ascii, is_text-bytes, is_text-fits}
+use Rattle.std.proofs.lemmas.Str.{IsUtf8-append, IsUtf8-from_is_utf8, is_utf8-from_IsUtf8}
+use Rattle.pat_base.specs.Bounded.{is_text-bytes, is_text-fits}
 use Rattle.pat_base.specs.Host.{host_bytes, local_host}
 use Rattle.pat_base.specs.HostText.{is_host, is_host_byte}
 use Rattle.pat_base.specs.Name.{name_bytes}
-use Rattle.pat_base.specs.NameText.{is_name, is_name_byte}
 use Rattle.pat_base.specs.declared.name.Name.{Name}
 use Rattle.pat_base.specs.declared.member_id.MemberId.{MemberId}
 use Rattle.leader_key.specs.declared.watchdog.Mode.{Mode}
@@ -24,12 +22,12 @@ use Rattle.lease_store.specs.Defaults.{default_settings}
 use Rattle.lease_store.specs.Settings.{Settings}
 use Rattle.cluster_config.specs.ConfigReading.{config_read, IsConfiguration}
 use Rattle.cluster_config.specs.declared.config_fault.ConfigFault.{ConfigFault}
-use Rattle.cluster_config.proofs.LineLaws.{is_no_feed, config_read-line, config_read-utf8, config_read-empty}
-use Rattle.cluster_script.specs.Lines.{ended, lines_in, is_skipped, counted_lines}
+use Rattle.cluster_config.proofs.LineLaws.{config_read-line, config_read-utf8, config_read-empty}
+use Rattle.cluster_script.specs.Lines.{ended, lines_in, is_skipped, counted_lines, is_in_line}
 use Rattle.cluster_script.specs.Margins.{unsaid_margin}
 use Rattle.cluster_script.specs.Options.{option_text, behind_blanks, host_to_say, flag_to_say, is_default_priority, priority_of, priority_to_say, mode_to_say, device_to_say, options_to_say}
 use Rattle.cluster_script.specs.Reading.{script_of}
-use Rattle.cluster_script.specs.Script.{MemberText, MemberLine, HeadText, ScriptText, names_of, cluster_text, shortest_line, IsScript, IsCommand, IsLine, AllAreLines, text_of_name, member_text, end_word, switch_text, slowed_call_text, two_texts, command_text, line_text, config_text, HeadLine, ConfigLine, BaseLine, MembersLine, head_line_text, config_said, base_said, member_said, configs_said, bases_said, members_said, at_most_one, read_at_most_once, config_or_default, default_base, base_or_default, base_lines, base_to_say, config_lines, config_to_say, IsHeadLines, head_lines, body_lines, script_lines, spelling_of, IsShort, AllInForm, Spells}
+use Rattle.cluster_script.specs.Script.{MemberText, MemberLine, HeadText, ScriptText, names_of, cluster_text, shortest_line, IsScript, IsCommand, IsLine, AllAreLines, member_text, end_word, switch_text, slowed_call_text, two_texts, command_text, line_text, config_text, HeadLine, ConfigLine, BaseLine, MembersLine, head_line_text, config_said, base_said, member_said, configs_said, bases_said, members_said, at_most_one, read_at_most_once, config_or_default, default_base, base_or_default, base_lines, base_to_say, config_lines, config_to_say, IsHeadLines, head_lines, body_lines, script_lines, spelling_of, IsShort, AllInForm, OwnText, SpellBody, Spells, request_text, rest_text, IsRequest}
 use Rattle.cluster_script.specs.Words.{spelled, word_of}
 use Rattle.cluster_script.specs.declared.head.MemberOptions.{MemberOptions}
 use Rattle.cluster_script.specs.declared.keyword.Keyword.{Keyword}
@@ -44,114 +42,25 @@ use Rattle.cluster_script.specs.declared.line.SlowedCall.{SlowedCall}
 use Rattle.cluster_script.specs.declared.line.SlowedCall.TheVariants as slowed_calls
 use Rattle.cluster_script.specs.declared.member_option.MemberOption.{MemberOption}
 use Rattle.cluster_script.specs.declared.member_option.MemberOption.TheVariants as options
+use Rattle.cluster_script.specs.declared.rest.RestCall.{RestCall}
 use Rattle.cluster_script.proofs.OptionCanonLaws.{options-enough}
 use Rattle.cluster_script.proofs.OptionWords.{margin-fits}
+use Rattle.cluster_script.proofs.PlainTexts.{is_plain, IsPlain, IsPlain-append, IsPlain-most, blank-IsPlain, name-IsPlain, some_name-IsPlain, decimal-IsPlain, word-IsPlain, plain-is_utf8, no-feeds}
 use Rattle.cluster_script.proofs.PriorityLaws.{fits-from-zero, fits-below-zero}
+use Rattle.cluster_script.proofs.RequestLaws.{request-one-line}
 use Rattle.cluster_script.proofs.SpellLaws.{size-fits, delay-fits, base-fits, spelled-is-read}
 use Rattle.cluster_script.proofs.WordLaws.{spelled-counts}
-
--- a byte of ASCII that ends no line
-abbrev is_plain : ℕ → Bool
-is_plain b = nat_lt b 128 && not (b == 10)
-
--- words of plain bytes, and no more than so many
-record IsPlain (text : List ℕ) (most : ℕ) : Type 0 where
-  pub plain : list_all is_plain text ≡ true
-  pub short : length text ≤ most
-
-plain-append : (xs ys : List ℕ) → list_all is_plain xs ≡ true → list_all is_plain ys ≡ true → list_all is_plain (xs ++ ys) ≡ true
-plain-append xs ys h k = list_all-append is_plain xs ys ∙ and_from (list_all is_plain xs) (list_all is_plain ys) h k
-
-IsPlain-append : (xs ys : List ℕ) (m n : ℕ) → IsPlain xs m → IsPlain ys n → IsPlain (xs ++ ys) (m + n)
-IsPlain-append xs ys m n h k = record { plain = plain-append xs ys h.plain k.plain; short = omega (arith, length-append xs ys, h.short, k.short) }
-
-IsPlain-most : (xs : List ℕ) (m n : ℕ) → m ≤ n → IsPlain xs m → IsPlain xs n
-IsPlain-most xs m n le h = record { plain = h.plain; short = omega (arith, h.short) }
-
-blank-IsPlain : (rest : List ℕ) (n : ℕ) → IsPlain rest n → IsPlain (32 ∷ rest) (n + 1)
-blank-IsPlain rest n h = record { plain = h.plain; short = omega (arith, h.short) }
-
-name-byte : (b : ℕ) → is_name_byte b ≡ true → is_plain b ≡ true
-name-byte b h = grind (arith, nat_tests)
-
-name-bytes : (v : List ℕ) → list_all is_name_byte v ≡ true → list_all is_plain v ≡ true
-name-bytes [] h = refl
-name-bytes (b ∷ bs) h =
-    let both = and_parts (is_name_byte b) (list_all is_name_byte bs) h in
-    and_from (is_plain b) (list_all is_plain bs) (name-byte b both.0) (name-bytes bs both.1)
-
-text-IsPlain : (v : List ℕ) → is_name v ≡ true → IsPlain v 32
-text-IsPlain v h = record { plain = name-bytes v (is_text-bytes 32 is_name_byte v h); short = is_text-fits 32 is_name_byte v h }
-
-name-IsPlain : (name : Name) → IsPlain (name_bytes name) 32
-name-IsPlain name = text-IsPlain (name_bytes name) name.legal
-
-some_name-IsPlain : (o : Option Name) → IsPlain (text_of_name o) 32
-some_name-IsPlain None = record { plain = refl; short = omega arith }
-some_name-IsPlain (Some name) = name-IsPlain name
-
-end-IsPlain : (members : List Name) (x : End) → IsPlain (end_word members x) 32
-end-IsPlain members ends.Store = record { plain = refl; short = omega arith }
-end-IsPlain members (ends.Member m) = some_name-IsPlain (slice_get members m.number)
-
-a_digit : (d : ℕ) → d < 10 → list_all is_plain ((48 + d) ∷ []) ≡ true
-a_digit d h = let t : is_plain (48 + d) ≡ true = grind (arith, nat_tests) in rw t refl
-
-decimal-IsPlain : (n : ℕ) → n < 2 ^ 64 → IsPlain (decimal n) 20
-decimal-IsPlain n fits = record {
-  plain = decimal_by_steps (λ n ds. list_all is_plain ds ≡ true) (λ n h. a_digit n h) (λ n ds h front. plain-append ds ((48 + n % 10) ∷ []) front (a_digit (n % 10) (omega arith))) n fits;
-  short = length-decimal-le 20 n (omega arith) (omega arith) fits;
-}
-
-word-IsPlain : (keyword : Keyword) → IsPlain (word_of keyword) 7
-word-IsPlain words.Cluster = record { plain = refl; short = omega arith }
-word-IsPlain words.Config = record { plain = refl; short = omega arith }
-word-IsPlain words.Base = record { plain = refl; short = omega arith }
-word-IsPlain words.Member = record { plain = refl; short = omega arith }
-word-IsPlain words.Tick = record { plain = refl; short = omega arith }
-word-IsPlain words.Run = record { plain = refl; short = omega arith }
-word-IsPlain words.Turn = record { plain = refl; short = omega arith }
-word-IsPlain words.Deliver = record { plain = refl; short = omega arith }
-word-IsPlain words.Lose = record { plain = refl; short = omega arith }
-word-IsPlain words.Hold = record { plain = refl; short = omega arith }
-word-IsPlain words.Resume = record { plain = refl; short = omega arith }
-word-IsPlain words.Kill = record { plain = refl; short = omega arith }
-word-IsPlain words.Restart = record { plain = refl; short = omega arith }
-word-IsPlain words.Crash = record { plain = refl; short = omega arith }
-word-IsPlain words.Promote = record { plain = refl; short = omega arith }
-word-IsPlain words.Commit = record { plain = refl; short = omega arith }
-word-IsPlain words.Stream = record { plain = refl; short = omega arith }
-word-IsPlain words.Freeze = record { plain = refl; short = omega arith }
-word-IsPlain words.Thaw = record { plain = refl; short = omega arith }
-word-IsPlain words.Cut = record { plain = refl; short = omega arith }
-word-IsPlain words.Join = record { plain = refl; short = omega arith }
-word-IsPlain words.Slow = record { plain = refl; short = omega arith }
-word-IsPlain words.Rest = record { plain = refl; short = omega arith }
-word-IsPlain words.Ctl = record { plain = refl; short = omega arith }
-word-IsPlain words.Trace = record { plain = refl; short = omega arith }
 
 -- a line that a script has
 record IsLineText (line : List ℕ) : Type 0 where
   pub text : is_utf8 line ≡ true
-  pub alone : list_all is_no_feed line ≡ true
+  pub alone : list_all is_in_line line ≡ true
   pub short : length line ≤ 8192
   pub counts : is_skipped line ≡ false
 
--- words of plain bytes are text that ends no line
-ascii-byte : (b : ℕ) → is_plain b ≡ true → b < 128
-ascii-byte b h = grind (arith, nat_tests)
-
-plain-is_utf8 : (v : List ℕ) → list_all is_plain v ≡ true → is_utf8 v ≡ true
-plain-is_utf8 v h = is_utf8-from_IsUtf8 v (IsUtf8-from_ascii v (list_all-ascii is_plain ascii-byte v h))
-
-no-feed : (b : ℕ) → is_plain b ≡ true → is_no_feed b ≡ true
-no-feed b h = grind (arith, nat_tests)
-
-no-feeds : (v : List ℕ) → list_all is_plain v ≡ true → list_all is_no_feed v ≡ true
-no-feeds [] h = refl
-no-feeds (b ∷ bs) h =
-    let both = and_parts (is_plain b) (list_all is_plain bs) h in
-    and_from (is_no_feed b) (list_all is_no_feed bs) (no-feed b both.0) (no-feeds bs both.1)
+end-IsPlain : (members : List Name) (x : End) → IsPlain (end_word members x) 32
+end-IsPlain members ends.Store = record { plain = refl; short = omega arith }
+end-IsPlain members (ends.Member m) = some_name-IsPlain (slice_get members m.number)
 
 spelled-IsLineText : (keyword : Keyword) (rest : List ℕ) → IsPlain rest 500 → IsLineText (spelled keyword rest)
 spelled-IsLineText keyword rest h =
@@ -162,7 +71,7 @@ spelled-IsLineText keyword rest h =
 config-IsLineText : (config : Settings) → IsConfiguration config → IsShort (config_text config.text) → IsLineText (config_text config.text)
 config-IsLineText config is short = record {
   text = is_utf8-from_IsUtf8 (config_text config.text) (IsUtf8-append (codes "config ") config.text (IsUtf8-from_is_utf8 (codes "config ") (plain-is_utf8 (codes "config ") refl)) (IsUtf8-from_is_utf8 config.text (config_read-utf8 config.text config is.reads_back)));
-  alone = list_all-append is_no_feed (codes "config ") config.text ∙ config_read-line config.text config is.reads_back;
+  alone = list_all-append is_in_line (codes "config ") config.text ∙ config_read-line config.text config is.reads_back;
   short = short;
   counts = spelled-counts words.Config config.text;
 }
@@ -201,6 +110,10 @@ delay-IsPlain members m slowed n fits =
     IsPlain-most (two_texts (member_text members m) (two_texts (slowed_call_text slowed) (decimal n))) (32 + ((5 + (20 + 1)) + 1)) 500 (omega arith)
     (IsPlain-append (member_text members m) (32 ∷ two_texts (slowed_call_text slowed) (decimal n)) 32 ((5 + (20 + 1)) + 1) (some_name-IsPlain (slice_get members m.number)) (blank-IsPlain (two_texts (slowed_call_text slowed) (decimal n)) (5 + (20 + 1)) behind))
 
+-- the line of a request, whose body is on one line
+request-IsLineText : (members : List Name) (m : MemberId) (call : RestCall) (body : List ℕ) → IsRequest members m call body → IsLineText (rest_text members m call body)
+request-IsLineText members m call body is = record { text = is.form.text; alone = request-one-line members m call body is.one_line; short = is.form.short; counts = spelled-counts words.Rest (two_texts (member_text members m) (request_text call body)) }
+
 command-IsLineText : (members : List Name) (c : Command) → IsCommand members c → IsLineText (command_text members c)
 command-IsLineText members (commands.Turn m) is = spelled-IsLineText words.Turn (member_text members m) (member-IsPlain members m)
 command-IsLineText members (commands.Deliver n) is = spelled-IsLineText words.Deliver (decimal n) (number-IsPlain n is)
@@ -218,6 +131,7 @@ command-IsLineText members (commands.Thaw m) is = spelled-IsLineText words.Thaw 
 command-IsLineText members (commands.Slow m slowed delay) is = spelled-IsLineText words.Slow (two_texts (member_text members m) (two_texts (slowed_call_text slowed) (decimal delay.ticks))) (delay-IsPlain members m slowed delay.ticks (delay-fits delay))
 command-IsLineText members (commands.Cut x y) is = spelled-IsLineText words.Cut (two_texts (end_word members x) (end_word members y)) (link-IsPlain members x y)
 command-IsLineText members (commands.Join x y) is = spelled-IsLineText words.Join (two_texts (end_word members x) (end_word members y)) (link-IsPlain members x y)
+command-IsLineText members (commands.Rest m call body) is = request-IsLineText members m call body is
 command-IsLineText members (commands.Trace on) is = spelled-IsLineText words.Trace (switch_text on) (switch-IsPlain on)
 
 line-IsLineText : (members : List Name) (line : Line) → IsLine members line → IsLineText (line_text members line)
@@ -365,6 +279,11 @@ body-AllLineTexts : (members : List Name) (body : List Line) → AllAreLines mem
 body-AllLineTexts members [] is = tt
 body-AllLineTexts members (line ∷ body) is = (line-IsLineText members line is.0, body-AllLineTexts members body is.1)
 
+-- each line's own text spells it
+own-SpellBody : (members : List Name) (body : List Line) → SpellBody members (body_lines members body) body
+own-SpellBody members [] = tt
+own-SpellBody members (line ∷ body) = (OwnText refl, own-SpellBody members body)
+
 -- the line of a configuration, where it has to be said
 config-AllLineTexts : (config : Settings) (t : Bool) → IsConfiguration config → IsShort (config_text config.text) → AllLineTexts (config_lines (cond t None (Some config.text)))
 config-AllLineTexts config true is short = tt
@@ -381,13 +300,13 @@ script-AllLineTexts s h is short =
     )
 
 -- such lines are cut again
-feeds-apart : (b : ℕ) → is_no_feed b ≡ true → (b == 10) ≡ false
+feeds-apart : (b : ℕ) → is_in_line b ≡ true → (b == 10) ≡ false
 feeds-apart b h = grind (arith, nat_tests)
 
-line-again : (line rest : List ℕ) → list_all is_no_feed line ≡ true → lines_in (line ++ (10 ∷ rest)) ≡ line ∷ lines_in rest
+line-again : (line rest : List ℕ) → list_all is_in_line line ≡ true → lines_in (line ++ (10 ∷ rest)) ≡ line ∷ lines_in rest
 line-again [] rest h = refl
 line-again (b ∷ bs) rest h =
-    let both = and_parts (is_no_feed b) (list_all is_no_feed bs) h in
+    let both = and_parts (is_in_line b) (list_all is_in_line bs) h in
     rw (feeds-apart b both.0, line-again bs rest both.1) refl
 
 lines-again : (lines : List (List ℕ)) → AllLineTexts lines → lines_in (ended lines) ≡ lines
@@ -487,6 +406,8 @@ spelling-Spells s h is short =
       form = subst AllInForm (sym (lines-again (script_lines s) texts)) (all-in-form (script_lines s) texts);
       head = head_lines s.head;
       says = head-IsHeadLines s.head is;
+      body = body_lines (names_of s.head) s.body;
+      spells = own-SpellBody (names_of s.head) s.body;
       lines = ap counted_lines (lines-again (script_lines s) texts) ∙ all-count (script_lines s) texts;
     }
 

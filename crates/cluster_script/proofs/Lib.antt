@@ -15,8 +15,10 @@ pub mod OptionSpellLaws
 pub mod OptionWords
 pub mod Outcomes
 pub mod Places
+pub mod PlainTexts
 pub mod PriorityLaws
 pub mod RangeLaws
 pub mod ReadLaws
+pub mod RequestLaws
 pub mod SpellLaws
 pub mod WordLaws

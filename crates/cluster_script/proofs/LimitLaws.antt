@@ -1,14 +1,13 @@
 -- What a script within the limits has at most.
-use Rattle.std.proofs.Common.{◌≡◌, ℕ, ◌+◌, ◌-◌, ◌^◌, ◌≤◌, nat_lt, min, Bool, true, false, cond, List, [], ◌∷◌, ◌++◌, length, Option, Some, None, Ok, refl, ap, subst, arith, length-append}
+use Rattle.std.proofs.Common.{◌≡◌, ℕ, ◌+◌, ◌-◌, ◌^◌, ◌≤◌, nat_lt, min, Bool, true, false, cond, List, [], ◌∷◌, ◌++◌, length, Option, Some, None, Ok, refl, ap, sym, subst, arith, length-append}
 use Rattle.std.specs.List.{sum_by}
 use Rattle.std.proofs.lemmas.Bool.Decides.{nat_tests}
-use Rattle.std.proofs.lemmas.List.{length-map}
 use Rattle.std.proofs.lemmas.List.Sums.{sum_by-append, sum_by-cons}
 use Rattle.pat_base.specs.declared.name.Name.{Name}
 use Rattle.cluster_script.specs.Lines.{lines_in, is_skipped, counted_lines}
 use Rattle.cluster_script.specs.Limits.{member_line_count, ticks_or_none, ticks_in_line, ticks_in, limit_of_lines, limit_of}
 use Rattle.cluster_script.specs.Reading.{script_of}
-use Rattle.cluster_script.specs.Script.{ScriptText, names_of, IsLine, AllAreLines, line_text, body_lines}
+use Rattle.cluster_script.specs.Script.{ScriptText, names_of, IsLine, AllAreLines, line_text, SpellsLine, OwnText, BlankBehind, SpellBody}
 use Rattle.cluster_script.specs.Steps.{ticks_of_line, total_ticks}
 use Rattle.cluster_script.specs.declared.line.Line.{Line}
 use Rattle.cluster_script.specs.declared.line.Line.TheVariants as lines
@@ -48,16 +47,22 @@ line-ticks members (lines.Run n) h = let e : ticks_in_line (line_text members (l
 line-ticks members (lines.Tick n) h = let e : ticks_in_line (line_text members (lines.Tick n)) ≡ n = ap ticks_or_none (number-decimal n h) in omega (arith, e)
 line-ticks members (lines.Command c) h = omega arith
 
-body-ticks : (members : List Name) (body : List Line) → AllAreLines members body → total_ticks body ≤ sum_by ticks_in_line (body_lines members body)
-body-ticks members [] h = omega arith
-body-ticks members (line ∷ body) h = omega (arith, line-ticks members line h.0, body-ticks members body h.1, sum_by-cons ticks_in_line (line_text members line) (body_lines members body))
+text-ticks : (members : List Name) (text : List ℕ) (line : Line) → IsLine members line → SpellsLine members text line → ticks_of_line line ≤ ticks_in_line text
+text-ticks members text line h (OwnText own) = subst (λ (t : List ℕ). ticks_of_line line ≤ ticks_in_line t) (sym own) (line-ticks members line h)
+text-ticks members text line h (BlankBehind m call request blank) = omega (arith, ap ticks_of_line request)
 
--- the lines of a body are among those of its script
-all-ticks : (head : List (List ℕ)) (members : List Name) (body : List Line) → sum_by ticks_in_line (body_lines members body) ≤ sum_by ticks_in_line (head ++ body_lines members body)
-all-ticks head members body = omega (arith, sum_by-append ticks_in_line head (body_lines members body))
+body-ticks : (members : List Name) (texts : List (List ℕ)) (body : List Line) → AllAreLines members body → SpellBody members texts body → total_ticks body ≤ sum_by ticks_in_line texts
+body-ticks members [] [] h spell = omega arith
+body-ticks members [] (line ∷ body) h spell = absurd spell
+body-ticks members (text ∷ texts) [] h spell = absurd spell
+body-ticks members (text ∷ texts) (line ∷ body) h spell = omega (arith, text-ticks members text line h.0 spell.0, body-ticks members texts body h.1 spell.1, sum_by-cons ticks_in_line text texts)
 
-all-lines : (head : List (List ℕ)) (members : List Name) (body : List Line) → length body ≤ length (head ++ body_lines members body)
-all-lines head members body = omega (arith, length-append head (body_lines members body), length-map body (line_text members))
+-- a line has one text
+body-lengths : (members : List Name) (texts : List (List ℕ)) (body : List Line) → SpellBody members texts body → length body ≡ length texts
+body-lengths members [] [] spell = refl
+body-lengths members [] (line ∷ body) spell = absurd spell
+body-lengths members (text ∷ texts) [] spell = absurd spell
+body-lengths members (text ∷ texts) (line ∷ body) spell = omega (arith, body-lengths members texts body spell.1)
 
 least : (n : ℕ) → min n (2 ^ 64 - 1) ≤ 1000000 → n ≤ 1000000
 least n h = omega arith
@@ -71,15 +76,15 @@ lines-within ls none =
     (not-more 100000 (length ls) l.0, least (sum_by ticks_in_line ls) (not-more 1000000 (ticks_in ls) t.0))
 
 -- a script of lines that pass none
-text-within : (ls head : List (List ℕ)) (members : List Name) (body : List Line) → AllAreLines members body → counted_lines ls ≡ head ++ body_lines members body → (length ls ≤ 100000) × (sum_by ticks_in_line ls ≤ 1000000)
+text-within : (ls head texts : List (List ℕ)) (members : List Name) (body : List Line) → AllAreLines members body → SpellBody members texts body → counted_lines ls ≡ head ++ texts → (length ls ≤ 100000) × (sum_by ticks_in_line ls ≤ 1000000)
     → (total_ticks body ≤ 1000000) × (length body ≤ 100000)
-text-within ls head members body fit same within =
-    let few : length (head ++ body_lines members body) ≤ length ls = subst (λ (some : List (List ℕ)). length some ≤ length ls) same (fewer ls) in
-    let ticks : sum_by ticks_in_line (head ++ body_lines members body) ≤ sum_by ticks_in_line ls = subst (λ (some : List (List ℕ)). sum_by ticks_in_line some ≤ sum_by ticks_in_line ls) same (fewer-ticks ls) in
-    (omega (arith, within.1, ticks, all-ticks head members body, body-ticks members body fit), omega (arith, within.0, few, all-lines head members body))
+text-within ls head texts members body fit spell same within =
+    let few : length (head ++ texts) ≤ length ls = subst (λ (some : List (List ℕ)). length some ≤ length ls) same (fewer ls) in
+    let ticks : sum_by ticks_in_line (head ++ texts) ≤ sum_by ticks_in_line ls = subst (λ (some : List (List ℕ)). sum_by ticks_in_line some ≤ sum_by ticks_in_line ls) same (fewer-ticks ls) in
+    (omega (arith, within.1, ticks, sum_by-append ticks_in_line head texts, body-ticks members texts body fit spell), omega (arith, within.0, few, length-append head texts, body-lengths members texts body spell))
 
 pub within-limits : (bytes : List ℕ) (text : ScriptText) → script_of bytes ≡ Ok text → limit_of bytes ≡ None → (total_ticks text.body ≤ 1000000) × (length text.body ≤ 100000)
 within-limits bytes text e none =
     let read = read-is-spelled bytes text e in
     let passed = none_passed (nat_lt 1048576 (length bytes)) limits.Bytes (limit_of_lines (lines_in bytes)) none in
-    text-within (lines_in bytes) read.1.head (names_of text.head) text.body read.0.body read.1.lines (lines-within (lines_in bytes) passed.1)
+    text-within (lines_in bytes) read.1.head read.1.body (names_of text.head) text.body read.0.body read.1.spells read.1.lines (lines-within (lines_in bytes) passed.1)

@@ -1,8 +1,9 @@
 -- What is read as a script is one, and is spelled so.
-use Rattle.std.proofs.Common.{◌≡◌, ℕ, ◌+◌, ◌^◌, ◌≤◌, ◌<◌, ◌&&◌, nat_le, Bool, true, false, cond, List, [], ◌∷◌, ◌++◌, length, map, Option, Some, None, Result, Ok, Err, refl, ◌∙◌, ap, sym, subst, arith, append_assoc, append-nil, length-append}
+use Rattle.std.proofs.Common.{◌≡◌, ℕ, ◌+◌, ◌^◌, ◌≤◌, ◌<◌, ◌&&◌, ◌==◌, not, nat_le, Bool, true, false, cond, List, [], ◌∷◌, ◌++◌, length, map, Option, Some, None, Result, Ok, Err, refl, ◌∙◌, ap, sym, subst, arith, append_assoc, append-nil, length-append}
 use Rattle.std.specs.Fmt.{decimal}
 use Rattle.std.specs.List.{flat_map}
 use Rattle.std.specs.Str.{is_utf8}
+use Rattle.std.proofs.lemmas.Bool.{and_from}
 use Rattle.std.proofs.lemmas.Bool.Decides.{nat_tests}
 use Rattle.std.proofs.lemmas.Grind.{flat_map-append}
 use Rattle.std.proofs.lemmas.List.{map-append, length-map}
@@ -15,12 +16,12 @@ use Rattle.cluster_config.specs.declared.config_fault.ConfigFault.{ConfigFault}
 use Rattle.cluster_script.specs.Arguments.{number_in, line_of_words}
 use Rattle.cluster_script.specs.Draft.{DraftText, script_so_far}
 use Rattle.cluster_script.specs.Faults.{on_ok, both}
-use Rattle.cluster_script.specs.Lines.{lines_in, is_skipped, counted_lines}
+use Rattle.cluster_script.specs.Lines.{push_byte, lines_in, is_skipped, counted_lines, is_in_line, is_one_line}
 use Rattle.cluster_script.specs.Members.{place_of}
 use Rattle.cluster_script.specs.Options.{SayOnce, option_text, behind_blanks, options_or_default}
 use Rattle.cluster_script.specs.OptionReading.{options_in}
 use Rattle.cluster_script.specs.Reading.{name_in, declared_in_head, declared_once, named_member, new_member, next_member, ranged_base, base_in, head_end, base_end, next_base, addition_of, with_addition, config_if_read, next_config, is_config, with_config, with_other, with_line, alone, cluster_named, cluster_in, cluster_by_keyword, first_line, first_draft, after_counted, after_text, after_line, after_lines, at_line, with_some, finished, script_of}
-use Rattle.cluster_script.specs.Script.{AreDifferent, MemberText, MemberLine, ScriptText, member_names, names_of, member_of_entry, member_of_line, IsScript, IsLine, AllAreLines, cluster_text, member_line_text, base_text, config_text, line_text, HeadLine, ConfigLine, BaseLine, MembersLine, head_line_text, config_said, base_said, member_said, configs_said, bases_said, members_said, at_most_one, read_at_most_once, base_or_default, head_with, IsHeadLines, body_lines, IsInForm, AllInForm, Spells}
+use Rattle.cluster_script.specs.Script.{AreDifferent, MemberText, MemberLine, ScriptText, member_names, names_of, member_of_entry, member_of_line, IsScript, IsLine, AllAreLines, cluster_text, member_line_text, base_text, config_text, HeadLine, ConfigLine, BaseLine, MembersLine, head_line_text, config_said, base_said, member_said, configs_said, bases_said, members_said, at_most_one, read_at_most_once, base_or_default, head_with, IsHeadLines, IsInForm, AllInForm, SpellsLine, SpellBody, Spells}
 use Rattle.cluster_script.specs.Words.{spelled, keyword_of, cut_word}
 use Rattle.cluster_script.specs.declared.addition.Addition.{Addition}
 use Rattle.cluster_script.specs.declared.addition.Addition.TheVariants as additions
@@ -37,6 +38,7 @@ use Rattle.cluster_script.proofs.NumberLaws.{number-is}
 use Rattle.cluster_script.proofs.OptionReadLaws.{options_in-Ok}
 use Rattle.cluster_script.proofs.OptionWords.{options-behind}
 use Rattle.cluster_script.proofs.Outcomes.{none_is, ok_is, err_is, on_ok-Ok, on_ok-made, ok_or-Ok, both-Ok, at_line-Ok, cond-Ok, cond-Err}
+use Rattle.cluster_script.proofs.RequestLaws.{MayBeLine}
 use Rattle.cluster_script.proofs.WordLaws.{cut_word-None, cut_word-Some, keyword_of-is}
 
 -- a line that declares a member
@@ -49,7 +51,7 @@ pub record DeclaredLine (line : List ℕ) (name : Name) (declared : MemberOption
 abbrev IsAddition : Option ℕ → List Name → List Line → List ℕ → Addition → Type 0
 IsAddition base members body line (additions.Member name declared) = DeclaredLine line name declared × (length members < 16) × (place_of members name ≡ None) × (body ≡ [])
 IsAddition base members body line (additions.Base n) = (base_text n ≡ line) × (1 ≤ n) × (n ≤ 2 ^ 40) × (base ≡ None) × (body ≡ [])
-IsAddition base members body line (additions.Body l) = (line_text members l ≡ line) × IsLine members l
+IsAddition base members body line (additions.Body l) = SpellsLine members line l × IsLine members l
 
 -- the words of a member's line
 record DeclaresMember (members : List Name) (body : List Line) (rest : Option (List ℕ)) (member : Name × MemberOptions) : Type 0 where
@@ -149,11 +151,13 @@ line-is : (line : List ℕ) (keyword : Keyword) (words : List ℕ) → keyword_o
 line-is line keyword words k r =
     sym (cut_word-Some line words r ∙ ap (λ t. t ++ (32 ∷ words)) (keyword_of-is (cut_word line).0 keyword k))
 
-body-Ok : (base : Option ℕ) (members : List Name) (body : List Line) (line : List ℕ) (keyword : Keyword) (a : Addition) → keyword_of (cut_word line).0 ≡ Some keyword → on_ok (line_of_words members keyword (cut_word line).1) (λ l. Ok (additions.Body l)) ≡ Ok a
+body-Ok : (base : Option ℕ) (members : List Name) (body : List Line) (line : List ℕ) (keyword : Keyword) (a : Addition) → MayBeLine line → keyword_of (cut_word line).0 ≡ Some keyword → on_ok (line_of_words members keyword (cut_word line).1) (λ l. Ok (additions.Body l)) ≡ Ok a
     → IsAddition base members body line a
-body-Ok base members body line keyword a k e =
+body-Ok base members body line keyword a may k e =
     on_ok-made (IsAddition base members body line) (line_of_words members keyword (cut_word line).1) additions.Body a e (λ l is.
-    let s = line_of_words-Ok members keyword (cut_word line).1 l is in (s.text ∙ line-is line keyword s.words k s.is, s.fits))
+    let s = line_of_words-Ok members keyword (cut_word line).1 l is in
+    let same : spelled keyword s.words ≡ line = line-is line keyword s.words k s.is in
+    (subst (λ (t : List ℕ). SpellsLine members t l) same s.text, s.fits (subst MayBeLine (sym same) may)))
 
 member-Ok : (base : Option ℕ) (members : List Name) (body : List Line) (line : List ℕ) (a : Addition) → keyword_of (cut_word line).0 ≡ Some words.Member
     → on_ok (next_member members body (cut_word line).1) (λ member. Ok (additions.Member member.0 member.1)) ≡ Ok a → IsAddition base members body line a
@@ -177,32 +181,32 @@ base-Ok base members body line a k e =
     let s = next_base-Ok base body (cut_word line).1 n is in
     (ap (spelled words.Base) s.text ∙ line-is line words.Base s.words k s.is, s.least, s.most, s.first, s.in_head))
 
-of-Ok : (base : Option ℕ) (members : List Name) (body : List Line) (line : List ℕ) (keyword : Keyword) (a : Addition) → keyword_of (cut_word line).0 ≡ Some keyword → addition_of base members body keyword (cut_word line).1 ≡ Ok a → IsAddition base members body line a
-of-Ok base members body line words.Cluster a k e = absurd (err_is _ a e)
-of-Ok base members body line words.Base a k e = base-Ok base members body line a k e
-of-Ok base members body line words.Member a k e = member-Ok base members body line a k e
-of-Ok base members body line words.Config a k e = body-Ok base members body line words.Config a k e
-of-Ok base members body line words.Tick a k e = body-Ok base members body line words.Tick a k e
-of-Ok base members body line words.Run a k e = body-Ok base members body line words.Run a k e
-of-Ok base members body line words.Turn a k e = body-Ok base members body line words.Turn a k e
-of-Ok base members body line words.Deliver a k e = body-Ok base members body line words.Deliver a k e
-of-Ok base members body line words.Lose a k e = body-Ok base members body line words.Lose a k e
-of-Ok base members body line words.Hold a k e = body-Ok base members body line words.Hold a k e
-of-Ok base members body line words.Resume a k e = body-Ok base members body line words.Resume a k e
-of-Ok base members body line words.Kill a k e = body-Ok base members body line words.Kill a k e
-of-Ok base members body line words.Restart a k e = body-Ok base members body line words.Restart a k e
-of-Ok base members body line words.Crash a k e = body-Ok base members body line words.Crash a k e
-of-Ok base members body line words.Promote a k e = body-Ok base members body line words.Promote a k e
-of-Ok base members body line words.Commit a k e = body-Ok base members body line words.Commit a k e
-of-Ok base members body line words.Stream a k e = body-Ok base members body line words.Stream a k e
-of-Ok base members body line words.Freeze a k e = body-Ok base members body line words.Freeze a k e
-of-Ok base members body line words.Thaw a k e = body-Ok base members body line words.Thaw a k e
-of-Ok base members body line words.Cut a k e = body-Ok base members body line words.Cut a k e
-of-Ok base members body line words.Join a k e = body-Ok base members body line words.Join a k e
-of-Ok base members body line words.Slow a k e = body-Ok base members body line words.Slow a k e
-of-Ok base members body line words.Rest a k e = body-Ok base members body line words.Rest a k e
-of-Ok base members body line words.Ctl a k e = body-Ok base members body line words.Ctl a k e
-of-Ok base members body line words.Trace a k e = body-Ok base members body line words.Trace a k e
+of-Ok : (base : Option ℕ) (members : List Name) (body : List Line) (line : List ℕ) (keyword : Keyword) (a : Addition) → MayBeLine line → keyword_of (cut_word line).0 ≡ Some keyword → addition_of base members body keyword (cut_word line).1 ≡ Ok a → IsAddition base members body line a
+of-Ok base members body line words.Cluster a may k e = absurd (err_is _ a e)
+of-Ok base members body line words.Base a may k e = base-Ok base members body line a k e
+of-Ok base members body line words.Member a may k e = member-Ok base members body line a k e
+of-Ok base members body line words.Config a may k e = body-Ok base members body line words.Config a may k e
+of-Ok base members body line words.Tick a may k e = body-Ok base members body line words.Tick a may k e
+of-Ok base members body line words.Run a may k e = body-Ok base members body line words.Run a may k e
+of-Ok base members body line words.Turn a may k e = body-Ok base members body line words.Turn a may k e
+of-Ok base members body line words.Deliver a may k e = body-Ok base members body line words.Deliver a may k e
+of-Ok base members body line words.Lose a may k e = body-Ok base members body line words.Lose a may k e
+of-Ok base members body line words.Hold a may k e = body-Ok base members body line words.Hold a may k e
+of-Ok base members body line words.Resume a may k e = body-Ok base members body line words.Resume a may k e
+of-Ok base members body line words.Kill a may k e = body-Ok base members body line words.Kill a may k e
+of-Ok base members body line words.Restart a may k e = body-Ok base members body line words.Restart a may k e
+of-Ok base members body line words.Crash a may k e = body-Ok base members body line words.Crash a may k e
+of-Ok base members body line words.Promote a may k e = body-Ok base members body line words.Promote a may k e
+of-Ok base members body line words.Commit a may k e = body-Ok base members body line words.Commit a may k e
+of-Ok base members body line words.Stream a may k e = body-Ok base members body line words.Stream a may k e
+of-Ok base members body line words.Freeze a may k e = body-Ok base members body line words.Freeze a may k e
+of-Ok base members body line words.Thaw a may k e = body-Ok base members body line words.Thaw a may k e
+of-Ok base members body line words.Cut a may k e = body-Ok base members body line words.Cut a may k e
+of-Ok base members body line words.Join a may k e = body-Ok base members body line words.Join a may k e
+of-Ok base members body line words.Slow a may k e = body-Ok base members body line words.Slow a may k e
+of-Ok base members body line words.Rest a may k e = body-Ok base members body line words.Rest a may k e
+of-Ok base members body line words.Ctl a may k e = body-Ok base members body line words.Ctl a may k e
+of-Ok base members body line words.Trace a may k e = body-Ok base members body line words.Trace a may k e
 
 -- a base that is said is in its range
 abbrev IsBaseIfSaid : Option ℕ → Type 0
@@ -222,7 +226,9 @@ record SayDraft (d : DraftText) (ls : List (List ℕ)) : Type 0 where
   pub configs : configs_said said ≡ read_at_most_once d.config
   pub bases : bases_said said ≡ at_most_one d.base
   pub members : members_said said ≡ d.members
-  pub lines : ls ≡ head_with d.cluster said ++ body_lines (member_names d.members) d.body
+  pub body : List (List ℕ)
+  pub spells : SpellBody (member_names d.members) body d.body
+  pub lines : ls ≡ head_with d.cluster said ++ body
 
 -- lines that say a draft, and what holds of it
 record Adds (d : DraftText) (ls : List (List ℕ)) : Type 0 where
@@ -232,6 +238,18 @@ record Adds (d : DraftText) (ls : List (List ℕ)) : Type 0 where
 AllAreLines-push : (members : List Name) (body : List Line) (line : Line) → AllAreLines members body → IsLine members line → AllAreLines members (body ++ line ∷ [])
 AllAreLines-push members [] line h k = (k, tt)
 AllAreLines-push members (l ∷ body) line h k = (h.0, AllAreLines-push members body line h.1 k)
+
+-- one more text spells one more line
+SpellBody-push : (members : List Name) (texts : List (List ℕ)) (body : List Line) (text : List ℕ) (line : Line) → SpellBody members texts body → SpellsLine members text line → SpellBody members (texts ++ text ∷ []) (body ++ line ∷ [])
+SpellBody-push members [] [] text line h k = (k, tt)
+SpellBody-push members [] (l ∷ body) text line h k = absurd h
+SpellBody-push members (t ∷ texts) [] text line h k = absurd h
+SpellBody-push members (t ∷ texts) (l ∷ body) text line h k = (h.0, SpellBody-push members texts body text line h.1 k)
+
+-- no text spells no line
+no-texts : (members : List Name) (texts : List (List ℕ)) → SpellBody members texts [] → texts ≡ []
+no-texts members [] h = refl
+no-texts members (t ∷ texts) h = absurd h
 
 -- what a single line says
 flat_map-one : {X A : Type 0} (f : X → List A) (x : X) → flat_map f (x ∷ []) ≡ f x
@@ -255,19 +273,21 @@ head-line cluster line config config' base base' members members' ls configs bas
   configs = flat_map-append config_said h.said (line ∷ []) ∙ ap (λ t. t ++ flat_map config_said (line ∷ [])) h.configs ∙ ap (λ t. read_at_most_once config ++ t) (flat_map-one config_said line) ∙ configs;
   bases = flat_map-append base_said h.said (line ∷ []) ∙ ap (λ t. t ++ flat_map base_said (line ∷ [])) h.bases ∙ ap (λ t. at_most_one base ++ t) (flat_map-one base_said line) ∙ bases;
   members = flat_map-append member_said h.said (line ∷ []) ∙ ap (λ t. t ++ flat_map member_said (line ∷ [])) h.members ∙ ap (λ t. members ++ t) (flat_map-one member_said line) ∙ declared;
-  lines = ap (λ t. t ++ head_line_text line ∷ []) h.lines
+  body = [];
+  spells = tt;
+  lines = ap (λ t. t ++ head_line_text line ∷ []) (h.lines ∙ ap (λ t. head_with cluster h.said ++ t) (no-texts (member_names members) h.body h.spells))
       ∙ ap (λ t. cluster_text cluster ∷ t) (push-line (map head_line_text h.said) (head_line_text line) ∙ ap (λ t. t ++ []) (sym (map-append head_line_text h.said (line ∷ []))));
 }
 
-body-lines : (d : DraftText) (l : Line) (ls : List (List ℕ)) → SayDraft d ls → SayDraft (record d { body = d.body ++ l ∷ [] }) (ls ++ line_text (member_names d.members) l ∷ [])
-body-lines d l ls h = record {
+body-line : (d : DraftText) (l : Line) (line : List ℕ) (ls : List (List ℕ)) → SpellsLine (member_names d.members) line l → SayDraft d ls → SayDraft (record d { body = d.body ++ l ∷ [] }) (ls ++ line ∷ [])
+body-line d l line ls is h = record {
   said = h.said;
   configs = h.configs;
   bases = h.bases;
   members = h.members;
-  lines = ap (λ t. t ++ line_text (member_names d.members) l ∷ []) h.lines
-      ∙ append_assoc (head_with d.cluster h.said) (body_lines (member_names d.members) d.body) (line_text (member_names d.members) l ∷ [])
-      ∙ ap (λ t. head_with d.cluster h.said ++ t) (sym (map-append (line_text (member_names d.members)) d.body (l ∷ [])));
+  body = h.body ++ line ∷ [];
+  spells = SpellBody-push (member_names d.members) h.body d.body line l h.spells is;
+  lines = ap (λ t. t ++ line ∷ []) h.lines ∙ append_assoc (head_with d.cluster h.said) h.body (line ∷ []);
 }
 
 member-Adds : (cluster : Name) (line : MemberLine) (config : Option Settings) (base : Option ℕ) (members : List MemberText) (body : List Line) (ls : List (List ℕ)) → body ≡ [] → length (member_names members) < 16 → place_of (member_names members) line.name ≡ None
@@ -306,11 +326,10 @@ addition-Adds d ls line (additions.Member name declared) h is =
     (member-Adds d.cluster one d.config d.base d.members d.body ls is.3 is.1 absent h))
 addition-Adds d ls line (additions.Base n) h is =
     subst (λ (l : List ℕ). Adds (with_addition d (additions.Base n)) (ls ++ l ∷ [])) is.0 (base-Adds d.cluster n d.config d.base d.members d.body ls is.3 is.4 is.1 is.2 h)
-addition-Adds d ls line (additions.Body l) h is =
-    subst (λ (t : List ℕ). Adds (with_addition d (additions.Body l)) (ls ++ t ∷ [])) is.0 (record {
-      says = body-lines d l ls h.says;
-      begun = record { base = h.begun.base; few = h.begun.few; different = h.begun.different; body = AllAreLines-push (member_names d.members) d.body l h.begun.body is.1 };
-    })
+addition-Adds d ls line (additions.Body l) h is = record {
+  says = body-line d l line ls is.0 h.says;
+  begun = record { base = h.begun.base; few = h.begun.few; different = h.begun.different; body = AllAreLines-push (member_names d.members) d.body l h.begun.body is.1 };
+}
 
 -- a configuration that is said in front of the body, and nowhere before
 record DeclaresConfig (said : Option Settings) (body : List Line) (rest : Option (List ℕ)) (config : Settings) : Type 0 where
@@ -350,24 +369,24 @@ config-line-Adds d e ls line h k is =
     (subst (λ (l : List ℕ). Adds (record d { config = Some p.0 }) (ls ++ l ∷ [])) (line-is line words.Config s.bytes k s.is)
     (config-Adds d.cluster s.bytes d.config p.0 d.base d.members d.body ls s.read s.first s.in_head h))
 
-known-Adds : (d e : DraftText) (ls : List (List ℕ)) (line : List ℕ) (o : Option Keyword) → Adds d ls → keyword_of (cut_word line).0 ≡ o → with_other d o (cut_word line).1 ≡ Ok e → Adds e (ls ++ line ∷ [])
-known-Adds d e ls line None h k is = absurd (err_is _ e is)
-known-Adds d e ls line (Some keyword) h k is =
+known-Adds : (d e : DraftText) (ls : List (List ℕ)) (line : List ℕ) (o : Option Keyword) → MayBeLine line → Adds d ls → keyword_of (cut_word line).0 ≡ o → with_other d o (cut_word line).1 ≡ Ok e → Adds e (ls ++ line ∷ [])
+known-Adds d e ls line None may h k is = absurd (err_is _ e is)
+known-Adds d e ls line (Some keyword) may h k is =
     let p = on_ok-Ok (addition_of d.base (member_names d.members) d.body keyword (cut_word line).1) (λ added. Ok (with_addition d added)) e is in
     subst (λ (x : DraftText). Adds x (ls ++ line ∷ [])) (ok_is (with_addition d p.0) e p.2)
-    (addition-Adds d ls line p.0 h (of-Ok d.base (member_names d.members) d.body line keyword p.0 k p.1))
+    (addition-Adds d ls line p.0 h (of-Ok d.base (member_names d.members) d.body line keyword p.0 may k p.1))
 
 config-is : (o : Option Keyword) → is_config o ≡ true → o ≡ Some words.Config
 config-is (Some words.Config) e = refl
 config-is _ e = cc
 
-keyword-Adds : (d e : DraftText) (ls : List (List ℕ)) (line : List ℕ) (t : Bool) → is_config (keyword_of (cut_word line).0) ≡ t → Adds d ls
+keyword-Adds : (d e : DraftText) (ls : List (List ℕ)) (line : List ℕ) (t : Bool) → is_config (keyword_of (cut_word line).0) ≡ t → MayBeLine line → Adds d ls
     → cond t (with_config d (cut_word line).1) (with_other d (keyword_of (cut_word line).0) (cut_word line).1) ≡ Ok e → Adds e (ls ++ line ∷ [])
-keyword-Adds d e ls line true k h is = config-line-Adds d e ls line h (config-is (keyword_of (cut_word line).0) k) is
-keyword-Adds d e ls line false k h is = known-Adds d e ls line (keyword_of (cut_word line).0) h refl is
+keyword-Adds d e ls line true k may h is = config-line-Adds d e ls line h (config-is (keyword_of (cut_word line).0) k) is
+keyword-Adds d e ls line false k may h is = known-Adds d e ls line (keyword_of (cut_word line).0) may h refl is
 
-line-Adds : (d e : DraftText) (ls : List (List ℕ)) (line : List ℕ) → Adds d ls → with_line d line ≡ Ok e → Adds e (ls ++ line ∷ [])
-line-Adds d e ls line h is = keyword-Adds d e ls line (is_config (keyword_of (cut_word line).0)) refl h is
+line-Adds : (d e : DraftText) (ls : List (List ℕ)) (line : List ℕ) → MayBeLine line → Adds d ls → with_line d line ≡ Ok e → Adds e (ls ++ line ∷ [])
+line-Adds d e ls line may h is = keyword-Adds d e ls line (is_config (keyword_of (cut_word line).0)) refl may h is
 
 -- the first line
 alone-Ok : (name x : Name) (rest : Option (List ℕ)) → alone name rest ≡ Ok x → (name ≡ x) × (rest ≡ None)
@@ -398,7 +417,7 @@ nothing-AreDifferent i j name p q = cc
 
 first_draft-Adds : (name : Name) → Adds (first_draft name) (cluster_text name ∷ [])
 first_draft-Adds name = record {
-  says = record { said = []; configs = refl; bases = refl; members = refl; lines = refl };
+  says = record { said = []; configs = refl; bases = refl; members = refl; body = []; spells = tt; lines = refl };
   begun = record { base = tt; few = omega arith; different = nothing-AreDifferent; body = tt };
 }
 
@@ -407,38 +426,56 @@ abbrev AddsIfAny : Option DraftText → List (List ℕ) → Type 0
 AddsIfAny None ls = ls ≡ []
 AddsIfAny (Some d) ls = Adds d ls
 
-counted-Adds : (o p : Option DraftText) (ls : List (List ℕ)) (line : List ℕ) → AddsIfAny o ls → after_counted o line ≡ Ok p → AddsIfAny p (ls ++ line ∷ [])
-counted-Adds None p ls line h e =
+counted-Adds : (o p : Option DraftText) (ls : List (List ℕ)) (line : List ℕ) → MayBeLine line → AddsIfAny o ls → after_counted o line ≡ Ok p → AddsIfAny p (ls ++ line ∷ [])
+counted-Adds None p ls line may h e =
     let q = on_ok-Ok (first_line line) (λ name. Ok (Some (first_draft name))) p e in
     let all : cluster_text q.0 ∷ [] ≡ ls ++ line ∷ [] = ap (λ t. t ∷ []) (first_line-Ok line q.0 q.1) ∙ ap (λ t. t ++ line ∷ []) (sym h) in
     subst (λ (x : Option DraftText). AddsIfAny x (ls ++ line ∷ [])) (ok_is (Some (first_draft q.0)) p q.2) (subst (Adds (first_draft q.0)) all (first_draft-Adds q.0))
-counted-Adds (Some d) p ls line h e =
+counted-Adds (Some d) p ls line may h e =
     let q = on_ok-Ok (with_line d line) (λ t. Ok (Some t)) p e in
-    subst (λ (x : Option DraftText). AddsIfAny x (ls ++ line ∷ [])) (ok_is (Some q.0) p q.2) (line-Adds d q.0 ls line h q.1)
+    subst (λ (x : Option DraftText). AddsIfAny x (ls ++ line ∷ [])) (ok_is (Some q.0) p q.2) (line-Adds d q.0 ls line may h q.1)
 
-text-Adds : (o p : Option DraftText) (ls : List (List ℕ)) (line : List ℕ) (t : Bool) → AddsIfAny o ls → cond t (Ok o) (after_counted o line) ≡ Ok p → AddsIfAny p (ls ++ cond t [] (line ∷ []))
-text-Adds o p ls line true h e = subst (λ (x : Option DraftText). AddsIfAny x (ls ++ [])) (ok_is o p e) (subst (AddsIfAny o) (sym (append-nil ls)) h)
-text-Adds o p ls line false h e = counted-Adds o p ls line h e
+text-Adds : (o p : Option DraftText) (ls : List (List ℕ)) (line : List ℕ) (t : Bool) → MayBeLine line → AddsIfAny o ls → cond t (Ok o) (after_counted o line) ≡ Ok p → AddsIfAny p (ls ++ cond t [] (line ∷ []))
+text-Adds o p ls line true may h e = subst (λ (x : Option DraftText). AddsIfAny x (ls ++ [])) (ok_is o p e) (subst (AddsIfAny o) (sym (append-nil ls)) h)
+text-Adds o p ls line false may h e = counted-Adds o p ls line may h e
 
 short : (line : List ℕ) → nat_le (length line) 8192 ≡ true → length line ≤ 8192
 short line e = grind (arith, nat_tests)
 
-line-read : (o p : Option DraftText) (ls : List (List ℕ)) (line : List ℕ) → AddsIfAny o ls → after_line o line ≡ Ok p → IsInForm line × AddsIfAny p (ls ++ cond (is_skipped line) [] (line ∷ []))
-line-read o p ls line h e =
+line-read : (o p : Option DraftText) (ls : List (List ℕ)) (line : List ℕ) → is_one_line line ≡ true → AddsIfAny o ls → after_line o line ≡ Ok p → IsInForm line × AddsIfAny p (ls ++ cond (is_skipped line) [] (line ∷ []))
+line-read o p ls line one h e =
     let a = cond-Ok (is_utf8 line) (cond (nat_le (length line) 8192) (after_text o line) (Err faults.TooLong)) faults.NotUtf8 p e in
     let b = cond-Ok (nat_le (length line) 8192) (after_text o line) faults.TooLong p a.1 in
-    (record { text = a.0; short = short line b.0 }, text-Adds o p ls line (is_skipped line) h b.1)
+    let form : IsInForm line = record { text = a.0; short = short line b.0 } in
+    (form, text-Adds o p ls line (is_skipped line) (record { form = form; one_line = one }) h b.1)
 
 counted : (t : Bool) (line : List ℕ) (rest : List (List ℕ)) → cond t [] (line ∷ []) ++ rest ≡ cond t rest (line ∷ rest)
 counted true line rest = refl
 counted false line rest = refl
 
-lines-Adds : (number : ℕ) (o p : Option DraftText) (ls lines : List (List ℕ)) → AddsIfAny o ls → after_lines number o lines ≡ Ok p → AllInForm lines × AddsIfAny p (ls ++ counted_lines lines)
-lines-Adds number o p ls [] h e = (tt, subst (λ (x : Option DraftText). AddsIfAny x (ls ++ [])) (ok_is o p e) (subst (AddsIfAny o) (sym (append-nil ls)) h))
-lines-Adds number o p ls (line ∷ rest) h e =
+-- lines that end at their line feeds
+abbrev pub AreLines : List (List ℕ) → Type 0
+AreLines [] = Unit {0}
+AreLines (line ∷ lines) = (is_one_line line ≡ true) × AreLines lines
+
+push-cut : (b : ℕ) (lines : List (List ℕ)) → is_in_line b ≡ true → AreLines lines → AreLines (push_byte b lines)
+push-cut b [] other h = (and_from (is_in_line b) true other refl, tt)
+push-cut b (line ∷ lines) other h = (and_from (is_in_line b) (is_one_line line) other h.0, h.1)
+
+byte-cut : (b : ℕ) (bs : List ℕ) (t : Bool) → (b == 10) ≡ t → AreLines (lines_in bs) → AreLines (cond t ([] ∷ lines_in bs) (push_byte b (lines_in bs)))
+byte-cut b bs true is h = (refl, h)
+byte-cut b bs false is h = push-cut b (lines_in bs) (ap not is) h
+
+pub lines-cut : (bytes : List ℕ) → AreLines (lines_in bytes)
+lines-cut [] = tt
+lines-cut (b ∷ bs) = byte-cut b bs (b == 10) refl (lines-cut bs)
+
+lines-Adds : (number : ℕ) (o p : Option DraftText) (ls lines : List (List ℕ)) → AreLines lines → AddsIfAny o ls → after_lines number o lines ≡ Ok p → AllInForm lines × AddsIfAny p (ls ++ counted_lines lines)
+lines-Adds number o p ls [] cut h e = (tt, subst (λ (x : Option DraftText). AddsIfAny x (ls ++ [])) (ok_is o p e) (subst (AddsIfAny o) (sym (append-nil ls)) h))
+lines-Adds number o p ls (line ∷ rest) cut h e =
     let q = on_ok-Ok (at_line number (after_line o line)) (λ t. after_lines (number + 1) t rest) p e in
-    let a = line-read o q.0 ls line h (at_line-Ok number (after_line o line) q.0 q.1) in
-    let b = lines-Adds (number + 1) q.0 p (ls ++ cond (is_skipped line) [] (line ∷ [])) rest a.1 q.2 in
+    let a = line-read o q.0 ls line cut.0 h (at_line-Ok number (after_line o line) q.0 q.1) in
+    let b = lines-Adds (number + 1) q.0 p (ls ++ cond (is_skipped line) [] (line ∷ [])) rest cut.1 a.1 q.2 in
     let all : (ls ++ cond (is_skipped line) [] (line ∷ [])) ++ counted_lines rest ≡ ls ++ cond (is_skipped line) (counted_lines rest) (line ∷ counted_lines rest) =
     append_assoc ls (cond (is_skipped line) [] (line ∷ [])) (counted_lines rest) ∙ ap (λ t. ls ++ t) (counted (is_skipped line) line (counted_lines rest))
     in
@@ -460,7 +497,9 @@ pub record AreScript (text : ScriptText) (all : List (List ℕ)) : Type 0 where
   pub script : IsScript text
   pub head : List (List ℕ)
   pub says : IsHeadLines text.head head
-  pub counted : counted_lines all ≡ head ++ body_lines (names_of text.head) text.body
+  pub body : List (List ℕ)
+  pub spells : SpellBody (names_of text.head) body text.body
+  pub counted : counted_lines all ≡ head ++ body
 
 base-range : (said : Option ℕ) → IsBaseIfSaid said → (1 ≤ base_or_default said) × (base_or_default said ≤ 2 ^ 40)
 base-range None h = (omega arith, omega arith)
@@ -486,15 +525,17 @@ draft-AreScript d all h some =
         base_is = refl;
         order = refl;
       };
+      body = h.says.body;
+      spells = h.says.spells;
       counted = h.says.lines;
     }
 
-lines-form : (lines : List (List ℕ)) (o : Option DraftText) → after_lines 1 None lines ≡ Ok o → AllInForm lines × AddsIfAny o (counted_lines lines)
-lines-form lines o e = lines-Adds 1 None o [] lines refl e
+lines-form : (lines : List (List ℕ)) (o : Option DraftText) → AreLines lines → after_lines 1 None lines ≡ Ok o → AllInForm lines × AddsIfAny o (counted_lines lines)
+lines-form lines o cut e = lines-Adds 1 None o [] lines cut refl e
 
-pub lines-read : (lines : List (List ℕ)) (o : Option DraftText) (text : ScriptText) → after_lines 1 None lines ≡ Ok o → finished o ≡ Ok text → AreScript text lines
-lines-read lines o text e f =
-    let p = lines-form lines o e in
+pub lines-read : (lines : List (List ℕ)) (o : Option DraftText) (text : ScriptText) → AreLines lines → after_lines 1 None lines ≡ Ok o → finished o ≡ Ok text → AreScript text lines
+lines-read lines o text cut e f =
+    let p = lines-form lines o cut e in
     let q = finished-Ok o text f in
     let h : AddsIfAny (Some q.0) (counted_lines lines) = subst (λ (x : Option DraftText). AddsIfAny x (counted_lines lines)) q.1 p.1 in
     subst (λ (t : ScriptText). AreScript t lines) q.2 (draft-AreScript q.0 lines h q.3)
@@ -502,5 +543,5 @@ lines-read lines o text e f =
 pub read-is-spelled : (bytes : List ℕ) (text : ScriptText) → script_of bytes ≡ Ok text → IsScript text × Spells bytes text
 read-is-spelled bytes text e =
     let p = on_ok-Ok (after_lines 1 None (lines_in bytes)) (λ d. at_line (length (lines_in bytes) + 1) (finished d)) text e in
-    let q = lines-read (lines_in bytes) p.0 text p.1 (at_line-Ok (length (lines_in bytes) + 1) (finished p.0) text p.2) in
-    (q.script, record { form = (lines-form (lines_in bytes) p.0 p.1).0; head = q.head; says = q.says; lines = q.counted })
+    let q = lines-read (lines_in bytes) p.0 text (lines-cut bytes) p.1 (at_line-Ok (length (lines_in bytes) + 1) (finished p.0) text p.2) in
+    (q.script, record { form = (lines-form (lines_in bytes) p.0 (lines-cut bytes) p.1).0; head = q.head; says = q.says; body = q.body; spells = q.spells; lines = q.counted })

@@ -32,7 +32,7 @@ use Rattle.cluster_script.specs.Lines.{lines_in, is_skipped, counted_lines}
 use Rattle.cluster_script.specs.Members.{place_of}
 use Rattle.cluster_script.specs.Options.{option_text, behind_blanks, options_or_default}
 use Rattle.cluster_script.specs.Reading.{name_in, declared_once, named_member, new_member, next_member, ranged_base, base_in, base_end, next_base, addition_of, with_addition, config_if_read, with_keyword, with_line, cluster_named, cluster_by_keyword, first_line, first_draft, after_counted, after_text, after_line, after_lines, at_line, with_some, finished, script_of}
-use Rattle.cluster_script.specs.Script.{AreDifferent, MemberText, MemberLine, ScriptText, member_names, names_of, member_of_line, IsScript, IsMember, IsEnd, IsLink, IsCommand, IsLine, AllAreLines, cluster_text, member_line_text, line_text, body_lines, IsInForm, AllInForm, Spells, member_text, text_of_name}
+use Rattle.cluster_script.specs.Script.{AreDifferent, MemberText, MemberLine, ScriptText, member_names, names_of, member_of_line, IsScript, IsMember, IsEnd, IsLink, IsCommand, IsLine, AllAreLines, cluster_text, member_line_text, line_text, IsInForm, AllInForm, IsRequest, SpellsLine, OwnText, BlankBehind, SpellBody, Spells, request_text, member_text, text_of_name}
 use Rattle.cluster_script.specs.Words.{spelled, keyword_of, cut_word}
 use Rattle.cluster_script.specs.declared.addition.Addition.{Addition}
 use Rattle.cluster_script.specs.declared.addition.Addition.TheVariants as additions
@@ -57,6 +57,7 @@ use Rattle.cluster_script.proofs.NumberLaws.{number-decimal, first_at-decimal}
 use Rattle.cluster_script.proofs.OptionSpellLaws.{options_in-again}
 use Rattle.cluster_script.proofs.OptionWords.{options-cut}
 use Rattle.cluster_script.proofs.RangeLaws.{commit_size_of-Some, delay_of-Some}
+use Rattle.cluster_script.proofs.RequestLaws.{words_with, blank-text, request-again, own-again}
 use Rattle.cluster_script.proofs.WordLaws.{cut_word-again, cut_word-alone, cut_word-spelled, keyword_of-word_of}
 
 -- no blank stands in a name
@@ -257,6 +258,7 @@ command-IsSaid members (commands.Stream m n) some h is = record { keyword = word
 command-IsSaid members (commands.Slow m slowed delay) some h is = record { keyword = words.Slow; words = two_texts (member_text members m) (two_texts (slowed_call_text slowed) (decimal delay.ticks)); text = refl; in_body = λ base body. added _ _ (ap (λ r. on_ok r command) (slow-again members m slowed delay some h is)) }
 command-IsSaid members (commands.Cut x y) some h is = record { keyword = words.Cut; words = two_texts (end_word members x) (end_word members y); text = refl; in_body = λ base body. added _ _ (ap (λ r. on_ok r (λ link. command (commands.Cut link.0 link.1))) (two_ends-again members x y some h is)) }
 command-IsSaid members (commands.Join x y) some h is = record { keyword = words.Join; words = two_texts (end_word members x) (end_word members y); text = refl; in_body = λ base body. added _ _ (ap (λ r. on_ok r (λ link. command (commands.Join link.0 link.1))) (two_ends-again members x y some h is)) }
+command-IsSaid members (commands.Rest m call body) some h is = record { keyword = words.Rest; words = two_texts (member_text members m) (request_text call body); text = refl; in_body = λ base rest. added _ _ (own-again members (member_text members m) m (first_at-member members m) (member_in-again members m h is.declared) call body) }
 command-IsSaid members (commands.Trace on) some h is = record { keyword = words.Trace; words = switch_text on; text = refl; in_body = λ base body. added _ _ (ap (λ r. on_ok r (λ on. command (commands.Trace on))) (switch-again members on some)) }
 
 line-IsSaid : (members : List Name) (line : Line) → 0 < length members → AreDifferent members → IsLine members line → IsSaid members line
@@ -304,6 +306,19 @@ line-again : (d : DraftText) (line : Line) → 0 < length (member_names d.member
 line-again d line some h is =
     let said = line-IsSaid (member_names d.members) line some h is in
     ap (with_line d) said.text ∙ addition-again d said.keyword said.words (additions.Body line) (said.in_body d.base d.body)
+
+-- so is each text that spells the line
+line_text-again : (d : DraftText) (text : List ℕ) (line : Line) → 0 < length (member_names d.members) → AreDifferent (member_names d.members) → IsLine (member_names d.members) line → SpellsLine (member_names d.members) text line
+    → with_line d text ≡ Ok (record d { body = d.body ++ line ∷ [] })
+line_text-again d text line some h is (OwnText own) = ap (with_line d) own ∙ line-again d line some h is
+line_text-again d text line some h is (BlankBehind m call request blank) =
+    let members : List Name = member_names d.members in
+    let declared : IsRequest members m call [] = subst (IsLine members) request is in
+    let behind : List ℕ = two_texts (member_text members m) (words_with call (Some [])) in
+    let read = request-again members (member_text members m) m (first_at-member members m) (member_in-again members m h declared.declared) call (Some []) in
+    ap (with_line d) (blank ∙ sym (blank-text members m call))
+    ∙ addition-again d words.Rest behind (additions.Body (lines.Command (commands.Rest m call []))) (added _ _ read)
+    ∙ ap (λ (l : Line). Ok (record d { body = d.body ++ l ∷ [] })) (sym request)
 
 -- a member's line is read again
 few : (n : ℕ) → n < 16 → nat_le 16 n ≡ false
@@ -485,14 +500,17 @@ module _ (cluster : Name) (all_config : Option Settings) (all_base : Option ℕ)
             (said-again config base (members ++ member_of_line line ∷ []) back left),
       )
 
-body-again : (d : DraftText) (front back : List Line) → 0 < length (member_names d.members) → AreDifferent (member_names d.members) → AllAreLines (member_names d.members) back → Chain (Some (record d { body = front })) (body_lines (member_names d.members) back) (Some (record d { body = front ++ back }))
+body-again : (d : DraftText) (front back : List Line) (texts : List (List ℕ)) → 0 < length (member_names d.members) → AreDifferent (member_names d.members) → AllAreLines (member_names d.members) back → SpellBody (member_names d.members) texts back
+    → Chain (Some (record d { body = front })) texts (Some (record d { body = front ++ back }))
 unfolding Chain
-body-again d front [] some h is = ap (λ (b : List Line). Some (record d { body = b })) (sym (append-nil front))
-body-again d front (line ∷ back) some h is = (
+body-again d front [] [] some h is spell = ap (λ (b : List Line). Some (record d { body = b })) (sym (append-nil front))
+body-again d front [] (text ∷ texts) some h is spell = absurd spell
+body-again d front (line ∷ back) [] some h is spell = absurd spell
+body-again d front (line ∷ back) (text ∷ texts) some h is spell = (
   Some (record d { body = front ++ line ∷ [] }),
-  ap (λ r. on_ok r (λ t. Ok (Some t))) (line-again (record d { body = front }) line some h is.0),
-  subst (λ (b : List Line). Chain (Some (record d { body = front ++ line ∷ [] })) (body_lines (member_names d.members) back) (Some (record d { body = b }))) (append_assoc front (line ∷ []) back)
-      (body-again d (front ++ line ∷ []) back some h is.1),
+  ap (λ r. on_ok r (λ t. Ok (Some t))) (line_text-again (record d { body = front }) text line some h is.0 spell.0),
+  subst (λ (b : List Line). Chain (Some (record d { body = front ++ line ∷ [] })) texts (Some (record d { body = b }))) (append_assoc front (line ∷ []) back)
+      (body-again d (front ++ line ∷ []) back texts some h is.1 spell.1),
 )
 
 first-again : (cluster : Name) → first_line (cluster_text cluster) ≡ Ok cluster
@@ -515,13 +533,13 @@ head-again s head says h =
       said-again s.head.cluster says.config says.base (rw says.base_is h.head.base_least) (rw says.base_is h.head.base_most) None None [] says.said left,
     )
 
-all-again : (s : ScriptText) (head : List (List ℕ)) (says : IsHeadLines s.head head) → IsScript s → Chain None (head ++ body_lines (names_of s.head) s.body) (Some (draft s says.config says.base))
+all-again : (s : ScriptText) (head : List (List ℕ)) (says : IsHeadLines s.head head) (body : List (List ℕ)) → SpellBody (names_of s.head) body s.body → IsScript s → Chain None (head ++ body) (Some (draft s says.config says.base))
 unfolding start draft
-all-again s head says h =
-    chain-append None (Some (start s.head.cluster says.config says.base s.head.members)) (Some (draft s says.config says.base)) head (body_lines (names_of s.head) s.body)
+all-again s head says body spell h =
+    chain-append None (Some (start s.head.cluster says.config says.base s.head.members)) (Some (draft s says.config says.base)) head body
     (subst (λ (ls : List (List ℕ)). Chain None ls (Some (start s.head.cluster says.config says.base s.head.members))) (sym says.order)
     (subst (λ (m : List MemberText). Chain None (head_with s.head.cluster says.said) (Some (start s.head.cluster says.config says.base m))) says.members (head-again s head says h)))
-    (body-again (draft s says.config says.base) [] s.body (omega (arith, h.head.some, count-names s.head.members)) h.head.different h.body)
+    (body-again (draft s says.config says.base) [] s.body body (omega (arith, h.head.some, count-names s.head.members)) h.head.different h.body spell)
 
 -- lines among empty lines and comments
 short-true : (line : List ℕ) → length line ≤ 8192 → nat_le (length line) 8192 ≡ true
@@ -564,5 +582,5 @@ pub spelled-is-read : (bytes : List ℕ) (text : ScriptText) → IsScript text �
 spelled-is-read bytes text h spells =
     let d : Option DraftText = Some (draft text spells.says.config spells.says.base) in
     ap (λ r. on_ok r (λ d. at_line (length (lines_in bytes) + 1) (finished d)))
-    (lines-again 1 None d (lines_in bytes) spells.form (subst (λ (ls : List (List ℕ)). Chain None ls d) (sym spells.lines) (all-again text spells.head spells.says h)))
+    (lines-again 1 None d (lines_in bytes) spells.form (subst (λ (ls : List (List ℕ)). Chain None ls d) (sym spells.lines) (all-again text spells.head spells.says spells.body spells.spells h)))
     ∙ ap (at_line (length (lines_in bytes) + 1)) (finished-again text spells.says.config spells.says.base h.head.some spells.says.config_is spells.says.base_is)

@@ -1,5 +1,5 @@
 -- The words behind a line's first word. What stands there is judged in the order of the faults.
-use Rattle.std.specs.Prelude.{ℕ, ◌==◌, Bool, true, false, if◌then◌else◌, List, [], ◌∷◌, Option, Some, None, Result, Ok, Err, codes}
+use Rattle.std.specs.Prelude.{ℕ, ◌==◌, Bool, true, false, if◌then◌else◌, List, [], ◌∷◌, Option, Some, None, Result, Ok, Err, codes, length}
 use Rattle.std.specs.Option.{ok_or}
 use Rattle.std.specs.Str.{bytes_eq}
 use Rattle.pat_base.specs.Name.{name_of}
@@ -9,6 +9,7 @@ use Rattle.cluster_script.specs.Faults.{on_ok, both}
 use Rattle.cluster_script.specs.Members.{member_named}
 use Rattle.cluster_script.specs.Numbers.{number}
 use Rattle.cluster_script.specs.Ranges.{commit_size_of, delay_of}
+use Rattle.cluster_script.specs.Rest.{call_of, is_token}
 use Rattle.cluster_script.specs.Words.{cut_word}
 use Rattle.cluster_script.specs.declared.fault.Fault.{Fault}
 use Rattle.cluster_script.specs.declared.fault.Fault.TheVariants as faults
@@ -24,6 +25,7 @@ use Rattle.cluster_script.specs.declared.line.Line.{Line}
 use Rattle.cluster_script.specs.declared.line.Line.TheVariants as lines
 use Rattle.cluster_script.specs.declared.ranges.CommitSize.{CommitSize}
 use Rattle.cluster_script.specs.declared.ranges.Delay.{Delay}
+use Rattle.cluster_script.specs.declared.rest.RestCall.{RestCall}
 
 -- a number
 abbrev pub number_in : List ℕ → Result ℕ Fault
@@ -134,29 +136,79 @@ stream_in members rest = on_ok (two_words members (member_in members) number_in 
 abbrev pub slow_in : List Name → Option (List ℕ) → Result Command Fault
 slow_in members rest = on_ok (three_words members (member_in members) slowed_call_in delay_in rest) (λ said. Ok (commands.Slow said.0.0 said.0.1 said.1))
 
+-- a method: any token of HTTP
+abbrev pub method_in : List ℕ → Result (Unit {0}) Fault
+method_in word = if is_token word then Ok tt else Err faults.BadOption
+
+-- a call that is built
+abbrev pub call_in : List ℕ → List ℕ → Result RestCall Fault
+call_in method target = ok_or (call_of method target) faults.NotBuilt
+
+-- the member and the call of a request, from the words behind its method; no byte behind the method's blank is no target
+abbrev pub target_in : List Name → Result (MemberId × Unit {0}) Fault → List ℕ → List ℕ → Result ((MemberId × Unit {0}) × RestCall) Fault
+target_in members before method words = if length words == 0 then Err (missing_behind members before) else both before (call_in method (cut_word words).0)
+
+-- the same, from what stands behind the method
+abbrev pub target_behind : List Name → Result (MemberId × Unit {0}) Fault → List ℕ → Option (List ℕ) → Result ((MemberId × Unit {0}) × RestCall) Fault
+target_behind members before method None = Err (missing_behind members before)
+target_behind members before method (Some words) = target_in members before method words
+
+-- what a method and the target behind it call, behind the member
+abbrev pub method_behind : List Name → Result MemberId Fault → Option (List ℕ) → Result ((MemberId × Unit {0}) × RestCall) Fault
+method_behind members before None = Err (missing_behind members before)
+method_behind members before (Some words) = target_behind members (both before (method_in (cut_word words).0)) (cut_word words).0 (cut_word words).1
+
+-- the member and the call of a request
+abbrev pub call_words : List Name → Option (List ℕ) → Result ((MemberId × Unit {0}) × RestCall) Fault
+call_words members None = Err (missing_word members)
+call_words members (Some words) = method_behind members (member_in members (cut_word words).0) (cut_word words).1
+
+-- what stands behind the next word and its blank
+abbrev pub behind_word : Option (List ℕ) → Option (List ℕ)
+behind_word None = None
+behind_word (Some words) = (cut_word words).1
+
+-- all bytes, or none
+abbrev pub bytes_or_none : Option (List ℕ) → List ℕ
+bytes_or_none None = []
+bytes_or_none (Some bytes) = bytes
+
+-- the body of a request: all that stands behind the target's blank, which is the third
+abbrev pub body_in : Option (List ℕ) → List ℕ
+body_in rest = bytes_or_none (behind_word (behind_word (behind_word rest)))
+
+-- the line of a request
+abbrev pub rest_line : List Name → Option (List ℕ) → Result Line Fault
+rest_line members rest = on_ok (call_words members rest) (λ said. Ok (lines.Command (commands.Rest said.0.0 said.1 (body_in rest))))
+
 -- a line that is a command
 abbrev pub command : Command → Result Line Fault
 command c = Ok (lines.Command c)
 
+-- the line of the body with this first word, other than a request's, and these words behind it
+abbrev pub plain_line : List Name → Keyword → Option (List ℕ) → Result Line Fault
+plain_line members words.Tick rest = on_ok (one_word members number_in rest) (λ n. Ok (lines.Tick n))
+plain_line members words.Deliver rest = on_ok (one_word members number_in rest) (λ n. command (commands.Deliver n))
+plain_line members words.Lose rest = on_ok (one_word members number_in rest) (λ n. command (commands.Lose n))
+plain_line members words.Run rest = on_ok (one_word members number_in rest) (λ n. Ok (lines.Run n))
+plain_line members words.Turn rest = on_ok (one_word members (member_in members) rest) (λ member. command (commands.Turn member))
+plain_line members words.Hold rest = on_ok (one_word members (member_in members) rest) (λ member. command (commands.Hold member))
+plain_line members words.Resume rest = on_ok (one_word members (member_in members) rest) (λ member. command (commands.Resume member))
+plain_line members words.Kill rest = on_ok (one_word members (member_in members) rest) (λ member. command (commands.Kill member))
+plain_line members words.Restart rest = on_ok (one_word members (member_in members) rest) (λ member. command (commands.Restart member))
+plain_line members words.Promote rest = on_ok (one_word members (member_in members) rest) (λ member. command (commands.Promote member))
+plain_line members words.Crash rest = on_ok (one_word members (member_in members) rest) (λ member. command (commands.Crash member))
+plain_line members words.Freeze rest = on_ok (one_word members (member_in members) rest) (λ member. command (commands.Freeze member))
+plain_line members words.Thaw rest = on_ok (one_word members (member_in members) rest) (λ member. command (commands.Thaw member))
+plain_line members words.Commit rest = on_ok (commit_in members rest) command
+plain_line members words.Stream rest = on_ok (stream_in members rest) command
+plain_line members words.Slow rest = on_ok (slow_in members rest) command
+plain_line members words.Cut rest = on_ok (two_ends members rest) (λ link. command (commands.Cut link.0 link.1))
+plain_line members words.Join rest = on_ok (two_ends members rest) (λ link. command (commands.Join link.0 link.1))
+plain_line members words.Trace rest = on_ok (one_word members switch_in rest) (λ on. command (commands.Trace on))
+plain_line members _ rest = Err faults.NotBuilt
+
 -- the line of the body with this first word, and these words behind it
 abbrev pub line_of_words : List Name → Keyword → Option (List ℕ) → Result Line Fault
-line_of_words members words.Tick rest = on_ok (one_word members number_in rest) (λ n. Ok (lines.Tick n))
-line_of_words members words.Deliver rest = on_ok (one_word members number_in rest) (λ n. command (commands.Deliver n))
-line_of_words members words.Lose rest = on_ok (one_word members number_in rest) (λ n. command (commands.Lose n))
-line_of_words members words.Run rest = on_ok (one_word members number_in rest) (λ n. Ok (lines.Run n))
-line_of_words members words.Turn rest = on_ok (one_word members (member_in members) rest) (λ member. command (commands.Turn member))
-line_of_words members words.Hold rest = on_ok (one_word members (member_in members) rest) (λ member. command (commands.Hold member))
-line_of_words members words.Resume rest = on_ok (one_word members (member_in members) rest) (λ member. command (commands.Resume member))
-line_of_words members words.Kill rest = on_ok (one_word members (member_in members) rest) (λ member. command (commands.Kill member))
-line_of_words members words.Restart rest = on_ok (one_word members (member_in members) rest) (λ member. command (commands.Restart member))
-line_of_words members words.Promote rest = on_ok (one_word members (member_in members) rest) (λ member. command (commands.Promote member))
-line_of_words members words.Crash rest = on_ok (one_word members (member_in members) rest) (λ member. command (commands.Crash member))
-line_of_words members words.Freeze rest = on_ok (one_word members (member_in members) rest) (λ member. command (commands.Freeze member))
-line_of_words members words.Thaw rest = on_ok (one_word members (member_in members) rest) (λ member. command (commands.Thaw member))
-line_of_words members words.Commit rest = on_ok (commit_in members rest) command
-line_of_words members words.Stream rest = on_ok (stream_in members rest) command
-line_of_words members words.Slow rest = on_ok (slow_in members rest) command
-line_of_words members words.Cut rest = on_ok (two_ends members rest) (λ link. command (commands.Cut link.0 link.1))
-line_of_words members words.Join rest = on_ok (two_ends members rest) (λ link. command (commands.Join link.0 link.1))
-line_of_words members words.Trace rest = on_ok (one_word members switch_in rest) (λ on. command (commands.Trace on))
-line_of_words members _ rest = Err faults.NotBuilt
+line_of_words members words.Rest rest = rest_line members rest
+line_of_words members keyword rest = plain_line members keyword rest

@@ -1,5 +1,6 @@
 -- Bytes as lines.
-use Rattle.std.specs.Prelude.{ℕ, ◌==◌, ◌+◌, Bool, true, if◌then◌else◌, List, [], ◌∷◌, ◌++◌, Option, Some, None}
+use Rattle.std.specs.Prelude.{ℕ, ◌==◌, ◌+◌, not, Bool, true, if◌then◌else◌, List, [], ◌∷◌, ◌++◌, Option, Some, None}
+use Rattle.std.specs.List.{list_all}
 
 -- lines, each ended by its line feed
 abbrev pub ended : List (List ℕ) → List ℕ
@@ -35,3 +36,11 @@ one_more (Some n) = Some (n + 1)
 abbrev pub first_at : ℕ → List ℕ → Option ℕ
 first_at byte [] = None
 first_at byte (b ∷ bs) = if b == byte then Some 0 else one_more (first_at byte bs)
+
+-- a byte that ends no line
+abbrev pub is_in_line : ℕ → Bool
+is_in_line b = not (b == 10)
+
+-- bytes without a line feed
+abbrev pub is_one_line : List ℕ → Bool
+is_one_line bytes = list_all is_in_line bytes

@@ -97,12 +97,24 @@ abbrev pub second_cluster : Option (List ℕ) → Fault
 second_cluster None = faults.Duplicate
 second_cluster (Some words) = named_twice (name_of (cut_word words).0)
 
+-- what a line 'base' adds
+abbrev pub base_addition : Option ℕ → List Line → Option (List ℕ) → Result Addition Fault
+base_addition base body rest = on_ok (next_base base body rest) (λ n. Ok (additions.Base n))
+
+-- what a line 'member' adds
+abbrev pub member_addition : List Name → List Line → Option (List ℕ) → Result Addition Fault
+member_addition members body rest = on_ok (next_member members body rest) (λ member. Ok (additions.Member member.0 member.1))
+
+-- what a line of the body adds
+abbrev pub body_addition : List Name → Keyword → Option (List ℕ) → Result Addition Fault
+body_addition members keyword rest = on_ok (line_of_words members keyword rest) (λ line. Ok (additions.Body line))
+
 -- what a line of this first word adds, from the words behind it; that of a configuration is judged apart
 abbrev pub addition_of : Option ℕ → List Name → List Line → Keyword → Option (List ℕ) → Result Addition Fault
 addition_of base members body words.Cluster rest = Err (second_cluster rest)
-addition_of base members body words.Base rest = on_ok (next_base base body rest) (λ n. Ok (additions.Base n))
-addition_of base members body words.Member rest = on_ok (next_member members body rest) (λ member. Ok (additions.Member member.0 member.1))
-addition_of base members body keyword rest = on_ok (line_of_words members keyword rest) (λ line. Ok (additions.Body line))
+addition_of base members body words.Base rest = base_addition base body rest
+addition_of base members body words.Member rest = member_addition members body rest
+addition_of base members body keyword rest = body_addition members keyword rest
 
 -- what a line other than 'config' adds, if its first word is known
 abbrev pub known_addition : Option ℕ → List Name → List Line → Option Keyword → Option (List ℕ) → Result Addition Fault

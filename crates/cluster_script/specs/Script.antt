@@ -10,8 +10,9 @@ use Rattle.lease_store.specs.Defaults.{default_settings}
 use Rattle.lease_store.specs.Settings.{Settings}
 use Rattle.cluster_config.specs.ConfigReading.{config_read}
 use Rattle.cluster_config.specs.declared.config_fault.ConfigFault.{ConfigFault}
-use Rattle.cluster_script.specs.Lines.{ended, lines_in, counted_lines}
+use Rattle.cluster_script.specs.Lines.{ended, lines_in, counted_lines, is_one_line}
 use Rattle.cluster_script.specs.Options.{SayOnce, option_text, behind_blanks, options_or_default, options_to_say}
+use Rattle.cluster_script.specs.Rest.{request_words}
 use Rattle.cluster_script.specs.Words.{spelled}
 use Rattle.cluster_script.specs.declared.head.MemberOptions.{MemberOptions}
 use Rattle.cluster_script.specs.declared.keyword.Keyword.TheVariants as words
@@ -25,6 +26,7 @@ use Rattle.cluster_script.specs.declared.line.Line.{Line}
 use Rattle.cluster_script.specs.declared.line.Line.TheVariants as lines
 use Rattle.cluster_script.specs.declared.member_option.MemberOption.{MemberOption}
 use Rattle.cluster_script.specs.declared.member_option.SaidOptions.{SaidOptions}
+use Rattle.cluster_script.specs.declared.rest.RestCall.{RestCall}
 
 -- what a script declares of a member
 pub record MemberText : Type 0 where
@@ -174,6 +176,19 @@ abbrev pub read_at_most_once : Option Settings → List (Result Settings ConfigF
 read_at_most_once None = []
 read_at_most_once (Some config) = Ok config ∷ []
 
+-- the body of a request, with the blank before it; the empty body has none
+abbrev pub body_text : List ℕ → List ℕ
+body_text [] = []
+body_text (b ∷ bs) = 32 ∷ b ∷ bs
+
+-- the method, the target and the body of a request
+abbrev pub request_text : RestCall → List ℕ → List ℕ
+request_text call body = two_texts (request_words call).0 ((request_words call).1 ++ body_text body)
+
+-- the line of a request to the agent of a member
+abbrev pub rest_text : List Name → MemberId → RestCall → List ℕ → List ℕ
+rest_text members member call body = spelled words.Rest (two_texts (member_text members member) (request_text call body))
+
 -- the line of a command
 abbrev pub command_text : List Name → Command → List ℕ
 command_text members (commands.Turn member) = spelled words.Turn (member_text members member)
@@ -192,6 +207,7 @@ command_text members (commands.Thaw member) = spelled words.Thaw (member_text me
 command_text members (commands.Slow member slowed delay) = spelled words.Slow (two_texts (member_text members member) (two_texts (slowed_call_text slowed) (decimal delay.ticks)))
 command_text members (commands.Cut first second) = spelled words.Cut (two_texts (end_word members first) (end_word members second))
 command_text members (commands.Join first second) = spelled words.Join (two_texts (end_word members first) (end_word members second))
+command_text members (commands.Rest member call body) = rest_text members member call body
 command_text members (commands.Trace on) = spelled words.Trace (switch_text on)
 
 -- a line of the body
@@ -278,12 +294,26 @@ abbrev pub AllInForm : List (List ℕ) → Type 0
 AllInForm [] = Unit {0}
 AllInForm (line ∷ lines) = IsInForm line × AllInForm lines
 
--- bytes that spell a script: behind its empty lines and comments are lines that say its head, and then those of its body; the last may lack its line feed
+-- a text that spells a line of a body: the line's own, or, of a request with the empty body, that with one blank behind it
+pub data SpellsLine (members : List Name) (text : List ℕ) (line : Line) : Type 0 where
+  OwnText : (is : text ≡ line_text members line) → SpellsLine members text line
+  BlankBehind : (member : MemberId) → (call : RestCall) → (request : line ≡ lines.Command (commands.Rest member call [])) → (is : text ≡ rest_text members member call [] ++ 32 ∷ []) → SpellsLine members text line
+
+-- texts that spell the lines of a body, one for each, in order
+abbrev pub SpellBody : List Name → List (List ℕ) → List Line → Type 0
+SpellBody members [] [] = Unit {0}
+SpellBody members [] (line ∷ body) = ⊥
+SpellBody members (text ∷ texts) [] = ⊥
+SpellBody members (text ∷ texts) (line ∷ body) = SpellsLine members text line × SpellBody members texts body
+
+-- bytes that spell a script: behind its empty lines and comments are lines that say its head, and then those that spell its body; the last may lack its line feed
 pub record Spells (bytes : List ℕ) (s : ScriptText) : Type 0 where
   pub form : AllInForm (lines_in bytes)
   pub head : List (List ℕ)
   pub says : IsHeadLines s.head head
-  pub lines : counted_lines (lines_in bytes) ≡ head ++ body_lines (names_of s.head) s.body
+  pub body : List (List ℕ)
+  pub spells : SpellBody (names_of s.head) body s.body
+  pub lines : counted_lines (lines_in bytes) ≡ head ++ body
 
 -- no name stands at two places
 abbrev pub AreDifferent : List Name → Type 0
@@ -312,6 +342,12 @@ pub record IsLink (members : List Name) (first second : End) : Type 0 where
   pub second_is : IsEnd members second
   pub apart : first ≢ second
 
+-- a request that a line may be: to the agent of a declared member, with a body on one line, which is in form
+pub record IsRequest (members : List Name) (member : MemberId) (call : RestCall) (body : List ℕ) : Type 0 where
+  pub declared : IsMember members member
+  pub one_line : is_one_line body ≡ true
+  pub form : IsInForm (rest_text members member call body)
+
 -- a command that a line may be
 abbrev pub IsCommand : List Name → Command → Type 0
 IsCommand members (commands.Turn member) = IsMember members member
@@ -330,6 +366,7 @@ IsCommand members (commands.Thaw member) = IsMember members member
 IsCommand members (commands.Slow member slowed delay) = IsMember members member
 IsCommand members (commands.Cut first second) = IsLink members first second
 IsCommand members (commands.Join first second) = IsLink members first second
+IsCommand members (commands.Rest member call body) = IsRequest members member call body
 IsCommand members (commands.Trace on) = Unit {0}
 
 -- a line that a body may have

@@ -3,7 +3,7 @@ use crate::{Line, MemberOptions};
 use pat_base::Name;
 
 /// What a line behind the cluster's adds to a script.
-#[derive(Clone, Copy, Debug, PartialEq, Eq)]
+#[derive(Debug, Drop)]
 pub enum Addition {
     /// One more member, with this name and these options.
     Member(Name, MemberOptions),

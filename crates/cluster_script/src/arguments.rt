@@ -1,17 +1,19 @@
 //! The words behind a line's first word.
-ghost use Rattle.std.specs.Prelude.{ℕ, ◌≡◌, ◌≤◌, List, length, map};
+ghost use Rattle.std.specs.Prelude.{ℕ, ◌≡◌, ◌≤◌, List, length, map, IfOk};
 ghost use Rattle.std.specs.Option.{option_copied};
 ghost use Rattle.indexmap.specs.IndexMap.{keys};
 ghost use Rattle.cluster_script.specs.Faults.{both};
-ghost use Rattle.cluster_script.specs.Arguments.{number_in, switch_in, slowed_call_in, commit_size_in, delay_in, member_in, end_in, missing_word, missing_behind, line_end, last_word, one_word, word_behind, words_behind, same_end, two_ends, commit_in, stream_in, slow_in, line_of_words};
+ghost use Rattle.cluster_script.specs.Arguments.{number_in, switch_in, slowed_call_in, commit_size_in, delay_in, member_in, end_in, missing_word, missing_behind, line_end, last_word, one_word, word_behind, words_behind, same_end, two_ends, commit_in, stream_in, slow_in, plain_line, line_of_words};
 
 use crate::fault::earlier;
 use crate::keyword::Keyword;
 use crate::members::{Members, member_named};
 use crate::numbers::number;
+use crate::rest_line::rest_line;
 use crate::words::cut_word;
 use crate::{Command, CommitSize, Delay, End, Fault, Line, SlowedCall};
 use pat_base::{MemberId, Name};
+use std::alloc::{AllocError, Global};
 
 /// A number.
 pub fn number_in(word: &[u8]) -> Result<u64, Fault>
@@ -67,7 +69,8 @@ fn delay_in(word: &[u8]) -> Result<Delay, Fault>
     }
 }
 
-fn member_in(members: &Members, word: &[u8]) -> Result<MemberId, Fault>
+/// The member of a name.
+pub fn member_in(members: &Members, word: &[u8]) -> Result<MemberId, Fault>
     requires { length (keys members.now) ≤ 16 }
     ensures { result ≡ member_in (keys members.now) word.now }
 {
@@ -93,7 +96,8 @@ fn end_in(members: &Members, word: &[u8]) -> Result<End, Fault>
     }
 }
 
-fn missing_word(members: &Members) -> Fault
+/// The fault of a line of the body whose words end too early.
+pub fn missing_word(members: &Members) -> Fault
     ensures { result ≡ missing_word (keys members.now) }
 {
     if members.is_empty() {
@@ -104,7 +108,7 @@ fn missing_word(members: &Members) -> Fault
 }
 
 /// The fault of a line whose words end behind one that says so.
-fn missing_behind<A: Drop>(members: &Members, before: Result<A, Fault>) -> Fault
+pub fn missing_behind<A: Drop>(members: &Members, before: Result<A, Fault>) -> Fault
     ensures { result ≡ missing_behind (keys members.now) before }
 {
     match before {
@@ -325,14 +329,10 @@ fn slow_in(members: &Members, rest: Option<&[u8]>) -> Result<Command, Fault>
     Ok(Command::Slow(member, slowed, delay))
 }
 
-/// The line of the body with this first word, and these words behind it.
-pub fn line_of_words(
-    members: &Members,
-    keyword: Keyword,
-    rest: Option<&[u8]>,
-) -> Result<Line, Fault>
+/// The line of the body with this first word, other than a request's, and these words behind it.
+fn plain_line(members: &Members, keyword: Keyword, rest: Option<&[u8]>) -> Result<Line, Fault>
     requires { length (keys members.now) ≤ 16 }
-    ensures { result ≡ line_of_words (keys members.now) keyword (option_copied rest.entry) }
+    ensures { result ≡ plain_line (keys members.now) keyword (option_copied rest.entry) }
 {
     let command = match keyword {
         Keyword::Run => return Ok(Line::Run(one_number(members, rest)?)),
@@ -363,4 +363,20 @@ pub fn line_of_words(
         _ => return Err(Fault::NotBuilt),
     };
     Ok(Line::Command(command))
+}
+
+/// The line of the body with this first word, and these words behind it. It fails only for want of memory.
+pub fn line_of_words(
+    alloc: Global,
+    members: &Members,
+    keyword: Keyword,
+    rest: Option<&[u8]>,
+) -> Result<Result<Line, Fault>, AllocError>
+    requires { length (keys members.now) ≤ 16 }
+    ensures { IfOk result (λ outcome. outcome ≡ line_of_words (keys members.now) keyword (option_copied rest.entry)) }
+{
+    match keyword {
+        Keyword::Rest => rest_line(alloc, members, rest),
+        _ => Ok(plain_line(members, keyword, rest)),
+    }
 }

@@ -4,7 +4,7 @@ ghost use Rattle.std.specs.Option.{option_copied};
 ghost use Rattle.indexmap.specs.IndexMap.{keys};
 ghost use Rattle.cluster_config.specs.ConfigReading.{IsConfiguration};
 ghost use Rattle.cluster_script.specs.Script.{ScriptText, IsScript, config_or_default, base_or_default, member_names, members_in};
-ghost use Rattle.cluster_script.specs.Reading.{Gives, IsNew, addition_of, known_addition, is_config, base_after, members_after, body_after, after_counted, after_line, after_lines, at_line, finished};
+ghost use Rattle.cluster_script.specs.Reading.{Gives, IsNew, base_addition, member_addition, body_addition, addition_of, known_addition, is_config, base_after, members_after, body_after, after_counted, after_line, after_lines, at_line, finished};
 
 use crate::addition::Addition;
 use crate::arguments::line_of_words;
@@ -47,45 +47,78 @@ impl Model for Draft {
     ghost invariant = { λ d. IsDraft d.cluster d.config d.base (members_in d.members.entries) d.body.items };
 }
 
+/// What a line `base` adds.
+fn base_addition(base: Option<u64>, body: &[Line], rest: Option<&[u8]>) -> Result<Addition, Fault>
+    ensures { result ≡ base_addition base body.now (option_copied rest.entry) }
+{
+    let base = next_base(base, body, rest)?;
+    Ok(Addition::Base(base))
+}
+
+/// What a line `member` adds.
+fn member_addition(members: &Members, body: &[Line], rest: Option<&[u8]>) -> Result<Addition, Fault>
+    ensures value { result ≡ member_addition (keys members.now) body.now (option_copied rest.entry) }
+    ensures new { IfOk result (IsNew (members_in members.now.entries)) }
+{
+    let (name, options) = next_member(members, body, rest)?;
+    Ok(Addition::Member(name, options))
+}
+
+/// What a line of the body adds.
+fn body_addition(
+    alloc: Global,
+    members: &Members,
+    keyword: Keyword,
+    rest: Option<&[u8]>,
+) -> Result<Result<Addition, Fault>, AllocError>
+    requires { length (keys members.now) ≤ 16 }
+    ensures value { IfOk result (λ outcome. outcome ≡ body_addition (keys members.now) keyword (option_copied rest.entry)) }
+    ensures new { IfOk result (λ outcome. IfOk outcome (IsNew (members_in members.now.entries))) }
+{
+    match line_of_words(alloc, members, keyword, rest)? {
+        Ok(line) => Ok(Ok(Addition::Body(line))),
+        Err(fault) => Ok(Err(fault)),
+    }
+}
+
 /// What a line of this first word adds, from the words behind it. The one place where first words are told apart, but for
-/// those of lines of the body.
+/// those of lines of the body. It fails only for want of memory.
 fn addition_of(
+    alloc: Global,
     base: Option<u64>,
     members: &Members,
     body: &[Line],
     keyword: Keyword,
     rest: Option<&[u8]>,
-) -> Result<Addition, Fault>
+) -> Result<Result<Addition, Fault>, AllocError>
     requires { length (keys members.now) ≤ 16 }
-    ensures value { result ≡ addition_of base (keys members.now) body.now keyword (option_copied rest.entry) }
-    ensures new { IfOk result (IsNew (members_in members.now.entries)) }
+    ensures value { IfOk result (λ outcome. outcome ≡ addition_of base (keys members.now) body.now keyword (option_copied rest.entry)) }
+    ensures new { IfOk result (λ outcome. IfOk outcome (IsNew (members_in members.now.entries))) }
 {
     match keyword {
-        Keyword::Cluster => Err(second_cluster(rest)),
-        Keyword::Base => Ok(Addition::Base(next_base(base, body, rest)?)),
-        Keyword::Member => {
-            let (name, options) = next_member(members, body, rest)?;
-            Ok(Addition::Member(name, options))
-        }
-        _ => Ok(Addition::Body(line_of_words(members, keyword, rest)?)),
+        Keyword::Cluster => Ok(Err(second_cluster(rest))),
+        Keyword::Base => Ok(base_addition(base, body, rest)),
+        Keyword::Member => Ok(member_addition(members, body, rest)),
+        _ => body_addition(alloc, members, keyword, rest),
     }
 }
 
-/// What a line other than `config` adds.
+/// What a line other than `config` adds. It fails only for want of memory.
 fn known_addition(
+    alloc: Global,
     base: Option<u64>,
     members: &Members,
     body: &[Line],
     keyword: Option<Keyword>,
     rest: Option<&[u8]>,
-) -> Result<Addition, Fault>
+) -> Result<Result<Addition, Fault>, AllocError>
     requires { length (members_in members.now.entries) ≤ 16 }
-    ensures value { result ≡ known_addition base (member_names (members_in members.now.entries)) body.now keyword (option_copied rest.entry) }
-    ensures new { IfOk result (IsNew (members_in members.now.entries)) }
+    ensures value { IfOk result (λ outcome. outcome ≡ known_addition base (member_names (members_in members.now.entries)) body.now keyword (option_copied rest.entry)) }
+    ensures new { IfOk result (λ outcome. IfOk outcome (IsNew (members_in members.now.entries))) }
 {
     match keyword {
-        None => Err(Fault::BadWord),
-        Some(keyword) => addition_of(base, members, body, keyword, rest),
+        None => Ok(Err(Fault::BadWord)),
+        Some(keyword) => addition_of(alloc, base, members, body, keyword, rest),
     }
 }
 
@@ -181,7 +214,7 @@ impl Draft {
             self.config = Some(located(number, config)?);
             return Ok(());
         }
-        let added = known_addition(self.base, &self.members, &self.body, keyword, rest);
+        let added = known_addition(alloc, self.base, &self.members, &self.body, keyword, rest)?;
         let added = located(number, added)?;
         apply(&mut self.base, &mut self.members, &mut self.body, added)
     }

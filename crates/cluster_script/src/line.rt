@@ -1,6 +1,9 @@
 //! What a script tells the run to do.
-use crate::{CommitSize, Delay};
+ghost use Rattle.std.specs.Prelude.{◌≡◌, IfOk};
+
+use crate::{CommitSize, Delay, RequestBody, RestCall};
 use pat_base::MemberId;
+use std::alloc::AllocError;
 
 /// One end of a link: a member, or the key store.
 #[derive(Clone, Copy, Debug, PartialEq, Eq)]
@@ -21,7 +24,7 @@ pub enum SlowedCall {
 }
 
 /// What a line of a script's body asks for by itself. Ticks are of 100 ms, and messages are numbered from 1 in order of sending.
-#[derive(Clone, Copy, Debug, PartialEq, Eq)]
+#[derive(Debug, Drop, PartialEq, Eq)]
 pub enum Command {
     /// `turn M`: the agent of this member is woken.
     Turn(MemberId),
@@ -55,12 +58,44 @@ pub enum Command {
     Cut(End, End),
     /// `join X Y`: the link between two ends, which differ, carries messages again.
     Join(End, End),
+    /// `rest M METHOD TARGET`, `rest M METHOD TARGET BODY`: a request to the REST interface of this member's agent, by its
+    /// method and its target, and its body, which may be empty.
+    Rest(MemberId, RestCall, RequestBody),
     /// `trace on`, `trace off`: whether lines of messages are printed.
     Trace(bool),
 }
 
+impl Command {
+    /// The same command. It fails only for want of memory.
+    pub fn try_clone(&self) -> Result<Command, AllocError>
+        ensures { IfOk result (λ command. command ≡ self.now) }
+    {
+        let command = match self {
+            Command::Turn(member) => Command::Turn(*member),
+            Command::Deliver(number) => Command::Deliver(*number),
+            Command::Lose(number) => Command::Lose(*number),
+            Command::Hold(member) => Command::Hold(*member),
+            Command::Resume(member) => Command::Resume(*member),
+            Command::Kill(member) => Command::Kill(*member),
+            Command::Restart(member) => Command::Restart(*member),
+            Command::Promote(member) => Command::Promote(*member),
+            Command::Crash(member) => Command::Crash(*member),
+            Command::Commit(member, size) => Command::Commit(*member, *size),
+            Command::Stream(member, most) => Command::Stream(*member, *most),
+            Command::Freeze(member) => Command::Freeze(*member),
+            Command::Thaw(member) => Command::Thaw(*member),
+            Command::Slow(member, slowed, delay) => Command::Slow(*member, *slowed, *delay),
+            Command::Cut(first, second) => Command::Cut(*first, *second),
+            Command::Join(first, second) => Command::Join(*first, *second),
+            Command::Rest(member, call, body) => Command::Rest(*member, *call, body.try_clone()?),
+            Command::Trace(on) => Command::Trace(*on),
+        };
+        Ok(command)
+    }
+}
+
 /// A line of a script's body. A line of ticks may ask for any number below 2^64, of 100 ms each.
-#[derive(Clone, Copy, Debug, PartialEq, Eq)]
+#[derive(Debug, Drop, PartialEq, Eq)]
 pub enum Line {
     /// `run N`: N ticks of the default schedule.
     Run(u64),
@@ -70,8 +105,21 @@ pub enum Line {
     Command(Command),
 }
 
+impl Line {
+    /// The same line. It fails only for want of memory.
+    pub fn try_clone(&self) -> Result<Line, AllocError>
+        ensures { IfOk result (λ line. line ≡ self.now) }
+    {
+        match self {
+            Line::Run(count) => Ok(Line::Run(*count)),
+            Line::Tick(count) => Ok(Line::Tick(*count)),
+            Line::Command(command) => Ok(Line::Command(command.try_clone()?)),
+        }
+    }
+}
+
 /// A step of a run: one tick of a `run` or `tick` line, or another line of the body.
-#[derive(Clone, Copy, Debug, PartialEq, Eq)]
+#[derive(Debug, Drop, PartialEq, Eq)]
 pub enum Step {
     /// One tick of the default schedule.
     Scheduled,
@@ -79,4 +127,17 @@ pub enum Step {
     Tick,
     /// What another line asks for.
     Command(Command),
+}
+
+impl Step {
+    /// The same step. It fails only for want of memory.
+    pub fn try_clone(&self) -> Result<Step, AllocError>
+        ensures { IfOk result (λ step. step ≡ self.now) }
+    {
+        match self {
+            Step::Scheduled => Ok(Step::Scheduled),
+            Step::Tick => Ok(Step::Tick),
+            Step::Command(command) => Ok(Step::Command(command.try_clone()?)),
+        }
+    }
 }

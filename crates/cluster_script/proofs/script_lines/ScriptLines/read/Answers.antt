@@ -2,7 +2,7 @@ use Rattle.std.proofs.Common.{◌≡◌, List, ℕ, map, Option, None, Ok, sym, 
 use Rattle.cluster_script.specs.Lines.{lines_in}
 use Rattle.cluster_script.specs.Reading.{after_lines}
 use Rattle.cluster_script.specs.Draft.{DraftText}
-use Rattle.cluster_script.proofs.ReadLaws.{lines-read}
+use Rattle.cluster_script.proofs.ReadLaws.{lines-cut, lines-read}
 use Rattle.cluster_script.proofs.script_lines.ScriptLines.read.Goals as goal
 
 pub finish-requires : goal.finish-requires
@@ -13,4 +13,4 @@ finish-requires c =
     ∙ ap (λ (ls : List (List ℕ)). after_lines 1 c.new-draft.result ls) (sym same)
     ∙ c.in_ok-add_lines.ensures
     in
-    λ text f. (lines-read (lines_in c.self.inside.bytes.now) c.add_lines.new.self text all f).script
+    λ text f. (lines-read (lines_in c.self.inside.bytes.now) c.add_lines.new.self text (lines-cut c.self.inside.bytes.now) all f).script
