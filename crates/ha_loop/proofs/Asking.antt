@@ -13,7 +13,7 @@ use Rattle.event_book.specs.declared.reason.Reason.TheVariants.{StartTooLong, Wa
 use Rattle.lease_law.specs.Past.{query_of, lease_span as span_asked}
 use Rattle.lease_law.proofs.Tools.{some-is, none-some}
 use Rattle.ha_loop.specs.declared.heard.Heard.{Heard}
-use Rattle.ha_loop.specs.declared.heard.Heard.TheVariants.{Wake, Got, Granted as HeardGranted, Mismatch, Asked, Answered}
+use Rattle.ha_loop.specs.declared.heard.Heard.TheVariants.{Wake, Got, Granted as HeardGranted, Mismatch, Asked, Answered, Operated as HearsOperator}
 use Rattle.ha_loop.specs.declared.knowledge.Knowledge.{Knowledge}
 use Rattle.ha_loop.specs.declared.knowledge.Waited.{Waited}
 use Rattle.ha_loop.specs.declared.machine.Machine.{Machine}
@@ -32,15 +32,17 @@ use Rattle.ha_loop.specs.Repairs.{repair_of}
 use Rattle.ha_loop.specs.Snapshots.{renewing, follow_row, follows, leader_loses_key, stray_loses_key, read_noted, got}
 use Rattle.ha_loop.specs.Racing.{creating, barred, finds_free, judged, asking_others, unheard}
 use Rattle.ha_loop.specs.Peers.{asked, keeping, answered}
-use Rattle.ha_loop.specs.Table.{step, act}
+use Rattle.ha_loop.specs.HandingOver.{checking, hands_over}
+use Rattle.ha_loop.specs.Operators.{answering, given_up, learned, looked, operating, restarting, telling, wiping}
+use Rattle.ha_loop.specs.Table.{step}
 use Rattle.ha_loop.specs.Wake.{reading, turn_noted, leader_out_of_reach, stray_out_of_reach, overdue, turned, woken}
 use Rattle.ha_loop.specs.declared.role.Why.TheVariants.{HandOver}
 use Rattle.ha_loop.proofs.Granting.{Told}
-use Rattle.ha_loop.proofs.Knowing.{IsAlone, alone-of, before-onward}
+use Rattle.ha_loop.proofs.Knowing.{IsAlone, alone-of, before-onward, given-up-onward}
 use Rattle.ha_loop.proofs.LawfulSteps.{before-waits}
 use Rattle.ha_loop.proofs.Living.{no-way}
-use Rattle.ha_loop.proofs.Rows.{led_on, if-cases, renewed-by, begins-or-claims-by, overdue-by, turn-by, wake-by, got-by, refused-by, follow-by, repaired-by, free-by, granted-by, judged-by, answered-by}
-use Rattle.ha_loop.proofs.Sending.{IsSilent, MayPut, AllMay, Fronts, before-fronts, got-none, before-may, wake-may, got-may, refused-may, granted-may, overdue-none, answered-none, answered-may, asked-may}
+use Rattle.ha_loop.proofs.Rows.{led_on, if-cases, renewed-by, begins-or-claims-by, overdue-by, turn-by, wake-by, got-by, refused-by, follow-by, repaired-by, free-by, granted-by, judged-by, answered-by, HandoverRows, ReplyRows, dropping, granted-any-by, refused-any-by, given-up-by, looked-by, operated-by}
+use Rattle.ha_loop.proofs.Sending.{IsSilent, MayPut, AllMay, Fronts, before-fronts, got-none, wake-may, got-may, refused-may, granted-may, overdue-none, answered-none, answered-may, asked-may, operated-may, given-up-fronts, looked-fronts, looked-later}
 use Rattle.ha_loop.proofs.Sending.Fronts.{Silent, Released}
 use Rattle.ha_loop.proofs.Fitting.{before-fits}
 
@@ -87,6 +89,14 @@ judged-holds : (now : Ticks) (o b : Outcome) → o.knows.sequence ≤ b.knows.se
 judged-holds now o b later silent = judged-by (Holds now o) now b
     (asked-now now o (creating now (waiting_no_more b)) b.outputs _ _ silent refl refl refl refl (more-than o.knows.sequence b.knows.sequence later)) (λ bar. nothing now o (barred bar (waiting_no_more b)) refl)
 
+-- a handover that is judged waits for nothing
+handover-holds : (now : Ticks) (held : ℕ) (o b : Outcome) → HandoverRows (Holds now o) now held b
+handover-holds now held o b = record {
+  kept = nothing now o (waiting_no_more b) refl;
+  clears = λ compared. nothing now o (dropping compared (waiting_no_more b)) refl;
+  hands = λ candidate. nothing now o (hands_over now held candidate (waiting_no_more b)) refl;
+}
+
 overdue-silent : (now : Ticks) (o b : Outcome) → o.knows.sequence ≤ b.knows.sequence → b.knows.waited ≡ o.knows.waited → All IsSilent b.outputs → Holds now o (overdue now b)
 overdue-silent now o b later same silent = overdue-by (Holds now o) now b (record {
   kept = as-before now o b same;
@@ -95,6 +105,7 @@ overdue-silent now o b later same silent = overdue-by (Holds now o) now b (recor
   stray = λ _. nothing now o (stray_out_of_reach now (waiting_no_more b)) refl;
   judges = λ _. judged-holds now o b later silent;
   ready = λ held _. nothing now o (postpones held (waiting_no_more b)) refl;
+  checks = λ held _. handover-holds now held o b;
 })
 
 overdue-holds : (now : Ticks) (o b : Outcome) → o.knows.sequence ≤ b.knows.sequence → b.knows.waited ≡ o.knows.waited → Fronts o b → Holds now o (overdue now b)
@@ -116,12 +127,22 @@ same-holds now o b x holds outs waits waited is asks = elim (holds waited (sym w
   | inr asked ↦ inr (record { later = asked.later; sent = asked.sent; ttl = λ txn among. asked.ttl txn (subst (λ (l : List Output). Contains l (outputs.Send targets.Store waited.sequence (bodies.Request txn))) outs among) })
 ]
 
+-- what is waited for stays
+abbrev WaitsAs : Outcome → Outcome → Type 0
+WaitsAs o x = x.knows.waited ≡ o.knows.waited
+
+-- an operator is answered, and what is waited for stays
+told-holds : (now : Ticks) (o b : Outcome) → WaitsAs o b → ReplyRows (Holds now o) b
+told-holds now o b same = record { kept = as-before now o b same; answers = λ request told. as-before now o (answering request told b) same }
+
 before-holds : (now : Ticks) (o : Outcome) → Holds now o (before now o)
 before-holds now o = as-before now o (before now o) (before-waits now o)
 
 wake-holds : (now : Ticks) (o : Outcome) → IsAlone o → All IsSilent o.outputs → Holds now o (woken now o)
-wake-holds now o alone silent = let holds : Holds now o (overdue now (before now o)) = overdue-holds now o (before now o) (before-onward None now o).last (before-waits now o) (before-fronts now o alone silent) in
-    wake-by (Holds now o) now o (before-holds now o) (turn-holds now o (overdue now (before now o)) holds (λ x outs waits. same-holds now o (overdue now (before now o)) x holds outs waits))
+wake-holds now o alone silent = let told : Outcome = given_up now (before now o) in
+    let waits : told.knows.waited ≡ o.knows.waited = given-up-by (WaitsAs o) now (before now o) (record { kept = before-waits now o; answers = λ request answer. before-waits now o }) in
+    let holds : Holds now o (overdue now told) = overdue-holds now o told (given-up-onward None now o).last waits (given-up-fronts now o alone silent) in
+    wake-by (Holds now o) now o (before-holds now o) (turn-holds now o (overdue now told) holds (λ x outs same. same-holds now o (overdue now told) x holds outs same))
 
 free-holds : (now : Ticks) (o b : Outcome) → o.knows.sequence ≤ b.knows.sequence → b.knows.waited ≡ None → All IsSilent b.outputs → Holds now o (finds_free now b)
 free-holds now o b later none silent = let x : Outcome = record b { role = Follower } in
@@ -162,6 +183,11 @@ got-fronts now points sequence snapshot o b later same (Silent all) = got-silent
 got-fronts now points sequence snapshot o b later same (Released revision held alone role ended counted all) =
     subst (λ (z : Outcome). Holds now o z) (sym (got-none now points sequence snapshot b alone)) (as-before now o b same)
 
+got-holds : (now : Ticks) (points : List HistoryPoint) (sequence : ℕ) (snapshot : SnapshotFacts) (o : Outcome) → IsAlone o → All IsSilent o.outputs → Holds now o (got now points sequence snapshot (looked sequence snapshot (before now o)))
+got-holds now points sequence snapshot o alone silent = let told : Outcome = looked sequence snapshot (before now o) in
+    let waits : told.knows.waited ≡ o.knows.waited = looked-by (WaitsAs o) sequence snapshot (before now o) (record { kept = before-waits now o; answers = λ request answer. before-waits now o }) in
+    got-fronts now points sequence snapshot o told (looked-later now sequence snapshot o) waits (looked-fronts now sequence snapshot o alone silent)
+
 refused-holds : (now : Ticks) (sequence : ℕ) (o b : Outcome) → b.knows.waited ≡ o.knows.waited → Holds now o (refused now sequence b)
 refused-holds now sequence o b same = refused-by (Holds now o) now sequence b (record {
   kept = as-before now o b same;
@@ -175,10 +201,15 @@ refused-holds now sequence o b same = refused-by (Holds now o) now sequence b (r
 renewed-holds : (now ttl : Ticks) (revision : ℕ) (o b : Outcome) → b.knows.waited ≡ None → Holds now o (leader_renewed now ttl revision b)
 renewed-holds now ttl revision o b none = let led : Outcome = led_on now ttl revision b in
     renewed-by (Holds now o) now ttl revision b (nothing now o (record (ending_server now StartTooLong led) { role = Ending revision HandOver }) none) (record {
-      kept = nothing now o led none;
-      writes = λ settling txn _. only-reads now o (writing_sync now settling txn led) _ refl refl;
-      adds = λ required. nothing now o (requiring required (noting led)) none;
-      drops = λ required. nothing now o (requiring required led) none;
+      plan = record {
+        kept = nothing now o led none;
+        writes = λ settling txn _. only-reads now o (writing_sync now settling txn led) _ refl refl;
+        adds = λ required. nothing now o (requiring required (noting led)) none;
+        drops = λ required. nothing now o (requiring required led) none;
+      };
+      clears = λ compared. nothing now o (dropping compared led) none;
+      asks = λ candidate. only-reads now o (checking now candidate (unheard led)) _ refl refl;
+      judges = handover-holds now revision o (unheard led);
     })
 
 stray-holds : (now ttl : Ticks) (revision : ℕ) (o b : Outcome) → b.knows.waited ≡ None → Holds now o (stray_renewed now ttl revision b)
@@ -213,6 +244,7 @@ answered-silent now sequence answer o b later same silent = answered-by (Holds n
   quiet = nothing now o (waiting_no_more b) refl;
   keeps = as-before now o (keeping answer b) same;
   judges = λ _. judged-holds now o (keeping answer b) later silent;
+  checks = λ held _. handover-holds now held o (keeping answer b);
 })
 
 answered-holds : (now : Ticks) (sequence : ℕ) (answer : PeerAnswer) (o b : Outcome) → o.knows.sequence ≤ b.knows.sequence → b.knows.waited ≡ o.knows.waited → Fronts o b → Holds now o (answered now sequence answer b)
@@ -222,23 +254,32 @@ answered-holds now sequence answer o b later same (Released revision held alone 
 
 step-holds : (now : Ticks) (points : List HistoryPoint) (heard : Heard) (o : Outcome) → IsAlone o → All IsSilent o.outputs → Holds now o (step now points heard o)
 step-holds now points Wake o alone silent = wake-holds now o alone silent
-step-holds now points (Got sequence snapshot) o alone silent = got-fronts now points sequence snapshot o (before now o) (before-onward None now o).last (before-waits now o) (before-fronts now o alone silent)
-step-holds now points (HeardGranted sequence grant snapshot) o alone silent = granted-holds now sequence grant snapshot o (before now o) (before-waits now o)
-step-holds now points (Mismatch sequence key found) o alone silent = refused-holds now sequence o (before now o) (before-waits now o)
+step-holds now points (Got sequence snapshot) o alone silent = got-holds now points sequence snapshot o alone silent
+step-holds now points (HeardGranted sequence grant snapshot) o alone silent =
+    granted-any-by (Holds now o) now sequence grant snapshot (before now o) (before-holds now o) (told-holds now o (learned snapshot (before now o)) (before-waits now o)) (granted-holds now sequence grant snapshot o (before now o) (before-waits now o))
+step-holds now points (Mismatch sequence key found) o alone silent =
+    refused-any-by (Holds now o) now sequence (before now o) (told-holds now o (before now o) (before-waits now o)) (refused-holds now sequence o (before now o) (before-waits now o))
 step-holds now points (Asked from run sequence) o alone silent = as-before now o (asked from run sequence (before now o)) (before-waits now o)
 step-holds now points (Answered sequence answer) o alone silent = answered-holds now sequence answer o (before now o) (before-onward None now o).last (before-waits now o) (before-fronts now o alone silent)
+step-holds now points (HearsOperator action) o alone silent = let b : Outcome = before now o in
+    operated-by (Holds now o) now action.request action.asked b (record {
+      asks = λ operation txn _. as-before now o (operating now action.request operation (bodies.Request txn) b) (before-waits now o);
+      restarts = λ told. as-before now o (telling action.request told (restarting now b)) (before-waits now o);
+      wipes = λ told. as-before now o (telling action.request told (wiping b)) (before-waits now o);
+    })
 
 -- whatever is granted
 abbrev Any : ℕ → Type 0
 Any revision = Unit {0}
 
 step-sends : (now : Ticks) (points : List HistoryPoint) (heard : Heard) (o : Outcome) → IsAlone o → All IsSilent o.outputs → AllMay Any o (step now points heard o)
-step-sends now points Wake o alone silent = wake-may Any now o alone (before-onward None now o).last silent
-step-sends now points (Got sequence snapshot) o alone silent = got-may Any now points sequence snapshot o alone (before-onward None now o).last silent
+step-sends now points Wake o alone silent = wake-may Any now o alone silent
+step-sends now points (Got sequence snapshot) o alone silent = got-may Any now points sequence snapshot o alone silent
 step-sends now points (HeardGranted sequence grant snapshot) o alone silent = granted-may Any now sequence grant snapshot o alone (before-onward None now o).last (before-fits now o) (λ _. tt) (λ revision _. tt) silent
 step-sends now points (Mismatch sequence key found) o alone silent = refused-may Any now sequence o alone silent
 step-sends now points (Asked from run sequence) o alone silent = asked-may Any now from run sequence o alone silent
 step-sends now points (Answered sequence answer) o alone silent = answered-may Any now sequence answer o alone (before-onward None now o).last silent
+step-sends now points (HearsOperator action) o alone silent = operated-may Any now action o alone silent
 
 numbered : (o after : Outcome) (output : Output) → MayPut Any o after output → IsNumbered o.knows.sequence after.knows.sequence output
 numbered o after (outputs.Send targets.Store sequence body) may = (may.later, may.counted)
@@ -249,10 +290,4 @@ pub input-asks : (now : Ticks) (points : List HistoryPoint) (heard : Heard) (rol
 input-asks now points heard role knows machine sound = let o : Outcome = made role knows machine [] in let alone : IsAlone o = alone-of o sound.ends in let after : Outcome = step now points heard o in record {
   numbered = All-weaker (MayPut Any o after) (IsNumbered o.knows.sequence after.knows.sequence) (numbered o after) after.outputs (step-sends now points heard o alone (All-nil IsSilent));
   waits = step-holds now points heard o alone (All-nil IsSilent);
-}
-
-pub action-asks : (now : Ticks) (role : RoleFacts) (knows : Knowledge) (machine : Machine) → IsSoundAgent role knows → AsksAsWaited now (made role knows machine []) (act now (made role knows machine []))
-action-asks now role knows machine sound = let o : Outcome = made role knows machine [] in let after : Outcome = act now o in record {
-  numbered = All-weaker (MayPut Any o after) (IsNumbered o.knows.sequence after.knows.sequence) (numbered o after) after.outputs (before-may Any now o (alone-of o sound.ends) (All-nil IsSilent));
-  waits = before-holds now o;
 }

@@ -1,15 +1,16 @@
 -- Who hears the grant of the leader key that it waits for begins, where it may; and an input asks where it is to.
-use Rattle.std.proofs.Common.{◌≡◌, ℕ, ◌&&◌, Bool, true, false, cond, List, Option, refl, ◌∙◌, ap, sym, subst}
+use Rattle.std.proofs.Common.{◌≡◌, ℕ, ◌&&◌, ◌==◌, not, Bool, true, false, cond, List, Option, Some, None, refl, ◌∙◌, ap, sym, subst}
 use Rattle.std.proofs.lemmas.List.Elements.{Contains-push}
 use Rattle.pat_base.specs.declared.ticks.Ticks.{Ticks}
 use Rattle.lease_store.specs.declared.granted.Granted.{Granted}
 use Rattle.wal_model.specs.declared.entry.HistoryPoint.{HistoryPoint}
 use Rattle.cluster_config.specs.Snapshots.{SnapshotFacts}
 use Rattle.ha_loop.specs.declared.heard.Heard.{Heard}
-use Rattle.ha_loop.specs.declared.heard.Heard.TheVariants.{Wake, Got, Granted as HeardGranted, Mismatch, Asked, Answered}
+use Rattle.ha_loop.specs.declared.heard.Heard.TheVariants.{Wake, Got, Granted as HeardGranted, Mismatch, Asked, Answered, Operated as HearsOperator}
 use Rattle.ha_loop.specs.declared.knowledge.Question.{Question}
-use Rattle.ha_loop.specs.declared.knowledge.Question.TheVariants.{Reading, Asking, Creating, Renewing, Claiming, Syncing}
+use Rattle.ha_loop.specs.declared.knowledge.Question.TheVariants.{Reading, Asking, Creating, Renewing, Claiming, Syncing, Checking}
 use Rattle.ha_loop.specs.declared.knowledge.Waited.{Waited}
+use Rattle.ha_loop.specs.declared.knowledge.Knowledge.{Knowledge}
 use Rattle.ha_loop.specs.declared.output.Output.TheVariants as outputs
 use Rattle.ha_loop.specs.Acting.{arming, is_refusing, waiting_no_more}
 use Rattle.ha_loop.specs.Agents.{RoleFacts, Follower, Holder, Ready, Leader, Ending, Stray, Outcome, is_ready}
@@ -20,7 +21,10 @@ use Rattle.ha_loop.specs.FreeKey.{AsksWhereFree, AsksWhereWon, BeginsOn, ClaimsO
 use Rattle.ha_loop.specs.Outputs.{listed}
 use Rattle.ha_loop.specs.Powers.{IsAwaitedLease}
 use Rattle.ha_loop.specs.Snapshots.{informed}
-use Rattle.ha_loop.specs.Table.{step}
+use Rattle.ha_loop.specs.Operators.{looked, is_asked_for, awaits_number, grants_operator, operator_granted}
+use Rattle.ha_loop.specs.Table.{prepared, step, granted_any}
+use Rattle.lease_law.proofs.Tools.{none-some, some-is}
+use Rattle.ha_loop.proofs.Judging.{if-false}
 use Rattle.ha_loop.proofs.FreeKey.{free-alone, free-asks, last-won, late-won}
 
 no-way : false ≡ true → ⊥
@@ -41,6 +45,7 @@ may-use Asking role asks may = may
 may-use Creating role asks may = may
 may-use Claiming role asks may = absurd (no-way asks)
 may-use (Syncing settling) role asks may = absurd (no-way asks)
+may-use Checking role asks may = absurd (no-way asks)
 may-use Renewing Follower asks may = refl
 may-use Renewing (Holder held) asks may = refl
 may-use Renewing (Ready held) asks may = refl
@@ -103,27 +108,63 @@ granted-begins now sequence grant snapshot o = (
   (λ revision awaited role can. subst (BeginsOn now revision o) (sym (claim-then now sequence grant snapshot o revision awaited role can)) (record { role = refl; server = refl; begins = Contains-push _ outputs.Begin })),
 )
 
+-- ---- a grant is the agent's own
+awaits-own : (waited : Option Waited) (asked : Waited) (sequence : ℕ) → waited ≡ Some asked → asked.sequence == sequence ≡ true → awaits_number waited sequence ≡ true
+awaits-own None asked sequence is same = absurd (none-some asked is)
+awaits-own (Some waited) asked sequence is same = subst (λ (w : Waited). w.sequence == sequence ≡ true) (sym (some-is waited asked is)) same
+
+not-own : (asked own write : Bool) → own ≡ true → (asked && not own) && write ≡ false
+not-own true true write e = refl
+not-own false own write e = refl
+not-own true false write e = absurd (no-way e)
+
+-- the answer that the agent waits for is its own
+own-grant : (sequence : ℕ) (grant : Granted) (knows : Knowledge) (asked : Waited) → knows.waited ≡ Some asked → asked.sequence == sequence ≡ true → grants_operator sequence grant knows ≡ false
+own-grant sequence grant knows asked is same = not-own (is_asked_for knows.operating sequence) (awaits_number knows.waited sequence) (is_write_of knows.who.me grant) (awaits-own knows.waited asked sequence is same)
+
+second-true : (a b : Bool) → a && b ≡ true → b ≡ true
+second-true true b e = e
+second-true false b e = absurd (no-way e)
+
+granted-own : (now : Ticks) (sequence : ℕ) (grant : Granted) (snapshot : SnapshotFacts) (o : Outcome) → grants_operator sequence grant o.knows ≡ false → granted_any now sequence grant snapshot o ≡ granted now sequence grant snapshot o
+granted-own now sequence grant snapshot o own = if-false (grants_operator sequence grant o.knows) (operator_granted snapshot o.knows.operating o) (granted now sequence grant snapshot o) own
+
+any-begins : (now : Ticks) (sequence : ℕ) (grant : Granted) (snapshot : SnapshotFacts) (o : Outcome) → BeginsWhereGranted now (HeardGranted sequence grant snapshot) o (granted_any now sequence grant snapshot o)
+any-begins now sequence grant snapshot o = let begin = granted-begins now sequence grant snapshot o in (
+  (λ awaited may take armed.
+      let own = granted-own now sequence grant snapshot o (own-grant sequence grant o.knows awaited.waited awaited.is (second-true (asks_lease awaited.waited.question) _ awaited.decision)) in (
+        (λ off. subst (BeginsOn now grant.revision o) (sym own) ((begin.0 awaited may take armed).0 off)),
+        (λ on. subst (ClaimsOn grant.revision o) (sym own) ((begin.0 awaited may take armed).1 on)),
+      )),
+  (λ revision awaited role can.
+      let own = granted-own now sequence grant snapshot o (own-grant sequence grant o.knows awaited.waited awaited.is awaited.number) in
+      subst (BeginsOn now revision o) (sym own) (begin.1 revision awaited role can)),
+)
+
 -- ---- of every input
-pub step-asks : (now : Ticks) (points : List HistoryPoint) (heard : Heard) (o : Outcome) → AsksWhereFree now heard (before now o) (step now points heard o)
-step-asks now points (Got sequence snapshot) o = λ hears is. (free-asks now points sequence snapshot (before now o) hears is, free-alone now points sequence snapshot (before now o) hears is)
+pub step-asks : (now : Ticks) (points : List HistoryPoint) (heard : Heard) (o : Outcome) → AsksWhereFree now heard (prepared now heard o) (step now points heard o)
+step-asks now points (Got sequence snapshot) o = let p : Outcome = looked sequence snapshot (before now o) in λ hears is. (free-asks now points sequence snapshot p hears is, free-alone now points sequence snapshot p hears is)
 step-asks now points Wake o = tt
 step-asks now points (HeardGranted sequence grant snapshot) o = tt
 step-asks now points (Mismatch sequence key found) o = tt
 step-asks now points (Asked from run sequence) o = tt
 step-asks now points (Answered sequence answer) o = tt
+step-asks now points (HearsOperator action) o = tt
 
-pub step-wins : (now : Ticks) (points : List HistoryPoint) (heard : Heard) (o : Outcome) → AsksWhereWon now heard (before now o) (step now points heard o)
+pub step-wins : (now : Ticks) (points : List HistoryPoint) (heard : Heard) (o : Outcome) → AsksWhereWon now heard (prepared now heard o) (step now points heard o)
 step-wins now points (Answered sequence answer) o = λ waited snapshot hears is. last-won now waited sequence answer snapshot (before now o) hears is
 step-wins now points Wake o = λ waited snapshot runs is. late-won now waited snapshot o runs is
 step-wins now points (Got sequence snapshot) o = tt
 step-wins now points (HeardGranted sequence grant snapshot) o = tt
 step-wins now points (Mismatch sequence key found) o = tt
 step-wins now points (Asked from run sequence) o = tt
+step-wins now points (HearsOperator action) o = tt
 
-pub step-begins : (now : Ticks) (points : List HistoryPoint) (heard : Heard) (o : Outcome) → BeginsWhereGranted now heard (before now o) (step now points heard o)
-step-begins now points (HeardGranted sequence grant snapshot) o = granted-begins now sequence grant snapshot (before now o)
+pub step-begins : (now : Ticks) (points : List HistoryPoint) (heard : Heard) (o : Outcome) → BeginsWhereGranted now heard (prepared now heard o) (step now points heard o)
+step-begins now points (HeardGranted sequence grant snapshot) o = any-begins now sequence grant snapshot (before now o)
 step-begins now points Wake o = tt
 step-begins now points (Got sequence snapshot) o = tt
 step-begins now points (Mismatch sequence key found) o = tt
 step-begins now points (Asked from run sequence) o = tt
 step-begins now points (Answered sequence answer) o = tt
+step-begins now points (HearsOperator action) o = tt

@@ -20,8 +20,13 @@ use Rattle.ha_loop.specs.Repairs.{repair_of}
 use Rattle.ha_loop.specs.Snapshots.{leader_loses_key, stray_loses_key, renewing, follow_row, follows, read_noted, got}
 use Rattle.ha_loop.specs.Racing.{creating, barred, finds_free, judged, asking_others, unheard}
 use Rattle.ha_loop.specs.Wake.{leader_out_of_reach, stray_out_of_reach, reading, turn_noted, overdue, turned, woken}
-use Rattle.ha_loop.proofs.Living.{no-way, stop-live, start-live, follow-live}
-use Rattle.ha_loop.proofs.Rows.{before-by, overdue-by, turn-by, wake-by, got-by, refused-by, follow-by, repaired-by, free-by, judged-by, answered-by}
+use Rattle.ha_loop.specs.HandingOver.{hands_over}
+use Rattle.ha_loop.specs.Operators.{answering, given_up, looked, operated, operating, restarting, telling, wiping}
+use Rattle.ha_loop.specs.Table.{refused_any}
+use Rattle.lease_store.specs.declared.action.OperatorAction.{OperatorAction}
+use Rattle.event_book.specs.declared.message.Body.TheVariants as bodies
+use Rattle.ha_loop.proofs.Living.{no-way, stop-live, start-live, follow-live, restart-live, wipe-live}
+use Rattle.ha_loop.proofs.Rows.{HandoverRows, ReplyRows, ActRows, dropping, looked-by, given-up-by, refused-any-by, operated-by, before-by, overdue-by, turn-by, wake-by, got-by, refused-by, follow-by, repaired-by, free-by, judged-by, answered-by}
 use Rattle.ha_loop.specs.Peers.{asked, keeping, answered}
 
 none-some : {revision : ℕ} → ◌≡◌ {A = Option ℕ} None (Some revision) → ⊥
@@ -101,6 +106,27 @@ before-brings now o = before-by (BringsNothing o) now o (record {
 judged-brings : (now : Ticks) (o : Outcome) → BringsNothing o (judged now o)
 judged-brings now o = judged-by (BringsNothing o) now o (same-role o (creating now (waiting_no_more o)) refl (λ e. e)) (λ bar. same-role o (barred bar (waiting_no_more o)) refl (λ e. e))
 
+-- a handover is judged: who hands over keeps the lease until its server has ended
+handover-brings : (now : Ticks) (held : ℕ) (o b : Outcome) → o.role ≡ Leader held → BringsNothing o b → b.role ≡ o.role → HandoverRows (BringsNothing o) now held b
+handover-brings now held o b is brings role = record {
+  kept = brings-then o b (waiting_no_more b) brings (same-role b (waiting_no_more b) refl (λ e. e));
+  clears = λ compared. brings-then o b (dropping compared (waiting_no_more b)) brings (same-role b (dropping compared (waiting_no_more b)) refl (λ e. e));
+  hands = λ candidate. brings-then o b (hands_over now held candidate (waiting_no_more b)) brings
+      (keeps-lease b (hands_over now held candidate (waiting_no_more b)) held (leader-lease b held (role ∙ is)) refl refl (stop-live now b.machine.server));
+}
+
+-- who answers an operator
+pub told-brings : (o b : Outcome) → BringsNothing o b → ReplyRows (BringsNothing o) b
+told-brings o b brings = record { kept = brings; answers = λ request told. brings-then o b (answering request told b) brings (same-role b (answering request told b) refl (λ e. e)) }
+
+-- who does what one asks: a server that starts again was live before, if it is
+acts-bring : (now : Ticks) (request : ℕ) (o : Outcome) → ActRows (BringsNothing o) now request o
+acts-bring now request o = record {
+  asks = λ operation txn _. same-role o (operating now request operation (bodies.Request txn) o) refl (λ e. e);
+  restarts = λ told. same-role o (telling request told (restarting now o)) refl (restart-live now o.machine.server);
+  wipes = λ told. same-role o (telling request told (wiping o)) refl (wipe-live o.machine.server);
+}
+
 pub overdue-brings : (now : Ticks) (o : Outcome) → BringsNothing o (overdue now o)
 overdue-brings now o = overdue-by (BringsNothing o) now o (record {
   kept = same-role o o refl (λ e. e);
@@ -109,6 +135,7 @@ overdue-brings now o = overdue-by (BringsNothing o) now o (record {
   stray = λ _. same-role o (stray_out_of_reach now (waiting_no_more o)) refl (stop-live now o.machine.server);
   judges = λ _. judged-brings now o;
   ready = λ held is. postpones-brings o held (waiting_no_more o) is refl;
+  checks = λ held is. handover-brings now held o o is (same-role o o refl (λ e. e)) refl;
 })
 
 pub turn-brings : (now : Ticks) (o : Outcome) → BringsNothing o (turned now o)
@@ -118,11 +145,14 @@ turn-brings now o = turn-by (BringsNothing o) now o (record {
   reads = λ _. same-role o (reading now (record o { knows = turn_noted now o.knows })) refl (λ e. e);
 })
 
+-- an operator whose time is over is answered
+pub given-up-brings : (now : Ticks) (o : Outcome) → BringsNothing o (given_up now (before now o))
+given-up-brings now o = given-up-by (BringsNothing o) now (before now o) (told-brings o (before now o) (before-brings now o))
+
 pub wake-brings : (now : Ticks) (o : Outcome) → BringsNothing o (woken now o)
-wake-brings now o = wake-by (BringsNothing o) now o (before-brings now o)
-    (brings-then o (overdue now (before now o)) (turned now (overdue now (before now o)))
-    (brings-then o (before now o) (overdue now (before now o)) (before-brings now o) (overdue-brings now (before now o)))
-    (turn-brings now (overdue now (before now o))))
+wake-brings now o = let b : Outcome = given_up now (before now o) in
+    wake-by (BringsNothing o) now o (before-brings now o)
+    (brings-then o (overdue now b) (turned now (overdue now b)) (brings-then o b (overdue now b) (given-up-brings now o) (overdue-brings now b)) (turn-brings now (overdue now b)))
 
 -- a follower tells of itself, after what its server does
 follow-brings : (now : Ticks) (leader : MemberId) (o : Outcome) → BringsNothing o (follows now leader o)
@@ -172,12 +202,16 @@ refused-brings now sequence o = refused-by (BringsNothing o) now sequence o (rec
 })
 
 -- what the key store held when it answered a read
-pub read-brings : (now : Ticks) (points : List HistoryPoint) (sequence : ℕ) (snapshot : SnapshotFacts) (o : Outcome) → BringsNothing o (got now points sequence snapshot (before now o))
-read-brings now points sequence snapshot o = brings-then o (before now o) (got now points sequence snapshot (before now o)) (before-brings now o) (got-brings now points sequence snapshot (before now o))
+pub read-brings : (now : Ticks) (points : List HistoryPoint) (sequence : ℕ) (snapshot : SnapshotFacts) (o : Outcome) → BringsNothing o (got now points sequence snapshot (looked sequence snapshot (before now o)))
+read-brings now points sequence snapshot o = let p : Outcome = looked sequence snapshot (before now o) in
+    brings-then o p (got now points sequence snapshot p) (looked-by (BringsNothing o) sequence snapshot (before now o) (told-brings o (before now o) (before-brings now o))) (got-brings now points sequence snapshot p)
 
 -- a refusal
-pub refusal-brings : (now : Ticks) (sequence : ℕ) (o : Outcome) → BringsNothing o (refused now sequence (before now o))
-refusal-brings now sequence o = brings-then o (before now o) (refused now sequence (before now o)) (before-brings now o) (refused-brings now sequence (before now o))
+pub any-refused-brings : (now : Ticks) (sequence : ℕ) (o : Outcome) → BringsNothing o (refused_any now sequence o)
+any-refused-brings now sequence o = refused-any-by (BringsNothing o) now sequence o (told-brings o o (same-role o o refl (λ e. e))) (refused-brings now sequence o)
+
+pub refusal-brings : (now : Ticks) (sequence : ℕ) (o : Outcome) → BringsNothing o (refused_any now sequence (before now o))
+refusal-brings now sequence o = brings-then o (before now o) (refused_any now sequence (before now o)) (before-brings now o) (any-refused-brings now sequence (before now o))
 
 pub answer-brings : (now : Ticks) (sequence : ℕ) (answer : PeerAnswer) (o : Outcome) → BringsNothing o (answered now sequence answer o)
 answer-brings now sequence answer o = answered-by (BringsNothing o) now sequence answer o (record {
@@ -185,6 +219,7 @@ answer-brings now sequence answer o = answered-by (BringsNothing o) now sequence
   quiet = same-role o (waiting_no_more o) refl (λ e. e);
   keeps = same-role o (keeping answer o) refl (λ e. e);
   judges = λ _. brings-then o (keeping answer o) (judged now (keeping answer o)) (same-role o (keeping answer o) refl (λ e. e)) (judged-brings now (keeping answer o));
+  checks = λ held is. handover-brings now held o (keeping answer o) is (same-role o (keeping answer o) refl (λ e. e)) refl;
 })
 
 -- the answer of another member
@@ -194,3 +229,10 @@ answered-brings now sequence answer o = brings-then o (before now o) (answered n
 -- the question of another member
 pub asked-brings : (now : Ticks) (from : MemberId) (run sequence : ℕ) (o : Outcome) → BringsNothing o (asked from run sequence (before now o))
 asked-brings now from run sequence o = brings-then o (before now o) (asked from run sequence (before now o)) (before-brings now o) (same-role (before now o) (asked from run sequence (before now o)) refl (λ e. e))
+
+-- what an operator asks
+pub acting-brings : (now : Ticks) (action : OperatorAction) (o : Outcome) → BringsNothing o (operated now action.request action.asked o)
+acting-brings now action o = operated-by (BringsNothing o) now action.request action.asked o (acts-bring now action.request o)
+
+pub operated-brings : (now : Ticks) (action : OperatorAction) (o : Outcome) → BringsNothing o (operated now action.request action.asked (before now o))
+operated-brings now action o = let b : Outcome = before now o in brings-then o b (operated now action.request action.asked b) (before-brings now o) (acting-brings now action b)

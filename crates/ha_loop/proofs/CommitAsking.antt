@@ -1,6 +1,7 @@
 -- With the synchronous mode on in each snapshot, what an agent waits for it asked with the mode on.
-use Rattle.std.proofs.Common.{◌≡◌, ℕ, ◌==◌, nat_le, Bool, true, List, Option, Some, None, refl, sym, subst, ◌∙◌}
+use Rattle.std.proofs.Common.{◌≡◌, ℕ, ◌==◌, nat_le, Bool, true, if◌then◌else◌, List, Option, Some, None, refl, sym, subst, ◌∙◌}
 use Rattle.lease_store.specs.Defaults.{default_config}
+use Rattle.lease_store.specs.declared.action.OperatorRequest.{OperatorRequest}
 use Rattle.lease_store.specs.declared.config.Config.{Config}
 use Rattle.lease_store.specs.declared.granted.Granted.{Granted}
 use Rattle.lease_store.specs.declared.key.Key.TheVariants as keys
@@ -11,12 +12,14 @@ use Rattle.pat_base.specs.declared.member_id.MemberId.{MemberId}
 use Rattle.pat_base.specs.declared.peer_answer.PeerAnswer.{PeerAnswer}
 use Rattle.pat_base.specs.declared.ticks.Ticks.{Ticks}
 use Rattle.wal_model.specs.declared.entry.HistoryPoint.{HistoryPoint}
+use Rattle.cluster_config.specs.Naming.{candidate_of}
 use Rattle.cluster_config.specs.Snapshots.{SnapshotFacts, entry_in, settings_by, settings_of_entry, settings_in}
 use Rattle.lease_law.proofs.Tools.{some-is, none-some}
 use Rattle.ha_loop.specs.declared.knowledge.Knowledge.{Knowledge}
 use Rattle.ha_loop.specs.declared.knowledge.Question.{Question}
-use Rattle.ha_loop.specs.declared.knowledge.Question.TheVariants.{Reading, Asking, Creating, Renewing, Claiming, Syncing}
+use Rattle.ha_loop.specs.declared.knowledge.Question.TheVariants.{Reading, Asking, Creating, Renewing, Claiming, Syncing, Checking}
 use Rattle.ha_loop.specs.declared.knowledge.Waited.{Waited}
+use Rattle.ha_loop.specs.declared.operating.Operating.{Operating}
 use Rattle.ha_loop.specs.declared.role.Why.{Why}
 use Rattle.ha_loop.specs.declared.role.Why.TheVariants.{HandOver, Lost}
 use Rattle.ha_loop.specs.Acting.{touching, waiting_no_more}
@@ -25,15 +28,19 @@ use Rattle.ha_loop.specs.Before.{has_ended, before}
 use Rattle.ha_loop.specs.Claiming.{claim_fails_as}
 use Rattle.ha_loop.specs.Committing.{IsOn, FollowsOn, AsksOn}
 use Rattle.ha_loop.specs.Decisions.{asks_lease, may_create, refused}
-use Rattle.ha_loop.specs.Peers.{is_asking, awaits_answer, keeping, accepted_answer, answered_for, answered}
+use Rattle.ha_loop.specs.Answers.{all_answered}
+use Rattle.ha_loop.specs.HandingOver.{check_answered, handover_judged, judged_if_leading, whom_answered}
+use Rattle.ha_loop.specs.Operators.{operator_granted, looked, given_up, operated}
+use Rattle.ha_loop.specs.Peers.{is_asking, awaits_answer, awaits_check, judged_if_all, keeping, accepted_answer, answered_for, answered}
 use Rattle.ha_loop.specs.Powers.{IsAwaitedLease}
 use Rattle.ha_loop.specs.Racing.{judged, finds_free, unheard}
 use Rattle.ha_loop.specs.Repairs.{repair_of, repairing}
 use Rattle.ha_loop.specs.Snapshots.{follow_row, follows, read_noted, got}
+use Rattle.ha_loop.specs.Table.{refused_any}
 use Rattle.ha_loop.specs.Wake.{out_of_reach_as, unanswered, overdue_for, overdue, turned, woken}
 use Rattle.ha_loop.proofs.Granting.{both-true}
 use Rattle.ha_loop.proofs.Living.{no-way}
-use Rattle.ha_loop.proofs.Rows.{if-cases, before-by, turn-by, wake-by, got-by, refused-by, follow-by, repaired-by, free-by, judged-by, answered-by}
+use Rattle.ha_loop.proofs.Rows.{ReplyRows, if-cases, before-by, turn-by, wake-by, got-by, refused-by, follow-by, repaired-by, free-by, judged-by, handover-by, looked-by, given-up-by, operator-granted-by, refused-any-by, operated-by}
 
 -- nothing is waited for
 asks-nothing : (knows : Knowledge) → knows.waited ≡ None → AsksOn knows
@@ -78,12 +85,26 @@ claim-asks (Leader held) o = (λ waited is-it. absurd (none-some waited is-it))
 claim-asks (Ending held why) o = (λ waited is-it. absurd (none-some waited is-it))
 claim-asks Stray o = (λ waited is-it. absurd (none-some waited is-it))
 
+-- a handover that is judged asks for nothing that is waited for
+handover-asks : (now : Ticks) (held : ℕ) (o : Outcome) → AsksOn (handover_judged now held o).knows
+handover-asks now held o = handover-by (λ (x : Outcome). AsksOn x.knows) now held o
+    (record { kept = (λ waited is-it. absurd (none-some waited is-it)); clears = λ compared. (λ waited is-it. absurd (none-some waited is-it)); hands = λ candidate. (λ waited is-it. absurd (none-some waited is-it)) })
+
+leading-asks : (now : Ticks) (role : RoleFacts) (o : Outcome) → AsksOn (judged_if_leading now role o).knows
+leading-asks now (Leader held) o = handover-asks now held o
+leading-asks now Follower o = (λ waited is-it. absurd (none-some waited is-it))
+leading-asks now (Holder held) o = (λ waited is-it. absurd (none-some waited is-it))
+leading-asks now (Ready held) o = (λ waited is-it. absurd (none-some waited is-it))
+leading-asks now (Ending held why) o = (λ waited is-it. absurd (none-some waited is-it))
+leading-asks now Stray o = (λ waited is-it. absurd (none-some waited is-it))
+
 unanswered-asks : (now : Ticks) (question : Question) (o : Outcome) → FollowsOn o.knows.turn_settings.synchronous_mode question → AsksOn (unanswered now question o).knows
 unanswered-asks now Reading o on = reach-asks now o.role o
 unanswered-asks now Renewing o on = reach-asks now o.role o
 unanswered-asks now Creating o on = (λ waited is-it. absurd (none-some waited is-it))
 unanswered-asks now Claiming o on = claim-asks o.role o
 unanswered-asks now (Syncing settling) o on = (λ waited is-it. absurd (none-some waited is-it))
+unanswered-asks now Checking o on = leading-asks now o.role o
 unanswered-asks now Asking o on = if-cases (λ (x : Outcome). AsksOn x.knows) (may_create o.role) (judged now o) (waiting_no_more o) (λ _. judged-asks now o on) (λ _. (λ waited is-it. absurd (none-some waited is-it)))
 
 overdue-asks : (now : Ticks) (waited : Option Waited) (o : Outcome) → o.knows.waited ≡ waited → AsksOn o.knows → AsksOn (overdue_for now waited o).knows
@@ -93,9 +114,25 @@ overdue-asks now (Some waited) o is on = if-cases (λ (x : Outcome). AsksOn x.kn
 turn-asks : (now : Ticks) (o : Outcome) → AsksOn o.knows → AsksOn (turned now o).knows
 turn-asks now o on = turn-by (λ (x : Outcome). AsksOn x.knows) now o (record { kept = on; quiet = on; reads = λ _. asks-it o.knows.turn_settings.synchronous_mode _ tt })
 
+-- who answers operators waits for the same
+replies-asks : (o : Outcome) → AsksOn o.knows → ReplyRows (λ (x : Outcome). AsksOn x.knows) o
+replies-asks o on = record { kept = on; answers = λ request answer. on }
+
+pub looked-asks : (sequence : ℕ) (snapshot : SnapshotFacts) (o : Outcome) → AsksOn o.knows → AsksOn (looked sequence snapshot o).knows
+looked-asks sequence snapshot o on = looked-by (λ (x : Outcome). AsksOn x.knows) sequence snapshot o (replies-asks o on)
+
+given-up-asks : (now : Ticks) (o : Outcome) → AsksOn o.knows → AsksOn (given_up now o).knows
+given-up-asks now o on = given-up-by (λ (x : Outcome). AsksOn x.knows) now o (replies-asks o on)
+
+pub operator-granted-asks : (snapshot : SnapshotFacts) (waiting : Option Operating) (o : Outcome) → AsksOn o.knows → AsksOn (operator_granted snapshot waiting o).knows
+operator-granted-asks snapshot waiting o on = operator-granted-by (λ (x : Outcome). AsksOn x.knows) snapshot waiting o on (record { kept = on; answers = λ request answer. on })
+
+pub operated-asks : (now : Ticks) (request : ℕ) (asked : OperatorRequest) (o : Outcome) → AsksOn o.knows → AsksOn (operated now request asked o).knows
+operated-asks now request asked o on = operated-by (λ (x : Outcome). AsksOn x.knows) now request asked o (record { asks = λ operation txn is. on; restarts = λ answer. on; wipes = λ answer. on })
+
 pub wake-asks : (now : Ticks) (o : Outcome) → AsksOn o.knows → AsksOn (woken now o).knows
-wake-asks now o on = let b : Outcome = before now o in
-    wake-by (λ (x : Outcome). AsksOn x.knows) now o (before-asks now o on) (turn-asks now (overdue now b) (overdue-asks now b.knows.waited b refl (before-asks now o on)))
+wake-asks now o on = let x : Outcome = given_up now (before now o) in
+    wake-by (λ (y : Outcome). AsksOn y.knows) now o (before-asks now o on) (turn-asks now (overdue now x) (overdue-asks now x.knows.waited x refl (given-up-asks now (before now o) (before-asks now o on))))
 
 -- the settings of a snapshot that has the mode on have it on
 value-on : (settings : Config) (value : Value) → (settings_by default_config value).synchronous_mode ≡ true → (settings_by settings value).synchronous_mode ≡ true
@@ -143,7 +180,7 @@ got-asks now points sequence snapshot o is on = let read : Outcome = record o { 
       free = λ _ _. free-asks now read refl mode;
     })
 
-pub refused-asks : (now : Ticks) (sequence : ℕ) (o : Outcome) → AsksOn o.knows → AsksOn (refused now sequence o).knows
+refused-asks : (now : Ticks) (sequence : ℕ) (o : Outcome) → AsksOn o.knows → AsksOn (refused now sequence o).knows
 refused-asks now sequence o on = refused-by (λ (x : Outcome). AsksOn x.knows) now sequence o (record {
   kept = on;
   quiet = (λ waited is-it. absurd (none-some waited is-it));
@@ -153,6 +190,9 @@ refused-asks now sequence o on = refused-by (λ (x : Outcome). AsksOn x.knows) n
   ready = λ held _. (λ waited is-it. absurd (none-some waited is-it));
 })
 
+pub any-refused-asks : (now : Ticks) (sequence : ℕ) (o : Outcome) → AsksOn o.knows → AsksOn (refused_any now sequence o).knows
+any-refused-asks now sequence o on = refused-any-by (λ (x : Outcome). AsksOn x.knows) now sequence o (replies-asks o on) (refused-asks now sequence o on)
+
 asking-on : (question : Question) (on : Bool) → is_asking question ≡ true → FollowsOn on question → on ≡ true
 asking-on Asking on asks follows = follows
 asking-on Reading on asks follows = absurd (no-way asks)
@@ -160,25 +200,32 @@ asking-on Creating on asks follows = absurd (no-way asks)
 asking-on Renewing on asks follows = absurd (no-way asks)
 asking-on Claiming on asks follows = absurd (no-way asks)
 asking-on (Syncing settling) on asks follows = absurd (no-way asks)
+asking-on Checking on asks follows = absurd (no-way asks)
 
-keeping-asks : (now : Ticks) (sequence : ℕ) (answer : PeerAnswer) (o : Outcome) → AsksOn o.knows → o.knows.turn_settings.synchronous_mode ≡ true → AsksOn (answered now sequence answer o).knows
-keeping-asks now sequence answer o on mode = answered-by (λ (x : Outcome). AsksOn x.knows) now sequence answer o (record { kept = on; quiet = (λ waited is-it. absurd (none-some waited is-it)); keeps = on; judges = λ _. judged-asks now (keeping answer o) mode })
+-- an answer in a race with the mode on
+accepted-asks : (now : Ticks) (answer : PeerAnswer) (o : Outcome) → AsksOn o.knows → o.knows.turn_settings.synchronous_mode ≡ true → AsksOn (accepted_answer now answer o).knows
+accepted-asks now answer o on mode = let P : Outcome → Type 0 = λ x. AsksOn x.knows in
+    if-cases P (may_create o.role) (judged_if_all now (keeping answer o)) (waiting_no_more o)
+    (λ _. if-cases P (all_answered o.knows.who (keeping answer o).knows.answers) (judged now (keeping answer o)) (keeping answer o) (λ _. judged-asks now (keeping answer o) mode) (λ _. on))
+    (λ _. (λ waited is-it. absurd (none-some waited is-it)))
 
-answered-asks-for : (now : Ticks) (sequence : ℕ) (answer : PeerAnswer) (waited : Option Waited) (o : Outcome) → o.knows.waited ≡ waited → AsksOn o.knows → AsksOn (answered_for now sequence answer o.knows.waited o).knows → AsksOn (answered_for now sequence answer waited o).knows
-answered-asks-for now sequence answer waited o is on kept = subst (λ (w : Option Waited). AsksOn (answered_for now sequence answer w o).knows) is kept
-
-unasked : (waited : Waited) (sequence : ℕ) (now : Ticks) (answer : PeerAnswer) (o : Outcome) → o.knows.waited ≡ Some waited → AsksOn o.knows → AsksOn (answered_for now sequence answer (Some waited) o).knows
-unasked waited sequence now answer o is on = if-cases (λ (x : Outcome). AsksOn x.knows) (awaits_answer waited sequence) (accepted_answer now answer o) o
-    (λ awaits. let mode : o.knows.turn_settings.synchronous_mode ≡ true = asking-on waited.question o.knows.turn_settings.synchronous_mode (both-true (is_asking waited.question) (waited.sequence == sequence) awaits).0 (on waited is) in
-    subst (λ (x : Outcome). AsksOn x.knows) (accepted-is waited sequence now answer o awaits) (answered-asks-for now sequence answer (Some waited) o is on (keeping-asks now sequence answer o on mode)))
-    (λ _. on)
-  where
-    accepted-is : (waited : Waited) (sequence : ℕ) (now : Ticks) (answer : PeerAnswer) (o : Outcome) → awaits_answer waited sequence ≡ true → answered_for now sequence answer (Some waited) o ≡ accepted_answer now answer o
-    accepted-is waited sequence now answer o awaits = rw awaits refl
+-- an answer to a leader
+check-asks : (now : Ticks) (answer : PeerAnswer) (role : RoleFacts) (o : Outcome) → AsksOn o.knows → AsksOn (check_answered now answer role o).knows
+check-asks now answer (Leader held) o on =
+    if-cases (λ (x : Outcome). AsksOn x.knows) (whom_answered o.knows.who (candidate_of o.knows.turn_failover) (keeping answer o).knows.answers) (handover_judged now held (keeping answer o)) (keeping answer o)
+    (λ _. handover-asks now held (keeping answer o)) (λ _. on)
+check-asks now answer Follower o on = (λ waited is-it. absurd (none-some waited is-it))
+check-asks now answer (Holder held) o on = (λ waited is-it. absurd (none-some waited is-it))
+check-asks now answer (Ready held) o on = (λ waited is-it. absurd (none-some waited is-it))
+check-asks now answer (Ending held why) o on = (λ waited is-it. absurd (none-some waited is-it))
+check-asks now answer Stray o on = (λ waited is-it. absurd (none-some waited is-it))
 
 answered-on : (now : Ticks) (sequence : ℕ) (answer : PeerAnswer) (waited : Option Waited) (o : Outcome) → o.knows.waited ≡ waited → AsksOn o.knows → AsksOn (answered_for now sequence answer waited o).knows
 answered-on now sequence answer None o is on = on
-answered-on now sequence answer (Some waited) o is on = unasked waited sequence now answer o is on
+answered-on now sequence answer (Some waited) o is on = let P : Outcome → Type 0 = λ x. AsksOn x.knows in
+    if-cases P (awaits_answer waited sequence) (accepted_answer now answer o) (if awaits_check waited sequence then check_answered now answer o.role o else o)
+    (λ awaits. accepted-asks now answer o on (asking-on waited.question o.knows.turn_settings.synchronous_mode (both-true (is_asking waited.question) (waited.sequence == sequence) awaits).0 (on waited is)))
+    (λ _. if-cases P (awaits_check waited sequence) (check_answered now answer o.role o) o (λ _. check-asks now answer o.role o on) (λ _. on))
 
 pub answered-asks : (now : Ticks) (sequence : ℕ) (answer : PeerAnswer) (o : Outcome) → AsksOn o.knows → AsksOn (answered now sequence answer o).knows
 answered-asks now sequence answer o on = answered-on now sequence answer o.knows.waited o refl on
@@ -190,6 +237,7 @@ lease-on Asking on asks follows = absurd (no-way asks)
 lease-on Reading on asks follows = absurd (no-way asks)
 lease-on Claiming on asks follows = absurd (no-way asks)
 lease-on (Syncing settling) on asks follows = absurd (no-way asks)
+lease-on Checking on asks follows = absurd (no-way asks)
 
 -- whoever waits for a lease asked for it with the mode on
 pub leases-on : (sequence : ℕ) (grant : Granted) (knows : Knowledge) → AsksOn knows → IsAwaitedLease sequence grant knows → knows.turn_settings.synchronous_mode ≡ true

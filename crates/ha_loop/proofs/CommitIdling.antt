@@ -3,13 +3,18 @@ use Rattle.std.proofs.Common.{◌≡◌, ◌⊎◌, ℕ, ◌+◌, ◌≤◌, ◌
 use Rattle.pat_base.specs.declared.member_id.MemberId.{MemberId}
 use Rattle.pat_base.specs.declared.peer_answer.PeerAnswer.{PeerAnswer}
 use Rattle.pat_base.specs.declared.ticks.Ticks.{Ticks}
+use Rattle.pg_model.specs.Running.{is_primary}
 use Rattle.wal_model.specs.declared.entry.HistoryPoint.{HistoryPoint}
 use Rattle.cluster_config.specs.Snapshots.{SnapshotFacts}
 use Rattle.event_book.specs.declared.message.Body.TheVariants as bodies
 use Rattle.event_book.specs.declared.reason.Reason.TheVariants.{StoreOutOfReach, LeaderKeyLost}
+use Rattle.lease_store.specs.declared.action.OperatorRequest.{OperatorRequest}
+use Rattle.lease_store.specs.declared.txn.Txn.{Txn}
 use Rattle.lease_store.specs.declared.txn.Txn.TheVariants as txns
 use Rattle.lease_law.proofs.Tools.{some-is, none-some}
 use Rattle.ha_loop.specs.declared.knowledge.Waited.{Waited}
+use Rattle.ha_loop.specs.declared.operating.Operating.{Operating}
+use Rattle.ha_loop.specs.declared.operating.Told.{Told}
 use Rattle.ha_loop.specs.declared.output.Output.TheVariants as outputs
 use Rattle.ha_loop.specs.declared.output.Target.TheVariants as targets
 use Rattle.ha_loop.specs.declared.role.Why.{Why}
@@ -19,18 +24,22 @@ use Rattle.ha_loop.specs.Agents.{RoleFacts, Follower, Outcome, is_ready, is_lead
 use Rattle.ha_loop.specs.Answers.{most_answers}
 use Rattle.ha_loop.specs.Before.{leader_finds_ended, has_ended, finds_live, stray_finds_ended, before}
 use Rattle.ha_loop.specs.Claiming.{postpones}
+use Rattle.ha_loop.specs.Committing.{IsQuietTxn}
 use Rattle.ha_loop.specs.Decisions.{refused}
+use Rattle.ha_loop.specs.HandingOver.{checking, hands_over}
+use Rattle.ha_loop.specs.Operators.{telling, answering, operating, restarting, wiping, operated, looked, given_up, learned, operator_granted}
 use Rattle.ha_loop.specs.Outputs.{listed}
 use Rattle.ha_loop.specs.Peers.{asked, keeping, answered}
 use Rattle.ha_loop.specs.Racing.{creating, barred, finds_free, judged, asking_others, unheard}
 use Rattle.ha_loop.specs.Repairs.{repair_of}
 use Rattle.ha_loop.specs.Snapshots.{renewing, follow_row, follows, leader_loses_key, stray_loses_key, read_noted, got}
 use Rattle.ha_loop.specs.Synchronous.{sync_read_in}
+use Rattle.ha_loop.specs.Table.{refused_any}
 use Rattle.ha_loop.specs.Wake.{reading, turn_noted, leader_out_of_reach, stray_out_of_reach, overdue, turned, woken}
-use Rattle.ha_loop.proofs.CommitQuiet.{IsQuiet, quietly, quiet-disarmed, asks-quiet}
-use Rattle.ha_loop.proofs.Knowing.{before-onward, overdue-onward}
+use Rattle.ha_loop.proofs.CommitQuiet.{IsQuiet, quietly, quiet-disarmed, asks-quiet, whom-quiet}
+use Rattle.ha_loop.proofs.Knowing.{before-onward, given-up-onward, overdue-onward}
 use Rattle.ha_loop.proofs.Living.{no-way}
-use Rattle.ha_loop.proofs.Rows.{before-by, overdue-by, turn-by, wake-by, got-by, refused-by, follow-by, repaired-by, free-by, judged-by, answered-by}
+use Rattle.ha_loop.proofs.Rows.{HandoverRows, FailoverRows, ReplyRows, IsOperatorTxn, dropping, before-by, overdue-by, turn-by, wake-by, got-by, refused-by, follow-by, repaired-by, free-by, judged-by, answered-by, looked-by, given-up-by, operator-granted-by, refused-any-by, operated-by}
 
 -- what is waited for was waited for before, or has a new number
 abbrev pub WaitsOn : Outcome → Outcome → Type 0
@@ -149,6 +158,34 @@ judged-idle told now o = judged-by (Idle told o) now o
 stop-idle : (told : Option SnapshotFacts) (now : Ticks) (reason : _) (o : Outcome) → Idle told o (ending_server now reason o)
 stop-idle told now reason o = stays told o (ending_server now reason o) refl refl refl refl (waits-same o (ending_server now reason o) refl) (λ q. quietly o.outputs (outputs.Stop reason) q tt)
 
+dropping-idle : (told : Option SnapshotFacts) (compared : ℕ) (o : Outcome) → Idle told o (dropping compared o)
+dropping-idle told compared o = stays told o (dropping compared o) refl refl refl refl (waits-same o (dropping compared o) refl) (λ q. quietly o.outputs (outputs.Send targets.Store (o.knows.sequence + 1) (bodies.Request (txns.DropFailover compared))) q tt)
+
+hands-over-idle : (told : Option SnapshotFacts) (now : Ticks) (held : ℕ) (candidate : MemberId) (o : Outcome) → Idle told o (hands_over now held candidate o)
+hands-over-idle told now held candidate o = falls told o (hands_over now held candidate o) refl refl refl refl refl (waits-same o (hands_over now held candidate o) refl)
+    (λ q. quietly (listed (outputs.HandsOver candidate) o.outputs) outputs.ShutDown (quietly o.outputs (outputs.HandsOver candidate) q tt) tt)
+
+-- a handover is judged behind another step
+handover-idle : (told : Option SnapshotFacts) (now : Ticks) (held : ℕ) (o x : Outcome) → Idle told o x → o.knows.sequence ≤ x.knows.sequence → HandoverRows (Idle told o) now held x
+handover-idle told now held o x first last = let w : Outcome = waiting_no_more x in let there : Idle told o w = idle-then told o x w first (quiet-idle told x) last in record {
+  kept = there;
+  clears = λ compared. idle-then told o w (dropping compared w) there (dropping-idle told compared w) last;
+  hands = λ candidate. idle-then told o w (hands_over now held candidate w) there (hands-over-idle told now held candidate w) last;
+}
+
+checking-idle : (told : Option SnapshotFacts) (now : Ticks) (candidate : Option MemberId) (o : Outcome) → Idle told o (checking now candidate o)
+checking-idle told now candidate o = stays told o (checking now candidate o) refl refl refl refl (waits-new o (checking now candidate o) _ refl (omega arith)) (λ q. whom-quiet o.knows.who candidate (o.knows.sequence + 1) o.outputs q)
+
+-- so is what a leader does under a failover key
+pub failover-idle : (told : Option SnapshotFacts) (now : Ticks) (held : ℕ) (o x : Outcome) → Idle told o x → o.knows.sequence ≤ x.knows.sequence → FailoverRows (Idle told o) now held x
+failover-idle told now held o x first last = let u : Outcome = unheard x in
+    let there : Idle told o u = idle-then told o x u first (stays told x u refl refl refl refl (waits-same x u refl) (λ q. q)) last in record {
+      kept = first;
+      clears = λ compared. idle-then told o x (dropping compared x) first (dropping-idle told compared x) last;
+      asks = λ candidate. idle-then told o u (checking now candidate u) there (checking-idle told now candidate u) last;
+      judges = handover-idle told now held o u there last;
+    }
+
 pub overdue-idle : (told : Option SnapshotFacts) (now : Ticks) (o : Outcome) → Idle told o (overdue now o)
 overdue-idle told now o = let w : Outcome = waiting_no_more o in overdue-by (Idle told o) now o (record {
   kept = same-idle told o;
@@ -157,6 +194,7 @@ overdue-idle told now o = let w : Outcome = waiting_no_more o in overdue-by (Idl
   stray = λ _. idle-then told o w (stray_out_of_reach now w) (quiet-idle told o) (stop-idle told now StoreOutOfReach w) (omega arith);
   judges = λ _. judged-idle told now o;
   ready = λ held _. idle-then told o w (postpones held w) (quiet-idle told o) (postpones-idle told held w) (omega arith);
+  checks = λ held _. handover-idle told now held o o (same-idle told o) (omega arith);
 })
 
 pub turn-idle : (told : Option SnapshotFacts) (now : Ticks) (o : Outcome) → Idle told o (turned now o)
@@ -166,11 +204,48 @@ turn-idle told now o = let noted : Outcome = record o { knows = turn_noted now o
   reads = λ _. stays told o (reading now noted) refl refl refl refl (waits-new o (reading now noted) _ refl (omega arith)) (λ q. quietly o.outputs (outputs.Send targets.Store (o.knows.sequence + 1) bodies.Read) q tt);
 })
 
+-- operators are answered
+answering-idle : (told : Option SnapshotFacts) (request : ℕ) (answer : Told) (o : Outcome) → Idle told o (answering request answer o)
+answering-idle told request answer o = stays told o (answering request answer o) refl refl refl refl (waits-same o (answering request answer o) refl) (λ q. quietly o.outputs (outputs.Told request answer) q tt)
+
+replies-idle : (told : Option SnapshotFacts) (o : Outcome) → ReplyRows (Idle told o) o
+replies-idle told o = record { kept = same-idle told o; answers = λ request answer. answering-idle told request answer o }
+
+pub looked-idle : (told : Option SnapshotFacts) (sequence : ℕ) (snapshot : SnapshotFacts) (o : Outcome) → Idle told o (looked sequence snapshot o)
+looked-idle told sequence snapshot o = looked-by (Idle told o) sequence snapshot o (replies-idle told o)
+
+given-up-idle : (told : Option SnapshotFacts) (now : Ticks) (o : Outcome) → Idle told o (given_up now o)
+given-up-idle told now o = given-up-by (Idle told o) now o (replies-idle told o)
+
+pub operator-granted-idle : (told : Option SnapshotFacts) (snapshot : SnapshotFacts) (waiting : Option Operating) (o : Outcome) → Idle told o (operator_granted snapshot waiting o)
+operator-granted-idle told snapshot waiting o = let x : Outcome = learned snapshot o in
+    let first : Idle told o x = stays told o x refl refl refl refl (waits-same o x refl) (λ q. q) in
+    operator-granted-by (Idle told o) snapshot waiting o (same-idle told o)
+    (record { kept = first; answers = λ request answer. idle-then told o x (answering request answer x) first (answering-idle told request answer x) (omega arith) })
+
+-- what an operator wants is quiet
+operator-quiet : (txn : Txn) → IsOperatorTxn txn → IsQuietTxn txn
+operator-quiet (txns.SetFailover failover ttl) is = tt
+operator-quiet (txns.SetConfig revision config) is = tt
+operator-quiet _ is = absurd is
+
+pub operated-idle : (told : Option SnapshotFacts) (now : Ticks) (request : ℕ) (asked : OperatorRequest) (o : Outcome) → Idle told o (operated now request asked o)
+operated-idle told now request asked o = operated-by (Idle told o) now request asked o (record {
+  asks = λ operation txn is. let x : Outcome = operating now request operation (bodies.Request txn) o in
+      stays told o x refl refl refl refl (waits-same o x refl) (λ q. quietly o.outputs (outputs.Send targets.Store (o.knows.sequence + 1) (bodies.Request txn)) q (operator-quiet txn is));
+  restarts = λ answer. let x : Outcome = telling request answer (restarting now o) in
+      stays told o x refl refl refl refl (waits-same o x refl) (λ q. quietly (restarting now o).outputs (outputs.Told request answer) (quietly o.outputs (outputs.Restart (is_primary o.machine.server.state)) q tt) tt);
+  wipes = λ answer. let x : Outcome = telling request answer (wiping o) in
+      stays told o x refl refl refl refl (waits-same o x refl) (λ q. quietly (wiping o).outputs (outputs.Told request answer) (quietly o.outputs outputs.Wipe q tt) tt);
+})
+
 pub wake-idle : (told : Option SnapshotFacts) (now : Ticks) (o : Outcome) → Idle told o (woken now o)
-wake-idle told now o = let b : Outcome = before now o in let due : Outcome = overdue now b in
-    let first : Idle told o due = idle-then told o b due (before-idle told now o) (overdue-idle told now b) (before-onward None now o).last in
+wake-idle told now o = let b : Outcome = before now o in let x : Outcome = given_up now b in let due : Outcome = overdue now x in
+    let last : o.knows.sequence ≤ x.knows.sequence = (given-up-onward None now o).last in
+    let first : Idle told o x = idle-then told o b x (before-idle told now o) (given-up-idle told now b) (before-onward None now o).last in
+    let second : Idle told o due = idle-then told o x due first (overdue-idle told now x) last in
     wake-by (Idle told o) now o (before-idle told now o)
-    (idle-then told o due (turned now due) first (turn-idle told now due) (omega (arith, (before-onward None now o).last, (overdue-onward None now b).last)))
+    (idle-then told o due (turned now due) second (turn-idle told now due) (omega (arith, last, (overdue-onward None now x).last)))
 
 follow-idle : (told : Option SnapshotFacts) (now : Ticks) (leader : MemberId) (o : Outcome) → Idle told o (follows now leader o)
 follow-idle told now leader o = let x : Outcome = record o { role = Follower } in
@@ -234,7 +309,7 @@ got-idle now points sequence snapshot o = let read : Outcome = record o { knows 
       free = λ _ _. behind (finds_free now read) (free-idle told now read);
     })
 
-pub refused-idle : (told : Option SnapshotFacts) (now : Ticks) (sequence : ℕ) (o : Outcome) → Idle told o (refused now sequence o)
+refused-idle : (told : Option SnapshotFacts) (now : Ticks) (sequence : ℕ) (o : Outcome) → Idle told o (refused now sequence o)
 refused-idle told now sequence o = let w : Outcome = waiting_no_more o in refused-by (Idle told o) now sequence o (record {
   kept = same-idle told o;
   quiet = quiet-idle told o;
@@ -244,6 +319,9 @@ refused-idle told now sequence o = let w : Outcome = waiting_no_more o in refuse
   ready = λ held _. idle-then told o w (postpones held w) (quiet-idle told o) (postpones-idle told held w) (omega arith);
 })
 
+pub any-refused-idle : (told : Option SnapshotFacts) (now : Ticks) (sequence : ℕ) (o : Outcome) → Idle told o (refused_any now sequence o)
+any-refused-idle told now sequence o = refused-any-by (Idle told o) now sequence o (replies-idle told o) (refused-idle told now sequence o)
+
 pub answered-idle : (told : Option SnapshotFacts) (now : Ticks) (sequence : ℕ) (answer : PeerAnswer) (o : Outcome) → Idle told o (answered now sequence answer o)
 answered-idle told now sequence answer o = let kept : Idle told o (keeping answer o) = stays told o (keeping answer o) refl refl refl refl (waits-same o (keeping answer o) refl) (λ q. q) in
     answered-by (Idle told o) now sequence answer o (record {
@@ -251,6 +329,7 @@ answered-idle told now sequence answer o = let kept : Idle told o (keeping answe
       quiet = quiet-idle told o;
       keeps = kept;
       judges = λ _. idle-then told o (keeping answer o) (judged now (keeping answer o)) kept (judged-idle told now (keeping answer o)) (omega arith);
+      checks = λ held _. handover-idle told now held o (keeping answer o) kept (omega arith);
     })
 
 pub asked-idle : (told : Option SnapshotFacts) (from : MemberId) (run sequence : ℕ) (o : Outcome) → Idle told o (asked from run sequence o)

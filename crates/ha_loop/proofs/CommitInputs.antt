@@ -1,5 +1,5 @@
 -- Each input of the table is lawful for kept commits, and leaves the synchronous mode on.
-use Rattle.std.proofs.Common.{◌≡◌, ℕ, ◌+◌, ◌<◌, Bool, true, ◌∷◌, slice_get, List, [], Option, Some, None, All, refl, sym, subst, ap, ◌∙◌, false}
+use Rattle.std.proofs.Common.{◌≡◌, ℕ, ◌+◌, ◌<◌, Bool, true, ◌∷◌, slice_get, List, [], Option, Some, None, All, refl, sym, subst, ap, ◌∙◌, false, arith}
 use Rattle.std.proofs.lemmas.List.Elements.{All-nil, All-push}
 use Rattle.std.proofs.lemmas.List.{append_assoc}
 use Rattle.pat_base.specs.declared.member_set.MemberSet.{MemberSet}
@@ -23,7 +23,7 @@ use Rattle.commit_law.specs.Actions.{fresh_agent}
 use Rattle.commit_law.specs.States.{Agent, State}
 use Rattle.commit_law.specs.Inputs.{AgentInput, HearsSnapshot, Does, Idling, Racing, HearingAnswer, WinningRace, CreatingLeader, Arming, TakingOver, ChangingRequired, Publishing, Promoting, SettlingRequired, ArmsAlone, IsGivenByLease}
 use Rattle.ha_loop.specs.declared.heard.Heard.{Heard}
-use Rattle.ha_loop.specs.declared.heard.Heard.TheVariants.{Wake, Got, Granted as HeardGranted, Mismatch, Asked, Answered}
+use Rattle.ha_loop.specs.declared.heard.Heard.TheVariants.{Wake, Got, Granted as HeardGranted, Mismatch, Asked, Answered, Operated as HearsOperator}
 use Rattle.ha_loop.specs.declared.knowledge.Knowledge.{Knowledge}
 use Rattle.ha_loop.specs.declared.knowledge.Question.{Question}
 use Rattle.ha_loop.specs.declared.knowledge.Question.TheVariants.{Syncing}
@@ -40,29 +40,32 @@ use Rattle.ha_loop.specs.declared.role.Why.{Why}
 use Rattle.ha_loop.specs.declared.role.Why.TheVariants.{HandOver, Lost}
 use Rattle.ha_loop.specs.declared.who.Who.{Who}
 use Rattle.ha_loop.specs.Acting.{deadline_after, disarmed, ending_server, arming, requiring, waiting_no_more}
-use Rattle.ha_loop.specs.Agents.{RoleFacts, Follower, Ending, Outcome, made, fresh_knowledge}
+use Rattle.ha_loop.specs.Agents.{RoleFacts, Follower, Ending, Outcome, is_leader, made, fresh_knowledge}
 use Rattle.ha_loop.specs.Before.{before, has_ended}
 use Rattle.ha_loop.specs.Claiming.{begins, can_begin_on_claim, claims, postpones}
 use Rattle.ha_loop.specs.Committing.{sync_seen, committer_seen, ArmsOn, DoesAs, IsOn, HearsOn, HearsToCommit, KnowsBelow, AsksOn, FollowsOn, requests_of, is_begin, IsOneAtMost, IsCovered, IsSynchronousBody, IsSynchronousOutput, InOrder, Apart, Asks, Requires, Begins, StaysOn, CommitsFrom}
-use Rattle.ha_loop.specs.Decisions.{takes_over, gives_back, granted, refused}
+use Rattle.ha_loop.specs.Decisions.{takes_over, gives_back, granted}
+use Rattle.ha_loop.specs.HandingOver.{checking, hands_over}
+use Rattle.ha_loop.specs.Operators.{grants_operator, looked, operated, operator_granted}
 use Rattle.ha_loop.specs.Outputs.{has_one, listed}
 use Rattle.ha_loop.specs.Peers.{asked, answered}
 use Rattle.ha_loop.specs.Planning.{leader_view, naming, noting}
+use Rattle.ha_loop.specs.Racing.{unheard}
 use Rattle.ha_loop.specs.Snapshots.{got}
 use Rattle.ha_loop.specs.Synchronous.{expected_of, sync_read_in, unnamed, waiting_for}
-use Rattle.ha_loop.specs.Table.{step, act}
+use Rattle.ha_loop.specs.Table.{granted_any, refused_any, step}
 use Rattle.ha_loop.specs.Wake.{woken}
-use Rattle.ha_loop.proofs.CommitAsking.{before-asks, wake-asks, got-asks, refused-asks, answered-asks, leases-on}
-use Rattle.ha_loop.proofs.CommitIdling.{Idle, idle-then, before-idle, wake-idle, got-idle, refused-idle, answered-idle, asked-idle, postpones-idle}
+use Rattle.ha_loop.proofs.CommitAsking.{before-asks, wake-asks, looked-asks, got-asks, any-refused-asks, operator-granted-asks, operated-asks, answered-asks, leases-on}
+use Rattle.ha_loop.proofs.CommitIdling.{Idle, idle-then, before-idle, wake-idle, looked-idle, got-idle, any-refused-idle, operator-granted-idle, operated-idle, answered-idle, asked-idle, postpones-idle, failover-idle}
 use Rattle.ha_loop.proofs.CommitLawful.{idle-lawful}
 use Rattle.ha_loop.proofs.CommitQuiet.{IsQuiet, IsUnasking, all-armed, all-disarmed, all-fed, alone, covered, keeps-mode, last-one, last-unbegun, quiet-fed, quiet-one, quiet-unbegun, quietly, unasked, unasking}
-use Rattle.ha_loop.proofs.CommitRows.{grant-commits}
+use Rattle.ha_loop.proofs.CommitRows.{grant-commits, led-idle}
 use Rattle.ha_loop.proofs.CommitGrounds.{IsBehind, before-behind}
 use Rattle.ha_loop.proofs.CommitTools.{both-first, confirmed-reached, no-members, within-set}
 use Rattle.ha_loop.proofs.CommitSteps.{confirmed_at, wanted_at, required_at, PlanSteps, LeaseSteps, WriteSteps, granted-steps}
 use Rattle.ha_loop.proofs.Granting.{Told}
-use Rattle.ha_loop.proofs.Knowing.{Onward, before-onward, wake-onward, got-onward, refused-onward, answered-onward, asked-onward, onward-then}
-use Rattle.ha_loop.proofs.Rows.{before-by, led_on}
+use Rattle.ha_loop.proofs.Knowing.{Onward, before-onward, wake-onward, looked-onward, got-onward, any-granted-onward, any-refused-onward, operated-onward, answered-onward, asked-onward, onward-then}
+use Rattle.ha_loop.proofs.Rows.{FailoverRows, dropping, before-by, if-cases, led_on}
 
 -- what comes before an input is covered by it
 pub before-covered : (now : Ticks) (o : Outcome) → All IsCovered o.outputs → All IsCovered (before now o).outputs
@@ -158,6 +161,25 @@ module _ (now : Ticks) (sequence : ℕ) (grant : Granted) (snapshot : SnapshotFa
         drops = λ _. requires-stays Hears o fed (waiting_for fed.knows.settings (either published wanted)) refl still;
       }
 
+  -- what it does under a failover key
+  failover-stays : (ttl : Ticks) → is_leader b.role ≡ true → FailoverRows Stays now grant.revision (led_on now ttl grant.revision (Told snapshot b))
+  failover-stays ttl leads =
+      let fed : Outcome = led_on now ttl grant.revision (Told snapshot b) in
+      let u : Outcome = unheard fed in
+      let w : Outcome = waiting_no_more u in
+      let idle : FailoverRows (Idle None b) now grant.revision fed = failover-idle None now grant.revision b fed (led-idle now ttl grant.revision snapshot b leads) (omega arith) in
+      let still : (x : Outcome) → Idle None b x → AsksOn x.knows → Stays x = λ x after asks. quiet-stays Hears o x asks (after.quiet quiet) in
+      record {
+        kept = still fed idle.kept (rest fed.knows refl);
+        clears = λ compared. still (dropping compared fed) (idle.clears compared) (rest (dropping compared fed).knows refl);
+        asks = λ candidate. let x : Outcome = checking now candidate u in still x (idle.asks candidate) (asks-this x.knows _ refl tt);
+        judges = record {
+          kept = still w idle.judges.kept (rest w.knows refl);
+          clears = λ compared. still (dropping compared w) (idle.judges.clears compared) (rest (dropping compared w).knows refl);
+          hands = λ candidate. let x : Outcome = hands_over now grant.revision candidate w in still x (idle.judges.hands candidate) (rest x.knows refl);
+        };
+      }
+
   lease-stays : (ttl : Ticks) → LeaseSteps Stays now ttl grant.revision snapshot b
   lease-stays ttl =
       let told : Outcome = Told snapshot b in
@@ -174,6 +196,7 @@ module _ (now : Ticks) (sequence : ℕ) (grant : Granted) (snapshot : SnapshotFa
         other = quiet-stays Hears o told (rest told.knows refl) quiet;
         ends = quiet-stays Hears o ended (rest ended.knows refl) (quietly fed.outputs (outputs.Stop StartTooLong) (quiet-fed (deadline_after now ttl b.machine.watchdog) b.outputs quiet) tt);
         plans = λ held _. plan-stays ttl;
+        fails_over = λ held is. failover-stays ttl (rw is refl);
         stops = λ _. quiet-stays Hears o stopped (rest stopped.knows refl) (quietly b.outputs (outputs.Stop WatchdogNotArmed) quiet tt);
         takes_over = λ _. quiet-stays Hears o over (rest over.knows refl) (covered arm.outputs armed);
         returns = quiet-stays Hears o back (rest back.knows refl) (quietly b.outputs _ quiet tt);
@@ -228,42 +251,48 @@ none-told snapshot e = cc
 told-is : (told snapshot : SnapshotFacts) → ◌≡◌ {A = Option SnapshotFacts} (Some told) (Some snapshot) → told ≡ snapshot
 told-is told snapshot e = cc
 
--- an input that hears none leaves it
+-- so does one that hears no snapshot, behind what comes before an input
+behind-commits : (now : Ticks) (heard : Heard) (o x : Outcome) → All IsQuiet o.outputs → Onward None (before now o) x → Idle None (before now o) x → (AsksOn (before now o).knows → AsksOn x.knows) → CommitsFrom now heard o x
+behind-commits now heard o x quiet onward idle asks = let b : Outcome = before now o in
+    rests now heard None None o x quiet (onward-then None o b x (before-onward None now o) onward) (idle-then None o b x (before-idle None now o) idle (before-onward None now o).last)
+    (λ on _. asks (before-asks now o on)) (λ s m input _ snapshot e. absurd (none-told snapshot e))
+
+-- whatever is heard, what stands for it is lawful
 step-commits : (now : Ticks) (points : List HistoryPoint) (heard : Heard) (o : Outcome) → All IsCovered o.outputs → CommitsFrom now heard o (step now points heard o)
 step-commits now points Wake o all = rests now Wake None None o (woken now o) (covered o.outputs all) (wake-onward None now o) (wake-idle None now o) (λ on _. wake-asks now o on) (λ s m input _ snapshot e. absurd (none-told snapshot e))
-step-commits now points (Got sequence snapshot) o all = let b : Outcome = before now o in let x : Outcome = got now points sequence snapshot b in
-    rests now (Got sequence snapshot) (Some snapshot) (Some snapshot) o x (covered o.outputs all) (onward-then (Some snapshot) o b x (before-onward (Some snapshot) now o) (got-onward now points sequence snapshot b))
-    (idle-then (Some snapshot) o b x (before-idle (Some snapshot) now o) (got-idle now points sequence snapshot b) (before-onward None now o).last)
-    (λ on is. got-asks now points sequence snapshot b is (before-asks now o on))
-    (λ s m input hears told e. subst (λ (y : SnapshotFacts). HearsSnapshot s input (sync_seen (sync_read_in y))) (told-is snapshot told e) hears)
-step-commits now points (HeardGranted sequence grant snapshot) o all = let b : Outcome = before now o in record {
-  stays = λ on is. grant-stays now sequence grant snapshot o b (before-behind now o) (before-covered now o all) (before-asks now o on) is;
-  lawful = λ on is s m input sound stands hears input-is. grant-commits now sequence grant snapshot s m input o sound stands (covered o.outputs all) on is hears input-is;
-}
-step-commits now points (Mismatch sequence key found) o all = let b : Outcome = before now o in let x : Outcome = refused now sequence b in
-    rests now (Mismatch sequence key found) None None o x (covered o.outputs all) (onward-then None o b x (before-onward None now o) (refused-onward None now sequence b))
-    (idle-then None o b x (before-idle None now o) (refused-idle None now sequence b) (before-onward None now o).last) (λ on _. refused-asks now sequence b (before-asks now o on)) (λ s m input _ snapshot e. absurd (none-told snapshot e))
-step-commits now points (Asked from run sequence) o all = let b : Outcome = before now o in let x : Outcome = asked from run sequence b in
-    rests now (Asked from run sequence) None None o x (covered o.outputs all) (onward-then None o b x (before-onward None now o) (asked-onward None from run sequence b))
-    (idle-then None o b x (before-idle None now o) (asked-idle None from run sequence b) (before-onward None now o).last) (λ on _. before-asks now o on) (λ s m input _ snapshot e. absurd (none-told snapshot e))
-step-commits now points (Answered sequence answer) o all = let b : Outcome = before now o in let x : Outcome = answered now sequence answer b in
-    rests now (Answered sequence answer) None None o x (covered o.outputs all) (onward-then None o b x (before-onward None now o) (answered-onward None now sequence answer b))
-    (idle-then None o b x (before-idle None now o) (answered-idle None now sequence answer b) (before-onward None now o).last) (λ on _. answered-asks now sequence answer b (before-asks now o on)) (λ s m input _ snapshot e. absurd (none-told snapshot e))
-
--- so is a request of an operator
-action-commits : (now : Ticks) (o : Outcome) → All IsCovered o.outputs → CommitsFrom now Wake o (act now o)
-action-commits now o all = rests now Wake None None o (before now o) (covered o.outputs all) (before-onward None now o) (before-idle None now o) (λ on _. before-asks now o on) (λ s m input _ snapshot e. absurd (none-told snapshot e))
+step-commits now points (Got sequence snapshot) o all = let told : Option SnapshotFacts = Some snapshot in
+    let b : Outcome = before now o in let l : Outcome = looked sequence snapshot b in let x : Outcome = got now points sequence snapshot l in
+    let first : Onward told o l = looked-onward told now sequence snapshot o in
+    rests now (Got sequence snapshot) told told o x (covered o.outputs all) (onward-then told o l x first (got-onward now points sequence snapshot l))
+    (idle-then told o l x (idle-then told o b l (before-idle told now o) (looked-idle told sequence snapshot b) (before-onward None now o).last) (got-idle now points sequence snapshot l) first.last)
+    (λ on is. got-asks now points sequence snapshot l is (looked-asks sequence snapshot b (before-asks now o on)))
+    (λ s m input hears other e. subst (λ (y : SnapshotFacts). HearsSnapshot s input (sync_seen (sync_read_in y))) (told-is snapshot other e) hears)
+step-commits now points (HeardGranted sequence grant snapshot) o all = let told : Option SnapshotFacts = Some snapshot in let b : Outcome = before now o in
+    if-cases (λ (x : Outcome). Onward told o x → CommitsFrom now (HeardGranted sequence grant snapshot) o x) (grants_operator sequence grant b.knows) (operator_granted snapshot b.knows.operating b) (granted now sequence grant snapshot b)
+    (λ _ onward. let x : Outcome = operator_granted snapshot b.knows.operating b in
+    rests now (HeardGranted sequence grant snapshot) None told o x (covered o.outputs all) onward
+    (idle-then None o b x (before-idle None now o) (operator-granted-idle None snapshot b.knows.operating b) (before-onward None now o).last)
+    (λ on _. operator-granted-asks snapshot b.knows.operating b (before-asks now o on)) (λ s m input _ other e. absurd (none-told other e)))
+    (λ _ _. record {
+      stays = λ on is. grant-stays now sequence grant snapshot o b (before-behind now o) (before-covered now o all) (before-asks now o on) is;
+      lawful = λ on is s m input sound stands hears input-is. grant-commits now sequence grant snapshot s m input o sound stands (covered o.outputs all) on is hears input-is;
+    })
+    (onward-then told o b (granted_any now sequence grant snapshot b) (before-onward told now o) (any-granted-onward now sequence grant snapshot b))
+step-commits now points (Mismatch sequence key found) o all = let b : Outcome = before now o in
+    behind-commits now (Mismatch sequence key found) o (refused_any now sequence b) (covered o.outputs all) (any-refused-onward now sequence b) (any-refused-idle None now sequence b) (λ on. any-refused-asks now sequence b on)
+step-commits now points (Asked from run sequence) o all = let b : Outcome = before now o in
+    behind-commits now (Asked from run sequence) o (asked from run sequence b) (covered o.outputs all) (asked-onward None from run sequence b) (asked-idle None from run sequence b) (λ on. on)
+step-commits now points (Answered sequence answer) o all = let b : Outcome = before now o in
+    behind-commits now (Answered sequence answer) o (answered now sequence answer b) (covered o.outputs all) (answered-onward None now sequence answer b) (answered-idle None now sequence answer b) (λ on. answered-asks now sequence answer b on)
+step-commits now points (HearsOperator action) o all = let b : Outcome = before now o in
+    behind-commits now (HearsOperator action) o (operated now action.request action.asked b) (covered o.outputs all) (operated-onward now action b) (operated-idle None now action.request action.asked b)
+    (λ on. operated-asks now action.request action.asked b on)
 
 -- the same of what is made of an input, where no output stood before
 pub input-commits-as : (now : Ticks) (points : List HistoryPoint) (heard : Heard) (role : RoleFacts) (knows : Knowledge) (machine : Machine) (outs : List Output) (after : Outcome) → after ≡ step now points heard (made role knows machine outs)
     → outs ≡ [] → CommitsFrom now heard (made role knows machine []) after
 input-commits-as now points heard role knows machine outs after is none = let same : after ≡ step now points heard (made role knows machine []) = is ∙ ap (λ (l : List Output). step now points heard (made role knows machine l)) none in
     subst (λ (x : Outcome). CommitsFrom now heard (made role knows machine []) x) (sym same) (step-commits now points heard (made role knows machine []) (All-nil IsCovered))
-
-pub action-commits-as : (now : Ticks) (role : RoleFacts) (knows : Knowledge) (machine : Machine) (outs : List Output) (after : Outcome) → after ≡ act now (made role knows machine outs)
-    → outs ≡ [] → CommitsFrom now Wake (made role knows machine []) after
-action-commits-as now role knows machine outs after is none = let same : after ≡ act now (made role knows machine []) = is ∙ ap (λ (l : List Output). act now (made role knows machine l)) none in
-    subst (λ (x : Outcome). CommitsFrom now Wake (made role knows machine []) x) (sym same) (action-commits now (made role knows machine []) (All-nil IsCovered))
 
 -- an agent that starts waits for nothing, and is to the law one that starts
 pub fresh-asks : (who : Who) (first : Ticks) (run : ℕ) → AsksOn (fresh_knowledge who first run)

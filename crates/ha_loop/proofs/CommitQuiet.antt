@@ -23,12 +23,13 @@ use Rattle.ha_loop.specs.declared.output.Output.TheVariants as outputs
 use Rattle.ha_loop.specs.declared.output.Target.TheVariants as targets
 use Rattle.ha_loop.specs.declared.who.Who.{Who}
 use Rattle.ha_loop.specs.Acting.{armed, fed_until, disarmed}
-use Rattle.ha_loop.specs.Answers.{is_other, asking_one, asking_first}
+use Rattle.ha_loop.specs.Answers.{most_answers, is_other, asking_one, asking_first}
 use Rattle.ha_loop.specs.Committing.{request_in, request_of_body, request_of, requests_of, IsOneAtMost, IsQuietTxn, IsQuietBody, IsCovered, StandsAlone, IsSynchronousTxn, IsSynchronousBody, IsSynchronousOutput, is_begin}
+use Rattle.ha_loop.specs.HandingOver.{asking_whom}
 use Rattle.ha_loop.specs.Outputs.{listed, has_one}
 use Rattle.ha_loop.proofs.Rows.{if-cases}
 
--- an output that sends no other request, and by which no server comes to accept writes
+-- an output that sends no other request, and by which no server comes to accept writes: one that starts again is live before it
 abbrev pub IsUnasking : Output → Type 0
 IsUnasking (outputs.Send to sequence body) = IsQuietBody body
 IsUnasking outputs.Begin = ⊥
@@ -204,3 +205,8 @@ ask-quiet who sequence (Some member) outs quiet =
 pub asks-quiet : (who : Who) (sequence count : ℕ) (outs : List Output) → All IsQuiet outs → All IsQuiet (asking_first who sequence count outs)
 asks-quiet who sequence zero outs quiet = quiet
 asks-quiet who sequence (suc count) outs quiet = ask-quiet who sequence (member_of count) (asking_first who sequence count outs) (asks-quiet who sequence count outs quiet)
+
+-- the asks of a leader, who may lead in its place
+pub whom-quiet : (who : Who) (candidate : Option MemberId) (sequence : ℕ) (outs : List Output) → All IsQuiet outs → All IsQuiet (asking_whom who candidate sequence outs)
+whom-quiet who None sequence outs quiet = asks-quiet who sequence most_answers outs quiet
+whom-quiet who (Some candidate) sequence outs quiet = ask-quiet who sequence (Some candidate) outs quiet

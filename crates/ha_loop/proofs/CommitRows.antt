@@ -43,14 +43,16 @@ use Rattle.ha_loop.specs.Before.{before}
 use Rattle.ha_loop.specs.Claiming.{begins, claims, postpones, can_begin_on_claim}
 use Rattle.ha_loop.specs.Committing.{sync_seen, StandsToCommit, IsAwaitedWrite, IsAskedBy, HearsWrite, HearsGranted, IsOn, FollowsOn, AsksOn, NeedsOne, IsCommitInputOf, IsLawfulAs}
 use Rattle.ha_loop.specs.Decisions.{can_begin, takes_over, gives_back, may_create, may_take, granted}
+use Rattle.ha_loop.specs.HandingOver.{checking, hands_over}
 use Rattle.ha_loop.specs.Outputs.{listed}
 use Rattle.ha_loop.specs.Planning.{leader_view, noting}
 use Rattle.ha_loop.specs.Powers.{IsAwaitedLease}
+use Rattle.ha_loop.specs.Racing.{unheard}
 use Rattle.ha_loop.specs.Synchronous.{expected_of, is_named_if, may_lead_in_sync, unnamed, waiting_for}
 use Rattle.ha_loop.proofs.CommitAsking.{before-asks, leases-on}
 use Rattle.ha_loop.proofs.CommitGrants.{Ground, Lawful, rests, Leased, unready, changes-lawful, settles-lawful, publishes-lawful}
 use Rattle.ha_loop.proofs.CommitGrounds.{IsBehind, before-behind, before-unready, lease-before, write-before, lease_granted_as, write_granted_as, hears-lease, hears-write, leads-live, IsLedBy, key-covers, led-by, written, compared-as, wins-named, noted-end}
-use Rattle.ha_loop.proofs.CommitIdling.{Idle, idle-then, waits-nothing, waits-new, stays, falls, same-idle, quiet-idle, postpones-idle}
+use Rattle.ha_loop.proofs.CommitIdling.{Idle, idle-then, waits-nothing, waits-new, stays, falls, same-idle, quiet-idle, postpones-idle, failover-idle}
 use Rattle.ha_loop.proofs.CommitLawful.{lawful-as, keeps-turn, keeps-server, keeps-ready, sends-nothing, sends-one}
 use Rattle.ha_loop.proofs.CommitGrowing.{narrows-grows, required-needs, wanted-connected}
 use Rattle.ha_loop.proofs.CommitQuiet.{IsQuiet, IsUnasking, asks-last, quietly, quiet-armed, quiet-fed, quiet-none, quiet-unbegun, last-request, last-unbegun, unasked}
@@ -60,7 +62,7 @@ use Rattle.ha_loop.proofs.Fitting.{ended-for}
 use Rattle.ha_loop.proofs.Granting.{Told, both-true}
 use Rattle.ha_loop.proofs.Knowing.{before-onward, granted-onward, onward-then}
 use Rattle.ha_loop.proofs.Living.{no-way}
-use Rattle.ha_loop.proofs.Rows.{led_on}
+use Rattle.ha_loop.proofs.Rows.{FailoverRows, dropping, led_on}
 
 chosen : (on named : Bool) → on ≡ true → (if on then named else true) ≡ true → named ≡ true
 chosen true named is e = e
@@ -165,7 +167,7 @@ withdrawn-lawful now sequence grant snapshot s m input o b ground awaited hears 
     }) (ground.stands.strict hears.key sync).quorum (waiting-covers s.member_count hears.key.standbys (Told snapshot b).knows.settings set (λ n e. sym (asked n) ∙ e)) (narrows-grows o (s.members m).required (need_in required) narrows)
 
 -- a renewed leader without a step
-led-idle : (now ttl : Ticks) (revision : ℕ) (snapshot : SnapshotFacts) (b : Outcome) → is_leader b.role ≡ true → Idle None b (led_on now ttl revision (Told snapshot b))
+pub led-idle : (now ttl : Ticks) (revision : ℕ) (snapshot : SnapshotFacts) (b : Outcome) → is_leader b.role ≡ true → Idle None b (led_on now ttl revision (Told snapshot b))
 led-idle now ttl revision snapshot b leads = record {
   required = refl;
   ready = λ e. absurd (no-way e);
@@ -230,6 +232,26 @@ plan-lawful now ttl sequence grant snapshot s m input o b ground leased leads =
           }) (waiting-covers s.member_count (set_members published) fed.knows.settings set (either-first published wanted)) (narrows-grows o (s.members m).required (need_in list) narrows);
     }
 
+-- what it does under a failover key leaves what commits depend on
+failover-lawful : (now ttl : Ticks) (sequence : ℕ) (grant : Granted) (snapshot : SnapshotFacts) (s : State) (m : ℕ) (input : AgentInput) (o b : Outcome) → Ground s m o b → is_leader b.role ≡ true
+    → FailoverRows (Lawful now sequence grant snapshot s m input o) now grant.revision (led_on now ttl grant.revision (Told snapshot b))
+failover-lawful now ttl sequence grant snapshot s m input o b ground leads =
+    let led : Outcome = led_on now ttl grant.revision (Told snapshot b) in
+    let u : Outcome = unheard led in
+    let w : Outcome = waiting_no_more u in
+    let idle : FailoverRows (Idle None b) now grant.revision led = failover-idle None now grant.revision b led (led-idle now ttl grant.revision snapshot b leads) (omega arith) in
+    let still : (x : Outcome) → Idle None b x → Lawful now sequence grant snapshot s m input o x = λ x after. rests now sequence grant snapshot s m input o b x ground after in
+    record {
+      kept = still led idle.kept;
+      clears = λ compared. still (dropping compared led) (idle.clears compared);
+      asks = λ candidate. still (checking now candidate u) (idle.asks candidate);
+      judges = record {
+        kept = still w idle.judges.kept;
+        clears = λ compared. still (dropping compared w) (idle.judges.clears compared);
+        hands = λ candidate. still (hands_over now grant.revision candidate w) (idle.judges.hands candidate);
+      };
+    }
+
 -- what each role does with a lease
 lease-lawful : (now ttl : Ticks) (sequence : ℕ) (grant : Granted) (snapshot : SnapshotFacts) (s : State) (m : ℕ) (input : AgentInput) (o b : Outcome) → Ground s m o b → Leased s m sequence grant snapshot input o → b.knows.turn_settings.synchronous_mode ≡ true → (may_create b.role ≡ true → is_ready o.role ≡ false)
     → LeaseSteps (Lawful now sequence grant snapshot s m input o) now ttl grant.revision snapshot b
@@ -245,6 +267,7 @@ lease-lawful now ttl sequence grant snapshot s m input o b ground leased mode un
       other = still told (told-idle snapshot b);
       ends = still ended (falls None b ended refl refl refl refl refl (waits-nothing b ended refl) (λ q. quietly fed.outputs (outputs.Stop StartTooLong) (quiet-fed (deadline_after now ttl b.machine.watchdog) b.outputs q) tt));
       plans = λ held is. plan-lawful now ttl sequence grant snapshot s m input o b ground leased (rw is refl);
+      fails_over = λ held is. failover-lawful now ttl sequence grant snapshot s m input o b ground (rw is refl);
       stops = λ _. still stopped (stays None b stopped refl refl refl refl (waits-nothing b stopped refl) (λ q. quietly b.outputs (outputs.Stop WatchdogNotArmed) q tt));
       takes_over = λ _. takes-over-lawful now ttl sequence grant snapshot s m input o b ground;
       returns = still back (falls None b back refl refl refl refl refl (waits-nothing b back refl) (λ q. quietly b.outputs _ q tt));

@@ -18,7 +18,7 @@ use Rattle.sync_state.specs.Standbys.{standbys_in, required_members, confirmed_i
 use Rattle.sync_state.specs.declared.steps.Plan.{Plan}
 use Rattle.sync_state.specs.declared.steps.Plan.TheVariants as plans
 use Rattle.ha_loop.specs.declared.knowledge.Question.{Question}
-use Rattle.ha_loop.specs.declared.knowledge.Question.TheVariants.{Reading, Asking, Creating, Renewing, Claiming, Syncing}
+use Rattle.ha_loop.specs.declared.knowledge.Question.TheVariants.{Reading, Asking, Creating, Renewing, Claiming, Syncing, Checking}
 use Rattle.ha_loop.specs.declared.knowledge.Settling.{Settling}
 use Rattle.ha_loop.specs.declared.knowledge.Settling.TheVariants.{Stays, Lists, Empties}
 use Rattle.ha_loop.specs.declared.knowledge.Waited.{Waited}
@@ -29,13 +29,14 @@ use Rattle.ha_loop.specs.Agents.{RoleFacts, Follower, Holder, Ready, Leader, End
 use Rattle.ha_loop.specs.Claiming.{begins, claims, begins_or_claims, postpones, can_begin_on_claim}
 use Rattle.ha_loop.specs.Committing.{IsAwaitedWrite, IsOn}
 use Rattle.ha_loop.specs.Decisions.{is_decision, is_sync_decision, is_lease_of, is_write_of, belongs, is_start_too_long, takes_over, stray_renewed, leader_renewed, may_create, may_take, gives_back, arms, takes_key, lease_granted, accepted_grant, sync_granted, accepted_sync, granted_write, granted_for, granted}
+use Rattle.ha_loop.specs.HandingOver.{duties}
 use Rattle.ha_loop.specs.Outputs.{listed}
-use Rattle.ha_loop.specs.Planning.{leader_view, naming, noting, planned_as, planned_on, planned, settled}
+use Rattle.ha_loop.specs.Planning.{leader_view, naming, noting, planned_as, planned_on, settled}
 use Rattle.ha_loop.specs.Powers.{IsAwaitedLease}
 use Rattle.ha_loop.specs.Synchronous.{waiting_for}
 use Rattle.ha_loop.proofs.Granting.{Told, both-true}
 use Rattle.ha_loop.proofs.Living.{no-way}
-use Rattle.ha_loop.proofs.Rows.{led_on, if-cases}
+use Rattle.ha_loop.proofs.Rows.{FailoverRows, led_on, if-cases, duties-by}
 
 -- the standbys that a leader wants by a snapshot, and those that have confirmed the noted position
 abbrev pub wanted_at : Ticks → SnapshotFacts → Outcome → MemberSet
@@ -101,6 +102,7 @@ pub record LeaseSteps (P : Outcome → Type 0) (now ttl : Ticks) (revision : ℕ
   pub other : P (Told snapshot o)
   pub ends : P (record (ending_server now StartTooLong (led_on now ttl revision (Told snapshot o))) { role = Ending revision HandOver })
   pub plans : (held : ℕ) → o.role ≡ Leader held → PlanSteps P now revision snapshot (led_on now ttl revision (Told snapshot o))
+  pub fails_over : (held : ℕ) → o.role ≡ Leader held → FailoverRows P now revision (led_on now ttl revision (Told snapshot o))
   pub stops : o.role ≡ Stray → P (ending_server now WatchdogNotArmed (Told snapshot o))
   pub takes_over : o.role ≡ Stray → P (takes_over now revision (arming now ttl (Told snapshot o)))
   pub returns : P (gives_back revision (Told snapshot o))
@@ -109,8 +111,8 @@ pub record LeaseSteps (P : Outcome → Type 0) (now ttl : Ticks) (revision : ℕ
 
 renewed-steps : (P : Outcome → Type 0) (now ttl : Ticks) (revision : ℕ) (snapshot : SnapshotFacts) (o : Outcome) (held : ℕ) → o.role ≡ Leader held → IsOn snapshot → LeaseSteps P now ttl revision snapshot o → P (leader_renewed now ttl revision (Told snapshot o))
 renewed-steps P now ttl revision snapshot o held is on rows = let led : Outcome = led_on now ttl revision (Told snapshot o) in
-    if-cases P (is_start_too_long now led.knows led.machine.server.state) (record (ending_server now StartTooLong led) { role = Ending revision HandOver }) (planned now revision led)
-    (λ _. rows.ends) (λ _. planned-on-by P now revision snapshot led on (rows.plans held is))
+    if-cases P (is_start_too_long now led.knows led.machine.server.state) (record (ending_server now StartTooLong led) { role = Ending revision HandOver }) (duties now revision led)
+    (λ _. rows.ends) (λ _. duties-by P now revision led (planned-on-by P now revision snapshot led on (rows.plans held is)) (rows.fails_over held is))
 
 stray-steps : (P : Outcome → Type 0) (now ttl : Ticks) (revision : ℕ) (snapshot : SnapshotFacts) (o : Outcome) → o.role ≡ Stray → LeaseSteps P now ttl revision snapshot o → P (stray_renewed now ttl revision (Told snapshot o))
 stray-steps P now ttl revision snapshot o is rows =
@@ -159,6 +161,7 @@ write-steps P now question Reading snapshot role o is same fits rows = rows.othe
 write-steps P now question Asking snapshot role o is same fits rows = rows.other
 write-steps P now question Creating snapshot role o is same fits rows = rows.other
 write-steps P now question Renewing snapshot role o is same fits rows = rows.other
+write-steps P now question Checking snapshot role o is same fits rows = rows.other
 
 -- a granted request
 pub record GrantSteps (P : Outcome → Type 0) (now : Ticks) (sequence : ℕ) (grant : Granted) (snapshot : SnapshotFacts) (o : Outcome) : Type 0 where

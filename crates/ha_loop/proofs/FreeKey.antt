@@ -1,5 +1,5 @@
 -- What becomes of an answer that tells that nobody leads.
-use Rattle.std.proofs.Common.{◌≡◌, ◌⊎◌, ℕ, ◌+◌, ◌<◌, ◌&&◌, ◌||◌, nat_le, not, Bool, true, false, List, [], ◌∷◌, Option, Some, None, Contains, refl, sym, subst, ap, ◌∙◌, arith, inl, inr, zero, suc}
+use Rattle.std.proofs.Common.{◌≡◌, if◌then◌else◌, ◌⊎◌, ℕ, ◌+◌, ◌<◌, ◌&&◌, ◌||◌, nat_le, not, Bool, true, false, List, [], ◌∷◌, Option, Some, None, Contains, refl, sym, subst, ap, ◌∙◌, arith, inl, inr, zero, suc}
 use Rattle.std.proofs.lemmas.List.Elements.{Contains-push, Contains-append_left}
 use Rattle.pat_base.specs.MemberId.{member_of}
 use Rattle.pat_base.proofs.Members.{member_of-number}
@@ -22,11 +22,12 @@ use Rattle.leader_race.specs.Eligibility.{eligibility_of}
 use Rattle.leader_race.specs.Outcome.{unless, outcome_of}
 use Rattle.leader_race.proofs.Winning.{race-replica}
 use Rattle.ha_loop.specs.declared.knowledge.Question.{Question}
-use Rattle.ha_loop.specs.declared.knowledge.Question.TheVariants.{Reading, Asking, Creating, Renewing, Claiming, Syncing}
+use Rattle.ha_loop.specs.declared.knowledge.Question.TheVariants.{Reading, Asking, Creating, Renewing, Claiming, Syncing, Checking}
 use Rattle.ha_loop.specs.declared.knowledge.Waited.{Waited}
 use Rattle.ha_loop.specs.declared.output.Output.{Output}
 use Rattle.ha_loop.specs.declared.output.Output.TheVariants as outputs
 use Rattle.ha_loop.specs.declared.output.Target.TheVariants as targets
+use Rattle.ha_loop.specs.declared.heard.Heard.TheVariants.{Wake}
 use Rattle.ha_loop.specs.declared.who.Who.{Who}
 use Rattle.ha_loop.specs.Acting.{touching, starting_replica, waiting_no_more}
 use Rattle.ha_loop.specs.Agents.{RoleFacts, Follower, Holder, Ready, Leader, Ending, Stray, Outcome}
@@ -35,16 +36,19 @@ use Rattle.ha_loop.specs.Before.{before}
 use Rattle.ha_loop.specs.Decisions.{may_create}
 use Rattle.ha_loop.specs.FreeKey.{HearsFree, StaysOut, AsksForKey, AsksOthers, HearsLast, RunsLate, LosesRace, LosesAndTurns}
 use Rattle.ha_loop.specs.Outputs.{listed}
-use Rattle.ha_loop.specs.Peers.{is_asking, awaits_answer, judged_if_all, keeping, accepted_answer, answered_for, answered}
+use Rattle.ha_loop.specs.HandingOver.{check_answered}
+use Rattle.ha_loop.specs.Peers.{is_asking, awaits_answer, awaits_check, judged_if_all, keeping, accepted_answer, answered_for, answered}
 use Rattle.ha_loop.specs.Racing.{can_start, bar_of, outcome_by, judged_as, judged, asking_others, unheard, races, races_unless, finds_free}
 use Rattle.ha_loop.specs.Snapshots.{no_key, led, is_active, awaits_read, read_noted, accepted, got}
 use Rattle.ha_loop.specs.Views.{shown}
-use Rattle.ha_loop.specs.Wake.{finds_ended, is_overdue, has_turn, is_due, unanswered, overdue_for, overdue, turned, woken}
+use Rattle.ha_loop.specs.Operators.{given_up}
+use Rattle.ha_loop.specs.Table.{prepared}
+use Rattle.ha_loop.specs.Wake.{roused, finds_ended, is_overdue, has_turn, is_due, unanswered, overdue_for, overdue, turned, woken}
 use Rattle.ha_loop.proofs.Judging.{if-true, if-false}
 use Rattle.ha_loop.proofs.Knowing.{creates-active}
 use Rattle.ha_loop.proofs.LawfulSteps.{before-waits}
 use Rattle.ha_loop.proofs.Living.{no-way}
-use Rattle.ha_loop.proofs.Rows.{if-cases}
+use Rattle.ha_loop.proofs.Rows.{if-cases, given-up-by}
 
 no-key-free : (now : Ticks) (role : RoleFacts) (o : Outcome) → may_create role ≡ true → no_key now role o ≡ finds_free now o
 no-key-free now Follower o may = refl
@@ -148,7 +152,7 @@ last-judged : (now : Ticks) (waited : Waited) (sequence : ℕ) (answer : PeerAns
     → answered now sequence answer o ≡ judged_as now bar (waiting_no_more (keeping answer o))
 last-judged now waited sequence answer snapshot bar o hears is = let x : Outcome = keeping answer o in
     ap (λ (w : Option Waited). answered_for now sequence answer w o) hears.awaits.waits
-    ∙ if-true (awaits_answer waited sequence) (accepted_answer now answer o) o hears.number
+    ∙ if-true (awaits_answer waited sequence) (accepted_answer now answer o) (if awaits_check waited sequence then check_answered now answer o.role o else o) hears.number
     ∙ if-true (may_create o.role) (judged_if_all now x) (waiting_no_more o) hears.awaits.role
     ∙ if-true (all_answered o.knows.who (with_answer answer o.knows.answers)) (judged now x) x hears.all
     ∙ judged-is now snapshot bar x hears.awaits.seen is
@@ -169,6 +173,7 @@ asking-late now Creating o asking may = absurd (no-way asking)
 asking-late now Renewing o asking may = absurd (no-way asking)
 asking-late now Claiming o asking may = absurd (no-way asking)
 asking-late now (Syncing settling) o asking may = absurd (no-way asking)
+asking-late now Checking o asking may = absurd (no-way asking)
 
 either-late : (a b c : Bool) → b ≡ true → a || (b || c) ≡ true
 either-late true b c e = refl
@@ -178,22 +183,39 @@ either-late false false c e = absurd (no-way e)
 late-due : (now : Ticks) (waited : Waited) (o : Outcome) → o.knows.waited ≡ Some waited → nat_le waited.until.0 now.0 ≡ true → is_due now o.role o.knows o.machine ≡ true
 late-due now waited o waits late = either-late (finds_ended o.role o.machine.server.state) (is_overdue now o.knows.waited) (has_turn now o.knows) (ap (λ (w : Option Waited). is_overdue now w) waits ∙ late)
 
-late-judged : (now : Ticks) (waited : Waited) (snapshot : SnapshotFacts) (bar : Option Bar) (o : Outcome) → RunsLate now waited snapshot (before now o) → outcome_of (shown now (before now o)) snapshot (before now o).knows.answers ≡ bar
-    → woken now o ≡ turned now (judged_as now bar (waiting_no_more (before now o)))
-late-judged now waited snapshot bar o runs is = let b : Outcome = before now o in
-    if-true (is_due now o.role o.knows o.machine) (turned now (overdue now b)) b (late-due now waited o (sym (before-waits now o) ∙ runs.awaits.waits) runs.late)
+-- what precedes a wake leaves what is waited for
+given-waits : (now : Ticks) (o : Outcome) → (given_up now o).knows.waited ≡ o.knows.waited
+given-waits now o = given-up-by (λ (x : Outcome). x.knows.waited ≡ o.knows.waited) now o (record { kept = refl; answers = λ request told. refl })
+
+roused-waits : (now : Ticks) (o : Outcome) → (prepared now Wake o).knows.waited ≡ o.knows.waited
+roused-waits now o = if-cases (λ (x : Outcome). x.knows.waited ≡ o.knows.waited) (is_due now o.role o.knows o.machine) (given_up now (before now o)) (before now o)
+    (λ _. given-waits now (before now o) ∙ before-waits now o) (λ _. before-waits now o)
+
+-- an agent whose time for answers is over has something to do
+late-prepared : (now : Ticks) (waited : Waited) (snapshot : SnapshotFacts) (o : Outcome) → RunsLate now waited snapshot (prepared now Wake o) → is_due now o.role o.knows o.machine ≡ true
+late-prepared now waited snapshot o runs = late-due now waited o (sym (roused-waits now o) ∙ runs.awaits.waits) runs.late
+
+late-judged : (now : Ticks) (waited : Waited) (snapshot : SnapshotFacts) (bar : Option Bar) (o : Outcome) → RunsLate now waited snapshot (prepared now Wake o) → outcome_of (shown now (prepared now Wake o)) snapshot (prepared now Wake o).knows.answers ≡ bar
+    → woken now o ≡ turned now (judged_as now bar (waiting_no_more (prepared now Wake o)))
+late-judged now waited snapshot bar o runs is =
+    let due : is_due now o.role o.knows o.machine ≡ true = late-prepared now waited snapshot o runs in
+    let p : Outcome = prepared now Wake o in
+    if-true (is_due now o.role o.knows o.machine) (roused now o) (before now o) due
+    ∙ ap (λ (x : Outcome). turned now (overdue now x)) (sym (if-true (is_due now o.role o.knows o.machine) (given_up now (before now o)) (before now o) due))
     ∙ ap (λ (x : Outcome). turned now x)
-    (ap (λ (w : Option Waited). overdue_for now w b) runs.awaits.waits
-    ∙ if-true (nat_le waited.until.0 now.0) (unanswered now waited.question b) b runs.late
-    ∙ asking-late now waited.question b runs.awaits.asking runs.awaits.role
-    ∙ judged-is now snapshot bar b runs.awaits.seen is)
+    (ap (λ (w : Option Waited). overdue_for now w p) runs.awaits.waits
+    ∙ if-true (nat_le waited.until.0 now.0) (unanswered now waited.question p) p runs.late
+    ∙ asking-late now waited.question p runs.awaits.asking runs.awaits.role
+    ∙ judged-is now snapshot bar p runs.awaits.seen is)
 
-pub late-won : (now : Ticks) (waited : Waited) (snapshot : SnapshotFacts) (o : Outcome) → RunsLate now waited snapshot (before now o) → outcome_of (shown now (before now o)) snapshot (before now o).knows.answers ≡ None → AsksForKey (before now o) (woken now o)
-late-won now waited snapshot o runs is = subst (λ (after : Outcome). AsksForKey (before now o) after) (sym (late-judged now waited snapshot None o runs is)) (record { waited = _; waits = refl; asks = refl; outputs_are = refl })
+pub late-won : (now : Ticks) (waited : Waited) (snapshot : SnapshotFacts) (o : Outcome) → RunsLate now waited snapshot (prepared now Wake o) → outcome_of (shown now (prepared now Wake o)) snapshot (prepared now Wake o).knows.answers ≡ None
+    → AsksForKey (prepared now Wake o) (woken now o)
+late-won now waited snapshot o runs is = subst (λ (after : Outcome). AsksForKey (prepared now Wake o) after) (sym (late-judged now waited snapshot None o runs is)) (record { waited = _; waits = refl; asks = refl; outputs_are = refl })
 
-pub late-lost : (now : Ticks) (waited : Waited) (snapshot : SnapshotFacts) (bar : Bar) (o : Outcome) → RunsLate now waited snapshot (before now o) → outcome_of (shown now (before now o)) snapshot (before now o).knows.answers ≡ Some bar → LosesAndTurns now bar (before now o) (woken now o)
+pub late-lost : (now : Ticks) (waited : Waited) (snapshot : SnapshotFacts) (bar : Bar) (o : Outcome) → RunsLate now waited snapshot (prepared now Wake o) → outcome_of (shown now (prepared now Wake o)) snapshot (prepared now Wake o).knows.answers ≡ Some bar
+    → LosesAndTurns now bar (prepared now Wake o) (woken now o)
 late-lost now waited snapshot bar o runs is = record {
-  lost = judged_as now (Some bar) (waiting_no_more (before now o));
+  lost = judged_as now (Some bar) (waiting_no_more (prepared now Wake o));
   loses = record { role = refl; machine = refl; waits = refl; outputs_are = refl };
   turns = late-judged now waited snapshot (Some bar) o runs is;
 }

@@ -1,5 +1,5 @@
 -- What a granted request brings an agent.
-use Rattle.std.proofs.Common.{◌≡◌, ℕ, ◌&&◌, ◌||◌, Bool, true, false, not, if◌then◌else◌, List, [], ◌∷◌, Some, None, refl, sym, ap, ◌∙◌, inl, inr, ◌⊎◌}
+use Rattle.std.proofs.Common.{◌≡◌, ℕ, ◌+◌, ◌&&◌, ◌||◌, Bool, true, false, not, if◌then◌else◌, List, [], ◌∷◌, Option, Some, None, zero, suc, refl, sym, ap, ◌∙◌, inl, inr, ◌⊎◌}
 use Rattle.pat_base.specs.declared.ticks.Ticks.{Ticks}
 use Rattle.lease_store.specs.declared.granted.Granted.{Granted}
 use Rattle.leader_key.specs.Watchdog.{is_armable, fed}
@@ -26,7 +26,17 @@ use Rattle.ha_loop.proofs.Bringing.{same-role, no-lease, postpones-brings}
 use Rattle.ha_loop.proofs.Fitting.{ended-for}
 use Rattle.ha_loop.proofs.Leaving.{ready-is, behind-by, postpones-stays}
 use Rattle.ha_loop.proofs.Living.{no-way, stop-live}
-use Rattle.ha_loop.proofs.Rows.{SyncRows, led_on, if-cases, granted-by, renewed-by, begins-or-claims-by}
+use Rattle.ha_loop.specs.HandingOver.{asking_whom, checking, hands_over}
+use Rattle.ha_loop.specs.Operators.{answering, learned}
+use Rattle.ha_loop.specs.Racing.{unheard}
+use Rattle.ha_loop.specs.Table.{granted_any}
+use Rattle.ha_loop.specs.Answers.{is_other, most_answers, asking_one, asking_first}
+use Rattle.ha_loop.specs.declared.who.Who.{Who}
+use Rattle.pat_base.specs.MemberId.{member_of}
+use Rattle.pat_base.specs.declared.member_id.MemberId.{MemberId}
+use Rattle.event_book.specs.declared.message.Body.TheVariants as bodies
+use Rattle.ha_loop.specs.declared.output.Target.TheVariants as targets
+use Rattle.ha_loop.proofs.Rows.{dropping, granted-any-by, SyncRows, led_on, if-cases, granted-by, renewed-by, begins-or-claims-by}
 
 pub take-free : (held can : Bool) → not held && can ≡ true → held ≡ false
 take-free true can e = sym e
@@ -73,6 +83,20 @@ leads-live : (now : Ticks) (sequence : ℕ) (grant : Granted) (snapshot : Snapsh
 leads-live now sequence grant snapshot o after awaited fed-is lease unready known told lives =
     Leads awaited fed-is lease (λ ready. absurd (no-way (sym unready ∙ ready))) known told (acts-live after _ _ unready lives) (acts-live after _ _ unready lives)
 
+-- asks stand behind what was told before
+ask-told : (who : Who) (sequence : ℕ) (member : Option MemberId) (outs : List Output) → has_one is_feeding outs ≡ true → has_one is_feeding (asking_one who sequence member outs) ≡ true
+ask-told who sequence None outs told = told
+ask-told who sequence (Some member) outs told = if-cases (λ (l : List Output). has_one is_feeding l ≡ true) (is_other who member) (listed (outputs.Send (targets.Member member) sequence bodies.Ask) outs) outs
+    (λ _. one-before is_feeding outs (outputs.Send (targets.Member member) sequence bodies.Ask) told) (λ _. told)
+
+asks-told : (who : Who) (sequence count : ℕ) (outs : List Output) → has_one is_feeding outs ≡ true → has_one is_feeding (asking_first who sequence count outs) ≡ true
+asks-told who sequence zero outs told = told
+asks-told who sequence (suc count) outs told = ask-told who sequence (member_of count) (asking_first who sequence count outs) (asks-told who sequence count outs told)
+
+whom-told : (who : Who) (candidate : Option MemberId) (sequence : ℕ) (outs : List Output) → has_one is_feeding outs ≡ true → has_one is_feeding (asking_whom who candidate sequence outs) ≡ true
+whom-told who None sequence outs told = asks-told who sequence most_answers outs told
+whom-told who (Some candidate) sequence outs told = ask-told who sequence (Some candidate) outs told
+
 renewed-may : (now : Ticks) (sequence : ℕ) (grant : Granted) (snapshot : SnapshotFacts) (o : Outcome) (awaited : IsAwaitedLease sequence grant o.knows) → GrantMay now sequence grant snapshot o (leader_renewed now awaited.waited.ttl grant.revision (Told snapshot o))
 renewed-may now sequence grant snapshot o awaited = let led : Outcome = led_on now awaited.waited.ttl grant.revision (Told snapshot o) in
     let told : is_armable o.machine.watchdog.mode o.machine.watchdog.works ≡ true → has_one is_feeding led.outputs ≡ true = fed-told o.outputs _ (is_armable o.machine.watchdog.mode o.machine.watchdog.works) in
@@ -80,10 +104,20 @@ renewed-may now sequence grant snapshot o awaited = let led : Outcome = led_on n
     renewed-by (GrantMay now sequence grant snapshot o) now awaited.waited.ttl grant.revision (Told snapshot o)
     (leads-live now sequence grant snapshot o ended awaited refl refl refl refl (λ armable. one-before is_feeding led.outputs (outputs.Stop StartTooLong) (told armable)) (stop-live now o.machine.server))
     (record {
-      kept = leads-live now sequence grant snapshot o led awaited refl refl refl refl told (λ e. e);
-      writes = λ settling txn _. leads-live now sequence grant snapshot o (writing_sync now settling txn led) awaited refl refl refl refl (λ armable. one-before is_feeding led.outputs _ (told armable)) (λ e. e);
-      adds = λ required. leads-live now sequence grant snapshot o (requiring required (noting led)) awaited refl refl refl refl (λ armable. one-before is_feeding led.outputs (outputs.Require required) (told armable)) (λ e. e);
-      drops = λ required. leads-live now sequence grant snapshot o (requiring required led) awaited refl refl refl refl (λ armable. one-before is_feeding led.outputs (outputs.Require required) (told armable)) (λ e. e);
+      plan = record {
+        kept = leads-live now sequence grant snapshot o led awaited refl refl refl refl told (λ e. e);
+        writes = λ settling txn _. leads-live now sequence grant snapshot o (writing_sync now settling txn led) awaited refl refl refl refl (λ armable. one-before is_feeding led.outputs _ (told armable)) (λ e. e);
+        adds = λ required. leads-live now sequence grant snapshot o (requiring required (noting led)) awaited refl refl refl refl (λ armable. one-before is_feeding led.outputs (outputs.Require required) (told armable)) (λ e. e);
+        drops = λ required. leads-live now sequence grant snapshot o (requiring required led) awaited refl refl refl refl (λ armable. one-before is_feeding led.outputs (outputs.Require required) (told armable)) (λ e. e);
+      };
+      clears = λ compared. leads-live now sequence grant snapshot o (dropping compared led) awaited refl refl refl refl (λ armable. one-before is_feeding led.outputs _ (told armable)) (λ e. e);
+      asks = λ candidate. leads-live now sequence grant snapshot o (checking now candidate (unheard led)) awaited refl refl refl refl (λ armable. whom-told led.knows.who candidate (led.knows.sequence + 1) led.outputs (told armable)) (λ e. e);
+      judges = record {
+        kept = leads-live now sequence grant snapshot o (waiting_no_more (unheard led)) awaited refl refl refl refl told (λ e. e);
+        clears = λ compared. leads-live now sequence grant snapshot o (dropping compared (waiting_no_more (unheard led))) awaited refl refl refl refl (λ armable. one-before is_feeding led.outputs _ (told armable)) (λ e. e);
+        hands = λ candidate. leads-live now sequence grant snapshot o (hands_over now grant.revision candidate (waiting_no_more (unheard led))) awaited refl refl refl refl
+            (λ armable. one-before is_feeding (listed (outputs.HandsOver candidate) led.outputs) outputs.ShutDown (one-before is_feeding led.outputs (outputs.HandsOver candidate) (told armable))) (stop-live now o.machine.server);
+      };
     })
 
 stray-may : (now : Ticks) (sequence : ℕ) (grant : Granted) (snapshot : SnapshotFacts) (o : Outcome) (awaited : IsAwaitedLease sequence grant o.knows) → GrantMay now sequence grant snapshot o (stray_renewed now awaited.waited.ttl grant.revision (Told snapshot o))
@@ -140,3 +174,10 @@ granted-may now sequence grant snapshot o fits = granted-by (GrantMay now sequen
       takes = λ may. takes-may now sequence grant snapshot o awaited (ended-for o.role (live o.machine.server.state) may fits);
     })
     (sync-may now sequence grant snapshot o fits)
+
+-- a grant of what an operator wants brings nothing
+pub any-granted-may : (now : Ticks) (sequence : ℕ) (grant : Granted) (snapshot : SnapshotFacts) (o : Outcome) → Fits o.role (live o.machine.server.state) → GrantMay now sequence grant snapshot o (granted_any now sequence grant snapshot o)
+any-granted-may now sequence grant snapshot o fits = granted-any-by (GrantMay now sequence grant snapshot o) now sequence grant snapshot o
+    (Nothing (same-role o o refl (λ e. e)) (Kept refl))
+    (record { kept = Nothing (same-role o (learned snapshot o) refl (λ e. e)) (Kept refl); answers = λ request told. Nothing (same-role o (answering request told (learned snapshot o)) refl (λ e. e)) (Kept refl) })
+    (granted-may now sequence grant snapshot o fits)

@@ -8,6 +8,7 @@ use Rattle.pat_base.specs.declared.member_id.MemberId.{MemberId}
 use Rattle.pat_base.specs.declared.member_set.MemberSet.{MemberSet}
 use Rattle.pat_base.specs.declared.peer_answer.PeerAnswer.{PeerAnswer}
 use Rattle.pat_base.specs.declared.ticks.Ticks.{Ticks}
+use Rattle.lease_store.specs.declared.action.OperatorAction.{OperatorAction}
 use Rattle.lease_store.specs.declared.granted.Granted.{Granted}
 use Rattle.lease_store.specs.declared.key.Key.TheVariants as keys
 use Rattle.lease_store.specs.declared.value.KeyEntry.{KeyEntry}
@@ -18,7 +19,7 @@ use Rattle.lease_law.specs.Leases.{LeaderSeen, FailsafeKey}
 use Rattle.lease_law.specs.Past.{set_members}
 use Rattle.lease_law.proofs.Tools.{some-is, none-some}
 use Rattle.ha_loop.specs.declared.heard.Heard.{Heard}
-use Rattle.ha_loop.specs.declared.heard.Heard.TheVariants.{Wake, Got, Granted as HeardGranted, Mismatch, Asked, Answered}
+use Rattle.ha_loop.specs.declared.heard.Heard.TheVariants.{Wake, Got, Granted as HeardGranted, Mismatch, Asked, Answered, Operated as HearsOperator}
 use Rattle.ha_loop.specs.declared.knowledge.Waited.{Waited}
 use Rattle.ha_loop.specs.declared.output.Output.TheVariants as outputs
 use Rattle.ha_loop.specs.declared.role.Why.{Why}
@@ -35,11 +36,14 @@ use Rattle.ha_loop.specs.Repairs.{repair_of, repairing}
 use Rattle.ha_loop.specs.Snapshots.{known_with, informed, is_active, renewing, follow_row, follows, leader_loses_key, stray_loses_key, read_noted, got}
 use Rattle.ha_loop.specs.Racing.{creating, barred, finds_free, judged, asking_others, unheard}
 use Rattle.ha_loop.specs.Peers.{asked, keeping, answered}
-use Rattle.ha_loop.specs.Table.{step}
+use Rattle.ha_loop.specs.HandingOver.{checking, hands_over}
+use Rattle.ha_loop.specs.Operators.{answering, given_up, learned, looked, operated, operating, restarting, telling, wiping}
+use Rattle.ha_loop.specs.Table.{step, granted_any, refused_any}
+use Rattle.event_book.specs.declared.message.Body.TheVariants as bodies
 use Rattle.ha_loop.specs.Wake.{reading, turn_noted, leader_out_of_reach, stray_out_of_reach, overdue, turned, woken}
 use Rattle.ha_loop.proofs.Granting.{Told}
 use Rattle.ha_loop.proofs.Living.{no-way}
-use Rattle.ha_loop.proofs.Rows.{led_on, if-cases, renewed-by, begins-or-claims-by, before-by, overdue-by, turn-by, wake-by, got-by, refused-by, follow-by, repaired-by, free-by, granted-by, judged-by, answered-by}
+use Rattle.ha_loop.proofs.Rows.{HandoverRows, ReplyRows, ActRows, dropping, looked-by, given-up-by, granted-any-by, refused-any-by, operated-by, led_on, if-cases, renewed-by, begins-or-claims-by, before-by, overdue-by, turn-by, wake-by, got-by, refused-by, follow-by, repaired-by, free-by, granted-by, judged-by, answered-by}
 
 -- who ends its server waits for nothing
 abbrev pub IsAlone : Outcome → Type 0
@@ -184,6 +188,22 @@ tells snapshot o = record {
   counts = λ _ one is. absurd (none-some one is);
 }
 
+-- the same, and what is waited for stays
+pub learns : (snapshot : SnapshotFacts) (o : Outcome) → Onward (Some snapshot) o (learned snapshot o)
+learns snapshot o = let told : Onward (Some snapshot) o (record o { knows = informed snapshot o.knows }) = tells snapshot o in record {
+  who = refl;
+  run = refl;
+  last = omega arith;
+  waits = λ n e. inl e;
+  known = told.known;
+  informed = told.informed;
+  failsafe = told.failsafe;
+  leader = told.leader;
+  hold = refl;
+  ends = λ alone. alone;
+  counts = λ counted. counted;
+}
+
 -- a question that is waited for has a new number
 asked-new : (was n : ℕ) → ◌≡◌ {A = Option ℕ} (Some (was + 1)) (Some n) → was < n
 asked-new was n e = let is : was + 1 ≡ n = cc in omega (arith, is)
@@ -225,6 +245,29 @@ judged-onward told now o may = judged-by (Onward told o) now o
     (asks-on told o (creating now (waiting_no_more o)) refl refl refl refl refl (omega arith) (λ n e. asked-new o.knows.sequence n e) refl (creates-active o.role may) _ refl refl)
     (λ bar. rests told o (barred bar (waiting_no_more o)) refl refl refl refl refl (omega arith) refl refl)
 
+-- a handover is judged
+handover-onward : (told : Option SnapshotFacts) (now : Ticks) (held : ℕ) (o b : Outcome) → Onward told o b → HandoverRows (Onward told o) now held b
+handover-onward told now held o b first = record {
+  kept = onward-then told o b (waiting_no_more b) first (rests told b (waiting_no_more b) refl refl refl refl refl (omega arith) refl refl);
+  clears = λ compared. onward-then told o b (dropping compared (waiting_no_more b)) first (rests told b (dropping compared (waiting_no_more b)) refl refl refl refl refl (omega arith) refl refl);
+  hands = λ candidate. onward-then told o b (hands_over now held candidate (waiting_no_more b)) first (rests told b (hands_over now held candidate (waiting_no_more b)) refl refl refl refl refl (omega arith) refl refl);
+}
+
+-- an operator is answered
+pub told-onward : (told : Option SnapshotFacts) (o b : Outcome) → Onward told o b → ReplyRows (Onward told o) b
+told-onward told o b first = record {
+  kept = first;
+  answers = λ request said. onward-then told o b (answering request said b) first (keeps told b (answering request said b) refl refl refl refl refl (omega arith) (λ n e. inl e) refl (λ alone. alone) (λ counted. counted));
+}
+
+-- what one asks is done
+acts-onward : (told : Option SnapshotFacts) (now : Ticks) (request : ℕ) (o : Outcome) → ActRows (Onward told o) now request o
+acts-onward told now request o = record {
+  asks = λ operation txn _. keeps told o (operating now request operation (bodies.Request txn) o) refl refl refl refl refl (omega arith) (λ n e. inl e) refl (λ alone. alone) (λ counted one is. at-most (counted one is) (omega arith));
+  restarts = λ said. keeps told o (telling request said (restarting now o)) refl refl refl refl refl (omega arith) (λ n e. inl e) refl (λ alone. alone) (λ counted. counted);
+  wipes = λ said. keeps told o (telling request said (wiping o)) refl refl refl refl refl (omega arith) (λ n e. inl e) refl (λ alone. alone) (λ counted. counted);
+}
+
 pub overdue-onward : (told : Option SnapshotFacts) (now : Ticks) (o : Outcome) → Onward told o (overdue now o)
 overdue-onward told now o = overdue-by (Onward told o) now o (record {
   kept = same told o;
@@ -233,6 +276,7 @@ overdue-onward told now o = overdue-by (Onward told o) now o (record {
   stray = λ _. rests told o (stray_out_of_reach now (waiting_no_more o)) refl refl refl refl refl (omega arith) refl refl;
   judges = λ may. judged-onward told now o may;
   ready = λ held _. rests told o (postpones held (waiting_no_more o)) refl refl refl refl refl (omega arith) refl refl;
+  checks = λ held _. handover-onward told now held o o (same told o);
 })
 
 pub turn-onward : (told : Option SnapshotFacts) (now : Ticks) (o : Outcome) → Onward told o (turned now o)
@@ -242,11 +286,13 @@ turn-onward told now o = turn-by (Onward told o) now o (record {
   reads = λ active. asks-on told o (reading now (record o { knows = turn_noted now o.knows })) refl refl refl refl refl (omega arith) (λ n e. absurd (none-some _ e)) refl active _ refl refl;
 })
 
+pub given-up-onward : (told : Option SnapshotFacts) (now : Ticks) (o : Outcome) → Onward told o (given_up now (before now o))
+given-up-onward told now o = given-up-by (Onward told o) now (before now o) (told-onward told o (before now o) (before-onward told now o))
+
 pub wake-onward : (told : Option SnapshotFacts) (now : Ticks) (o : Outcome) → Onward told o (woken now o)
-wake-onward told now o = wake-by (Onward told o) now o (before-onward told now o)
-    (onward-then told o (overdue now (before now o)) (turned now (overdue now (before now o)))
-    (onward-then told o (before now o) (overdue now (before now o)) (before-onward told now o) (overdue-onward told now (before now o)))
-    (turn-onward told now (overdue now (before now o))))
+wake-onward told now o = let b : Outcome = given_up now (before now o) in
+    wake-by (Onward told o) now o (before-onward told now o)
+    (onward-then told o (overdue now b) (turned now (overdue now b)) (onward-then told o b (overdue now b) (given-up-onward told now o) (overdue-onward told now b)) (turn-onward told now (overdue now b)))
 
 -- a row behind a snapshot that is the newest, which waits for nothing after it
 quiet-told : (snapshot : SnapshotFacts) (o after : Outcome) → after.knows.who ≡ o.knows.who → after.knows.run ≡ o.knows.run → after.knows.seen ≡ Some snapshot → after.knows.known ≡ (Told snapshot o).knows.known → after.knows.informed ≡ (Told snapshot o).knows.informed
@@ -319,10 +365,15 @@ renewed-onward : (now ttl : Ticks) (revision : ℕ) (snapshot : SnapshotFacts) (
 renewed-onward now ttl revision snapshot o = let led : Outcome = led_on now ttl revision (Told snapshot o) in
     let ended : Outcome = record (ending_server now StartTooLong led) { role = Ending revision HandOver } in
     renewed-by (Onward (Some snapshot) o) now ttl revision (Told snapshot o) (quiet-told snapshot o ended refl refl refl refl refl (omega arith) refl refl) (record {
-      kept = quiet-told snapshot o led refl refl refl refl refl (omega arith) refl refl;
-      writes = λ settling txn _. writes-told snapshot o (writing_sync now settling txn led) refl refl refl refl refl (omega arith) refl refl refl _ refl refl;
-      adds = λ required. quiet-told snapshot o (requiring required (noting led)) refl refl refl refl refl (omega arith) refl refl;
-      drops = λ required. quiet-told snapshot o (requiring required led) refl refl refl refl refl (omega arith) refl refl;
+      plan = record {
+        kept = quiet-told snapshot o led refl refl refl refl refl (omega arith) refl refl;
+        writes = λ settling txn _. writes-told snapshot o (writing_sync now settling txn led) refl refl refl refl refl (omega arith) refl refl refl _ refl refl;
+        adds = λ required. quiet-told snapshot o (requiring required (noting led)) refl refl refl refl refl (omega arith) refl refl;
+        drops = λ required. quiet-told snapshot o (requiring required led) refl refl refl refl refl (omega arith) refl refl;
+      };
+      clears = λ compared. quiet-told snapshot o (dropping compared led) refl refl refl refl refl (omega arith) refl refl;
+      asks = λ candidate. writes-told snapshot o (checking now candidate (unheard led)) refl refl refl refl refl (omega arith) refl refl refl _ refl refl;
+      judges = handover-onward (Some snapshot) now revision o (unheard led) (quiet-told snapshot o (unheard led) refl refl refl refl refl (omega arith) refl refl);
     })
 
 stray-onward : (now ttl : Ticks) (revision : ℕ) (snapshot : SnapshotFacts) (o : Outcome) → Onward (Some snapshot) o (stray_renewed now ttl revision (Told snapshot o))
@@ -367,6 +418,7 @@ answered-onward told now sequence answer o =
       quiet = rests told o (waiting_no_more o) refl refl refl refl refl (omega arith) refl refl;
       keeps = kept;
       judges = λ may. onward-then told o (keeping answer o) (judged now (keeping answer o)) kept (judged-onward told now (keeping answer o) may);
+      checks = λ held _. handover-onward told now held o (keeping answer o) kept;
     })
 
 pub asked-onward : (told : Option SnapshotFacts) (from : MemberId) (run sequence : ℕ) (o : Outcome) → Onward told o (asked from run sequence o)
@@ -380,11 +432,30 @@ told_by (HeardGranted sequence grant snapshot) = Some snapshot
 told_by (Mismatch sequence key found) = None
 told_by (Asked from run sequence) = None
 told_by (Answered sequence answer) = None
+told_by (HearsOperator action) = None
+
+-- an operator is answered behind what precedes an input, by what is read
+pub looked-onward : (told : Option SnapshotFacts) (now : Ticks) (sequence : ℕ) (snapshot : SnapshotFacts) (o : Outcome) → Onward told o (looked sequence snapshot (before now o))
+looked-onward told now sequence snapshot o = looked-by (Onward told o) sequence snapshot (before now o) (told-onward told o (before now o) (before-onward told now o))
+
+-- what an operator wants, or the agent by itself, is granted; or refused
+pub any-granted-onward : (now : Ticks) (sequence : ℕ) (grant : Granted) (snapshot : SnapshotFacts) (o : Outcome) → Onward (Some snapshot) o (granted_any now sequence grant snapshot o)
+any-granted-onward now sequence grant snapshot o =
+    granted-any-by (Onward (Some snapshot) o) now sequence grant snapshot o (same (Some snapshot) o) (told-onward (Some snapshot) o (learned snapshot o) (learns snapshot o)) (granted-onward now sequence grant snapshot o)
+
+pub any-refused-onward : (now : Ticks) (sequence : ℕ) (o : Outcome) → Onward None o (refused_any now sequence o)
+any-refused-onward now sequence o = refused-any-by (Onward None o) now sequence o (told-onward None o o (same None o)) (refused-onward None now sequence o)
+
+pub operated-onward : (now : Ticks) (action : OperatorAction) (o : Outcome) → Onward None o (operated now action.request action.asked o)
+operated-onward now action o = operated-by (Onward None o) now action.request action.asked o (acts-onward None now action.request o)
 
 pub step-onward : (now : Ticks) (points : List HistoryPoint) (heard : Heard) (o : Outcome) → Onward (told_by heard) o (step now points heard o)
 step-onward now points Wake o = wake-onward None now o
-step-onward now points (Got sequence snapshot) o = onward-then (Some snapshot) o (before now o) (got now points sequence snapshot (before now o)) (before-onward (Some snapshot) now o) (got-onward now points sequence snapshot (before now o))
-step-onward now points (HeardGranted sequence grant snapshot) o = onward-then (Some snapshot) o (before now o) (granted now sequence grant snapshot (before now o)) (before-onward (Some snapshot) now o) (granted-onward now sequence grant snapshot (before now o))
-step-onward now points (Mismatch sequence key found) o = onward-then None o (before now o) (refused now sequence (before now o)) (before-onward None now o) (refused-onward None now sequence (before now o))
+step-onward now points (Got sequence snapshot) o = let p : Outcome = looked sequence snapshot (before now o) in
+    onward-then (Some snapshot) o p (got now points sequence snapshot p) (looked-onward (Some snapshot) now sequence snapshot o) (got-onward now points sequence snapshot p)
+step-onward now points (HeardGranted sequence grant snapshot) o = let b : Outcome = before now o in
+    onward-then (Some snapshot) o b (granted_any now sequence grant snapshot b) (before-onward (Some snapshot) now o) (any-granted-onward now sequence grant snapshot b)
+step-onward now points (Mismatch sequence key found) o = let b : Outcome = before now o in onward-then None o b (refused_any now sequence b) (before-onward None now o) (any-refused-onward now sequence b)
 step-onward now points (Asked from run sequence) o = onward-then None o (before now o) (asked from run sequence (before now o)) (before-onward None now o) (asked-onward None from run sequence (before now o))
 step-onward now points (Answered sequence answer) o = onward-then None o (before now o) (answered now sequence answer (before now o)) (before-onward None now o) (answered-onward None now sequence answer (before now o))
+step-onward now points (HearsOperator action) o = let b : Outcome = before now o in onward-then None o b (operated now action.request action.asked b) (before-onward None now o) (operated-onward now action b)

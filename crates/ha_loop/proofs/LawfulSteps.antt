@@ -18,7 +18,7 @@ use Rattle.lease_law.specs.Inputs.{AgentInput, HeardLeader, HeardFailsafe, FedKn
 use Rattle.lease_law.specs.Past.{set_members}
 use Rattle.lease_law.proofs.Tools.{some-is, none-some}
 use Rattle.ha_loop.specs.declared.heard.Heard.{Heard}
-use Rattle.ha_loop.specs.declared.heard.Heard.TheVariants.{Wake, Got, Granted as HeardGranted, Mismatch, Asked, Answered}
+use Rattle.ha_loop.specs.declared.heard.Heard.TheVariants.{Wake, Got, Granted as HeardGranted, Mismatch, Asked, Answered, Operated as HearsOperator}
 use Rattle.ha_loop.specs.declared.knowledge.Knowledge.{Knowledge}
 use Rattle.ha_loop.specs.declared.knowledge.Waited.{Waited}
 use Rattle.ha_loop.specs.declared.machine.Machine.{Machine}
@@ -28,26 +28,29 @@ use Rattle.ha_loop.specs.declared.role.Why.TheVariants.{HandOver, Lost}
 use Rattle.ha_loop.specs.declared.who.Who.{Who}
 use Rattle.ha_loop.specs.Agents.{RoleFacts, EndsAlone, HasCounted, IsSoundAgent, Outcome, made, is_ready}
 use Rattle.ha_loop.specs.Before.{has_ended, before}
-use Rattle.ha_loop.specs.Decisions.{is_lease_of, granted, refused}
+use Rattle.ha_loop.specs.Decisions.{is_lease_of}
 use Rattle.ha_loop.specs.Lawful.{StandsIn, HearsAnswer, TellsLease, HearsGrant, IsInputOf, MayPromote, IsLawfulAnd, IsLawfulFrom}
 use Rattle.ha_loop.specs.Powers.{BringsNothing, LeavesMachine, IsAwaitedLease, GrantMay, leads, lease_of}
 use Rattle.ha_loop.specs.Powers.GrantMay.{Nothing, Leads, Begins}
 use Rattle.ha_loop.specs.Seen.{leader_seen_if, failsafe_seen_if}
 use Rattle.ha_loop.specs.Peers.{asked, answered}
 use Rattle.ha_loop.specs.Snapshots.{got}
-use Rattle.ha_loop.specs.Table.{step, act}
+use Rattle.lease_store.specs.declared.action.OperatorAction.{OperatorAction}
+use Rattle.ha_loop.specs.Fits.{Fits}
+use Rattle.ha_loop.specs.Operators.{given_up, looked, operated}
+use Rattle.ha_loop.specs.Table.{step, granted_any, refused_any}
 use Rattle.ha_loop.specs.Wake.{overdue, turned, woken}
-use Rattle.ha_loop.proofs.Bringing.{ready-leads, brings-then, before-brings, overdue-brings, turn-brings, wake-brings, got-brings, refused-brings, answer-brings, read-brings, refusal-brings, asked-brings, answered-brings}
+use Rattle.ha_loop.proofs.Bringing.{acting-brings, any-refused-brings, operated-brings, ready-leads, brings-then, before-brings, overdue-brings, turn-brings, wake-brings, got-brings, answer-brings, read-brings, refusal-brings, asked-brings, answered-brings}
 use Rattle.ha_loop.proofs.Fitting.{before-fits, ready-same}
-use Rattle.ha_loop.proofs.Granting.{awaited-lease, granted-may as grant-may}
-use Rattle.ha_loop.proofs.Knowing.{IsAlone, alone-of, ends-of, Onward, before-onward, wake-onward, got-onward, refused-onward, granted-onward, answered-onward, asked-onward, onward-then, step-onward}
+use Rattle.ha_loop.proofs.Granting.{awaited-lease, any-granted-may as grant-may}
+use Rattle.ha_loop.proofs.Knowing.{any-granted-onward, any-refused-onward, looked-onward, operated-onward, IsAlone, alone-of, ends-of, Onward, before-onward, wake-onward, got-onward, answered-onward, asked-onward, onward-then, step-onward}
 use Rattle.ha_loop.proofs.Lawful.{was_of, acts-seen, seen-acts, watchdog-kept, watchdog-leaves, parted-by, lawful-of}
 use Rattle.ha_loop.proofs.LawfulGrants.{heard-leader, heard-failsafe, hears-grant, fed-of, entry-known, armable-before, new-deadline, free-of}
-use Rattle.ha_loop.proofs.Leaving.{leaves-then, before-leaves, wake-leaves, read-leaves, refusal-leaves, asked-leaves, answered-leaves}
+use Rattle.ha_loop.proofs.Leaving.{given-up-fits, told-fits, operated-leaves, leaves-then, before-leaves, wake-leaves, read-leaves, refusal-leaves, asked-leaves, answered-leaves}
 use Rattle.ha_loop.proofs.Living.{no-way}
-use Rattle.ha_loop.proofs.Rows.{before-by, wake-by}
+use Rattle.ha_loop.proofs.Rows.{before-by, wake-by, looked-by}
 use Rattle.ha_loop.proofs.Sending.BeginsOn.{WasReady, OnLease}
-use Rattle.ha_loop.proofs.Sending.{IsSilent, AllMay, Decides, BeginsOn, before-may, wake-may, got-may, refused-may, granted-may as granted-sends, asked-may, answered-may, nobody-begins, grant-begins, begins-weaker}
+use Rattle.ha_loop.proofs.Sending.{operated-may, IsSilent, AllMay, Decides, BeginsOn, wake-may, got-may, refused-may, granted-may as granted-sends, asked-may, answered-may, nobody-begins, grant-begins, begins-weaker}
 
 -- no revision is granted
 abbrev Nobody : ℕ → Type 0
@@ -69,14 +72,14 @@ without-grant s m runs input now told o after stands is onward leaves brings par
     failsafe = failsafe;
     leader = leader;
   });
-  begins = nobody-begins (MayPromote s m input) o after sends;
+  begins = nobody-begins (MayPromote s m input) o after (λ outs lives. inl (seen-acts (s.members m) runs o stands.member (inl lives))) sends;
 }
 
 wake-parted : (now : Ticks) (o : Outcome) → is_ready (woken now o).role ≡ true → live (woken now o).machine.server.state ≡ false
-wake-parted now o = wake-by (λ (x : Outcome). is_ready x.role ≡ true → live x.machine.server.state ≡ false) now o
+wake-parted now o = let b : Outcome = given_up now (before now o) in
+    wake-by (λ (x : Outcome). is_ready x.role ≡ true → live x.machine.server.state ≡ false) now o
     (parted-by (before now o) (before now o) (before-fits now o) (record { live = λ e. e; leads = λ e. e; ready = λ e. e; lease = λ revision e. e }))
-    (parted-by (before now o) (turned now (overdue now (before now o))) (before-fits now o)
-    (brings-then (before now o) (overdue now (before now o)) (turned now (overdue now (before now o))) (overdue-brings now (before now o)) (turn-brings now (overdue now (before now o)))))
+    (parted-by b (turned now (overdue now b)) (given-up-fits now o) (brings-then b (overdue now b) (turned now (overdue now b)) (overdue-brings now b) (turn-brings now (overdue now b))))
 
 -- what comes before an input leaves what is waited for
 ended-waits : (why : Why) (held : ℕ) (o : Outcome) → (has_ended why held o).knows.waited ≡ o.knows.waited
@@ -165,26 +168,32 @@ leads-brought s m runs sequence input now grant snapshot o after sound stands he
 
 wake-lawful : (s : State) (m runs : ℕ) (input : AgentInput) (now : Ticks) (o : Outcome) → IsAlone o → All IsSilent o.outputs → StandsIn s m runs now o → IsInputOf s m runs o (woken now o) input → IsLawfulAnd s m (woken now o) input
 wake-lawful s m runs input now o alone silent stands is = without-grant s m runs input now None o (woken now o) stands is (wake-onward None now o) (wake-leaves now o) (wake-brings now o) (wake-parted now o)
-    (wake-may Nobody now o alone (before-onward None now o).last silent) (λ key e. absurd (none-some _ e)) (λ seen e. absurd (none-some _ e))
+    (wake-may Nobody now o alone silent) (λ key e. absurd (none-some _ e)) (λ seen e. absurd (none-some _ e))
 
-act-lawful : (s : State) (m runs : ℕ) (input : AgentInput) (now : Ticks) (o : Outcome) → IsAlone o → All IsSilent o.outputs → StandsIn s m runs now o → IsInputOf s m runs o (act now o) input → IsLawfulAnd s m (act now o) input
-act-lawful s m runs input now o alone silent stands is = without-grant s m runs input now None o (before now o) stands is (before-onward None now o) (before-leaves now o) (before-brings now o)
-    (parted-by (before now o) (before now o) (before-fits now o) (record { live = λ e. e; leads = λ e. e; ready = λ e. e; lease = λ revision e. e }))
-    (before-may Nobody now o alone silent) (λ key e. absurd (none-some _ e)) (λ seen e. absurd (none-some _ e))
+-- what an operator asks
+operated-lawful : (s : State) (m runs : ℕ) (input : AgentInput) (now : Ticks) (action : OperatorAction) (o : Outcome) → IsAlone o → All IsSilent o.outputs → StandsIn s m runs now o
+    → IsInputOf s m runs o (operated now action.request action.asked (before now o)) input → IsLawfulAnd s m (operated now action.request action.asked (before now o)) input
+operated-lawful s m runs input now action o alone silent stands is = let b : Outcome = before now o in
+    let after : Outcome = operated now action.request action.asked b in
+    without-grant s m runs input now None o after stands is (onward-then None o b after (before-onward None now o) (operated-onward now action b))
+    (operated-leaves now action o) (operated-brings now action o) (parted-by b after (before-fits now o) (acting-brings now action b))
+    (operated-may Nobody now action o alone silent) (λ key e. absurd (none-some _ e)) (λ seen e. absurd (none-some _ e))
 
 got-lawful : (s : State) (m runs : ℕ) (input : AgentInput) (now : Ticks) (points : List HistoryPoint) (sequence : ℕ) (snapshot : SnapshotFacts) (o : Outcome) → IsAlone o → All IsSilent o.outputs → StandsIn s m runs now o
-    → HearsAnswer s m input.heard sequence snapshot o.knows → IsInputOf s m runs o (got now points sequence snapshot (before now o)) input → IsLawfulAnd s m (got now points sequence snapshot (before now o)) input
-got-lawful s m runs input now points sequence snapshot o alone silent stands hears is = let b : Outcome = before now o in
-    without-grant s m runs input now (Some snapshot) o (got now points sequence snapshot b) stands is (onward-then (Some snapshot) o b (got now points sequence snapshot b) (before-onward (Some snapshot) now o) (got-onward now points sequence snapshot b))
-    (read-leaves now points sequence snapshot o) (read-brings now points sequence snapshot o) (parted-by b (got now points sequence snapshot b) (before-fits now o) (got-brings now points sequence snapshot b))
-    (got-may Nobody now points sequence snapshot o alone (before-onward None now o).last silent)
+    → HearsAnswer s m input.heard sequence snapshot o.knows → IsInputOf s m runs o (got now points sequence snapshot (looked sequence snapshot (before now o))) input → IsLawfulAnd s m (got now points sequence snapshot (looked sequence snapshot (before now o))) input
+got-lawful s m runs input now points sequence snapshot o alone silent stands hears is = let p : Outcome = looked sequence snapshot (before now o) in
+    without-grant s m runs input now (Some snapshot) o (got now points sequence snapshot p) stands is (onward-then (Some snapshot) o p (got now points sequence snapshot p) (looked-onward (Some snapshot) now sequence snapshot o) (got-onward now points sequence snapshot p))
+    (read-leaves now points sequence snapshot o) (read-brings now points sequence snapshot o)
+    (parted-by p (got now points sequence snapshot p) (looked-by (λ (x : Outcome). Fits x.role (live x.machine.server.state)) sequence snapshot (before now o) (told-fits now o)) (got-brings now points sequence snapshot p))
+    (got-may Nobody now points sequence snapshot o alone silent)
     (heard-failsafe s m sequence input.heard snapshot o.knows hears) (heard-leader s m sequence input.heard snapshot o.knows hears)
 
 refused-lawful : (s : State) (m runs : ℕ) (input : AgentInput) (now : Ticks) (sequence : ℕ) (o : Outcome) → IsAlone o → All IsSilent o.outputs → StandsIn s m runs now o
-    → IsInputOf s m runs o (refused now sequence (before now o)) input → IsLawfulAnd s m (refused now sequence (before now o)) input
+    → IsInputOf s m runs o (refused_any now sequence (before now o)) input → IsLawfulAnd s m (refused_any now sequence (before now o)) input
 refused-lawful s m runs input now sequence o alone silent stands is = let b : Outcome = before now o in
-    without-grant s m runs input now None o (refused now sequence b) stands is (onward-then None o b (refused now sequence b) (before-onward None now o) (refused-onward None now sequence b))
-    (refusal-leaves now sequence o) (refusal-brings now sequence o) (parted-by b (refused now sequence b) (before-fits now o) (refused-brings now sequence b))
+    let after : Outcome = refused_any now sequence b in
+    without-grant s m runs input now None o after stands is (onward-then None o b after (before-onward None now o) (any-refused-onward now sequence b))
+    (refusal-leaves now sequence o) (refusal-brings now sequence o) (parted-by b after (before-fits now o) (any-refused-brings now sequence b))
     (refused-may Nobody now sequence o alone silent) (λ key e. absurd (none-some _ e)) (λ seen e. absurd (none-some _ e))
 
 answered-lawful : (s : State) (m runs : ℕ) (input : AgentInput) (now : Ticks) (sequence : ℕ) (answer : PeerAnswer) (o : Outcome) → IsAlone o → All IsSilent o.outputs → StandsIn s m runs now o
@@ -211,15 +220,15 @@ may-promote s m runs sequence input now grant snapshot o sound stands hears outs
 })
 
 grant-lawful : (s : State) (m runs : ℕ) (input : AgentInput) (now : Ticks) (sequence : ℕ) (grant : Granted) (snapshot : SnapshotFacts) (o : Outcome) → AsksLeases o.knows → IsAlone o → All IsSilent o.outputs → StandsIn s m runs now o
-    → HearsGrant s m input.heard now sequence grant snapshot o → IsInputOf s m runs o (granted now sequence grant snapshot (before now o)) input → IsLawfulAnd s m (granted now sequence grant snapshot (before now o)) input
+    → HearsGrant s m input.heard now sequence grant snapshot o → IsInputOf s m runs o (granted_any now sequence grant snapshot (before now o)) input → IsLawfulAnd s m (granted_any now sequence grant snapshot (before now o)) input
 grant-lawful s m runs input now sequence grant snapshot o sound alone silent stands hears is =
     let b : Outcome = before now o in
-    let after : Outcome = granted now sequence grant snapshot b in
+    let after : Outcome = granted_any now sequence grant snapshot b in
     let gives : (revision : ℕ) → Gives sequence grant b revision → Owns s m input.heard (was_of o) revision = λ revision e. elim e [
       | inl given ↦ gives-owns s m runs sequence input now grant snapshot o stands hears (awaited-by sequence grant now o given.0) revision given.1
       | inr held ↦ inl ((before-brings now o).lease revision held)
     ] in
-    let onward : Onward (Some snapshot) b after = granted-onward now sequence grant snapshot b in
+    let onward : Onward (Some snapshot) b after = any-granted-onward now sequence grant snapshot b in
     let brought : Brought s m input o after = leads-brought s m runs sequence input now grant snapshot o after sound stands hears is (grant-may now sequence grant snapshot b (before-fits now o)) onward.hold in
     record {
       lawful = lawful-of s m runs input now (Some snapshot) (Gives sequence grant b) o after stands is (record {
@@ -244,6 +253,7 @@ step-lawful now points (HeardGranted sequence grant snapshot) o sound alone sile
 step-lawful now points (Mismatch sequence key found) o sound alone silent s m runs input stands hears is = refused-lawful s m runs input now sequence o alone silent stands is
 step-lawful now points (Asked from run sequence) o sound alone silent s m runs input stands hears is = asked-lawful s m runs input now from run sequence o alone silent stands is
 step-lawful now points (Answered sequence answer) o sound alone silent s m runs input stands hears is = answered-lawful s m runs input now sequence answer o alone silent stands is
+step-lawful now points (HearsOperator action) o sound alone silent s m runs input stands hears is = operated-lawful s m runs input now action o alone silent stands is
 
 -- each input of the table is lawful, whenever the agent's turns began
 pub input-lawful-from : (now : Ticks) (points : List HistoryPoint) (heard : Heard) (role : RoleFacts) (knows : Knowledge) (machine : Machine) → AsksLeases knows → EndsAlone role knows.waited
@@ -254,34 +264,19 @@ input-lawful-from now points heard role knows machine asks ends = let o : Outcom
 pub input-lawful : (now : Ticks) (points : List HistoryPoint) (heard : Heard) (role : RoleFacts) (knows : Knowledge) (machine : Machine) → IsSoundAgent role knows → IsLawfulFrom now heard (made role knows machine []) (step now points heard (made role knows machine []))
 input-lawful now points heard role knows machine sound = input-lawful-from now points heard role knows machine sound.sound.span sound.ends
 
--- so is a request of an operator, which hears no answer
-pub action-lawful : (now : Ticks) (role : RoleFacts) (knows : Knowledge) (machine : Machine) → IsSoundAgent role knows → IsLawfulFrom now Wake (made role knows machine []) (act now (made role knows machine []))
-action-lawful now role knows machine sound s m runs input stands hears is = let o : Outcome = made role knows machine [] in act-lawful s m runs input now o (alone-of o sound.ends) (All-nil IsSilent) stands is
-
 -- what is waited for goes on to be counted
 pub input-counts : (now : Ticks) (points : List HistoryPoint) (heard : Heard) (o after : Outcome) → after ≡ step now points heard o → HasCounted o.knows → HasCounted after.knows
 input-counts now points heard o after is counted = subst (λ (x : Outcome). HasCounted x.knows) (sym is) ((step-onward now points heard o).counts counted)
 
-pub action-counts : (now : Ticks) (o after : Outcome) → after ≡ act now o → HasCounted o.knows → HasCounted after.knows
-action-counts now o after is counted = subst (λ (x : Outcome). HasCounted x.knows) (sym is) ((before-onward None now o).counts counted)
-
 -- who ends its server goes on waiting for no answer
 pub input-ends : (now : Ticks) (points : List HistoryPoint) (heard : Heard) (o : Outcome) → EndsAlone o.role o.knows.waited → EndsAlone (step now points heard o).role (step now points heard o).knows.waited
 input-ends now points heard o ends = ends-of (step now points heard o) ((step-onward now points heard o).ends (alone-of o ends))
-
-pub action-ends-as : (now : Ticks) (o after : Outcome) → after ≡ act now o → EndsAlone o.role o.knows.waited → EndsAlone after.role after.knows.waited
-action-ends-as now o after is ends = subst (λ (x : Outcome). EndsAlone x.role x.knows.waited) (sym is) (ends-of (act now o) ((before-onward None now o).ends (alone-of o ends)))
 
 -- the same of what is made of an input, where no output stood before
 pub input-lawful-as : (now : Ticks) (points : List HistoryPoint) (heard : Heard) (role : RoleFacts) (knows : Knowledge) (machine : Machine) (outs : List Output) (after : Outcome) → after ≡ step now points heard (made role knows machine outs) → IsSoundAgent role knows
     → outs ≡ [] → IsLawfulFrom now heard (made role knows machine []) after
 input-lawful-as now points heard role knows machine outs after is sound none = let same : after ≡ step now points heard (made role knows machine []) = is ∙ ap (λ (l : List Output). step now points heard (made role knows machine l)) none in
     subst (λ (x : Outcome). IsLawfulFrom now heard (made role knows machine []) x) (sym same) (input-lawful now points heard role knows machine sound)
-
-pub action-lawful-as : (now : Ticks) (role : RoleFacts) (knows : Knowledge) (machine : Machine) (outs : List Output) (after : Outcome) → after ≡ act now (made role knows machine outs) → IsSoundAgent role knows
-    → outs ≡ [] → IsLawfulFrom now Wake (made role knows machine []) after
-action-lawful-as now role knows machine outs after is sound none = let same : after ≡ act now (made role knows machine []) = is ∙ ap (λ (l : List Output). act now (made role knows machine l)) none in
-    subst (λ (x : Outcome). IsLawfulFrom now Wake (made role knows machine []) x) (sym same) (action-lawful now role knows machine sound)
 
 pub input-ends-as : (now : Ticks) (points : List HistoryPoint) (heard : Heard) (o after : Outcome) → after ≡ step now points heard o → EndsAlone o.role o.knows.waited → EndsAlone after.role after.knows.waited
 input-ends-as now points heard o after is ends = subst (λ (x : Outcome). EndsAlone x.role x.knows.waited) (sym is) (input-ends now points heard o ends)

@@ -25,9 +25,12 @@ use Rattle.ha_loop.specs.Snapshots.{follows, read_noted, got, follow_row}
 use Rattle.ha_loop.specs.Racing.{finds_free, judged, unheard}
 use Rattle.ha_loop.specs.Peers.{asked, keeping, answered}
 use Rattle.ha_loop.specs.Wake.{overdue, turned, woken}
-use Rattle.ha_loop.proofs.Bringing.{same-role, overdue-brings, turn-brings, got-brings, refused-brings, answer-brings}
+use Rattle.ha_loop.specs.Operators.{answering, given_up, looked, operated}
+use Rattle.ha_loop.specs.Table.{refused_any}
+use Rattle.lease_store.specs.declared.action.OperatorAction.{OperatorAction}
+use Rattle.ha_loop.proofs.Bringing.{acting-brings, same-role, overdue-brings, turn-brings, got-brings, refused-brings, answer-brings}
 use Rattle.ha_loop.proofs.Living.{no-way}
-use Rattle.ha_loop.proofs.Rows.{before-by, overdue-by, turn-by, wake-by, got-by, refused-by, follow-by, free-by, repaired-by, judged-by, answered-by}
+use Rattle.ha_loop.proofs.Rows.{HandoverRows, ReplyRows, ActRows, looked-by, given-up-by, refused-any-by, operated-by, before-by, overdue-by, turn-by, wake-by, got-by, refused-by, follow-by, free-by, repaired-by, judged-by, answered-by}
 
 -- a watchdog stays, or loses its deadline where an agent in this role, over a server in this state, doesn't act
 pub data WatchdogStays (was after : WatchdogFacts) (state : State) (role : RoleFacts) : Type 0 where
@@ -112,17 +115,47 @@ postpones-stays o held b is fits same = record {
   hold = ap (λ (m : Machine). m.hold) same;
 }
 
+-- a handover, and what an operator is answered and asks, leave watchdog and hold
+handover-stays : (now : Ticks) (held : ℕ) (o b : Outcome) → b.machine ≡ o.machine → HandoverRows (Stays o) now held b
+handover-stays now held o b same = record {
+  kept = record { watchdog = Same (ap (λ (m : Machine). m.watchdog) same); hold = ap (λ (m : Machine). m.hold) same };
+  clears = λ compared. record { watchdog = Same (ap (λ (m : Machine). m.watchdog) same); hold = ap (λ (m : Machine). m.hold) same };
+  hands = λ candidate. record { watchdog = Same (ap (λ (m : Machine). m.watchdog) same); hold = ap (λ (m : Machine). m.hold) same };
+}
+
+told-stays : (o : Outcome) → ReplyRows (Stays o) o
+told-stays o = record { kept = stays; answers = λ request told. record { watchdog = Same refl; hold = refl } }
+
+acts-stay : (now : Ticks) (request : ℕ) (o : Outcome) → ActRows (Stays o) now request o
+acts-stay now request o = record { asks = λ operation txn _. record { watchdog = Same refl; hold = refl }; restarts = λ told. record { watchdog = Same refl; hold = refl }; wipes = λ told. record { watchdog = Same refl; hold = refl } }
+
 overdue-stays : (now : Ticks) (o : Outcome) → Fits o.role (live o.machine.server.state) → Stays o (overdue now o)
-overdue-stays now o fits = overdue-by (Stays o) now o (record { ready = λ held is. postpones-stays o held (waiting_no_more o) is fits refl; kept = stays; quiet = record { watchdog = Same refl; hold = refl }; leader = λ held _. record { watchdog = Same refl; hold = refl }; stray = λ _. record { watchdog = Same refl; hold = refl }; judges = λ _. judged-stays now o })
+overdue-stays now o fits = overdue-by (Stays o) now o (record { ready = λ held is. postpones-stays o held (waiting_no_more o) is fits refl; kept = stays; quiet = record { watchdog = Same refl; hold = refl }; leader = λ held _. record { watchdog = Same refl; hold = refl }; stray = λ _. record { watchdog = Same refl; hold = refl }; judges = λ _. judged-stays now o; checks = λ held _. handover-stays now held o o refl })
 
 turn-stays : (now : Ticks) (o : Outcome) → Stays o (turned now o)
 turn-stays now o = turn-by (Stays o) now o (record { kept = stays; quiet = record { watchdog = Same refl; hold = refl }; reads = λ _. record { watchdog = Same refl; hold = refl } })
 
+-- who is answered behind what precedes an input
+told-leaves : (now : Ticks) (o : Outcome) → ReplyRows (LeavesMachine o) (before now o)
+told-leaves now o = let b : Outcome = before now o in record {
+  kept = before-leaves now o;
+  answers = λ request told. behind o b (answering request told b) (before-leaves now o) (record { watchdog = Same refl; hold = refl }) (same-role b (answering request told b) refl (λ e. e));
+}
+
+given-up-leaves : (now : Ticks) (o : Outcome) → LeavesMachine o (given_up now (before now o))
+given-up-leaves now o = given-up-by (LeavesMachine o) now (before now o) (told-leaves now o)
+
+-- the role fits the server then, as before
+pub told-fits : (now : Ticks) (o : Outcome) → ReplyRows (λ (x : Outcome). Fits x.role (live x.machine.server.state)) (before now o)
+told-fits now o = record { kept = before-fits now o; answers = λ request told. before-fits now o }
+
+pub given-up-fits : (now : Ticks) (o : Outcome) → Fits (given_up now (before now o)).role (live (given_up now (before now o)).machine.server.state)
+given-up-fits now o = given-up-by (λ (x : Outcome). Fits x.role (live x.machine.server.state)) now (before now o) (told-fits now o)
+
 pub wake-leaves : (now : Ticks) (o : Outcome) → LeavesMachine o (woken now o)
-wake-leaves now o = wake-by (LeavesMachine o) now o (before-leaves now o)
-    (behind o (overdue now (before now o)) (turned now (overdue now (before now o)))
-    (behind o (before now o) (overdue now (before now o)) (before-leaves now o) (overdue-stays now (before now o) (before-fits now o)) (overdue-brings now (before now o)))
-    (turn-stays now (overdue now (before now o))) (turn-brings now (overdue now (before now o))))
+wake-leaves now o = let b : Outcome = given_up now (before now o) in
+    wake-by (LeavesMachine o) now o (before-leaves now o)
+    (behind o (overdue now b) (turned now (overdue now b)) (behind o b (overdue now b) (given-up-leaves now o) (overdue-stays now b (given-up-fits now o)) (overdue-brings now b)) (turn-stays now (overdue now b)) (turn-brings now (overdue now b)))
 
 follow-stays : (now : Ticks) (leader : MemberId) (o : Outcome) → Stays o (follows now leader o)
 follow-stays now leader o = let x : Outcome = record o { role = Follower } in
@@ -161,18 +194,24 @@ refused-stays now sequence o fits = refused-by (Stays o) now sequence o (record 
   follower = λ held _. record { watchdog = Same refl; hold = refl };
 })
 
-pub read-leaves : (now : Ticks) (points : List HistoryPoint) (sequence : ℕ) (snapshot : SnapshotFacts) (o : Outcome) → LeavesMachine o (got now points sequence snapshot (before now o))
-read-leaves now points sequence snapshot o = behind o (before now o) (got now points sequence snapshot (before now o)) (before-leaves now o) (got-stays now points sequence snapshot (before now o)) (got-brings now points sequence snapshot (before now o))
+pub read-leaves : (now : Ticks) (points : List HistoryPoint) (sequence : ℕ) (snapshot : SnapshotFacts) (o : Outcome) → LeavesMachine o (got now points sequence snapshot (looked sequence snapshot (before now o)))
+read-leaves now points sequence snapshot o = let p : Outcome = looked sequence snapshot (before now o) in
+    behind o p (got now points sequence snapshot p) (looked-by (LeavesMachine o) sequence snapshot (before now o) (told-leaves now o)) (got-stays now points sequence snapshot p) (got-brings now points sequence snapshot p)
 
-pub refusal-leaves : (now : Ticks) (sequence : ℕ) (o : Outcome) → LeavesMachine o (refused now sequence (before now o))
-refusal-leaves now sequence o = behind o (before now o) (refused now sequence (before now o)) (before-leaves now o) (refused-stays now sequence (before now o) (before-fits now o)) (refused-brings now sequence (before now o))
+pub refusal-leaves : (now : Ticks) (sequence : ℕ) (o : Outcome) → LeavesMachine o (refused_any now sequence (before now o))
+refusal-leaves now sequence o = let b : Outcome = before now o in
+    refused-any-by (LeavesMachine o) now sequence b (told-leaves now o) (behind o b (refused now sequence b) (before-leaves now o) (refused-stays now sequence b (before-fits now o)) (refused-brings now sequence b))
 
 answer-stays : (now : Ticks) (sequence : ℕ) (answer : PeerAnswer) (o : Outcome) → Stays o (answered now sequence answer o)
 answer-stays now sequence answer o = let race : Stays (keeping answer o) (judged now (keeping answer o)) = judged-stays now (keeping answer o) in
-    answered-by (Stays o) now sequence answer o (record { kept = stays; quiet = record { watchdog = Same refl; hold = refl }; keeps = record { watchdog = Same refl; hold = refl }; judges = λ _. record { watchdog = race.watchdog; hold = race.hold } })
+    answered-by (Stays o) now sequence answer o (record { kept = stays; quiet = record { watchdog = Same refl; hold = refl }; keeps = record { watchdog = Same refl; hold = refl }; judges = λ _. record { watchdog = race.watchdog; hold = race.hold }; checks = λ held _. handover-stays now held o (keeping answer o) refl })
 
 pub answered-leaves : (now : Ticks) (sequence : ℕ) (answer : PeerAnswer) (o : Outcome) → LeavesMachine o (answered now sequence answer (before now o))
 answered-leaves now sequence answer o = behind o (before now o) (answered now sequence answer (before now o)) (before-leaves now o) (answer-stays now sequence answer (before now o)) (answer-brings now sequence answer (before now o))
 
 pub asked-leaves : (now : Ticks) (from : MemberId) (run sequence : ℕ) (o : Outcome) → LeavesMachine o (asked from run sequence (before now o))
 asked-leaves now from run sequence o = behind o (before now o) (asked from run sequence (before now o)) (before-leaves now o) (record { watchdog = Same refl; hold = refl }) (same-role (before now o) (asked from run sequence (before now o)) refl (λ e. e))
+
+pub operated-leaves : (now : Ticks) (action : OperatorAction) (o : Outcome) → LeavesMachine o (operated now action.request action.asked (before now o))
+operated-leaves now action o = let b : Outcome = before now o in
+    behind o b (operated now action.request action.asked b) (before-leaves now o) (operated-by (Stays b) now action.request action.asked b (acts-stay now action.request b)) (acting-brings now action b)

@@ -17,7 +17,7 @@ use Rattle.leader_key.specs.Watchdog.{is_armable, timeout_of}
 use Rattle.ha_loop.specs.declared.output.Repair.{Repair}
 use Rattle.ha_loop.specs.Repairs.{repair_of, repairing}
 use Rattle.ha_loop.specs.declared.heard.Heard.{Heard}
-use Rattle.ha_loop.specs.declared.heard.Heard.TheVariants.{Wake, Got, Granted as HeardGranted, Mismatch, Asked, Answered}
+use Rattle.ha_loop.specs.declared.heard.Heard.TheVariants.{Wake, Got, Granted as HeardGranted, Mismatch, Asked, Answered, Operated as HearsOperator}
 use Rattle.ha_loop.specs.declared.knowledge.Knowledge.{Knowledge}
 use Rattle.ha_loop.specs.declared.machine.Machine.{Machine}
 use Rattle.ha_loop.specs.declared.output.Output.{Output}
@@ -37,9 +37,12 @@ use Rattle.ha_loop.specs.Orders.{IsAsk, machine_after_output, machine_after_outp
 use Rattle.ha_loop.specs.Outputs.{listed}
 use Rattle.ha_loop.specs.Snapshots.{informed, follows, read_noted, got, follow_row, leader_loses_key, stray_loses_key, renewing}
 use Rattle.ha_loop.specs.Racing.{finds_free, judged, unheard}
-use Rattle.ha_loop.specs.Table.{step, act}
+use Rattle.ha_loop.specs.HandingOver.{asking_whom}
+use Rattle.ha_loop.specs.Operators.{looked, given_up, learned, operated, restarting, wiping}
+use Rattle.ha_loop.specs.Table.{step, granted_any, refused_any}
+use Rattle.pg_model.specs.Running.{is_primary}
 use Rattle.ha_loop.specs.Wake.{overdue, turned, woken}
-use Rattle.ha_loop.proofs.Rows.{led_on, if-cases, renewed-by, begins-or-claims-by, before-by, overdue-by, turn-by, wake-by, got-by, refused-by, follow-by, free-by, granted-by, repaired-by, judged-by, answered-by}
+use Rattle.ha_loop.proofs.Rows.{HandoverRows, ReplyRows, ActRows, looked-by, given-up-by, granted-any-by, refused-any-by, operated-by, led_on, if-cases, renewed-by, begins-or-claims-by, before-by, overdue-by, turn-by, wake-by, got-by, refused-by, follow-by, free-by, granted-by, repaired-by, judged-by, answered-by}
 use Rattle.ha_loop.specs.Answers.{is_other, most_answers, asking_one, asking_first}
 use Rattle.ha_loop.specs.Peers.{keeping, answered}
 use Rattle.ha_loop.specs.declared.who.Who.{Who}
@@ -167,6 +170,24 @@ asks-reach : (now : Ticks) (start machine : Machine) (who : Who) (sequence count
 asks-reach now start machine who sequence zero outs r = r
 asks-reach now start machine who sequence (suc count) outs r = ask-reaches now start machine who sequence (member_of count) (asking_first who sequence count outs) (asks-reach now start machine who sequence count outs r)
 
+-- so do those to a candidate, or to all
+whom-reach : (now : Ticks) (start machine : Machine) (who : Who) (candidate : Option MemberId) (sequence : ℕ) (outs : List Output) → Reached now start machine outs → Reached now start machine (asking_whom who candidate sequence outs)
+whom-reach now start machine who None sequence outs r = asks-reach now start machine who sequence most_answers outs r
+whom-reach now start machine who (Some candidate) sequence outs r = ask-reaches now start machine who sequence (Some candidate) outs r
+
+shut-reaches : (now : Ticks) (start : Machine) (o : Outcome) → Reaches now start o → Reaches now start (shutting_down now o)
+shut-reaches now start o r = one-more now start o.machine o.outputs outputs.ShutDown tt r
+
+handover-rows : (now : Ticks) (start : Machine) (revision : ℕ) (o : Outcome) → Reaches now start o → HandoverRows (Reaches now start) now revision o
+handover-rows now start revision o r = record {
+  kept = r;
+  clears = λ compared. send-reaches now start _ (waiting_no_more o) r;
+  hands = λ candidate. shut-reaches now start (record (waiting_no_more o) { outputs = listed (outputs.HandsOver candidate) o.outputs }) (one-more now start o.machine o.outputs (outputs.HandsOver candidate) tt r);
+}
+
+reply-rows : (now : Ticks) (start : Machine) (o : Outcome) → Reaches now start o → ReplyRows (Reaches now start) o
+reply-rows now start o r = record { kept = r; answers = λ request told. one-more now start o.machine o.outputs (outputs.Told request told) tt r }
+
 require-reaches : (now : Ticks) (start : Machine) (required : Required) (o : Outcome) → Reaches now start o → Reaches now start (requiring required o)
 require-reaches now start required o r = one-more now start o.machine o.outputs (outputs.Require required) tt r
 
@@ -181,6 +202,7 @@ overdue-reaches now start o r = overdue-by (Reaches now start) now o (record {
   stray = λ _. end-reaches now start StoreOutOfReach o r;
   judges = λ _. judged-reaches now start o r;
   ready = λ held _. postpone-reaches now start held (waiting_no_more o) r;
+  checks = λ held _. handover-rows now start held o r;
 })
 
 turn-reaches : (now : Ticks) (start : Machine) (o : Outcome) → Reaches now start o → Reaches now start (turned now o)
@@ -188,10 +210,8 @@ turn-reaches now start o r = turn-by (Reaches now start) now o (record { kept = 
 
 wake-reaches : (now : Ticks) (start : Machine) (o : Outcome) → Reaches now start o → Reaches now start (woken now o)
 wake-reaches now start o r = let first = before-reaches now start o r in
-    wake-by (Reaches now start) now o first (turn-reaches now start (overdue now (before now o)) (overdue-reaches now start (before now o) first))
-
-shut-reaches : (now : Ticks) (start : Machine) (o : Outcome) → Reaches now start o → Reaches now start (shutting_down now o)
-shut-reaches now start o r = one-more now start o.machine o.outputs outputs.ShutDown tt r
+    let answers = given-up-by (Reaches now start) now (before now o) (reply-rows now start (before now o) first) in
+    wake-by (Reaches now start) now o first (turn-reaches now start (overdue now (given_up now (before now o))) (overdue-reaches now start (given_up now (before now o)) answers))
 
 follow-carries : (now : Ticks) (start : Machine) (leader : MemberId) (o : Outcome) → Reaches now start o → IsCarriedOut now start (follows now leader o)
 follow-carries now start leader o r = let x : Outcome = record o { role = Follower } in
@@ -210,7 +230,13 @@ free-reaches now start o r = let x : Outcome = record o { role = Follower } in
     })
 
 answered-reaches : (now : Ticks) (start : Machine) (sequence : ℕ) (answer : PeerAnswer) (o : Outcome) → Reaches now start o → Reaches now start (answered now sequence answer o)
-answered-reaches now start sequence answer o r = answered-by (Reaches now start) now sequence answer o (record { kept = r; quiet = r; keeps = r; judges = λ _. judged-reaches now start (keeping answer o) r })
+answered-reaches now start sequence answer o r = answered-by (Reaches now start) now sequence answer o (record {
+  kept = r;
+  quiet = r;
+  keeps = r;
+  judges = λ _. judged-reaches now start (keeping answer o) r;
+  checks = λ revision _. handover-rows now start revision (keeping answer o) r;
+})
 
 got-carries : (now : Ticks) (points : List HistoryPoint) (start : Machine) (sequence : ℕ) (snapshot : SnapshotFacts) (o : Outcome) → Reaches now start o → IsCarriedOut now start (got now points sequence snapshot o)
 got-carries now points start sequence snapshot o r = let read : Outcome = record o { knows = read_noted now snapshot o.knows } in
@@ -240,10 +266,15 @@ renewed-reaches : (now ttl : Ticks) (start : Machine) (revision : ℕ) (o : Outc
 renewed-reaches now ttl start revision o r = let led : Outcome = led_on now ttl revision o in
     let fed : Reaches now start led = feed-reaches now ttl start o r in
     renewed-by (Reaches now start) now ttl revision o (end-reaches now start StartTooLong led fed) (record {
-      kept = fed;
-      writes = λ settling txn _. send-reaches now start _ led fed;
-      adds = λ required. require-reaches now start required (noting led) fed;
-      drops = λ required. require-reaches now start required led fed;
+      plan = record {
+        kept = fed;
+        writes = λ settling txn _. send-reaches now start _ led fed;
+        adds = λ required. require-reaches now start required (noting led) fed;
+        drops = λ required. require-reaches now start required led fed;
+      };
+      clears = λ compared. send-reaches now start _ led fed;
+      asks = λ candidate. whom-reach now start led.machine led.knows.who candidate (led.knows.sequence + 1) led.outputs fed;
+      judges = handover-rows now start revision (unheard led) fed;
     })
 
 stray-reaches : (now ttl : Ticks) (start : Machine) (revision : ℕ) (o : Outcome) → Reaches now start o → Reaches now start (stray_renewed now ttl revision o)
@@ -282,21 +313,35 @@ granted-reaches now start sequence grant snapshot o r = let told : Outcome = rec
       settles = λ required _. require-reaches now start required told r;
     })
 
+act-rows : (now : Ticks) (start : Machine) (request : ℕ) (o : Outcome) → Reaches now start o → ActRows (Reaches now start) now request o
+act-rows now start request o r = record {
+  asks = λ operation txn _. send-reaches now start (bodies.Request txn) o r;
+  restarts = λ told. one-more now start (restarting now o).machine (restarting now o).outputs (outputs.Told request told) tt (one-more now start o.machine o.outputs (outputs.Restart (is_primary o.machine.server.state)) tt r);
+  wipes = λ told. one-more now start (wiping o).machine (wiping o).outputs (outputs.Told request told) tt (one-more now start o.machine o.outputs outputs.Wipe tt r);
+}
+
 step-carries : (now : Ticks) (points : List HistoryPoint) (heard : Heard) (start : Machine) (o : Outcome) → Reaches now start o → IsCarriedOut now start (step now points heard o)
 step-carries now points Wake start o r = carried-out now start (woken now o) (wake-reaches now start o r)
-step-carries now points (Got sequence snapshot) start o r = got-carries now points start sequence snapshot (before now o) (before-reaches now start o r)
+step-carries now points (Got sequence snapshot) start o r =
+    got-carries now points start sequence snapshot (looked sequence snapshot (before now o)) (looked-by (Reaches now start) sequence snapshot (before now o) (reply-rows now start (before now o) (before-reaches now start o r)))
 step-carries now points (HeardGranted sequence grant snapshot) start o r =
-    carried-out now start (granted now sequence grant snapshot (before now o)) (granted-reaches now start sequence grant snapshot (before now o) (before-reaches now start o r))
-step-carries now points (Mismatch sequence key found) start o r = carried-out now start (refused now sequence (before now o)) (refused-reaches now start sequence (before now o) (before-reaches now start o r))
+    let first : Outcome = before now o in
+    let fresh : Reaches now start first = before-reaches now start o r in
+    carried-out now start (granted_any now sequence grant snapshot first)
+    (granted-any-by (Reaches now start) now sequence grant snapshot first fresh (reply-rows now start (learned snapshot first) fresh) (granted-reaches now start sequence grant snapshot first fresh))
+step-carries now points (Mismatch sequence key found) start o r =
+    let first : Outcome = before now o in
+    let fresh : Reaches now start first = before-reaches now start o r in
+    carried-out now start (refused_any now sequence first)
+    (refused-any-by (Reaches now start) now sequence first (reply-rows now start first fresh) (refused-reaches now start sequence first fresh))
 step-carries now points (Asked from run sequence) start o r =
     carried-out now start (step now points (Asked from run sequence) o) (one-more now start (before now o).machine (before now o).outputs _ tt (before-reaches now start o r))
 step-carries now points (Answered sequence answer) start o r = carried-out now start (answered now sequence answer (before now o)) (answered-reaches now start sequence answer (before now o) (before-reaches now start o r))
+step-carries now points (HearsOperator action) start o r = let first : Outcome = before now o in
+    carried-out now start (operated now action.request action.asked first) (operated-by (Reaches now start) now action.request action.asked first (act-rows now start action.request first (before-reaches now start o r)))
 
 nothing : (now : Ticks) (machine : Machine) → Reached now machine machine []
 nothing now machine = record { machine_is = refl; kinds = All-nil IsPlain }
 
 pub step-carried-out : (now : Ticks) (points : List HistoryPoint) (heard : Heard) (role : RoleFacts) (knows : Knowledge) (machine : Machine) → IsCarriedOut now machine (step now points heard (made role knows machine []))
 step-carried-out now points heard role knows machine = step-carries now points heard machine (made role knows machine []) (nothing now machine)
-
-pub act-carried-out : (now : Ticks) (role : RoleFacts) (knows : Knowledge) (machine : Machine) → IsCarriedOut now machine (act now (made role knows machine []))
-act-carried-out now role knows machine = carried-out now machine (before now (made role knows machine [])) (before-reaches now machine (made role knows machine []) (nothing now machine))

@@ -8,9 +8,10 @@ use Rattle.pat_base.specs.declared.ticks.Ticks.{Ticks}
 use Rattle.lease_store.specs.declared.granted.Granted.{Granted}
 use Rattle.wal_model.specs.declared.entry.HistoryPoint.{HistoryPoint}
 use Rattle.cluster_config.specs.Snapshots.{SnapshotFacts}
+use Rattle.pg_model.specs.Running.{is_primary}
 use Rattle.event_book.specs.declared.message.Body.TheVariants as bodies
 use Rattle.ha_loop.specs.declared.heard.Heard.{Heard}
-use Rattle.ha_loop.specs.declared.heard.Heard.TheVariants.{Wake, Got, Granted as HeardGranted, Mismatch, Asked, Answered}
+use Rattle.ha_loop.specs.declared.heard.Heard.TheVariants.{Wake, Got, Granted as HeardGranted, Mismatch, Asked, Answered, Operated as HearsOperator}
 use Rattle.ha_loop.specs.declared.knowledge.Knowledge.{Knowledge}
 use Rattle.ha_loop.specs.declared.machine.Machine.{Machine}
 use Rattle.ha_loop.specs.declared.output.Output.{Output}
@@ -27,13 +28,15 @@ use Rattle.ha_loop.specs.Claiming.{begins, begins_or_claims, postpones}
 use Rattle.ha_loop.specs.Decisions.{leader_renewed, takes_over, stray_renewed, may_take, gives_back, arms, takes_key, granted, refused}
 use Rattle.ha_loop.specs.Outputs.{listed}
 use Rattle.ha_loop.specs.Peers.{keeping, answered}
+use Rattle.ha_loop.specs.HandingOver.{asking_whom}
+use Rattle.ha_loop.specs.Operators.{looked, given_up, learned}
 use Rattle.ha_loop.specs.Racing.{judged, unheard, finds_free}
 use Rattle.ha_loop.specs.Repairs.{repair_of}
 use Rattle.ha_loop.specs.Replies.{RepliesTo}
 use Rattle.ha_loop.specs.Snapshots.{follow_row, follows, read_noted, got, informed}
-use Rattle.ha_loop.specs.Table.{step, act}
+use Rattle.ha_loop.specs.Table.{step}
 use Rattle.ha_loop.specs.Wake.{overdue, turned, woken}
-use Rattle.ha_loop.proofs.Rows.{led_on, if-cases, renewed-by, begins-or-claims-by, before-by, overdue-by, turn-by, wake-by, got-by, refused-by, follow-by, repaired-by, free-by, granted-by, judged-by, answered-by}
+use Rattle.ha_loop.proofs.Rows.{HandoverRows, ReplyRows, ActRows, looked-by, given-up-by, granted-any-by, refused-any-by, operated-by, led_on, if-cases, renewed-by, begins-or-claims-by, before-by, overdue-by, turn-by, wake-by, got-by, refused-by, follow-by, repaired-by, free-by, granted-by, judged-by, answered-by}
 
 -- an output that answers nobody
 abbrev NoReply : Output → Type 0
@@ -78,17 +81,40 @@ asks-quiet : (who : Who) (sequence count : ℕ) (outs : List Output) → All NoR
 asks-quiet who sequence zero outs all = all
 asks-quiet who sequence (suc count) outs all = ask-quiet who sequence (member_of count) (asking_first who sequence count outs) (asks-quiet who sequence count outs all)
 
+whom-quiet : (who : Who) (candidate : Option MemberId) (sequence : ℕ) (outs : List Output) → All NoReply outs → All NoReply (asking_whom who candidate sequence outs)
+whom-quiet who None sequence outs all = asks-quiet who sequence most_answers outs all
+whom-quiet who (Some candidate) sequence outs all = ask-quiet who sequence (Some candidate) outs all
+
+handover-quiet : (now : Ticks) (revision : ℕ) (o : Outcome) → Quiet o → HandoverRows Quiet now revision o
+handover-quiet now revision o all = record {
+  kept = all;
+  clears = λ compared. said o.outputs _ tt all;
+  hands = λ candidate. said (listed (outputs.HandsOver candidate) o.outputs) outputs.ShutDown tt (said o.outputs (outputs.HandsOver candidate) tt all);
+}
+
+told-quiet : (o : Outcome) → Quiet o → ReplyRows Quiet o
+told-quiet o all = record { kept = all; answers = λ request told. said o.outputs (outputs.Told request told) tt all }
+
+acts-quiet : (now : Ticks) (request : ℕ) (o : Outcome) → Quiet o → ActRows Quiet now request o
+acts-quiet now request o all = record {
+  asks = λ operation txn _. said o.outputs _ tt all;
+  restarts = λ told. said _ (outputs.Told request told) tt (said o.outputs (outputs.Restart (is_primary o.machine.server.state)) tt all);
+  wipes = λ told. said _ (outputs.Told request told) tt (said o.outputs outputs.Wipe tt all);
+}
+
 postpones-quiet : (held : ℕ) (o : Outcome) → Quiet o → Quiet (postpones held o)
 postpones-quiet held o all = said (disarmed o.machine.watchdog.deadline o.outputs) outputs.PostponesPromotion tt (disarmed-quiet o.machine.watchdog.deadline o.outputs all)
 
 overdue-quiet : (now : Ticks) (o : Outcome) → Quiet o → Quiet (overdue now o)
-overdue-quiet now o all = overdue-by Quiet now o (record { kept = all; quiet = all; leader = λ _ _. said o.outputs _ tt all; stray = λ _. said o.outputs _ tt all; judges = λ _. judged-quiet now o all; ready = λ held _. postpones-quiet held (waiting_no_more o) all })
+overdue-quiet now o all = overdue-by Quiet now o (record { kept = all; quiet = all; leader = λ _ _. said o.outputs _ tt all; stray = λ _. said o.outputs _ tt all; judges = λ _. judged-quiet now o all; ready = λ held _. postpones-quiet held (waiting_no_more o) all; checks = λ held _. handover-quiet now held o all })
 
 turn-quiet : (now : Ticks) (o : Outcome) → Quiet o → Quiet (turned now o)
 turn-quiet now o all = turn-by Quiet now o (record { kept = all; quiet = all; reads = λ _. said o.outputs _ tt all })
 
 wake-quiet : (now : Ticks) (o : Outcome) → Quiet o → Quiet (woken now o)
-wake-quiet now o all = let first : Quiet (before now o) = before-quiet now o all in wake-by Quiet now o first (turn-quiet now (overdue now (before now o)) (overdue-quiet now (before now o) first))
+wake-quiet now o all = let first : Quiet (before now o) = before-quiet now o all in
+    let told : Quiet (given_up now (before now o)) = given-up-by Quiet now (before now o) (told-quiet (before now o) first) in
+    wake-by Quiet now o first (turn-quiet now (overdue now (given_up now (before now o))) (overdue-quiet now (given_up now (before now o)) told))
 
 follow-quiet : (now : Ticks) (leader : MemberId) (o : Outcome) → Quiet o → Quiet (follows now leader o)
 follow-quiet now leader o all = let x : Outcome = record o { role = Follower } in
@@ -125,10 +151,15 @@ refused-quiet now sequence o all = refused-by Quiet now sequence o (record { kep
 renewed-quiet : (now ttl : Ticks) (revision : ℕ) (o : Outcome) → Quiet o → Quiet (leader_renewed now ttl revision o)
 renewed-quiet now ttl revision o all = let led : Outcome = led_on now ttl revision o in let told : Quiet led = fed-quiet (deadline_after now ttl o.machine.watchdog) o.outputs all in
     renewed-by Quiet now ttl revision o (said led.outputs _ tt told) (record {
-      kept = told;
-      writes = λ settling txn _. said led.outputs _ tt told;
-      adds = λ required. said led.outputs (outputs.Require required) tt told;
-      drops = λ required. said led.outputs (outputs.Require required) tt told;
+      plan = record {
+        kept = told;
+        writes = λ settling txn _. said led.outputs _ tt told;
+        adds = λ required. said led.outputs (outputs.Require required) tt told;
+        drops = λ required. said led.outputs (outputs.Require required) tt told;
+      };
+      clears = λ compared. said led.outputs _ tt told;
+      asks = λ candidate. whom-quiet led.knows.who candidate (led.knows.sequence + 1) led.outputs told;
+      judges = handover-quiet now revision (unheard led) told;
     })
 
 stray-quiet : (now ttl : Ticks) (revision : ℕ) (o : Outcome) → Quiet o → Quiet (stray_renewed now ttl revision o)
@@ -157,7 +188,13 @@ granted-quiet now sequence grant snapshot o all = let told : Outcome = record o 
     (record { other = all; begins = λ revision _. begins-quiet now revision told all; postpones = λ revision _. postpones-quiet revision told all; settles = λ required _. said o.outputs (outputs.Require required) tt all })
 
 answered-quiet : (now : Ticks) (sequence : ℕ) (answer : PeerAnswer) (o : Outcome) → Quiet o → Quiet (answered now sequence answer o)
-answered-quiet now sequence answer o all = answered-by Quiet now sequence answer o (record { kept = all; quiet = all; keeps = all; judges = λ _. judged-quiet now (keeping answer o) all })
+answered-quiet now sequence answer o all = answered-by Quiet now sequence answer o (record {
+  kept = all;
+  quiet = all;
+  keeps = all;
+  judges = λ _. judged-quiet now (keeping answer o) all;
+  checks = λ revision _. handover-quiet now revision (keeping answer o) all;
+})
 
 no-reply : (heard : Heard) (output : Output) → NoReply output → RepliesTo heard output
 no-reply heard (outputs.Answer to run sequence answer) none = absurd none
@@ -177,11 +214,12 @@ step-replies now points heard role knows machine = by heard
 
     by : (heard : Heard) → All (RepliesTo heard) (step now points heard o).outputs
     by Wake = none-replies Wake (woken now o) (wake-quiet now o (All-nil NoReply))
-    by (Got sequence snapshot) = none-replies (Got sequence snapshot) (got now points sequence snapshot (before now o)) (got-quiet now points sequence snapshot (before now o) b)
-    by (HeardGranted sequence grant snapshot) = none-replies (HeardGranted sequence grant snapshot) (granted now sequence grant snapshot (before now o)) (granted-quiet now sequence grant snapshot (before now o) b)
-    by (Mismatch sequence key found) = none-replies (Mismatch sequence key found) (refused now sequence (before now o)) (refused-quiet now sequence (before now o) b)
+    by (Got sequence snapshot) = none-replies (Got sequence snapshot) (step now points (Got sequence snapshot) o)
+        (got-quiet now points sequence snapshot (looked sequence snapshot (before now o)) (looked-by Quiet sequence snapshot (before now o) (told-quiet (before now o) b)))
+    by (HeardGranted sequence grant snapshot) = none-replies (HeardGranted sequence grant snapshot) (step now points (HeardGranted sequence grant snapshot) o)
+        (granted-any-by Quiet now sequence grant snapshot (before now o) b (told-quiet (learned snapshot (before now o)) b) (granted-quiet now sequence grant snapshot (before now o) b))
+    by (Mismatch sequence key found) = none-replies (Mismatch sequence key found) (step now points (Mismatch sequence key found) o)
+        (refused-any-by Quiet now sequence (before now o) (told-quiet (before now o) b) (refused-quiet now sequence (before now o) b))
+    by (HearsOperator action) = none-replies (HearsOperator action) (step now points (HearsOperator action) o) (operated-by Quiet now action.request action.asked (before now o) (acts-quiet now action.request (before now o) b))
     by (Asked from run sequence) = All-push (RepliesTo (Asked from run sequence)) (before now o).outputs _ (none-replies (Asked from run sequence) (before now o) b) (refl, refl, refl)
     by (Answered sequence answer) = none-replies (Answered sequence answer) (answered now sequence answer (before now o)) (answered-quiet now sequence answer (before now o) b)
-
-pub act-replies : (now : Ticks) (role : RoleFacts) (knows : Knowledge) (machine : Machine) → All (RepliesTo Wake) (act now (made role knows machine [])).outputs
-act-replies now role knows machine = none-replies Wake (before now (made role knows machine [])) (before-quiet now (made role knows machine []) (All-nil NoReply))

@@ -14,7 +14,7 @@ use Rattle.pat_base.specs.ServerState.{live}
 use Rattle.ha_loop.specs.declared.output.Repair.{Repair}
 use Rattle.ha_loop.specs.Repairs.{is_upstream, repairing, repaired_if}
 use Rattle.ha_loop.specs.declared.knowledge.Question.{Question}
-use Rattle.ha_loop.specs.declared.knowledge.Question.TheVariants.{Reading, Asking, Creating, Renewing, Claiming, Syncing}
+use Rattle.ha_loop.specs.declared.knowledge.Question.TheVariants.{Reading, Asking, Creating, Renewing, Claiming, Syncing, Checking}
 use Rattle.ha_loop.specs.declared.knowledge.Settling.{Settling}
 use Rattle.ha_loop.specs.declared.knowledge.Settling.TheVariants.{Stays, Lists, Empties}
 use Rattle.ha_loop.specs.declared.knowledge.SyncRead.{SyncRead}
@@ -31,18 +31,32 @@ use Rattle.sync_state.specs.Plans.{plan_of}
 use Rattle.ha_loop.specs.declared.role.Why.TheVariants.{HandOver}
 use Rattle.event_book.specs.declared.reason.Reason.TheVariants.{StartTooLong}
 use Rattle.ha_loop.specs.declared.role.Why.{Why}
-use Rattle.ha_loop.specs.Acting.{disarming, feeding, ending_server, requiring, waiting_no_more, touching, starting_replica, following_server, is_hold_active, shutting_down}
+use Rattle.ha_loop.specs.Acting.{sending, lease_span, disarming, feeding, ending_server, requiring, waiting_no_more, touching, starting_replica, following_server, is_hold_active, shutting_down}
 use Rattle.ha_loop.specs.Agents.{RoleFacts, Follower, Holder, Ready, Leader, Ending, Stray, Outcome, is_leader}
 use Rattle.ha_loop.specs.Before.{leader_finds_ended, has_ended, finds_live, stray_finds_ended, before_as, before}
 use Rattle.ha_loop.specs.Decisions.{may_create, leader_renewed, is_start_too_long, stray_renewed, takes_key, lease_granted, belongs, accepted_grant, is_lease_of, granted_write, granted_for, granted, is_decision, is_sync_decision, awaits_decision, is_write_of, sync_granted, accepted_sync, follower_for, renewal_refused, refused_as, refused_for, refused}
 use Rattle.ha_loop.specs.Claiming.{begins, claims, begins_or_claims, postpones, claim_fails_as, claim_fails, can_begin_on_claim}
 use Rattle.ha_loop.specs.Planning.{leader_view, writing_sync, switching_off, noting, planned_as, planned_on, planned, settled}
 use Rattle.ha_loop.specs.Fits.{Fits}
+use Rattle.ha_loop.specs.HandingOver.{is_done, leader_revision, clearing_under, clearing, successor_by, hands_over, hands_over_to, handover_judged, judged_if_leading, whom_answered, checking, checks, failover_duty, duty_on, duties, check_answered}
+use Rattle.ha_loop.specs.Operators.{ok, telling, answering, answering_if, operating, config_revision, restarting, wiping, operated, result_as, looked_by, uses_read, looked, operator_until, late_answer, given_up_by, given_up, learned, granted_as, operates, grants_operator, operator_granted, refusal_of, operator_refused}
+use Rattle.ha_loop.specs.declared.operating.Operating.{Operating}
+use Rattle.ha_loop.specs.declared.operating.Operation.{Operation}
+use Rattle.ha_loop.specs.declared.operating.Operation.TheVariants.{FailingOver, Configuring}
+use Rattle.ha_loop.specs.declared.operating.Told.{Told}
+use Rattle.ha_loop.specs.declared.operating.Told.TheVariants as tolds
+use Rattle.operator_keys.specs.declared.answer_text.Text.TheVariants as texts
+use Rattle.lease_store.specs.declared.action.OperatorRequest.{OperatorRequest}
+use Rattle.lease_store.specs.declared.action.OperatorRequest.TheVariants as requests
+use Rattle.lease_store.specs.declared.value.FailoverKey.{FailoverKey}
+use Rattle.event_book.specs.declared.message.Body.TheVariants as bodies
+use Rattle.cluster_config.specs.Naming.{candidate_of}
 use Rattle.ha_loop.specs.Snapshots.{leader_loses_key, stray_loses_key, renewing, finds_own_key, own_key, starts_behind, follow_row, follows, others_key, no_key, led, is_active, awaits_read, read_noted, informed, accepted, got, ends_fork}
 use Rattle.ha_loop.specs.Racing.{can_start, bar_of, creating, barred, races_unless, free_key, finds_free, outcome_at, judged_as, judged, asking_others, unheard}
 use Rattle.ha_loop.specs.Answers.{all_answered}
-use Rattle.ha_loop.specs.Peers.{awaits_answer, judged_if_all, keeping, accepted_answer, answered_for, answered}
-use Rattle.ha_loop.specs.Wake.{is_due, has_turn, leader_out_of_reach, stray_out_of_reach, out_of_reach_as, unanswered, overdue_for, overdue, is_stopping, reading, turn_noted, turn_as, turn_begins, turned, woken}
+use Rattle.ha_loop.specs.Peers.{awaits_answer, awaits_check, judged_if_all, keeping, accepted_answer, answered_for, answered}
+use Rattle.ha_loop.specs.Table.{granted_any, refused_any}
+use Rattle.ha_loop.specs.Wake.{roused, is_due, has_turn, leader_out_of_reach, stray_out_of_reach, out_of_reach_as, unanswered, overdue_for, overdue, is_stopping, reading, turn_noted, turn_as, turn_begins, turned, woken}
 
 pub if-cases : {A : Type 0} (P : A → Type 0) (test : Bool) (x y : A) → (test ≡ true → P x) → (test ≡ false → P y) → P (if test then x else y)
 if-cases P true x y yes-case no-case = yes-case refl
@@ -88,6 +102,96 @@ claim-fails-as P _ o is kept postponed = kept
 claim-fails-by : (P : Outcome → Type 0) (o : Outcome) → P o → ((revision : ℕ) → o.role ≡ Ready revision → P (postpones revision o)) → P (claim_fails o)
 claim-fails-by P o kept postponed = claim-fails-as P o.role o refl kept postponed
 
+-- the agent asks that the failover key be removed, under the leader key of this revision
+abbrev pub dropping : ℕ → Outcome → Outcome
+dropping revision o = sending (bodies.Request (txns.DropFailover revision)) o
+
+clearing-under : (P : Outcome → Type 0) (revision : Option ℕ) (o : Outcome) → P o → ((compared : ℕ) → P (dropping compared o)) → P (clearing_under revision o)
+clearing-under P None o kept drops = kept
+clearing-under P (Some revision) o kept drops = drops revision
+
+pub clearing-by : (P : Outcome → Type 0) (o : Outcome) → P o → ((compared : ℕ) → P (dropping compared o)) → P (clearing o)
+clearing-by P o kept drops = clearing-under P (leader_revision o.knows.seen) o kept drops
+
+-- a handover is judged
+pub record HandoverRows (P : Outcome → Type 0) (now : Ticks) (revision : ℕ) (o : Outcome) : Type 0 where
+  pub kept : P (waiting_no_more o)
+  pub clears : (compared : ℕ) → P (dropping compared (waiting_no_more o))
+  pub hands : (candidate : MemberId) → P (hands_over now revision candidate (waiting_no_more o))
+
+hands-over-to : (P : Outcome → Type 0) (now : Ticks) (revision : ℕ) (successor : Option MemberId) (o : Outcome) → HandoverRows P now revision o → P (hands_over_to now revision successor (waiting_no_more o))
+hands-over-to P now revision None o rows = clearing-by P (waiting_no_more o) rows.kept rows.clears
+hands-over-to P now revision (Some candidate) o rows = rows.hands candidate
+
+pub handover-by : (P : Outcome → Type 0) (now : Ticks) (revision : ℕ) (o : Outcome) → HandoverRows P now revision o → P (handover_judged now revision o)
+handover-by P now revision o rows = hands-over-to P now revision (successor_by o.knows.turn_failover o.knows o.machine.server) o rows
+
+judged-if-leading : (P : Outcome → Type 0) (now : Ticks) (role : RoleFacts) (o : Outcome) → o.role ≡ role → P (waiting_no_more o) → ((revision : ℕ) → o.role ≡ Leader revision → HandoverRows P now revision o) → P (judged_if_leading now role o)
+judged-if-leading P now (Leader revision) o is quiet rows = handover-by P now revision o (rows revision is)
+judged-if-leading P now Follower o is quiet rows = quiet
+judged-if-leading P now (Holder held) o is quiet rows = quiet
+judged-if-leading P now (Ready held) o is quiet rows = quiet
+judged-if-leading P now (Ending held why) o is quiet rows = quiet
+judged-if-leading P now Stray o is quiet rows = quiet
+
+-- operators are answered
+pub record ReplyRows (P : Outcome → Type 0) (o : Outcome) : Type 0 where
+  pub kept : P o
+  pub answers : (request : ℕ) (told : Told) → P (answering request told o)
+
+answering-if : (P : Outcome → Type 0) (request : ℕ) (told : Option Told) (o : Outcome) → ReplyRows P o → P (answering_if request told o)
+answering-if P request None o rows = rows.kept
+answering-if P request (Some told) o rows = rows.answers request told
+
+looked-as : (P : Outcome → Type 0) (waiting : Option Operating) (snapshot : SnapshotFacts) (o : Outcome) → ReplyRows P o → P (looked_by waiting snapshot o)
+looked-as P None snapshot o rows = rows.kept
+looked-as P (Some waiting) snapshot o rows = answering-if P waiting.request (result_as waiting.operation waiting.leader snapshot) o rows
+
+-- a read is looked at for a request that waits
+pub looked-by : (P : Outcome → Type 0) (sequence : ℕ) (snapshot : SnapshotFacts) (o : Outcome) → ReplyRows P o → P (looked sequence snapshot o)
+looked-by P sequence snapshot o rows = if-cases P (uses_read sequence o) (looked_by o.knows.operating snapshot o) o (λ _. looked-as P o.knows.operating snapshot o rows) (λ _. rows.kept)
+
+given-up-as : (P : Outcome → Type 0) (now : Ticks) (waiting : Option Operating) (o : Outcome) → ReplyRows P o → P (given_up_by now waiting o)
+given-up-as P now None o rows = rows.kept
+given-up-as P now (Some waiting) o rows =
+    if-cases P (nat_le (operator_until o.knows.settings waiting.operation waiting.since).0 now.0) (answering waiting.request (late_answer waiting.operation) o) o (λ _. rows.answers waiting.request (late_answer waiting.operation)) (λ _. rows.kept)
+
+-- a request whose time is over
+pub given-up-by : (P : Outcome → Type 0) (now : Ticks) (o : Outcome) → ReplyRows P o → P (given_up now o)
+given-up-by P now o rows = given-up-as P now o.knows.operating o rows
+
+-- the key store refused what an operator wants
+pub operator-refused-by : (P : Outcome → Type 0) (waiting : Option Operating) (o : Outcome) → ReplyRows P o → P (operator_refused waiting o)
+operator-refused-by P None o rows = rows.kept
+operator-refused-by P (Some waiting) o rows = rows.answers waiting.request (refusal_of waiting.operation)
+
+granted-as : (P : Outcome → Type 0) (operation : Operation) (request : ℕ) (o : Outcome) → ReplyRows P o → P (granted_as operation request o)
+granted-as P (FailingOver kind) request o rows = rows.kept
+granted-as P Configuring request o rows = rows.answers request tolds.Written
+
+-- the key store granted what an operator wants
+pub operator-granted-by : (P : Outcome → Type 0) (snapshot : SnapshotFacts) (waiting : Option Operating) (o : Outcome) → P o → ReplyRows P (learned snapshot o) → P (operator_granted snapshot waiting o)
+operator-granted-by P snapshot None o kept rows = kept
+operator-granted-by P snapshot (Some waiting) o kept rows = granted-as P waiting.operation waiting.request (learned snapshot o) rows
+
+-- a request that an operator has made of the key store
+abbrev pub IsOperatorTxn : Txn → Type 0
+IsOperatorTxn (txns.SetFailover failover ttl) = Unit {0}
+IsOperatorTxn (txns.SetConfig revision config) = Unit {0}
+IsOperatorTxn _ = ⊥
+
+-- what an operator asks is done
+pub record ActRows (P : Outcome → Type 0) (now : Ticks) (request : ℕ) (o : Outcome) : Type 0 where
+  pub asks : (operation : Operation) (txn : Txn) → IsOperatorTxn txn → P (operating now request operation (bodies.Request txn) o)
+  pub restarts : (told : Told) → P (telling request told (restarting now o))
+  pub wipes : (told : Told) → P (telling request told (wiping o))
+
+pub operated-by : (P : Outcome → Type 0) (now : Ticks) (request : ℕ) (asked : OperatorRequest) (o : Outcome) → ActRows P now request o → P (operated now request asked o)
+operated-by P now request (requests.Failover kind failover) o rows = rows.asks (FailingOver kind) (txns.SetFailover failover (lease_span o.knows.settings)) tt
+operated-by P now request (requests.Configuration config) o rows = rows.asks Configuring (txns.SetConfig (config_revision o.knows.seen) config) tt
+operated-by P now request requests.Restart o rows = rows.restarts (tolds.Text ok texts.Restarted)
+operated-by P now request requests.Reinit o rows = rows.wipes (tolds.Text ok texts.ReinitializeStarted)
+
 -- a deadline that has passed
 pub record OverdueRows (P : Outcome → Type 0) (now : Ticks) (o : Outcome) : Type 0 where
   pub kept : P o
@@ -96,6 +200,7 @@ pub record OverdueRows (P : Outcome → Type 0) (now : Ticks) (o : Outcome) : Ty
   pub stray : o.role ≡ Stray → P (stray_out_of_reach now (waiting_no_more o))
   pub judges : may_create o.role ≡ true → P (judged now o)
   pub ready : (revision : ℕ) → o.role ≡ Ready revision → P (postpones revision (waiting_no_more o))
+  pub checks : (revision : ℕ) → o.role ≡ Leader revision → HandoverRows P now revision o
 
 out-of-reach-as : (P : Outcome → Type 0) (now : Ticks) (role : RoleFacts) (o : Outcome) → o.role ≡ role → OverdueRows P now o → P (out_of_reach_as now role (waiting_no_more o))
 out-of-reach-as P now (Leader r) o is rows = rows.leader r is
@@ -111,6 +216,7 @@ unanswered-by P now Renewing o rows = out-of-reach-as P now o.role o refl rows
 unanswered-by P now Creating o rows = rows.quiet
 unanswered-by P now Claiming o rows = claim-fails-by P (waiting_no_more o) rows.quiet rows.ready
 unanswered-by P now (Syncing settling) o rows = rows.quiet
+unanswered-by P now Checking o rows = judged-if-leading P now o.role o refl rows.quiet rows.checks
 unanswered-by P now Asking o rows = if-cases P (may_create o.role) (judged now o) (waiting_no_more o) rows.judges (λ _. rows.quiet)
 
 overdue-for : (P : Outcome → Type 0) (now : Ticks) (waited : Option Waited) (o : Outcome) → OverdueRows P now o → P (overdue_for now waited o)
@@ -137,9 +243,9 @@ turn-as P now (Leader r) o is rows = rows.reads (rw is refl)
 pub turn-by : (P : Outcome → Type 0) (now : Ticks) (o : Outcome) → TurnRows P now o → P (turned now o)
 turn-by P now o rows = if-cases P (has_turn now o.knows) (turn_begins now o) o (λ _. turn-as P now o.role o refl rows) (λ _. rows.kept)
 
--- a wake: what comes before it alone, or with a deadline that has passed and a turn
-pub wake-by : (P : Outcome → Type 0) (now : Ticks) (o : Outcome) → P (before now o) → P (turned now (overdue now (before now o))) → P (woken now o)
-wake-by P now o idle due = if-cases P (is_due now o.role o.knows o.machine) (turned now (overdue now (before now o))) (before now o) (λ _. due) (λ _. idle)
+-- a wake: what comes before it alone, or with an operator whose time is over, a deadline that has passed and a turn
+pub wake-by : (P : Outcome → Type 0) (now : Ticks) (o : Outcome) → P (before now o) → P (roused now o) → P (woken now o)
+wake-by P now o idle due = if-cases P (is_due now o.role o.knows o.machine) (roused now o) (before now o) (λ _. due) (λ _. idle)
 
 -- the answer to a read
 pub record GotRows (P : Outcome → Type 0) (now : Ticks) (points : List HistoryPoint) (snapshot : SnapshotFacts) (o : Outcome) : Type 0 where
@@ -224,6 +330,7 @@ refused-as P now Claiming o rows = claim-fails-by P (waiting_no_more o) rows.qui
 refused-as P now Reading o rows = rows.quiet
 refused-as P now Asking o rows = rows.quiet
 refused-as P now (Syncing settling) o rows = rows.quiet
+refused-as P now Checking o rows = rows.quiet
 
 refused-for : (P : Outcome → Type 0) (now : Ticks) (sequence : ℕ) (waited : Option Waited) (o : Outcome) → RefusedRows P now o → P (refused_for now sequence waited o)
 refused-for P now sequence None o rows = rows.kept
@@ -276,14 +383,27 @@ pub record AnsweredRows (P : Outcome → Type 0) (now : Ticks) (answer : PeerAns
   pub quiet : P (waiting_no_more o)
   pub keeps : P (keeping answer o)
   pub judges : may_create o.role ≡ true → P (judged now (keeping answer o))
+  pub checks : (revision : ℕ) → o.role ≡ Leader revision → HandoverRows P now revision (keeping answer o)
 
 accepted-answer : (P : Outcome → Type 0) (now : Ticks) (answer : PeerAnswer) (o : Outcome) → AnsweredRows P now answer o → P (accepted_answer now answer o)
 accepted-answer P now answer o rows = if-cases P (may_create o.role) (judged_if_all now (keeping answer o)) (waiting_no_more o)
     (λ may. if-cases P (all_answered o.knows.who (keeping answer o).knows.answers) (judged now (keeping answer o)) (keeping answer o) (λ _. rows.judges may) (λ _. rows.keeps)) (λ _. rows.quiet)
 
+check-answered : (P : Outcome → Type 0) (now : Ticks) (answer : PeerAnswer) (role : RoleFacts) (o : Outcome) → o.role ≡ role → AnsweredRows P now answer o → P (check_answered now answer role o)
+check-answered P now answer (Leader revision) o is rows =
+    if-cases P (whom_answered o.knows.who (candidate_of o.knows.turn_failover) (keeping answer o).knows.answers) (handover_judged now revision (keeping answer o)) (keeping answer o)
+    (λ _. handover-by P now revision (keeping answer o) (rows.checks revision is)) (λ _. rows.keeps)
+check-answered P now answer Follower o is rows = rows.quiet
+check-answered P now answer (Holder held) o is rows = rows.quiet
+check-answered P now answer (Ready held) o is rows = rows.quiet
+check-answered P now answer (Ending held why) o is rows = rows.quiet
+check-answered P now answer Stray o is rows = rows.quiet
+
 answered-for : (P : Outcome → Type 0) (now : Ticks) (sequence : ℕ) (answer : PeerAnswer) (waited : Option Waited) (o : Outcome) → AnsweredRows P now answer o → P (answered_for now sequence answer waited o)
 answered-for P now sequence answer None o rows = rows.kept
-answered-for P now sequence answer (Some waited) o rows = if-cases P (awaits_answer waited sequence) (accepted_answer now answer o) o (λ _. accepted-answer P now answer o rows) (λ _. rows.kept)
+answered-for P now sequence answer (Some waited) o rows =
+    if-cases P (awaits_answer waited sequence) (accepted_answer now answer o) (if awaits_check waited sequence then check_answered now answer o.role o else o) (λ _. accepted-answer P now answer o rows)
+    (λ _. if-cases P (awaits_check waited sequence) (check_answered now answer o.role o) o (λ _. check-answered P now answer o.role o refl rows) (λ _. rows.kept))
 
 pub answered-by : (P : Outcome → Type 0) (now : Ticks) (sequence : ℕ) (answer : PeerAnswer) (o : Outcome) → AnsweredRows P now answer o → P (answered now sequence answer o)
 answered-by P now sequence answer o rows = answered-for P now sequence answer o.knows.waited o rows
@@ -340,11 +460,38 @@ planned-on P now revision (Some snapshot) o rows = planned-as P now revision (pl
 pub planned-by : (P : Outcome → Type 0) (now : Ticks) (revision : ℕ) (o : Outcome) → PlanRows P now o → P (planned now revision o)
 planned-by P now revision o rows = planned-on P now revision o.knows.seen o rows
 
+-- what a leader does under a failover key
+pub record FailoverRows (P : Outcome → Type 0) (now : Ticks) (revision : ℕ) (o : Outcome) : Type 0 where
+  pub kept : P o
+  pub clears : (compared : ℕ) → P (dropping compared o)
+  pub asks : (candidate : Option MemberId) → P (checking now candidate (unheard o))
+  pub judges : HandoverRows P now revision (unheard o)
+
+failover-duty : (P : Outcome → Type 0) (now : Ticks) (revision : ℕ) (failover : FailoverKey) (o : Outcome) → FailoverRows P now revision o → P (failover_duty now revision failover o)
+failover-duty P now revision failover o rows =
+    if-cases P (is_done o.knows.who.me failover) (clearing o) (checks now revision failover.candidate (unheard o)) (λ _. clearing-by P o rows.kept rows.clears)
+    (λ _. if-cases P (whom_answered o.knows.who failover.candidate []) (handover_judged now revision (unheard o)) (checking now failover.candidate (unheard o)) (λ _. handover-by P now revision (unheard o) rows.judges) (λ _. rows.asks failover.candidate))
+
+duty-on : (P : Outcome → Type 0) (now : Ticks) (revision : ℕ) (failover : Option FailoverKey) (o : Outcome) → P (planned now revision o) → FailoverRows P now revision o → P (duty_on now revision failover o)
+duty-on P now revision None o plans rows = plans
+duty-on P now revision (Some failover) o plans rows = failover-duty P now revision failover o rows
+
+-- what it owes its cluster with each renewal: a step with its synchronous standbys, or what a failover key asks
+pub duties-by : (P : Outcome → Type 0) (now : Ticks) (revision : ℕ) (o : Outcome) → P (planned now revision o) → FailoverRows P now revision o → P (duties now revision o)
+duties-by P now revision o plans rows = duty-on P now revision o.knows.turn_failover o plans rows
+
+-- the same by the rows of its step
+pub record DutyRows (P : Outcome → Type 0) (now : Ticks) (revision : ℕ) (o : Outcome) : Type 0 where
+  pub plan : PlanRows P now o
+  pub clears : (compared : ℕ) → P (dropping compared o)
+  pub asks : (candidate : Option MemberId) → P (checking now candidate (unheard o))
+  pub judges : HandoverRows P now revision (unheard o)
+
 -- a leader whose lease is renewed
-pub renewed-by : (P : Outcome → Type 0) (now ttl : Ticks) (revision : ℕ) (o : Outcome) → P (record (ending_server now StartTooLong (led_on now ttl revision o)) { role = Ending revision HandOver }) → PlanRows P now (led_on now ttl revision o) → P (leader_renewed now ttl revision o)
+pub renewed-by : (P : Outcome → Type 0) (now ttl : Ticks) (revision : ℕ) (o : Outcome) → P (record (ending_server now StartTooLong (led_on now ttl revision o)) { role = Ending revision HandOver }) → DutyRows P now revision (led_on now ttl revision o) → P (leader_renewed now ttl revision o)
 renewed-by P now ttl revision o ends rows = let fed : Outcome = led_on now ttl revision o in
-    if-cases P (is_start_too_long now fed.knows fed.machine.server.state) (record (ending_server now StartTooLong fed) { role = Ending revision HandOver }) (planned now revision fed)
-    (λ _. ends) (λ _. planned-by P now revision fed rows)
+    if-cases P (is_start_too_long now fed.knows fed.machine.server.state) (record (ending_server now StartTooLong fed) { role = Ending revision HandOver }) (duties now revision fed)
+    (λ _. ends) (λ _. duties-by P now revision fed (planned-by P now revision fed rows.plan) (record { kept = rows.plan.kept; clears = rows.clears; asks = rows.asks; judges = rows.judges }))
 
 -- a member that takes the leader key behind an armed watchdog
 pub begins-or-claims-by : (P : Outcome → Type 0) (now : Ticks) (revision : ℕ) (o : Outcome) → P (begins now revision o) → P (claims now revision o) → P (begins_or_claims now revision o)
@@ -375,6 +522,7 @@ sync-granted P now Reading role o is fits rows = rows.other
 sync-granted P now Asking role o is fits rows = rows.other
 sync-granted P now Creating role o is fits rows = rows.other
 sync-granted P now Renewing role o is fits rows = rows.other
+sync-granted P now Checking role o is fits rows = rows.other
 
 granted-for : (P : Outcome → Type 0) (now : Ticks) (sequence : ℕ) (grant : Granted) (snapshot : SnapshotFacts) (waited : Option Waited) (o : Outcome) → o.knows.waited ≡ waited → P o → P (waiting_no_more o)
     → ((asked : Waited) → o.knows.waited ≡ Some asked → is_decision asked sequence && is_lease_of o.knows.who.me grant ≡ true → GrantRows P now asked.ttl grant.revision (record o { knows = informed snapshot o.knows }))
@@ -393,3 +541,12 @@ pub granted-by : (P : Outcome → Type 0) (now : Ticks) (sequence : ℕ) (grant 
     → ((asked : Waited) → o.knows.waited ≡ Some asked → is_decision asked sequence && is_lease_of o.knows.who.me grant ≡ true → GrantRows P now asked.ttl grant.revision (record o { knows = informed snapshot o.knows }))
     → SyncRows P now (record o { knows = informed snapshot o.knows }) → P (granted now sequence grant snapshot o)
 granted-by P now sequence grant snapshot o kept quiet rows syncs = granted-for P now sequence grant snapshot o.knows.waited o refl kept quiet rows syncs
+
+-- a request was granted: what an operator wants, or the agent by itself
+pub granted-any-by : (P : Outcome → Type 0) (now : Ticks) (sequence : ℕ) (grant : Granted) (snapshot : SnapshotFacts) (o : Outcome) → P o → ReplyRows P (learned snapshot o) → P (granted now sequence grant snapshot o) → P (granted_any now sequence grant snapshot o)
+granted-any-by P now sequence grant snapshot o kept rows own =
+    if-cases P (grants_operator sequence grant o.knows) (operator_granted snapshot o.knows.operating o) (granted now sequence grant snapshot o) (λ _. operator-granted-by P snapshot o.knows.operating o kept rows) (λ _. own)
+
+-- a request was refused: what an operator wants, or the agent by itself
+pub refused-any-by : (P : Outcome → Type 0) (now : Ticks) (sequence : ℕ) (o : Outcome) → ReplyRows P o → P (refused now sequence o) → P (refused_any now sequence o)
+refused-any-by P now sequence o rows own = if-cases P (operates o.knows sequence) (operator_refused o.knows.operating o) (refused now sequence o) (λ _. operator-refused-by P o.knows.operating o rows) (λ _. own)

@@ -41,23 +41,31 @@ use Rattle.ha_loop.specs.Powers.{Acts, lease_of}
 use Rattle.ha_loop.specs.Synchronous.{unnamed, may_lead_in_sync}
 use Rattle.ha_loop.specs.Seen.{lease_asked, leader_entry_seen, leader_seen_if}
 use Rattle.ha_loop.specs.Snapshots.{renewing, follows, leader_loses_key, stray_loses_key, read_noted, got, follow_row}
+use Rattle.ha_loop.specs.HandingOver.{asking_whom, checking, hands_over}
+use Rattle.ha_loop.specs.Operators.{answering, given_up, learned, looked, operated, operating, restarting, telling, wiping}
+use Rattle.ha_loop.specs.Table.{granted_any, refused_any}
+use Rattle.ha_loop.specs.declared.operating.Told.{Told as Tells}
+use Rattle.lease_store.specs.declared.action.OperatorAction.{OperatorAction}
+use Rattle.pg_model.specs.Running.{is_primary}
+use Rattle.pg_model.specs.declared.status.ServerStatus.{ServerStatus}
 use Rattle.ha_loop.specs.Racing.{finds_free, judged, asking_others, unheard}
 use Rattle.ha_loop.specs.Answers.{is_other, most_answers, asking_one, asking_first}
 use Rattle.ha_loop.specs.Orders.{IsAsk}
 use Rattle.ha_loop.specs.Peers.{asked, keeping, answered}
 use Rattle.ha_loop.specs.Wake.{reading, turn_noted, overdue, turned, woken}
 use Rattle.ha_loop.proofs.Granting.{take-free, Told, one-last, one-before}
-use Rattle.ha_loop.proofs.Knowing.{IsAlone, overdue-onward}
+use Rattle.ha_loop.proofs.Knowing.{IsAlone, before-onward, given-up-onward, overdue-onward}
 use Rattle.ha_loop.proofs.Fitting.{ended-for}
 use Rattle.ha_loop.proofs.Leaving.{rests-by, ready-is}
-use Rattle.ha_loop.proofs.Living.{no-way}
-use Rattle.ha_loop.proofs.Rows.{WritesSync, led_on, if-cases, renewed-by, begins-or-claims-by, before-by, overdue-by, turn-by, wake-by, got-by, refused-by, follow-by, repaired-by, free-by, granted-by, judged-by, answered-by}
+use Rattle.ha_loop.proofs.Living.{no-way, primary-live, restart-live, wipe-live}
+use Rattle.ha_loop.proofs.Rows.{HandoverRows, ReplyRows, ActRows, IsOperatorTxn, dropping, looked-by, given-up-by, granted-any-by, refused-any-by, operated-by, WritesSync, led_on, if-cases, renewed-by, begins-or-claims-by, before-by, overdue-by, turn-by, wake-by, got-by, refused-by, follow-by, repaired-by, free-by, granted-by, judged-by, answered-by}
 
 -- an output that sends nothing, takes no hold, and by which no server comes to accept writes
 abbrev pub IsSilent : Output → Type 0
 IsSilent (outputs.Send to sequence body) = ⊥
 IsSilent outputs.Begin = ⊥
 IsSilent (outputs.HoldTaken until from sequence) = ⊥
+IsSilent (outputs.Restart as_primary) = ⊥
 IsSilent _ = Unit {0}
 
 -- a request that an input may send under this number, where G holds of the revisions that it is granted
@@ -85,6 +93,7 @@ MayPut G o after (outputs.Send targets.Store sequence body) = SendsNew G o after
 MayPut G o after (outputs.Send (targets.Member member) sequence body) = (o.knows.sequence < sequence) × (sequence ≤ after.knows.sequence) × IsAsk body
 MayPut G o after outputs.Begin = (revision : ℕ) × G revision
 MayPut G o after (outputs.HoldTaken until from sequence) = ⊥
+MayPut G o after (outputs.Restart as_primary) = as_primary ≡ true → live o.machine.server.state ≡ true
 MayPut G o after _ = Unit {0}
 
 abbrev pub AllMay : (ℕ → Type 0) → Outcome → Outcome → Type 0
@@ -94,6 +103,7 @@ silent-may : (G : ℕ → Type 0) (o after : Outcome) (output : Output) → IsSi
 silent-may G o after (outputs.Send to sequence body) e = absurd e
 silent-may G o after outputs.Begin e = absurd e
 silent-may G o after (outputs.HoldTaken until from sequence) e = e
+silent-may G o after (outputs.Restart as_primary) e = absurd e
 silent-may G o after _ e = tt
 
 -- outputs before that were silent
@@ -128,10 +138,13 @@ pub data Fronts (o after : Outcome) : Type 0 where
   Released : (revision : ℕ) → (held : lease_of o.role ≡ Some revision) → (alone : after.knows.waited ≡ None) → (role : after.role ≡ Follower) → (ended : live after.machine.server.state ≡ false)
       → (counted : o.knows.sequence + 1 ≤ after.knows.sequence) → (all : All (IsReleaseOr (o.knows.sequence + 1) revision) after.outputs) → Fronts o after
 
--- a request that needs no more than its number: it tells of the member, or asks for a free leader key
+-- a request that needs no more than its number: it tells of the member, asks for a free leader key, or is of a failover or a configuration
 abbrev pub IsPlain : Txn → Type 0
 IsPlain (txns.Create info ttl failsafe sync) = failsafe ≡ None
 IsPlain (txns.Touch info ttl) = Unit {0}
+IsPlain (txns.SetFailover failover ttl) = Unit {0}
+IsPlain (txns.DropFailover revision) = Unit {0}
+IsPlain (txns.SetConfig revision config) = Unit {0}
 IsPlain _ = ⊥
 
 -- so does a question
@@ -146,6 +159,7 @@ IsMild low high (outputs.Send targets.Store sequence body) = (low < sequence) ×
 IsMild low high (outputs.Send (targets.Member member) sequence body) = (low < sequence) × (sequence ≤ high) × IsAsk body
 IsMild low high outputs.Begin = ⊥
 IsMild low high (outputs.HoldTaken until from sequence) = ⊥
+IsMild low high (outputs.Restart as_primary) = ⊥
 IsMild low high _ = Unit {0}
 
 abbrev pub AllMild : ℕ → Outcome → Type 0
@@ -154,6 +168,9 @@ AllMild low o = All (IsMild low o.knows.sequence) o.outputs
 plain-may : (G : ℕ → Type 0) (o after : Outcome) (sequence : ℕ) (txn : Txn) → IsPlain txn → MayTransact G o after sequence txn
 plain-may G o after sequence (txns.Create info ttl failsafe sync) e = e
 plain-may G o after sequence (txns.Touch info ttl) e = tt
+plain-may G o after sequence (txns.SetFailover failover ttl) e = tt
+plain-may G o after sequence (txns.DropFailover revision) e = tt
+plain-may G o after sequence (txns.SetConfig revision config) e = tt
 plain-may G o after sequence _ e = absurd e
 
 plain-asks : (G : ℕ → Type 0) (o after : Outcome) (sequence : ℕ) (body : Body) → IsPlainBody body → MayAskStore G o after sequence body
@@ -166,6 +183,7 @@ mild-may G o after (outputs.Send targets.Store sequence body) e = record { later
 mild-may G o after (outputs.Send (targets.Member member) sequence body) e = e
 mild-may G o after outputs.Begin e = absurd e
 mild-may G o after (outputs.HoldTaken until from sequence) e = e
+mild-may G o after (outputs.Restart as_primary) e = absurd e
 mild-may G o after _ e = tt
 
 mild-all : (G : ℕ → Type 0) (o after : Outcome) → AllMild o.knows.sequence after → AllMay G o after
@@ -175,6 +193,7 @@ silent-mild : (low high : ℕ) (output : Output) → IsSilent output → IsMild 
 silent-mild low high (outputs.Send to sequence body) e = absurd e
 silent-mild low high outputs.Begin e = absurd e
 silent-mild low high (outputs.HoldTaken until from sequence) e = e
+silent-mild low high (outputs.Restart as_primary) e = e
 silent-mild low high _ e = tt
 
 mild-front : (low high : ℕ) (outs : List Output) → All IsSilent outs → All (IsMild low high) outs
@@ -188,6 +207,7 @@ more-mild low high more less (outputs.Send targets.Store sequence body) e = (e.0
 more-mild low high more less (outputs.Send (targets.Member member) sequence body) e = (e.0, up-to sequence high more e.1 less, e.2)
 more-mild low high more less outputs.Begin e = e
 more-mild low high more less (outputs.HoldTaken until from sequence) e = e
+more-mild low high more less (outputs.Restart as_primary) e = e
 more-mild low high more less _ e = tt
 
 -- a race that is judged asks for the leader key, or tells of the member
@@ -213,6 +233,24 @@ asks-mild low high who sequence (suc count) outs later less all = ask-mild low h
 others-mild : (low : ℕ) (now : Ticks) (o : Outcome) → low ≤ o.knows.sequence → All IsSilent o.outputs → AllMild low (asking_others now o)
 others-mild low now o less silent = let high : ℕ = o.knows.sequence + 1 in
     asks-mild low high o.knows.who high most_answers o.outputs (omega (arith, less)) (omega arith) (mild-front low high o.outputs silent)
+
+-- a handover that is judged asks that the failover key be removed, or ends the server
+handover-mild : (low : ℕ) (now : Ticks) (held : ℕ) (o : Outcome) → low ≤ o.knows.sequence → All IsSilent o.outputs → HandoverRows (AllMild low) now held o
+handover-mild low now held o less silent = let out : ℕ = o.knows.sequence in record {
+  kept = mild-front low out o.outputs silent;
+  clears = λ compared. All-push (IsMild low (out + 1)) o.outputs _ (mild-front low (out + 1) o.outputs silent) (omega (arith, less), omega arith, tt);
+  hands = λ candidate. mild-front low out (listed outputs.ShutDown (listed (outputs.HandsOver candidate) o.outputs))
+      (silently (listed (outputs.HandsOver candidate) o.outputs) outputs.ShutDown (silently o.outputs (outputs.HandsOver candidate) silent tt) tt);
+}
+
+-- so does who asks for whom it may hand over to
+whom-mild : (low high : ℕ) (who : Who) (candidate : Option MemberId) (sequence : ℕ) (outs : List Output) → low < sequence → sequence ≤ high → All (IsMild low high) outs → All (IsMild low high) (asking_whom who candidate sequence outs)
+whom-mild low high who None sequence outs later less all = asks-mild low high who sequence most_answers outs later less all
+whom-mild low high who (Some candidate) sequence outs later less all = ask-mild low high who sequence (Some candidate) outs later less all
+
+checking-mild : (low : ℕ) (now : Ticks) (candidate : Option MemberId) (o : Outcome) → low ≤ o.knows.sequence → All IsSilent o.outputs → AllMild low (checking now candidate o)
+checking-mild low now candidate o less silent = let high : ℕ = o.knows.sequence + 1 in
+    whom-mild low high o.knows.who candidate high o.outputs (omega (arith, less)) (omega arith) (mild-front low high o.outputs silent)
 
 ended-fronts : (why : Why) (held : ℕ) (o : Outcome) → o.role ≡ Ending held why → live o.machine.server.state ≡ false → IsAlone o → All IsSilent o.outputs → Fronts o (has_ended why held o)
 ended-fronts HandOver held o is ended alone silent = Released held (rw is refl) (alone (rw is refl)) refl ended (omega arith)
@@ -262,6 +300,7 @@ overdue-mild low now o less silent = let out : ℕ = o.knows.sequence in
       stray = λ _. mild-front low out (listed (outputs.Stop StoreOutOfReach) o.outputs) (silently o.outputs (outputs.Stop StoreOutOfReach) silent tt);
       judges = λ _. judged-mild low now o less silent;
       ready = λ held _. mild-front low out (postpones held (waiting_no_more o)).outputs (postpones-silent held (waiting_no_more o) silent);
+      checks = λ held _. handover-mild low now held o less silent;
     })
 
 -- a read is sent under the next number
@@ -296,9 +335,22 @@ turn-fronts G now o b later (Silent all) = turn-mild G now o (overdue now b) (up
 turn-fronts G now o b later (Released revision held alone role ended counted all) =
     subst (λ (z : Outcome). AllMay G o (turned now z)) (sym (overdue-none now b alone)) (turn-released G now o b revision held role ended counted all)
 
-pub wake-may : (G : ℕ → Type 0) (now : Ticks) (o : Outcome) → IsAlone o → o.knows.sequence ≤ (before now o).knows.sequence → All IsSilent o.outputs → AllMay G o (woken now o)
-wake-may G now o alone later silent = let fronts : Fronts o (before now o) = before-fronts now o alone silent in
-    wake-by (AllMay G o) now o (fronts-may G o (before now o) fronts) (turn-fronts G now o (before now o) later fronts)
+-- what an operator is answered is silent
+told-fronts : (o b : Outcome) → Fronts o b → ReplyRows (Fronts o) b
+told-fronts o b fronts = record { kept = fronts; answers = λ request told. answers-front request told fronts }
+  where
+    answers-front : (request : ℕ) (told : Tells) → Fronts o b → Fronts o (answering request told b)
+    answers-front request told (Silent all) = Silent (silently b.outputs (outputs.Told request told) all tt)
+    answers-front request told (Released revision held alone role ended counted all) =
+        Released revision held alone role ended counted (All-push (IsReleaseOr (o.knows.sequence + 1) revision) b.outputs (outputs.Told request told) all (inl tt))
+
+pub given-up-fronts : (now : Ticks) (o : Outcome) → IsAlone o → All IsSilent o.outputs → Fronts o (given_up now (before now o))
+given-up-fronts now o alone silent = given-up-by (Fronts o) now (before now o) (told-fronts o (before now o) (before-fronts now o alone silent))
+
+pub wake-may : (G : ℕ → Type 0) (now : Ticks) (o : Outcome) → IsAlone o → All IsSilent o.outputs → AllMay G o (woken now o)
+wake-may G now o alone silent =
+    wake-by (AllMay G o) now o (fronts-may G o (before now o) (before-fronts now o alone silent))
+    (turn-fronts G now o (given_up now (before now o)) (given-up-onward None now o).last (given-up-fronts now o alone silent))
 
 -- a question is sent under the next number
 sends : (G : ℕ → Type 0) (o after : Outcome) (b : ℕ) (body : Body) → o.knows.sequence ≤ b → after.knows.sequence ≡ b + 1 → MayAskStore G o after (b + 1) body → SendsNew G o after (b + 1) body
@@ -368,8 +420,16 @@ got-fronts G now points sequence snapshot o b later (Silent all) = got-silent G 
 got-fronts G now points sequence snapshot o b later (Released revision held alone role ended counted all) =
     subst (λ (z : Outcome). AllMay G o z) (sym (got-none now points sequence snapshot b alone)) (released G o b revision b.outputs held role ended counted all)
 
-pub got-may : (G : ℕ → Type 0) (now : Ticks) (points : List HistoryPoint) (sequence : ℕ) (snapshot : SnapshotFacts) (o : Outcome) → IsAlone o → o.knows.sequence ≤ (before now o).knows.sequence → All IsSilent o.outputs → AllMay G o (got now points sequence snapshot (before now o))
-got-may G now points sequence snapshot o alone later silent = got-fronts G now points sequence snapshot o (before now o) later (before-fronts now o alone silent)
+-- a read that is looked at for an operator
+pub looked-fronts : (now : Ticks) (sequence : ℕ) (snapshot : SnapshotFacts) (o : Outcome) → IsAlone o → All IsSilent o.outputs → Fronts o (looked sequence snapshot (before now o))
+looked-fronts now sequence snapshot o alone silent = looked-by (Fronts o) sequence snapshot (before now o) (told-fronts o (before now o) (before-fronts now o alone silent))
+
+pub looked-later : (now : Ticks) (sequence : ℕ) (snapshot : SnapshotFacts) (o : Outcome) → o.knows.sequence ≤ (looked sequence snapshot (before now o)).knows.sequence
+looked-later now sequence snapshot o = let later : o.knows.sequence ≤ (before now o).knows.sequence = (before-onward None now o).last in
+    looked-by (λ (x : Outcome). o.knows.sequence ≤ x.knows.sequence) sequence snapshot (before now o) (record { kept = later; answers = λ request told. later })
+
+pub got-may : (G : ℕ → Type 0) (now : Ticks) (points : List HistoryPoint) (sequence : ℕ) (snapshot : SnapshotFacts) (o : Outcome) → IsAlone o → All IsSilent o.outputs → AllMay G o (got now points sequence snapshot (looked sequence snapshot (before now o)))
+got-may G now points sequence snapshot o alone silent = got-fronts G now points sequence snapshot o (looked sequence snapshot (before now o)) (looked-later now sequence snapshot o) (looked-fronts now sequence snapshot o alone silent)
 
 refused-silent : (now : Ticks) (sequence : ℕ) (o : Outcome) → All IsSilent o.outputs → All IsSilent (refused now sequence o).outputs
 refused-silent now sequence o silent = refused-by (λ (x : Outcome). All IsSilent x.outputs) now sequence o (record {
@@ -389,15 +449,20 @@ refused-fronts G now sequence o b (Silent all) = front G o (refused now sequence
 refused-fronts G now sequence o b (Released revision held alone role ended counted all) =
     subst (λ (z : Outcome). AllMay G o z) (sym (refused-none now sequence b alone)) (released G o b revision b.outputs held role ended counted all)
 
-pub refused-may : (G : ℕ → Type 0) (now : Ticks) (sequence : ℕ) (o : Outcome) → IsAlone o → All IsSilent o.outputs → AllMay G o (refused now sequence (before now o))
-refused-may G now sequence o alone silent = refused-fronts G now sequence o (before now o) (before-fronts now o alone silent)
+-- who is answered sends nothing more
+told-may : (G : ℕ → Type 0) (o b : Outcome) → Fronts o b → ReplyRows (AllMay G o) b
+told-may G o b fronts = let rows : ReplyRows (Fronts o) b = told-fronts o b fronts in record { kept = fronts-may G o b fronts; answers = λ request told. fronts-may G o (answering request told b) (rows.answers request told) }
+
+pub refused-may : (G : ℕ → Type 0) (now : Ticks) (sequence : ℕ) (o : Outcome) → IsAlone o → All IsSilent o.outputs → AllMay G o (refused_any now sequence (before now o))
+refused-may G now sequence o alone silent = let fronts : Fronts o (before now o) = before-fronts now o alone silent in
+    refused-any-by (AllMay G o) now sequence (before now o) (told-may G o (before now o) fronts) (refused-fronts G now sequence o (before now o) fronts)
 
 pub answered-none : (now : Ticks) (sequence : ℕ) (answer : PeerAnswer) (o : Outcome) → o.knows.waited ≡ None → answered now sequence answer o ≡ o
 answered-none now sequence answer o is = rw is refl
 
 answered-mild : (low : ℕ) (now : Ticks) (sequence : ℕ) (answer : PeerAnswer) (o : Outcome) → low ≤ o.knows.sequence → All IsSilent o.outputs → AllMild low (answered now sequence answer o)
 answered-mild low now sequence answer o less silent = let same : All (IsMild low o.knows.sequence) o.outputs = mild-front low o.knows.sequence o.outputs silent in
-    answered-by (AllMild low) now sequence answer o (record { kept = same; quiet = same; keeps = same; judges = λ _. judged-mild low now (keeping answer o) less silent })
+    answered-by (AllMild low) now sequence answer o (record { kept = same; quiet = same; keeps = same; judges = λ _. judged-mild low now (keeping answer o) less silent; checks = λ held _. handover-mild low now held (keeping answer o) less silent })
 
 answered-fronts : (G : ℕ → Type 0) (now : Ticks) (sequence : ℕ) (answer : PeerAnswer) (o b : Outcome) → o.knows.sequence ≤ b.knows.sequence → Fronts o b → AllMay G o (answered now sequence answer b)
 answered-fronts G now sequence answer o b later (Silent all) = mild-all G o (answered now sequence answer b) (answered-mild o.knows.sequence now sequence answer b later all)
@@ -426,15 +491,27 @@ writes-may : (G : ℕ → Type 0) (now : Ticks) (settling : Settling) (txn : Txn
 writes-may G now settling txn o b writes later silent = let after : Outcome = writing_sync now settling txn b in
     push G o after b.outputs _ (front G o after b.outputs silent) (sends G o after b.knows.sequence _ later refl (writes-ask G o after (b.knows.sequence + 1) txn writes))
 
+handover-may : (G : ℕ → Type 0) (now : Ticks) (held : ℕ) (o b : Outcome) → o.knows.sequence ≤ b.knows.sequence → All IsSilent b.outputs → HandoverRows (AllMay G o) now held b
+handover-may G now held o b later silent = let rows : HandoverRows (AllMild o.knows.sequence) now held b = handover-mild o.knows.sequence now held b later silent in record {
+  kept = mild-all G o (waiting_no_more b) rows.kept;
+  clears = λ compared. mild-all G o (dropping compared (waiting_no_more b)) (rows.clears compared);
+  hands = λ candidate. mild-all G o (hands_over now held candidate (waiting_no_more b)) (rows.hands candidate);
+}
+
 renewed-may : (G : ℕ → Type 0) (now ttl : Ticks) (revision : ℕ) (o b : Outcome) → o.knows.sequence ≤ b.knows.sequence → All IsSilent b.outputs → AllMay G o (leader_renewed now ttl revision b)
 renewed-may G now ttl revision o b later silent = let led : Outcome = led_on now ttl revision b in
     let ended : Outcome = record (ending_server now StartTooLong led) { role = Ending revision HandOver } in
     let rest : All IsSilent led.outputs = silent-fed (deadline_after now ttl b.machine.watchdog) b.outputs silent in
     renewed-by (AllMay G o) now ttl revision b (front G o ended ended.outputs (silently led.outputs (outputs.Stop StartTooLong) rest tt)) (record {
-      kept = front G o led led.outputs rest;
-      writes = λ settling txn writes. writes-may G now settling txn o led writes later rest;
-      adds = λ required. front G o (requiring required (noting led)) _ (silently led.outputs (outputs.Require required) rest tt);
-      drops = λ required. front G o (requiring required led) _ (silently led.outputs (outputs.Require required) rest tt);
+      plan = record {
+        kept = front G o led led.outputs rest;
+        writes = λ settling txn writes. writes-may G now settling txn o led writes later rest;
+        adds = λ required. front G o (requiring required (noting led)) _ (silently led.outputs (outputs.Require required) rest tt);
+        drops = λ required. front G o (requiring required led) _ (silently led.outputs (outputs.Require required) rest tt);
+      };
+      clears = λ compared. mild-all G o (dropping compared led) ((handover-mild o.knows.sequence now revision led later rest).clears compared);
+      asks = λ candidate. mild-all G o (checking now candidate (unheard led)) (checking-mild o.knows.sequence now candidate (unheard led) later rest);
+      judges = handover-may G now revision o (unheard led) later rest;
     })
 
 stray-may : (G : ℕ → Type 0) (now ttl : Ticks) (revision : ℕ) (o b : Outcome) → All IsSilent b.outputs → AllMay G o (stray_renewed now ttl revision b)
@@ -492,6 +569,10 @@ granted-silent G now sequence grant snapshot o b later fits gives readies silent
       settles = λ required _. front G o (requiring required (Told snapshot b)) _ (silently b.outputs (outputs.Require required) silent tt);
     })
 
+learned-fronts : (snapshot : SnapshotFacts) (o b : Outcome) → Fronts o b → Fronts o (learned snapshot b)
+learned-fronts snapshot o b (Silent all) = Silent all
+learned-fronts snapshot o b (Released revision held alone role ended counted all) = Released revision held alone role ended counted all
+
 granted-none : (now : Ticks) (sequence : ℕ) (grant : Granted) (snapshot : SnapshotFacts) (o : Outcome) → o.knows.waited ≡ None → granted now sequence grant snapshot o ≡ o
 granted-none now sequence grant snapshot o is = rw is refl
 
@@ -502,25 +583,86 @@ granted-fronts G now sequence grant snapshot o b later fits gives readies (Relea
     subst (λ (z : Outcome). AllMay G o z) (sym (granted-none now sequence grant snapshot b alone)) (released G o b revision b.outputs held role ended counted all)
 
 pub granted-may : (G : ℕ → Type 0) (now : Ticks) (sequence : ℕ) (grant : Granted) (snapshot : SnapshotFacts) (o : Outcome) → IsAlone o → o.knows.sequence ≤ (before now o).knows.sequence → Fits (before now o).role (live (before now o).machine.server.state)
-    → (Decides sequence grant (before now o) → G grant.revision) → HoldsOfReady G (before now o) → All IsSilent o.outputs → AllMay G o (granted now sequence grant snapshot (before now o))
-granted-may G now sequence grant snapshot o alone later fits gives readies silent = granted-fronts G now sequence grant snapshot o (before now o) later fits gives readies (before-fronts now o alone silent)
+    → (Decides sequence grant (before now o) → G grant.revision) → HoldsOfReady G (before now o) → All IsSilent o.outputs → AllMay G o (granted_any now sequence grant snapshot (before now o))
+granted-may G now sequence grant snapshot o alone later fits gives readies silent = let b : Outcome = before now o in
+    let fronts : Fronts o b = before-fronts now o alone silent in
+    granted-any-by (AllMay G o) now sequence grant snapshot b (fronts-may G o b fronts) (told-may G o (learned snapshot b) (learned-fronts snapshot o b fronts)) (granted-fronts G now sequence grant snapshot o b later fits gives readies fronts)
 
--- where nothing is granted no server comes to accept writes
-unbegun : (o after : Outcome) (output : Output) → MayPut (λ r. ⊥) o after output → BeginsOnly ⊥ output
-unbegun o after outputs.Begin may = may.1
+-- a question may be put behind what precedes an input, and so may the orders of an operator
+not-live : (x y : Bool) → (x ≡ true → y ≡ true) → y ≡ false → x ≡ false
+not-live true y lives ended = absurd (no-way (sym ended ∙ lives refl))
+not-live false y lives _ = refl
+
+front-of : (G : ℕ → Type 0) (o b after : Outcome) → Fronts o b → b.knows.sequence ≤ after.knows.sequence → after.role ≡ b.role → (live after.machine.server.state ≡ true → live b.machine.server.state ≡ true) → All (MayPut G o after) b.outputs
+front-of G o b after (Silent all) later same lives = front G o after b.outputs all
+front-of G o b after (Released revision held alone role ended counted all) later same lives =
+    released G o after revision b.outputs held (same ∙ role) (not-live (live after.machine.server.state) (live b.machine.server.state) lives ended) (omega (arith, counted, later)) all
+
+operator-asks : (G : ℕ → Type 0) (o after : Outcome) (sequence : ℕ) (txn : Txn) → IsOperatorTxn txn → MayTransact G o after sequence txn
+operator-asks G o after sequence (txns.SetFailover failover ttl) e = tt
+operator-asks G o after sequence (txns.SetConfig revision config) e = tt
+operator-asks G o after sequence _ e = absurd e
+
+acts-may : (G : ℕ → Type 0) (now : Ticks) (request : ℕ) (o b : Outcome) → Fronts o b → o.knows.sequence ≤ b.knows.sequence → (is_primary b.machine.server.state ≡ true → live o.machine.server.state ≡ true) → ActRows (AllMay G o) now request b
+acts-may G now request o b fronts later primary = record {
+  asks = λ operation txn is. let after : Outcome = operating now request operation (bodies.Request txn) b in
+      push G o after b.outputs _ (front-of G o b after fronts (omega arith) refl (λ e. e)) (sends G o after b.knows.sequence _ later refl (operator-asks G o after (b.knows.sequence + 1) txn is));
+  restarts = λ told. let after : Outcome = telling request told (restarting now b) in let restart : Output = outputs.Restart (is_primary b.machine.server.state) in
+      push G o after (listed restart b.outputs) (outputs.Told request told) (push G o after b.outputs restart (front-of G o b after fronts (omega arith) refl (restart-live now b.machine.server)) primary) tt;
+  wipes = λ told. let after : Outcome = telling request told (wiping b) in
+      push G o after (listed outputs.Wipe b.outputs) (outputs.Told request told) (push G o after b.outputs outputs.Wipe (front-of G o b after fronts (omega arith) refl (wipe-live b.machine.server)) tt) tt;
+}
+
+-- what precedes an input leaves the server
+before-server : (now : Ticks) (o : Outcome) → (before now o).machine.server ≡ o.machine.server
+before-server now o = before-by (λ (x : Outcome). x.machine.server ≡ o.machine.server) now o (record {
+  kept = λ _. refl;
+  leader = λ _ _ _. refl;
+  ending = λ held why _ _. ended-server why held o;
+  follower = λ _ _. refl;
+  holder = λ _ _ _. refl;
+  ready = λ _ _ _. refl;
+  stray = λ _ _. refl;
+})
+  where
+    ended-server : (why : Why) (held : ℕ) (x : Outcome) → (has_ended why held x).machine.server ≡ x.machine.server
+    ended-server HandOver held x = refl
+    ended-server Lost held x = refl
+
+pub operated-may : (G : ℕ → Type 0) (now : Ticks) (action : OperatorAction) (o : Outcome) → IsAlone o → All IsSilent o.outputs → AllMay G o (operated now action.request action.asked (before now o))
+operated-may G now action o alone silent = let b : Outcome = before now o in
+    operated-by (AllMay G o) now action.request action.asked b (acts-may G now action.request o b (before-fronts now o alone silent) (before-onward None now o).last
+    (λ e. subst (λ (s : ServerStatus). live s.state ≡ true) (before-server now o) (primary-live b.machine.server.state e)))
+
+begins-one : (P Q : Type 0) → (P → Q) → (output : Output) → BeginsOnly P output → BeginsOnly Q output
+begins-one P Q more outputs.Begin e = more e
+begins-one P Q more (outputs.Restart as_primary) e = λ is. more (e is)
+begins-one P Q more _ e = tt
+
+-- where nothing is granted, only a server that was live before comes to accept writes
+unbegun : (o after : Outcome) (output : Output) → MayPut (λ r. ⊥) o after output → BeginsOnly (live o.machine.server.state ≡ true) output
+unbegun o after outputs.Begin may = absurd may.1
+unbegun o after (outputs.Restart as_primary) may = may
 unbegun o after _ may = tt
 
-never-one : (P : Type 0) (output : Output) → BeginsOnly ⊥ output → BeginsOnly P output
-never-one P outputs.Begin e = absurd e
-never-one P _ e = tt
+all-begin : (P : List Output → Type 0) (Q : Type 0) → ((outs : List Output) → Q → P outs) → (before-it outs : List Output) → All (BeginsOnly Q) outs → OutputsBeginBehind P before-it outs
+all-begin P Q gives before-it [] all = tt
+all-begin P Q gives before-it (output ∷ outs) all =
+    (begins-one Q (P before-it) (gives before-it) output (All-head (BeginsOnly Q) output outs all), all-begin P Q gives (listed output before-it) outs (All-tail (BeginsOnly Q) output outs all))
 
 never : (P : List Output → Type 0) (before-it outs : List Output) → All (BeginsOnly ⊥) outs → OutputsBeginBehind P before-it outs
-never P before-it [] all = tt
-never P before-it (output ∷ outs) all =
-    (never-one (P before-it) output (All-head (BeginsOnly ⊥) output outs all), never P (listed output before-it) outs (All-tail (BeginsOnly ⊥) output outs all))
+never P before-it outs all = all-begin P ⊥ (λ _ no. absurd no) before-it outs all
 
-pub nobody-begins : (P : List Output → Type 0) (o after : Outcome) → AllMay (λ r. ⊥) o after → OutputsBeginBehind P [] after.outputs
-nobody-begins P o after all = never P [] after.outputs (All-weaker (MayPut (λ r. ⊥) o after) (BeginsOnly ⊥) (unbegun o after) after.outputs all)
+pub nobody-begins : (P : List Output → Type 0) (o after : Outcome) → ((outs : List Output) → live o.machine.server.state ≡ true → P outs) → AllMay (λ r. ⊥) o after → OutputsBeginBehind P [] after.outputs
+nobody-begins P o after gives all = all-begin P (live o.machine.server.state ≡ true) gives [] after.outputs (All-weaker (MayPut (λ r. ⊥) o after) (BeginsOnly (live o.machine.server.state ≡ true)) (unbegun o after) after.outputs all)
+
+mild-never : (low high : ℕ) (output : Output) → IsMild low high output → BeginsOnly ⊥ output
+mild-never low high outputs.Begin mild = mild
+mild-never low high (outputs.Restart as_primary) mild = absurd mild
+mild-never low high _ mild = tt
+
+mild-begins : (P : List Output → Type 0) (low : ℕ) (x : Outcome) → AllMild low x → OutputsBeginBehind P [] x.outputs
+mild-begins P low x mild = never P [] x.outputs (All-weaker (IsMild low x.knows.sequence) (BeginsOnly ⊥) (mild-never low x.knows.sequence) x.outputs mild)
 
 -- one more output, behind which P holds if a server comes to accept writes by it
 behind-push : (P : List Output → Type 0) (before-it outs : List Output) (output : Output) → OutputsBeginBehind P before-it outs → ((all : List Output) → all ≡ before-it ++ outs → BeginsOnly (P all) output) → OutputsBeginBehind P before-it (listed output outs)
@@ -540,6 +682,7 @@ armed-first outs until false is = absurd (no-way is)
 
 silent-never : (output : Output) → IsSilent output → BeginsOnly ⊥ output
 silent-never outputs.Begin silent = silent
+silent-never (outputs.Restart as_primary) silent = absurd silent
 silent-never _ silent = tt
 
 silent-begins : (P : List Output → Type 0) (outs : List Output) → All IsSilent outs → OutputsBeginBehind P [] outs
@@ -586,10 +729,19 @@ granted-begins now sequence grant snapshot b armable silent =
       other = silent-begins Mine b.outputs silent;
       leader = λ held _. renewed-by (λ (x : Outcome). OutputsBeginBehind Mine [] x.outputs) now waited.ttl grant.revision told
           (silent-begins Mine (listed (outputs.Stop StartTooLong) led.outputs) (silently led.outputs (outputs.Stop StartTooLong) rest tt)) (record {
-            kept = silent-begins Mine led.outputs rest;
-            writes = λ settling txn _. behind-push Mine [] led.outputs _ (silent-begins Mine led.outputs rest) (λ all is. tt);
-            adds = λ required. silent-begins Mine (listed (outputs.Require required) led.outputs) (silently led.outputs (outputs.Require required) rest tt);
-            drops = λ required. silent-begins Mine (listed (outputs.Require required) led.outputs) (silently led.outputs (outputs.Require required) rest tt);
+            plan = record {
+              kept = silent-begins Mine led.outputs rest;
+              writes = λ settling txn _. behind-push Mine [] led.outputs _ (silent-begins Mine led.outputs rest) (λ all is. tt);
+              adds = λ required. silent-begins Mine (listed (outputs.Require required) led.outputs) (silently led.outputs (outputs.Require required) rest tt);
+              drops = λ required. silent-begins Mine (listed (outputs.Require required) led.outputs) (silently led.outputs (outputs.Require required) rest tt);
+            };
+            clears = λ compared. behind-push Mine [] led.outputs _ (silent-begins Mine led.outputs rest) (λ all is. tt);
+            asks = λ candidate. mild-begins Mine b.knows.sequence (checking now candidate (unheard led)) (checking-mild b.knows.sequence now candidate (unheard led) (omega arith) rest);
+            judges = let rows : HandoverRows (AllMild b.knows.sequence) now grant.revision (unheard led) = handover-mild b.knows.sequence now grant.revision (unheard led) (omega arith) rest in record {
+              kept = mild-begins Mine b.knows.sequence (waiting_no_more (unheard led)) rows.kept;
+              clears = λ compared. mild-begins Mine b.knows.sequence (dropping compared (waiting_no_more (unheard led))) (rows.clears compared);
+              hands = λ candidate. mild-begins Mine b.knows.sequence (hands_over now grant.revision candidate (waiting_no_more (unheard led))) (rows.hands candidate);
+            };
           });
       stray = λ _. if-cases (λ (x : Outcome). OutputsBeginBehind Mine [] x.outputs) (is_refusing b.machine.watchdog.mode b.machine.watchdog.works) (ending_server now WatchdogNotArmed told) over
           (λ _. silent-begins Mine (listed (outputs.Stop WatchdogNotArmed) b.outputs) (silently b.outputs (outputs.Stop WatchdogNotArmed) silent tt))
@@ -614,13 +766,21 @@ begins-fronts now sequence grant snapshot o b armable (Released revision held al
     subst (λ (z : Outcome). OutputsBeginBehind (BeginsOn now sequence grant b) [] z.outputs) (sym (granted-none now sequence grant snapshot b alone))
     (never (BeginsOn now sequence grant b) [] b.outputs (All-weaker (IsReleaseOr (o.knows.sequence + 1) revision) (BeginsOnly ⊥) (release-never (o.knows.sequence + 1) revision) b.outputs all))
 
-pub grant-begins : (now : Ticks) (sequence : ℕ) (grant : Granted) (snapshot : SnapshotFacts) (o : Outcome) → IsAlone o → (Decides sequence grant (before now o) → is_armable (before now o).machine.watchdog.mode (before now o).machine.watchdog.works ≡ true) → All IsSilent o.outputs
-    → OutputsBeginBehind (BeginsOn now sequence grant (before now o)) [] (granted now sequence grant snapshot (before now o)).outputs
-grant-begins now sequence grant snapshot o alone armable silent = begins-fronts now sequence grant snapshot o (before now o) armable (before-fronts now o alone silent)
+-- what precedes an input lets no server begin
+fronts-begin : (P : List Output → Type 0) (o b : Outcome) → Fronts o b → OutputsBeginBehind P [] b.outputs
+fronts-begin P o b (Silent all) = silent-begins P b.outputs all
+fronts-begin P o b (Released revision held alone role ended counted all) = never P [] b.outputs (All-weaker (IsReleaseOr (o.knows.sequence + 1) revision) (BeginsOnly ⊥) (release-never (o.knows.sequence + 1) revision) b.outputs all)
 
-begins-one : (P Q : Type 0) → (P → Q) → (output : Output) → BeginsOnly P output → BeginsOnly Q output
-begins-one P Q more outputs.Begin e = more e
-begins-one P Q more _ e = tt
+told-begins : (P : List Output → Type 0) (o b : Outcome) → Fronts o b → ReplyRows (λ (x : Outcome). OutputsBeginBehind P [] x.outputs) b
+told-begins P o b fronts = let rows : ReplyRows (Fronts o) b = told-fronts o b fronts in record { kept = fronts-begin P o b fronts; answers = λ request told. fronts-begin P o (answering request told b) (rows.answers request told) }
+
+pub grant-begins : (now : Ticks) (sequence : ℕ) (grant : Granted) (snapshot : SnapshotFacts) (o : Outcome) → IsAlone o → (Decides sequence grant (before now o) → is_armable (before now o).machine.watchdog.mode (before now o).machine.watchdog.works ≡ true) → All IsSilent o.outputs
+    → OutputsBeginBehind (BeginsOn now sequence grant (before now o)) [] (granted_any now sequence grant snapshot (before now o)).outputs
+grant-begins now sequence grant snapshot o alone armable silent = let b : Outcome = before now o in
+    let fronts : Fronts o b = before-fronts now o alone silent in
+    let Mine : List Output → Type 0 = BeginsOn now sequence grant b in
+    granted-any-by (λ (x : Outcome). OutputsBeginBehind Mine [] x.outputs) now sequence grant snapshot b (fronts-begin Mine o b fronts) (told-begins Mine o (learned snapshot b) (learned-fronts snapshot o b fronts))
+    (begins-fronts now sequence grant snapshot o b armable fronts)
 
 pub begins-weaker : (P Q : List Output → Type 0) → ((outs : List Output) → P outs → Q outs) → (before-it outs : List Output) → OutputsBeginBehind P before-it outs → OutputsBeginBehind Q before-it outs
 begins-weaker P Q more before-it [] begin = tt

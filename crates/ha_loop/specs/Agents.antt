@@ -67,10 +67,12 @@ latest = 2 ^ 61
 abbrev pub most_messages : ℕ
 most_messages = 2 ^ 60
 
--- what holds of all that an agent knows: its turns began at moments that are reckoned with, and what it asked for are leases
+-- what holds of all that an agent knows: its turns began at moments that are reckoned with, what it asked for are leases, and what an
+-- operator waits for was asked at such a moment
 pub record IsSound (knows : Knowledge) : Type 0 where
   pub turn : ForSome knows.last_turn (λ moment. moment.0 ≤ latest)
   pub span : ForSome knows.waited (λ waited. IsLeaseSpan waited.ttl.0)
+  pub since : ForSome knows.operating (λ waiting. waiting.since.0 ≤ latest)
 
 -- who ends its server waits for no answer
 abbrev pub EndsAlone : RoleFacts → Option Waited → Type 0
@@ -107,12 +109,14 @@ fresh_knowledge who first run = record {
   settings = default_config;
   turn_settings = default_config;
   turn_sync = None;
+  turn_failover = None;
   noted = None;
   begun = None;
   crashed = None;
   known = record { bits = 0 };
   informed = false;
   answers = [];
+  operating = None;
 }
 
 -- what an input has made so far: the agent's role and what it knows, its machine, and all outputs

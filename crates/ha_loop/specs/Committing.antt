@@ -244,6 +244,8 @@ IsCovered outputs.Disarmed = Unit {0}
 IsCovered outputs.CannotArm = Unit {0}
 IsCovered outputs.PostponesPromotion = Unit {0}
 IsCovered (outputs.DoesNotRace bar) = Unit {0}
+IsCovered (outputs.HandsOver candidate) = Unit {0}
+IsCovered (outputs.Told request told) = Unit {0}
 IsCovered _ = ⊥
 
 -- an output that may be an action of its own: neither does it ask for a write of the sync key, nor are others required by it, nor does

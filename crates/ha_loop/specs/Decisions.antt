@@ -10,7 +10,7 @@ use Rattle.event_book.specs.declared.reason.Reason.TheVariants.{StartTooLong, Wa
 use Rattle.cluster_config.specs.Snapshots.{SnapshotFacts}
 use Rattle.ha_loop.specs.declared.knowledge.Knowledge.{Knowledge}
 use Rattle.ha_loop.specs.declared.knowledge.Question.{Question}
-use Rattle.ha_loop.specs.declared.knowledge.Question.TheVariants.{Asking, Creating, Renewing, Claiming, Syncing}
+use Rattle.ha_loop.specs.declared.knowledge.Question.TheVariants.{Asking, Creating, Renewing, Claiming, Syncing, Checking}
 use Rattle.ha_loop.specs.declared.knowledge.Waited.{Waited}
 use Rattle.ha_loop.specs.declared.machine.Machine.{Machine}
 use Rattle.ha_loop.specs.declared.output.Output.TheVariants as outputs
@@ -19,7 +19,8 @@ use Rattle.ha_loop.specs.Acting.{waiting_no_more, releasing, ending_server, armi
 use Rattle.ha_loop.specs.Agents.{RoleFacts, Follower, Holder, Ready, Leader, Ending, Stray, Outcome, is_ready, is_leader}
 use Rattle.ha_loop.specs.Claiming.{begins_or_claims, claim_fails, claim_granted}
 use Rattle.ha_loop.specs.Outputs.{listed}
-use Rattle.ha_loop.specs.Planning.{planned, settled}
+use Rattle.ha_loop.specs.HandingOver.{duties}
+use Rattle.ha_loop.specs.Planning.{settled}
 use Rattle.ha_loop.specs.Synchronous.{may_lead_in_sync}
 use Rattle.ha_loop.specs.Snapshots.{informed, is_active, leader_loses_key, stray_loses_key}
 
@@ -33,10 +34,10 @@ abbrev pub is_start_too_long : Ticks → Knowledge → State → Bool
 is_start_too_long now knows (states.Starting as_primary at) = has_lasted now (10 * knows.settings.primary_start_timeout) knows.begun
 is_start_too_long now knows _ = false
 
--- then another member is to lead; else the leader takes a step with its synchronous standbys
+-- then another member is to lead; else the leader does what it owes its cluster
 abbrev pub judges_start : Ticks → ℕ → Outcome → Outcome
 judges_start now revision o =
-    if is_start_too_long now o.knows o.machine.server.state then record (ending_server now StartTooLong o) { role = Ending revision HandOver } else planned now revision o
+    if is_start_too_long now o.knows o.machine.server.state then record (ending_server now StartTooLong o) { role = Ending revision HandOver } else duties now revision o
 
 -- the lease of a leader is renewed: its watchdog is fed
 abbrev pub leader_renewed : Ticks → Ticks → ℕ → Outcome → Outcome
@@ -106,6 +107,7 @@ belongs Asking role = may_create role
 belongs Creating role = may_create role
 belongs Claiming role = is_ready role
 belongs (Syncing settling) role = is_leader role
+belongs Checking role = is_leader role
 belongs _ role = is_active role
 
 -- a grant that is waited for is used where its question belongs to the role; its snapshot is then the newest

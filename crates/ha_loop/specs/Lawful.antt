@@ -75,6 +75,7 @@ Hears s m heard now (heards.Granted sequence grant snapshot) o = HearsGrant s m 
 Hears s m heard now (heards.Mismatch sequence key found) o = Unit {0}
 Hears s m heard now (heards.Asked from run sequence) o = Unit {0}
 Hears s m heard now (heards.Answered sequence answer) o = Unit {0}
+Hears s m heard now (heards.Operated action) o = Unit {0}
 
 -- what the law reads of a question to the key store
 abbrev pub query_in : Body → Option Query

@@ -8,8 +8,10 @@ pub mod Committing
 pub mod Decisions
 pub mod Fits
 pub mod FreeKey
+pub mod HandingOver
 pub mod Info
 pub mod Lawful
+pub mod Operators
 pub mod Orders
 pub mod Outputs
 pub mod Peers

@@ -1,7 +1,7 @@
 -- What the outputs of an input, carried out in their order, make of a machine.
 use Rattle.std.specs.Prelude.{◌≡◌, nat_le, if◌then◌else◌, List, [], ◌∷◌, Option, Some, None, All}
 use Rattle.pat_base.specs.declared.ticks.Ticks.{Ticks}
-use Rattle.pg_model.specs.Status.{status_replica_started, status_stopping, status_following}
+use Rattle.pg_model.specs.Status.{status_replica_started, status_stopping, status_following, status_restarted, status_wiped}
 use Rattle.event_book.specs.declared.message.Body.{Body}
 use Rattle.event_book.specs.declared.message.Body.TheVariants as bodies
 use Rattle.event_book.specs.Members.{server_id_of}
@@ -32,6 +32,8 @@ machine_after_output now machine outputs.Begin = with_server (status_begun now m
 machine_after_output now machine (outputs.StartReplica leader) = with_server (status_replica_started now (upstream_of leader) machine.server) machine
 machine_after_output now machine (outputs.Stop reason) = with_server (status_stopping now machine.server) machine
 machine_after_output now machine outputs.ShutDown = with_server (status_stopping now machine.server) machine
+machine_after_output now machine (outputs.Restart as_primary) = with_server (status_restarted now machine.server) machine
+machine_after_output now machine outputs.Wipe = with_server (status_wiped machine.server) machine
 machine_after_output now machine (outputs.Follow leader) = with_server (status_following (server_id_of leader) machine.server) machine
 machine_after_output now machine (outputs.Armed until) = with_deadline until machine
 machine_after_output now machine (outputs.Fed until) = with_deadline until machine

@@ -1,5 +1,5 @@
 -- Lists of outputs.
-use Rattle.std.specs.Prelude.{ℕ, ◌++◌, ◌||◌, Bool, true, false, List, [], ◌∷◌}
+use Rattle.std.specs.Prelude.{ℕ, ◌≡◌, ◌++◌, ◌||◌, Bool, true, false, List, [], ◌∷◌}
 use Rattle.ha_loop.specs.declared.output.Output.{Output}
 use Rattle.ha_loop.specs.declared.output.Output.TheVariants as outputs
 
@@ -32,9 +32,10 @@ abbrev pub has_one : (Output → Bool) → List Output → Bool
 has_one test [] = false
 has_one test (output ∷ later) = test output || has_one test later
 
--- P holds, where the server comes to accept writes by this output, or will when its start is complete
+-- P holds, where the server comes to accept writes by this output, or will when its start is complete; so does a primary that starts again
 abbrev pub BeginsOnly : Type 0 → Output → Type 0
 BeginsOnly P outputs.Begin = P
+BeginsOnly P (outputs.Restart as_primary) = as_primary ≡ true → P
 BeginsOnly P _ = Unit {0}
 
 -- P holds of the outputs before each one by which the server comes to accept writes; the first list stands before the second

@@ -4,13 +4,14 @@ use Rattle.pat_base.specs.declared.member_id.MemberId.{MemberId}
 use Rattle.pat_base.specs.declared.peer_answer.PeerAnswer.{PeerAnswer}
 use Rattle.pat_base.specs.declared.ticks.Ticks.{Ticks}
 use Rattle.ha_loop.specs.declared.knowledge.Question.{Question}
-use Rattle.ha_loop.specs.declared.knowledge.Question.TheVariants.{Asking}
+use Rattle.ha_loop.specs.declared.knowledge.Question.TheVariants.{Asking, Checking}
 use Rattle.ha_loop.specs.declared.knowledge.Waited.{Waited}
 use Rattle.ha_loop.specs.declared.output.Output.TheVariants as outputs
 use Rattle.ha_loop.specs.Acting.{waiting_no_more}
 use Rattle.ha_loop.specs.Agents.{Outcome}
 use Rattle.ha_loop.specs.Answers.{with_answer, all_answered, peer_answer_of}
 use Rattle.ha_loop.specs.Decisions.{may_create}
+use Rattle.ha_loop.specs.HandingOver.{check_answered}
 use Rattle.ha_loop.specs.Outputs.{listed}
 use Rattle.ha_loop.specs.Racing.{judged}
 
@@ -18,12 +19,17 @@ use Rattle.ha_loop.specs.Racing.{judged}
 abbrev pub asked : MemberId → ℕ → ℕ → Outcome → Outcome
 asked from run sequence o = record o { outputs = listed (outputs.Answer from run sequence (peer_answer_of o.knows.who o.machine.server)) o.outputs }
 
--- a question to the other members
+-- a question to the other members in a race
 abbrev pub is_asking : Question → Bool
 is_asking Asking = true
 is_asking _ = false
 
--- answers of this number are waited for
+-- a question of a leader, who may lead in its place
+abbrev pub is_checking : Question → Bool
+is_checking Checking = true
+is_checking _ = false
+
+-- answers of this number are waited for in a race
 abbrev pub awaits_answer : Waited → ℕ → Bool
 awaits_answer waited sequence = is_asking waited.question && waited.sequence == sequence
 
@@ -43,10 +49,14 @@ keeping answer o = record o { knows = record o.knows { answers = with_answer ans
 abbrev pub accepted_answer : Ticks → PeerAnswer → Outcome → Outcome
 accepted_answer now answer o = if may_create o.role then judged_if_all now (keeping answer o) else waiting_no_more o
 
+-- a leader waits for answers of this number
+abbrev pub awaits_check : Waited → ℕ → Bool
+awaits_check waited sequence = is_checking waited.question && waited.sequence == sequence
+
 -- an answer, by what is waited for
 abbrev pub answered_for : Ticks → ℕ → PeerAnswer → Option Waited → Outcome → Outcome
 answered_for now sequence answer None o = o
-answered_for now sequence answer (Some waited) o = if awaits_answer waited sequence then accepted_answer now answer o else o
+answered_for now sequence answer (Some waited) o = if awaits_answer waited sequence then accepted_answer now answer o else if awaits_check waited sequence then check_answered now answer o.role o else o
 
 -- the answer of another member: what is waited for is used, and any other dropped
 abbrev pub answered : Ticks → ℕ → PeerAnswer → Outcome → Outcome

@@ -17,6 +17,7 @@ use Rattle.pg_model.specs.Running.{is_primary}
 use Rattle.event_book.specs.declared.message.Body.TheVariants as bodies
 use Rattle.event_book.specs.declared.reason.Reason.TheVariants.{LeaderKeyLost}
 use Rattle.cluster_config.specs.declared.snapshot.LeaderEntry.{LeaderEntry}
+use Rattle.cluster_config.specs.KeyValues.{failover_in}
 use Rattle.cluster_config.specs.Snapshots.{SnapshotFacts, leader_in, settings_in, failsafe_in, has_row}
 use Rattle.ha_loop.specs.declared.knowledge.Knowledge.{Knowledge}
 use Rattle.ha_loop.specs.declared.knowledge.Question.{Question}
@@ -164,9 +165,9 @@ abbrev pub awaits_read : Option Waited → ℕ → Bool
 awaits_read None sequence = false
 awaits_read (Some waited) sequence = is_read waited.question && waited.sequence == sequence
 
--- a read was answered at this moment, with this snapshot: what this turn asks for is judged by its settings and its sync key
+-- a read was answered at this moment, with this snapshot: what this turn asks for is judged by its settings, its sync key and its failover key
 abbrev pub read_noted : Ticks → SnapshotFacts → Knowledge → Knowledge
-read_noted now snapshot knows = record (informed snapshot knows) { last_read = Some now; turn_settings = settings_in knows.settings snapshot; turn_sync = sync_read_in snapshot }
+read_noted now snapshot knows = record (informed snapshot knows) { last_read = Some now; turn_settings = settings_in knows.settings snapshot; turn_sync = sync_read_in snapshot; turn_failover = failover_in snapshot }
 
 -- the answer to a read that is waited for is used by a role that reads
 abbrev pub accepted : Ticks → List HistoryPoint → SnapshotFacts → Outcome → Outcome

@@ -1,5 +1,5 @@
 -- What an agent shows of itself and of its server.
-use Rattle.std.specs.Prelude.{false, None}
+use Rattle.std.specs.Prelude.{is_some, None}
 use Rattle.pat_base.specs.declared.ticks.Ticks.{Ticks}
 use Rattle.cluster_config.specs.declared.view.AgentView.{AgentView}
 use Rattle.cluster_config.specs.declared.view.RoleWord.{RoleWord}
@@ -26,7 +26,7 @@ view_of now role knows machine = record {
   last_read = knows.last_read;
   last_turn = knows.last_turn;
   hold = machine.hold;
-  waits = false;
+  waits = is_some knows.operating;
 }
 
 -- what the agent shows that stands so

@@ -1,4 +1,4 @@
--- What a woken agent does: a deadline that has passed comes first, and then a turn that is due.
+-- What a woken agent does: an operator whose time is over comes first, then a deadline that has passed, and then a turn that is due.
 use Rattle.std.specs.Prelude.{ℕ, ◌&&◌, ◌||◌, nat_le, if◌then◌else◌, not, Bool, true, false, is_none, Option, Some, None}
 use Rattle.pat_base.specs.declared.server_state.State.{State}
 use Rattle.pat_base.specs.declared.server_state.State.TheVariants as states
@@ -8,7 +8,7 @@ use Rattle.event_book.specs.declared.message.Body.TheVariants as bodies
 use Rattle.event_book.specs.declared.reason.Reason.TheVariants.{StoreOutOfReach}
 use Rattle.ha_loop.specs.declared.knowledge.Knowledge.{Knowledge}
 use Rattle.ha_loop.specs.declared.knowledge.Question.{Question}
-use Rattle.ha_loop.specs.declared.knowledge.Question.TheVariants.{Reading, Asking, Creating, Renewing, Claiming, Syncing}
+use Rattle.ha_loop.specs.declared.knowledge.Question.TheVariants.{Reading, Asking, Creating, Renewing, Claiming, Syncing, Checking}
 use Rattle.ha_loop.specs.declared.knowledge.Waited.{Waited}
 use Rattle.ha_loop.specs.declared.machine.Machine.{Machine}
 use Rattle.ha_loop.specs.declared.role.Why.TheVariants.{Lost}
@@ -16,6 +16,8 @@ use Rattle.ha_loop.specs.Acting.{seconds_after, asking, waiting_no_more, ending_
 use Rattle.ha_loop.specs.Agents.{RoleFacts, Leader, Ending, Stray, Outcome}
 use Rattle.ha_loop.specs.Before.{before}
 use Rattle.ha_loop.specs.Claiming.{claim_fails}
+use Rattle.ha_loop.specs.HandingOver.{judged_if_leading}
+use Rattle.ha_loop.specs.Operators.{given_up}
 use Rattle.ha_loop.specs.Peers.{judged_if_racing}
 
 -- an agent that ends its server can find that it has ended
@@ -71,6 +73,7 @@ unanswered now Creating o = waiting_no_more o
 unanswered now Claiming o = claim_fails (waiting_no_more o)
 unanswered now (Syncing settling) o = waiting_no_more o
 unanswered now Asking o = judged_if_racing now o
+unanswered now Checking o = judged_if_leading now o.role o
 
 -- a deadline that has passed, by what is waited for
 abbrev pub overdue_for : Ticks → Option Waited → Outcome → Outcome
@@ -108,6 +111,10 @@ turn_begins now o = turn_as now o.role (record o { knows = turn_noted now o.know
 abbrev pub turned : Ticks → Outcome → Outcome
 turned now o = if has_turn now o.knows then turn_begins now o else o
 
+-- a wake that finds something to do: operators whose time is over are answered first
+abbrev pub roused : Ticks → Outcome → Outcome
+roused now o = turned now (overdue now (given_up now (before now o)))
+
 -- a wake
 abbrev pub woken : Ticks → Outcome → Outcome
-woken now o = if is_due now o.role o.knows o.machine then turned now (overdue now (before now o)) else before now o
+woken now o = if is_due now o.role o.knows o.machine then roused now o else before now o

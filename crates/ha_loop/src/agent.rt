@@ -5,26 +5,28 @@ ghost use Rattle.lease_law.specs.States.{start_machine};
 ghost use Rattle.ha_loop.specs.declared.machine.Machine.{Machine};
 ghost use Rattle.ha_loop.specs.declared.heard.Heard.TheVariants as heards;
 ghost use Rattle.ha_loop.specs.Agents.{AgentFacts, RoleFacts, IsSound, IsWithin, Follower, role_of, word_of, fresh_knowledge, made, latest, most_messages};
-ghost use Rattle.ha_loop.specs.Before.{before};
 ghost use Rattle.ha_loop.specs.Committing.{CommitsFrom};
 ghost use Rattle.ha_loop.specs.FreeKey.{AsksWhereFree, AsksWhereWon, BeginsWhereGranted};
 ghost use Rattle.ha_loop.specs.Lawful.{IsLawfulFrom};
 ghost use Rattle.ha_loop.specs.Outputs.{most_outputs};
 ghost use Rattle.ha_loop.specs.Seen.{machine_with, machine_seen};
 ghost use Rattle.ha_loop.specs.Start.{started_machine};
-ghost use Rattle.ha_loop.specs.Table.{step, act};
+ghost use Rattle.ha_loop.specs.Table.{prepared, step};
 ghost use Rattle.ha_loop.specs.Views.{view_of};
 ghost use Rattle.ha_loop.specs.Wake.{due_from, is_due};
 
 use crate::before::before;
 use crate::decisions::{granted, refused};
+use crate::operators::{
+    grants_operator, look, operate, operates, operator_granted, operator_refused,
+};
 use crate::peers::{answered, asked};
 use crate::role::Role;
 use crate::snapshots::got;
 use crate::view::{view_of, word_of};
 use crate::wake::{due_from, is_due, wake};
 use crate::{Answers, Heard, Knowledge, Machine, Outputs, Who};
-use cluster_config::AgentView;
+use cluster_config::{AgentView, Snapshot};
 use lease_store::{Config, OperatorAction};
 use pat_base::{MemberSet, State, Ticks};
 use std::marker::Model;
@@ -110,9 +112,9 @@ impl Agent {
         ensures lawful { out.old.outputs ≡ [] → IsLawfulFrom now heard (made self.role self.knows machine.old []) (made result.role result.knows machine.new out.new.outputs) }
         ensures commits { out.old.outputs ≡ [] → CommitsFrom now heard (made self.role self.knows machine.old []) (made result.role result.knows machine.new out.new.outputs) }
         // A free leader key is asked for, by whom nothing bars and who wins; and whom it is granted to begins.
-        ensures free_key { AsksWhereFree now heard (before now (made self.role self.knows machine.old out.old.outputs)) (made result.role result.knows machine.new out.new.outputs) }
-        ensures won_race { AsksWhereWon now heard (before now (made self.role self.knows machine.old out.old.outputs)) (made result.role result.knows machine.new out.new.outputs) }
-        ensures granted_key { BeginsWhereGranted now heard (before now (made self.role self.knows machine.old out.old.outputs)) (made result.role result.knows machine.new out.new.outputs) }
+        ensures free_key { AsksWhereFree now heard (prepared now heard (made self.role self.knows machine.old out.old.outputs)) (made result.role result.knows machine.new out.new.outputs) }
+        ensures won_race { AsksWhereWon now heard (prepared now heard (made self.role self.knows machine.old out.old.outputs)) (made result.role result.knows machine.new out.new.outputs) }
+        ensures granted_key { BeginsWhereGranted now heard (prepared now heard (made self.role self.knows machine.old out.old.outputs)) (made result.role result.knows machine.new out.new.outputs) }
         ensures numbers { result.knows.sequence ≤ self.knows.sequence + most_outputs }
         ensures room { out.old.spare ≤ out.new.spare + most_outputs }
     {
@@ -121,25 +123,26 @@ impl Agent {
         Agent { role, knows }
     }
 
-    /// A request of an operator, which passed its checks. Nothing is asked of agents yet, so it only takes note of its server.
+    /// A request of an operator, which passed its checks: one input, `Heard::Operated`.
     pub fn act(
         self,
         now: Ticks,
-        _action: OperatorAction,
+        action: OperatorAction,
+        history: &History,
         machine: &mut Machine,
         out: &mut Outputs,
     ) -> Agent
+        requires moment { now.0 ≤ latest }
+        requires server { IsWithin machine.old.server }
         requires numbers { self.knows.sequence + most_outputs ≤ most_messages }
         requires room { most_outputs ≤ out.old.spare }
-        ensures outcome { made result.role result.knows machine.new out.new.outputs ≡ act now (made self.role self.knows machine.old out.old.outputs) }
-        ensures lawful { out.old.outputs ≡ [] → IsLawfulFrom now heards.Wake (made self.role self.knows machine.old []) (made result.role result.knows machine.new out.new.outputs) }
-        ensures commits { out.old.outputs ≡ [] → CommitsFrom now heards.Wake (made self.role self.knows machine.old []) (made result.role result.knows machine.new out.new.outputs) }
+        ensures outcome { made result.role result.knows machine.new out.new.outputs ≡ step now history.now.points (heards.Operated action) (made self.role self.knows machine.old out.old.outputs) }
+        ensures lawful { out.old.outputs ≡ [] → IsLawfulFrom now (heards.Operated action) (made self.role self.knows machine.old []) (made result.role result.knows machine.new out.new.outputs) }
+        ensures commits { out.old.outputs ≡ [] → CommitsFrom now (heards.Operated action) (made self.role self.knows machine.old []) (made result.role result.knows machine.new out.new.outputs) }
         ensures numbers { result.knows.sequence ≤ self.knows.sequence + most_outputs }
         ensures room { out.old.spare ≤ out.new.spare + most_outputs }
     {
-        let Agent { role, mut knows } = self;
-        let role = before(role, &mut knows, machine, out, now);
-        Agent { role, knows }
+        self.step(now, Heard::Operated { action }, history, machine, out)
     }
 
     /// How many messages of this run are left.
@@ -147,6 +150,21 @@ impl Agent {
         ensures { result ≡ most_messages - self.now.knows.sequence }
     {
         MOST.saturating_sub(self.knows.sequence)
+    }
+
+    /// The number that its next message in this run has.
+    pub fn next_number(&self) -> u64
+        requires { self.now.knows.sequence < most_messages }
+        ensures { result ≡ self.now.knows.sequence + 1 }
+    {
+        self.knows.sequence + 1
+    }
+
+    /// What the key store had, by the newest answer that it accepted.
+    pub fn seen(&self) -> Option<&Snapshot>
+        ensures { option_copied result ≡ self.now.knows.seen }
+    {
+        self.knows.seen.as_ref()
     }
 
     /// What it shows of itself and of its server.
@@ -187,11 +205,13 @@ fn fresh_knowledge(who: Who, first: Ticks, run: u64) -> Knowledge
         settings: Config::defaults(),
         turn_settings: Config::defaults(),
         turn_sync: None,
+        turn_failover: None,
         noted: None,
         begun: None,
         crashed: None,
         known: MemberSet::empty(),
         informed: false,
+        operating: None,
     }
 }
 
@@ -219,6 +239,7 @@ fn hear(
         Heard::Wake => wake(role, knows, machine, out, now),
         Heard::Got { sequence, snapshot } => {
             let role = before(role, knows, machine, out, now);
+            look(&role, knows, out, sequence, &snapshot);
             got(role, knows, machine, out, now, history, sequence, snapshot)
         }
         Heard::Granted {
@@ -227,10 +248,18 @@ fn hear(
             snapshot,
         } => {
             let role = before(role, knows, machine, out, now);
+            if grants_operator(sequence, &grant, knows) {
+                operator_granted(knows, out, snapshot);
+                return role;
+            }
             granted(role, knows, machine, out, now, sequence, grant, snapshot)
         }
         Heard::Mismatch { sequence, .. } => {
             let role = before(role, knows, machine, out, now);
+            if operates(knows, sequence) {
+                operator_refused(knows, out);
+                return role;
+            }
             refused(role, knows, machine, out, now, sequence)
         }
         Heard::Asked {
@@ -244,7 +273,11 @@ fn hear(
         }
         Heard::Answered { sequence, answer } => {
             let role = before(role, knows, machine, out, now);
-            answered(&role, knows, machine, out, now, sequence, answer);
+            answered(role, knows, machine, out, now, sequence, answer)
+        }
+        Heard::Operated { action } => {
+            let role = before(role, knows, machine, out, now);
+            operate(action.request, action.asked, knows, machine, out, now);
             role
         }
     }

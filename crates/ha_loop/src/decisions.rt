@@ -3,6 +3,7 @@ ghost use Rattle.std.specs.Prelude.{◌≡◌, ◌≤◌, ◌<◌, ◌+◌, ◌*
 ghost use Rattle.leader_key.specs.Lease.{lease_revision, writer_revision};
 ghost use Rattle.leader_key.specs.Watchdog.{IsLeaseSpan};
 ghost use Rattle.ha_loop.specs.declared.knowledge.Knowledge.{Knowledge};
+ghost use Rattle.ha_loop.specs.Answers.{most_grant_outputs};
 ghost use Rattle.ha_loop.specs.Acting.{is_refusing, is_hold_active, waiting_no_more};
 ghost use Rattle.ha_loop.specs.Agents.{IsSound, IsWithin, Follower, Leader, Stray, role_of, made, latest};
 ghost use Rattle.ha_loop.specs.Decisions.{has_lasted, is_start_too_long, judges_start, leader_renewed, takes_over, stray_renewed, may_take, gives_back, arms, takes_key, lease_granted, may_create, belongs, accepted_grant, asks_lease, is_decision, is_lease_of, is_sync_decision, asks_sync, is_write_of, accepted_sync, awaits_decision, granted_for, granted, follower_for, create_refused, renewal_refused, refused_as, refused_for, refused};
@@ -37,11 +38,11 @@ pub(crate) fn granted(
     requires sound { IsSound knows.old }
     requires server { IsWithin machine.old.server }
     requires numbers { knows.old.sequence < 2 ^ 60 }
-    requires room { 3 ≤ out.old.spare }
+    requires room { most_grant_outputs ≤ out.old.spare }
     ensures outcome { made (role_of result) knows.new machine.new out.new.outputs ≡ granted now sequence grant snapshot (made (role_of role) knows.old machine.old out.old.outputs) }
     ensures sound { IsSound knows.new }
     ensures numbers { knows.new.sequence ≤ knows.old.sequence + 1 }
-    ensures room { out.old.spare ≤ out.new.spare + 3 }
+    ensures room { out.old.spare ≤ out.new.spare + most_grant_outputs }
 {
     let Some(waited) = knows.waited else {
         return role;
@@ -72,11 +73,11 @@ fn accept_grant(
     requires sound { IsSound knows.old }
     requires server { IsWithin machine.old.server }
     requires numbers { knows.old.sequence < 2 ^ 60 }
-    requires room { 3 ≤ out.old.spare }
+    requires room { most_grant_outputs ≤ out.old.spare }
     ensures outcome { made (role_of result) knows.new machine.new out.new.outputs ≡ accepted_grant now waited grant.revision snapshot (made (role_of role) knows.old machine.old out.old.outputs) }
     ensures sound { IsSound knows.new }
     ensures numbers { knows.new.sequence ≤ knows.old.sequence + 1 }
-    ensures room { out.old.spare ≤ out.new.spare + 3 }
+    ensures room { out.old.spare ≤ out.new.spare + most_grant_outputs }
 {
     if !belongs(waited.question, &role) {
         knows.waited = None;
@@ -147,7 +148,7 @@ fn asks_sync(question: Question) -> bool
 }
 
 /// The grant is one of another write, to this member.
-fn is_write_of(me: MemberId, grant: &Granted) -> bool
+pub(crate) fn is_write_of(me: MemberId, grant: &Granted) -> bool
     ensures { result ≡ is_write_of me grant.now }
 {
     !grant.leased() && grant.by().number == me.number
@@ -167,7 +168,7 @@ fn belongs(question: Question, role: &Role) -> bool
     match question {
         Question::Asking | Question::Creating => may_create(role),
         Question::Claiming => matches!(role, Role::Ready(_)),
-        Question::Syncing(_) => matches!(role, Role::Leader(_)),
+        Question::Syncing(_) | Question::Checking => matches!(role, Role::Leader(_)),
         Question::Reading | Question::Renewing => is_active(role),
     }
 }
@@ -195,11 +196,11 @@ fn lease_granted(
     requires sound { IsSound knows.old }
     requires server { IsWithin machine.old.server }
     requires numbers { knows.old.sequence < 2 ^ 60 }
-    requires room { 3 ≤ out.old.spare }
+    requires room { most_grant_outputs ≤ out.old.spare }
     ensures outcome { made (role_of result) knows.new machine.new out.new.outputs ≡ lease_granted now ttl grant.revision (role_of role) (made (role_of role) knows.old machine.old out.old.outputs) }
     ensures sound { IsSound knows.new }
     ensures numbers { knows.new.sequence ≤ knows.old.sequence + 1 }
-    ensures room { out.old.spare ≤ out.new.spare + 3 }
+    ensures room { out.old.spare ≤ out.new.spare + most_grant_outputs }
 {
     match role {
         Role::Leader(writer) => leader_renewed(writer, knows, machine, out, now, ttl, grant),
@@ -263,7 +264,7 @@ fn refused_as(
         Question::Creating => create_refused(role),
         Question::Renewing => renewal_refused(role, machine, out, now),
         Question::Claiming => claim_fails(role, knows, machine, out),
-        Question::Reading | Question::Asking | Question::Syncing(_) => role,
+        Question::Reading | Question::Asking | Question::Syncing(_) | Question::Checking => role,
     }
 }
 

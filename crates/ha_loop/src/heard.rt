@@ -1,11 +1,11 @@
 //! What an agent hears.
 
 use cluster_config::Snapshot;
-use lease_store::{Expected, Granted, Key};
+use lease_store::{Expected, Granted, Key, OperatorAction};
 use pat_base::{MemberId, PeerAnswer};
 
-/// What comes to an agent: a wake, an answer of the key store or of another member to the question of this number in its run, or
-/// a question of another member.
+/// What comes to an agent: a wake, an answer of the key store or of another member to the question of this number in its run, a
+/// question of another member, or what an operator asks.
 #[derive(Debug, Drop)]
 pub enum Heard {
     Wake,
@@ -36,5 +36,9 @@ pub enum Heard {
     Answered {
         sequence: u64,
         answer: PeerAnswer,
+    },
+    /// An operator asks for this, which passed its checks.
+    Operated {
+        action: OperatorAction,
     },
 }

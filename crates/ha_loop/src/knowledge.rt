@@ -1,8 +1,8 @@
 //! All that an agent knows beside its role.
 
-use crate::{Answers, Who};
+use crate::{Answers, Operating, Who};
 use cluster_config::Snapshot;
-use lease_store::{Config, SyncKey};
+use lease_store::{Config, FailoverKey, SyncKey};
 use pat_base::{Lsn, MemberSet, Ticks};
 
 /// What a leader's required list becomes once its write of the sync key is granted.
@@ -31,6 +31,8 @@ pub enum Question {
     Claiming,
     /// May it name the synchronous standbys, so that its required list becomes this?
     Syncing(Settling),
+    /// Which other member may lead in its place?
+    Checking,
 }
 
 /// A sync key that was read, with its revision.
@@ -68,9 +70,10 @@ pub struct Knowledge {
     /// The newest snapshot, and the settings of its configuration.
     pub seen: Option<Snapshot>,
     pub settings: Config,
-    /// The settings and the sync key that the last turn read: what it asked for is judged by them.
+    /// The settings, the sync key and the failover key that the last turn read: what it asked for is judged by them.
     pub turn_settings: Config,
     pub turn_sync: Option<SyncRead>,
+    pub turn_failover: Option<FailoverKey>,
     /// Where its log ended when a standby was last added to the required list, or the server taken over: who becomes a
     /// standby must have confirmed this position.
     pub noted: Option<Lsn>,
@@ -83,4 +86,6 @@ pub struct Knowledge {
     pub informed: bool,
     /// What other members answered since this one asked them last.
     pub answers: Answers,
+    /// The request of an operator that waits for its result.
+    pub operating: Option<Operating>,
 }

@@ -5,6 +5,7 @@ ghost use Rattle.pat_base.specs.declared.peer_answer.PeerAnswer.{PeerAnswer};
 ghost use Rattle.pat_base.specs.declared.ticks.Ticks.{Ticks};
 ghost use Rattle.pat_base.specs.ServerState.{live};
 ghost use Rattle.lease_store.specs.declared.action.Bar.{Bar};
+ghost use Rattle.lease_store.specs.declared.action.OperatorAction.{OperatorAction};
 ghost use Rattle.lease_store.specs.declared.granted.Granted.{Granted};
 ghost use Rattle.lease_store.specs.declared.key.Key.{Key};
 ghost use Rattle.lease_store.specs.declared.txn.Expected.{Expected};
@@ -27,7 +28,7 @@ ghost use Rattle.ha_loop.specs.Orders.{IsCarriedOut};
 ghost use Rattle.ha_loop.specs.Powers.{BringsNothing, GrantMay, LeavesMachine};
 ghost use Rattle.ha_loop.specs.Racing.{can_start};
 ghost use Rattle.ha_loop.specs.Replies.{RepliesTo};
-ghost use Rattle.ha_loop.specs.Table.{step, act};
+ghost use Rattle.ha_loop.specs.Table.{prepared, step};
 ghost use Rattle.ha_loop.specs.Views.{shown};
 
 /// What comes before an input makes the role fit the server: nobody is about to lead, or follows, whose server is live, and
@@ -44,7 +45,7 @@ pub fn only_a_grant_lets_lead()
     ensures refusal { (now : Ticks) (points : List HistoryPoint) (sequence : ℕ) (key : Key) (found : Expected) (o : Outcome) → BringsNothing o (step now points (heard.Mismatch sequence key found) o) }
     ensures ask { (now : Ticks) (points : List HistoryPoint) (from : MemberId) (run sequence : ℕ) (o : Outcome) → BringsNothing o (step now points (heard.Asked from run sequence) o) }
     ensures answer { (now : Ticks) (points : List HistoryPoint) (sequence : ℕ) (answer : PeerAnswer) (o : Outcome) → BringsNothing o (step now points (heard.Answered sequence answer) o) }
-    ensures action { (now : Ticks) (o : Outcome) → BringsNothing o (act now o) }
+    ensures action { (now : Ticks) (points : List HistoryPoint) (action : OperatorAction) (o : Outcome) → BringsNothing o (step now points (heard.Operated action) o) }
 {}
 
 /// Only a grant sets a deadline: any other input leaves the watchdog and the hold as they were, but for a deadline that is removed
@@ -55,7 +56,7 @@ pub fn only_a_grant_sets_deadlines()
     ensures refusal { (now : Ticks) (points : List HistoryPoint) (sequence : ℕ) (key : Key) (found : Expected) (o : Outcome) → LeavesMachine o (step now points (heard.Mismatch sequence key found) o) }
     ensures ask { (now : Ticks) (points : List HistoryPoint) (from : MemberId) (run sequence : ℕ) (o : Outcome) → LeavesMachine o (step now points (heard.Asked from run sequence) o) }
     ensures answer { (now : Ticks) (points : List HistoryPoint) (sequence : ℕ) (answer : PeerAnswer) (o : Outcome) → LeavesMachine o (step now points (heard.Answered sequence answer) o) }
-    ensures action { (now : Ticks) (o : Outcome) → LeavesMachine o (act now o) }
+    ensures action { (now : Ticks) (points : List HistoryPoint) (action : OperatorAction) (o : Outcome) → LeavesMachine o (step now points (heard.Operated action) o) }
 {}
 
 /// A grant gives at most the lease of its revision, where that is waited for, with the watchdog fed on it for the span that was
@@ -67,8 +68,7 @@ pub fn a_grant_feeds_the_watchdog()
 /// The outputs of an input are all that becomes of its machine: the machine that it leaves is what they, carried out in their
 /// order, make of the machine before. None takes a hold, and of another member none asks more than how far its server is.
 pub fn outputs_make_the_machine()
-    ensures step { (now : Ticks) (points : List HistoryPoint) (heard : Heard) (role : RoleFacts) (knows : Knowledge) (machine : Machine) → IsCarriedOut now machine (step now points heard (made role knows machine [])) }
-    ensures action { (now : Ticks) (role : RoleFacts) (knows : Knowledge) (machine : Machine) → IsCarriedOut now machine (act now (made role knows machine [])) }
+    ensures { (now : Ticks) (points : List HistoryPoint) (heard : Heard) (role : RoleFacts) (knows : Knowledge) (machine : Machine) → IsCarriedOut now machine (step now points heard (made role knows machine [])) }
 {}
 
 /// An input asks under new numbers, and the create or the renewal that its agent waits for after it was waited for before, or is
@@ -76,23 +76,21 @@ pub fn outputs_make_the_machine()
 /// one, and answers under the number of its ask.
 pub fn what_is_asked_is_waited_for()
     ensures step { (now : Ticks) (points : List HistoryPoint) (heard : Heard) (role : RoleFacts) (knows : Knowledge) (machine : Machine) → IsSoundAgent role knows → AsksAsWaited now (made role knows machine []) (step now points heard (made role knows machine [])) }
-    ensures action { (now : Ticks) (role : RoleFacts) (knows : Knowledge) (machine : Machine) → IsSoundAgent role knows → AsksAsWaited now (made role knows machine []) (act now (made role knows machine [])) }
     ensures answers { (now : Ticks) (points : List HistoryPoint) (heard : Heard) (role : RoleFacts) (knows : Knowledge) (machine : Machine) → All (RepliesTo heard) (step now points heard (made role knows machine [])).outputs }
-    ensures unasked { (now : Ticks) (role : RoleFacts) (knows : Knowledge) (machine : Machine) → All (RepliesTo heard.Wake) (act now (made role knows machine [])).outputs }
 {}
 
 /// Who is barred doesn't ask for a free leader key: where the answer to its read tells that nobody leads, an agent without a
 /// server that can start tells what bars it, tells of itself, and does nothing else.
 pub fn who_is_barred_stays_out()
-    ensures { (now : Ticks) (points : List HistoryPoint) (sequence : ℕ) (snapshot : SnapshotFacts) (bar : Bar) (o : Outcome) → HearsFree sequence snapshot (before now o) → can_start (before now o).machine.server ≡ false → eligibility_of (shown now (before now o)) snapshot ≡ Some bar → StaysOut snapshot bar (before now o) (step now points (heard.Got sequence snapshot) o) }
+    ensures { (now : Ticks) (points : List HistoryPoint) (sequence : ℕ) (snapshot : SnapshotFacts) (bar : Bar) (o : Outcome) → HearsFree sequence snapshot (prepared now (heard.Got sequence snapshot) o) → can_start (prepared now (heard.Got sequence snapshot) o).machine.server ≡ false → eligibility_of (shown now (prepared now (heard.Got sequence snapshot) o)) snapshot ≡ Some bar → StaysOut snapshot bar (prepared now (heard.Got sequence snapshot) o) (step now points (heard.Got sequence snapshot) o) }
 {}
 
 /// A free leader key is raced for: where the answer to its read tells that nobody leads, an agent that nothing bars asks every
 /// other member how far its server is, and waits for the answers. Where there is none, it asks for the key at once, and waits
 /// for the answer. Only a running replica is barred by nothing.
 pub fn a_free_key_is_asked_for()
-    ensures others { (now : Ticks) (points : List HistoryPoint) (sequence : ℕ) (snapshot : SnapshotFacts) (o : Outcome) → HearsFree sequence snapshot (before now o) → eligibility_of (shown now (before now o)) snapshot ≡ None → all_answered (before now o).knows.who [] ≡ false → AsksOthers now (before now o) (step now points (heard.Got sequence snapshot) o) }
-    ensures alone { (now : Ticks) (points : List HistoryPoint) (sequence : ℕ) (snapshot : SnapshotFacts) (o : Outcome) → HearsFree sequence snapshot (before now o) → eligibility_of (shown now (before now o)) snapshot ≡ None → all_answered (before now o).knows.who [] ≡ true → AsksForKey (before now o) (step now points (heard.Got sequence snapshot) o) }
+    ensures others { (now : Ticks) (points : List HistoryPoint) (sequence : ℕ) (snapshot : SnapshotFacts) (o : Outcome) → HearsFree sequence snapshot (prepared now (heard.Got sequence snapshot) o) → eligibility_of (shown now (prepared now (heard.Got sequence snapshot) o)) snapshot ≡ None → all_answered (prepared now (heard.Got sequence snapshot) o).knows.who [] ≡ false → AsksOthers now (prepared now (heard.Got sequence snapshot) o) (step now points (heard.Got sequence snapshot) o) }
+    ensures alone { (now : Ticks) (points : List HistoryPoint) (sequence : ℕ) (snapshot : SnapshotFacts) (o : Outcome) → HearsFree sequence snapshot (prepared now (heard.Got sequence snapshot) o) → eligibility_of (shown now (prepared now (heard.Got sequence snapshot) o)) snapshot ≡ None → all_answered (prepared now (heard.Got sequence snapshot) o).knows.who [] ≡ true → AsksForKey (prepared now (heard.Got sequence snapshot) o) (step now points (heard.Got sequence snapshot) o) }
 {}
 
 /// A race is judged by the answers of the others, as soon as each of them answered: who wins asks for the key, and waits for the
@@ -104,6 +102,6 @@ pub fn the_last_answer_decides()
 
 /// Once their time is over, a race is judged by the answers that there are, in the same way.
 pub fn late_answers_are_not_waited_for()
-    ensures won { (now : Ticks) (points : List HistoryPoint) (waited : Waited) (snapshot : SnapshotFacts) (o : Outcome) → RunsLate now waited snapshot (before now o) → outcome_of (shown now (before now o)) snapshot (before now o).knows.answers ≡ None → AsksForKey (before now o) (step now points heard.Wake o) }
-    ensures lost { (now : Ticks) (points : List HistoryPoint) (waited : Waited) (snapshot : SnapshotFacts) (bar : Bar) (o : Outcome) → RunsLate now waited snapshot (before now o) → outcome_of (shown now (before now o)) snapshot (before now o).knows.answers ≡ Some bar → LosesAndTurns now bar (before now o) (step now points heard.Wake o) }
+    ensures won { (now : Ticks) (points : List HistoryPoint) (waited : Waited) (snapshot : SnapshotFacts) (o : Outcome) → RunsLate now waited snapshot (prepared now heard.Wake o) → outcome_of (shown now (prepared now heard.Wake o)) snapshot (prepared now heard.Wake o).knows.answers ≡ None → AsksForKey (prepared now heard.Wake o) (step now points heard.Wake o) }
+    ensures lost { (now : Ticks) (points : List HistoryPoint) (waited : Waited) (snapshot : SnapshotFacts) (bar : Bar) (o : Outcome) → RunsLate now waited snapshot (prepared now heard.Wake o) → outcome_of (shown now (prepared now heard.Wake o)) snapshot (prepared now heard.Wake o).knows.answers ≡ Some bar → LosesAndTurns now bar (prepared now heard.Wake o) (step now points heard.Wake o) }
 {}

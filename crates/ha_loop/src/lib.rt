@@ -7,11 +7,14 @@ mod answers;
 mod before;
 mod claiming;
 mod decisions;
+mod handing_over;
 mod heard;
 mod info;
 mod knowledge;
 mod laws;
 mod machine;
+mod operating;
+mod operators;
 mod output;
 mod outputs;
 mod peers;
@@ -34,6 +37,7 @@ pub use laws::{
     who_is_barred_stays_out,
 };
 pub use machine::{Machine, Replication};
+pub use operating::{Operating, Operation, Told};
 pub use output::{Output, Repair, Target};
 pub use outputs::Outputs;
 pub use role::Why;

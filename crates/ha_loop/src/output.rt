@@ -1,5 +1,6 @@
 //! What an agent does.
 
+use crate::Told;
 use event_book::{Body, Reason};
 use lease_store::Bar;
 use pat_base::{MemberId, PeerAnswer, Required, Ticks};
@@ -46,8 +47,14 @@ pub enum Output {
     Stop {
         reason: Reason,
     },
-    /// The server shuts down: its log diverged, and may not be rewound.
+    /// The server shuts down: its log diverged, and may not be rewound, or its member hands over.
     ShutDown,
+    /// The server starts again in its role: as a primary, or as a replica.
+    Restart {
+        as_primary: bool,
+    },
+    /// The server is wiped, and waits for a copy.
+    Wipe,
     /// The server follows this member's from now on.
     Follow {
         leader: MemberId,
@@ -78,6 +85,15 @@ pub enum Output {
     /// The member doesn't race for the free leader key, since this bars it.
     DoesNotRace {
         bar: Bar,
+    },
+    /// The member hands over to this one.
+    HandsOver {
+        candidate: MemberId,
+    },
+    /// What the agent answers the operator's request of this number in the run.
+    Told {
+        request: u64,
+        told: Told,
     },
     /// The member promised not to take the leader key before this moment, on the failsafe request of this number of this member.
     HoldTaken {

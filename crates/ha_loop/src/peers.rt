@@ -8,17 +8,18 @@ ghost use Rattle.ha_loop.specs.declared.knowledge.Question.TheVariants as questi
 ghost use Rattle.ha_loop.specs.declared.output.Output.TheVariants as outputs;
 ghost use Rattle.ha_loop.specs.declared.output.Target.TheVariants as targets;
 ghost use Rattle.ha_loop.specs.Acting.{seconds_after, lease_span, counted, waiting, waiting_no_more};
-ghost use Rattle.ha_loop.specs.Agents.{RoleFacts, IsSound, role_of, word_of, made, latest};
+ghost use Rattle.ha_loop.specs.Agents.{RoleFacts, IsSound, IsWithin, role_of, word_of, made, latest};
 ghost use Rattle.ha_loop.specs.Answers.{most_answers, is_other, has_answered, with_answer, asking_one, asking_first, asking_all, is_settled, first_answered, all_answered, peer_answer_of};
 ghost use Rattle.ha_loop.specs.Decisions.{may_create};
 ghost use Rattle.ha_loop.specs.Info.{info_of, runs};
 ghost use Rattle.ha_loop.specs.Outputs.{listed};
-ghost use Rattle.ha_loop.specs.Peers.{is_asking, awaits_answer, judged_if_racing, judged_if_all, keeping, accepted_answer, answered_for, answered};
+ghost use Rattle.ha_loop.specs.Peers.{is_asking, is_checking, awaits_answer, awaits_check, judged_if_racing, judged_if_all, keeping, accepted_answer, answered_for, answered};
 ghost use Rattle.ha_loop.specs.Racing.{creating, barred, outcome_by, outcome_at, judged_as, judged, answers_until, asking_others};
 ghost use Rattle.ha_loop.specs.Views.{view_of, shown};
 
 use crate::acting::{ask, touch};
 use crate::decisions::may_create;
+use crate::handing_over::hear_successor;
 use crate::info::{info_of, runs};
 use crate::role::Role;
 use crate::view::{view_of, word_of};
@@ -68,32 +69,51 @@ fn peer_answer_of(who: &Who, server: &ServerStatus) -> PeerAnswer
 
 /// Another member answers: what is waited for is used, and any other dropped.
 pub(crate) fn answered(
-    role: &Role,
+    role: Role,
     knows: &mut Knowledge,
-    machine: &Machine,
+    machine: &mut Machine,
     out: &mut Outputs,
     now: Ticks,
     sequence: u64,
     answer: PeerAnswer,
-)
+) -> Role
     requires moment { now.0 ≤ latest }
     requires sound { IsSound knows.old }
+    requires server { IsWithin machine.old.server }
     requires numbers { knows.old.sequence < 2 ^ 60 }
     requires room { 2 ≤ out.old.spare }
-    ensures outcome { made (role_of role.now) knows.new machine.now out.new.outputs ≡ answered now sequence answer (made (role_of role.now) knows.old machine.now out.old.outputs) }
+    ensures outcome { made (role_of result) knows.new machine.new out.new.outputs ≡ answered now sequence answer (made (role_of role) knows.old machine.old out.old.outputs) }
     ensures sound { IsSound knows.new }
     ensures numbers { knows.new.sequence ≤ knows.old.sequence + 1 }
     ensures room { out.old.spare ≤ out.new.spare + 2 }
 {
     let Some(waited) = knows.waited else {
-        return;
+        return role;
     };
     if awaits_answer(waited, sequence) {
-        accept_answer(role, knows, machine, out, now, answer);
+        accept_answer(&role, knows, machine, out, now, answer);
+        return role;
     }
+    if awaits_check(waited, sequence) {
+        return hear_successor(role, knows, machine, out, now, answer);
+    }
+    role
 }
 
-/// Answers of this number are waited for.
+/// A leader waits for answers of this number.
+fn awaits_check(waited: Waited, sequence: u64) -> bool
+    ensures { result ≡ awaits_check waited sequence }
+{
+    is_checking(waited.question) && waited.sequence == sequence
+}
+
+fn is_checking(question: Question) -> bool
+    ensures { result ≡ is_checking question }
+{
+    matches!(question, Question::Checking)
+}
+
+/// Answers of this number are waited for in a race.
 fn awaits_answer(waited: Waited, sequence: u64) -> bool
     ensures { result ≡ awaits_answer waited sequence }
 {
@@ -250,14 +270,22 @@ pub(crate) fn ask_others(knows: &mut Knowledge, out: &mut Outputs, now: Ticks)
     knows.waited = Some(Waited {
         question: Question::Asking,
         sequence: knows.sequence,
-        until: Ticks(now.0 + ANSWER_TICKS),
+        until: answers_until(now),
         ttl: knows.settings.ttl_ticks(),
         sent: now,
     });
 }
 
+/// The moment until which a member waits for answers that asks now.
+pub(crate) fn answers_until(now: Ticks) -> Ticks
+    requires { now.0 ≤ latest }
+    ensures { result ≡ answers_until now }
+{
+    Ticks(now.0 + ANSWER_TICKS)
+}
+
 /// The asks to all other members, in the order in which the script declares them.
-fn ask_all(who: &Who, sequence: u64, out: &mut Outputs)
+pub(crate) fn ask_all(who: &Who, sequence: u64, out: &mut Outputs)
     requires { most_answers ≤ out.old.spare }
     ensures out { out.new.outputs ≡ asking_all who.now sequence out.old.outputs }
     ensures room { out.old.spare ≤ out.new.spare + most_answers }
@@ -268,7 +296,7 @@ fn ask_all(who: &Who, sequence: u64, out: &mut Outputs)
 }
 
 /// The ask to this member, where it is another one.
-fn ask_one(who: &Who, sequence: u64, member: Option<MemberId>, out: &mut Outputs)
+pub(crate) fn ask_one(who: &Who, sequence: u64, member: Option<MemberId>, out: &mut Outputs)
     requires { 1 ≤ out.old.spare }
     ensures out { out.new.outputs ≡ asking_one who.now sequence member out.old.outputs }
     ensures room { out.old.spare ≤ out.new.spare + 1 }
@@ -303,7 +331,7 @@ pub(crate) fn all_answered(who: &Who, answers: &Answers) -> bool
 }
 
 /// Whether nothing is open of this member: it is no other one, or answered.
-fn is_settled(who: &Who, answers: &Answers, member: Option<MemberId>) -> bool
+pub(crate) fn is_settled(who: &Who, answers: &Answers, member: Option<MemberId>) -> bool
     ensures { result ≡ is_settled who.now answers.now member }
 {
     match member {

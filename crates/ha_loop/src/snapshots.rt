@@ -62,6 +62,7 @@ pub(crate) fn got(
     }
     let leader = snapshot.leader();
     knows.turn_sync = sync_read_in(&snapshot);
+    knows.turn_failover = snapshot.failover();
     inform(knows, snapshot);
     knows.last_read = Some(now);
     knows.turn_settings = knows.settings;
@@ -69,7 +70,7 @@ pub(crate) fn got(
 }
 
 /// The answer to this read is waited for.
-fn awaits_read(waited: Option<Waited>, sequence: u64) -> bool
+pub(crate) fn awaits_read(waited: Option<Waited>, sequence: u64) -> bool
     ensures { result ≡ awaits_read waited sequence }
 {
     match waited {

@@ -37,7 +37,7 @@ pub(crate) fn view_of<'a>(
         last_read: knows.last_read,
         last_turn: knows.last_turn,
         hold: machine.hold,
-        waits: false,
+        waits: knows.operating.is_some(),
     }
 }
 

@@ -1,4 +1,5 @@
-//! What a woken agent does: a deadline that has passed comes first, and then a turn that is due.
+//! What a woken agent does: an operator whose time is over comes first, then a deadline that has passed, and then a turn that is
+//! due.
 ghost use Rattle.std.specs.Prelude.{◌≡◌, ◌≤◌, ◌<◌, ◌+◌, ◌*◌, ◌^◌, Some, None, false, true};
 ghost use Rattle.event_book.specs.declared.message.Body.TheVariants as bodies;
 ghost use Rattle.event_book.specs.declared.reason.Reason.TheVariants as reasons;
@@ -10,11 +11,13 @@ ghost use Rattle.ha_loop.specs.declared.role.Why.TheVariants as whys;
 ghost use Rattle.ha_loop.specs.Acting.{seconds_after, counted, waiting};
 ghost use Rattle.ha_loop.specs.Agents.{IsSound, IsWithin, Ending, role_of, made, latest};
 ghost use Rattle.ha_loop.specs.Outputs.{listed};
-ghost use Rattle.ha_loop.specs.Wake.{finds_ended, is_overdue, has_turn, is_due, due_from, waits_until, leader_out_of_reach, stray_out_of_reach, out_of_reach_as, out_of_reach, unanswered, overdue_for, overdue, reading, is_stopping, turn_as, turn_noted, turn_begins, turned, woken};
+ghost use Rattle.ha_loop.specs.Wake.{finds_ended, is_overdue, has_turn, is_due, due_from, waits_until, leader_out_of_reach, stray_out_of_reach, out_of_reach_as, out_of_reach, unanswered, overdue_for, overdue, reading, is_stopping, turn_as, turn_noted, turn_begins, turned, roused, woken};
 
 use crate::acting::{ask, end_server, lose};
 use crate::before::before;
 use crate::claiming::claim_fails;
+use crate::handing_over::judge_if_leading;
+use crate::operators::give_up;
 use crate::peers::judge_if_racing;
 use crate::role::Role;
 use crate::{Knowledge, Machine, Outputs, Question, Waited};
@@ -33,17 +36,18 @@ pub(crate) fn wake(
     requires sound { IsSound knows.old }
     requires server { IsWithin machine.old.server }
     requires numbers { knows.old.sequence + 3 ≤ 2 ^ 60 }
-    requires room { 5 ≤ out.old.spare }
+    requires room { 6 ≤ out.old.spare }
     ensures outcome { made (role_of result) knows.new machine.new out.new.outputs ≡ woken now (made (role_of role) knows.old machine.old out.old.outputs) }
     ensures sound { IsSound knows.new }
     ensures numbers { knows.new.sequence ≤ knows.old.sequence + 3 }
-    ensures room { out.old.spare ≤ out.new.spare + 5 }
+    ensures room { out.old.spare ≤ out.new.spare + 6 }
 {
     let due = is_due(&role, knows, machine, now);
     let role = before(role, knows, machine, out, now);
     if !due {
         return role;
     }
+    give_up(knows, out, now);
     let role = overdue(role, knows, machine, out, now);
     turned(&role, knows, machine, out, now);
     role
@@ -152,6 +156,7 @@ fn unanswered(
             judge_if_racing(&role, knows, machine, out, now);
             role
         }
+        Question::Checking => judge_if_leading(role, knows, machine, out, now),
         Question::Claiming => {
             knows.waited = None;
             claim_fails(role, knows, machine, out)

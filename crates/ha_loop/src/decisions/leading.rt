@@ -3,12 +3,13 @@ ghost use Rattle.std.specs.Prelude.{◌≡◌, ◌≤◌, ◌<◌, ◌+◌, ◌*
 ghost use Rattle.leader_key.specs.Lease.{lease_revision, armed_revision, writer_revision};
 ghost use Rattle.leader_key.specs.Watchdog.{IsLeaseSpan};
 ghost use Rattle.ha_loop.specs.Acting.{is_refusing, is_hold_active, arming, feeding};
+ghost use Rattle.ha_loop.specs.Answers.{most_answers, most_grant_outputs};
 ghost use Rattle.ha_loop.specs.Agents.{IsSound, IsWithin, Follower, Leader, Stray, role_of, made, latest};
 ghost use Rattle.ha_loop.specs.Decisions.{has_lasted, is_start_too_long, judges_start, leader_renewed, takes_over, stray_renewed, since_crash, may_start_again, can_begin, may_take, gives_back, arms, takes_key};
 
 use crate::acting::{arm, end_server, feed, is_hold_active, release};
 use crate::claiming::begin_or_claim;
-use crate::planning::take_step;
+use crate::handing_over::do_duties;
 use crate::role::Role;
 use crate::synchronous::may_lead_in_sync;
 use crate::{Knowledge, Machine, Output, Outputs, Why};
@@ -34,18 +35,18 @@ pub(super) fn leader_renewed(
     requires sound { IsSound knows.old }
     requires server { IsWithin machine.old.server }
     requires numbers { knows.old.sequence < 2 ^ 60 }
-    requires room { 2 ≤ out.old.spare }
+    requires room { most_grant_outputs ≤ out.old.spare }
     ensures outcome { made (role_of result) knows.new machine.new out.new.outputs ≡ leader_renewed now ttl grant.revision (made (Leader (writer_revision writer)) knows.old machine.old out.old.outputs) }
     ensures sound { IsSound knows.new }
     ensures numbers { knows.new.sequence ≤ knows.old.sequence + 1 }
-    ensures room { out.old.spare ≤ out.new.spare + 2 }
+    ensures room { out.old.spare ≤ out.new.spare + most_grant_outputs }
 {
     let writer = feed(writer, machine, out, now, ttl, grant);
     judge_start(writer, knows, machine, out, now)
 }
 
-/// Where the start of a primary takes longer than it may, another member is to lead; else the leader takes a step with its
-/// synchronous standbys.
+/// Where the start of a primary takes longer than it may, another member is to lead; else the leader does what it owes its
+/// cluster.
 fn judge_start(
     writer: Writer,
     knows: &mut Knowledge,
@@ -57,18 +58,17 @@ fn judge_start(
     requires sound { IsSound knows.old }
     requires server { IsWithin machine.old.server }
     requires numbers { knows.old.sequence < 2 ^ 60 }
-    requires room { 1 ≤ out.old.spare }
+    requires room { most_answers ≤ out.old.spare }
     ensures outcome { made (role_of result) knows.new machine.new out.new.outputs ≡ judges_start now (writer_revision writer) (made (Leader (writer_revision writer)) knows.old machine.old out.old.outputs) }
     ensures sound { IsSound knows.new }
     ensures numbers { knows.new.sequence ≤ knows.old.sequence + 1 }
-    ensures room { out.old.spare ≤ out.new.spare + 1 }
+    ensures room { out.old.spare ≤ out.new.spare + most_answers }
 {
     if is_start_too_long(now, knows, machine.server.state) {
         end_server(machine, out, now, Reason::StartTooLong);
         Role::Ending(writer, Why::HandOver)
     } else {
-        take_step(writer.revision(), knows, machine, out, now);
-        Role::Leader(writer)
+        do_duties(writer, knows, machine, out, now)
     }
 }
 

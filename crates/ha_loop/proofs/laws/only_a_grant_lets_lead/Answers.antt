@@ -1,4 +1,4 @@
-use Rattle.ha_loop.proofs.Bringing.{before-brings, wake-brings, read-brings, refusal-brings, asked-brings, answered-brings}
+use Rattle.ha_loop.proofs.Bringing.{operated-brings, wake-brings, read-brings, refusal-brings, asked-brings, answered-brings}
 use Rattle.ha_loop.proofs.laws.only_a_grant_lets_lead.Goals as goal
 
 pub returns-clause-wake : goal.returns-clause-wake
@@ -17,4 +17,4 @@ pub returns-clause-answer : goal.returns-clause-answer
 returns-clause-answer c now points sequence answer o = answered-brings now sequence answer o
 
 pub returns-clause-action : goal.returns-clause-action
-returns-clause-action c now o = before-brings now o
+returns-clause-action c now points action o = operated-brings now action o

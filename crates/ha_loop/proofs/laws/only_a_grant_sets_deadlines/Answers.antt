@@ -1,4 +1,4 @@
-use Rattle.ha_loop.proofs.Leaving.{before-leaves, wake-leaves, read-leaves, refusal-leaves, asked-leaves, answered-leaves}
+use Rattle.ha_loop.proofs.Leaving.{operated-leaves, wake-leaves, read-leaves, refusal-leaves, asked-leaves, answered-leaves}
 use Rattle.ha_loop.proofs.laws.only_a_grant_sets_deadlines.Goals as goal
 
 pub returns-clause-wake : goal.returns-clause-wake
@@ -17,4 +17,4 @@ pub returns-clause-answer : goal.returns-clause-answer
 returns-clause-answer c now points sequence answer o = answered-leaves now sequence answer o
 
 pub returns-clause-action : goal.returns-clause-action
-returns-clause-action c now o = before-leaves now o
+returns-clause-action c now points action o = operated-leaves now action o

@@ -1,8 +1,7 @@
 use Rattle.std.proofs.Common.{◌≡◌, rules, subst, sym}
 use Rattle.ha_loop.specs.Agents.{role_of, made}
-use Rattle.ha_loop.specs.Before.{before}
 use Rattle.ha_loop.specs.FreeKey.{AsksWhereFree, AsksWhereWon, BeginsWhereGranted}
-use Rattle.ha_loop.specs.Table.{step}
+use Rattle.ha_loop.specs.Table.{prepared, step}
 use Rattle.ha_loop.proofs.Beginning.{step-asks, step-begins, step-wins}
 use Rattle.ha_loop.proofs.CommitInputs.{input-commits-as}
 use Rattle.ha_loop.proofs.LawfulSteps.{input-lawful-as, input-ends-as, input-counts}
@@ -28,17 +27,17 @@ returns-clause-commits c = input-commits-as c.args.now c.args.history.now.points
 pub returns-clause-free_key : goal.returns-clause-free_key
 returns-clause-free_key c =
     let o = made c.args.self.role c.args.self.knows c.args.machine.now c.args.out.now.outputs in
-    subst (AsksWhereFree c.args.now c.args.heard (before c.args.now o)) (sym (let told : made (role_of c.hear-role.result) c.hear-role.new.knows c.hear-role.new.machine c.hear-role.new.out.outputs ≡ step c.args.now c.args.history.now.points c.args.heard o = search rules in told))
+    subst (AsksWhereFree c.args.now c.args.heard (prepared c.args.now c.args.heard o)) (sym (let told : made (role_of c.hear-role.result) c.hear-role.new.knows c.hear-role.new.machine c.hear-role.new.out.outputs ≡ step c.args.now c.args.history.now.points c.args.heard o = search rules in told))
     (step-asks c.args.now c.args.history.now.points c.args.heard o)
 
 pub returns-clause-won_race : goal.returns-clause-won_race
 returns-clause-won_race c =
     let o = made c.args.self.role c.args.self.knows c.args.machine.now c.args.out.now.outputs in
-    subst (AsksWhereWon c.args.now c.args.heard (before c.args.now o)) (sym (let told : made (role_of c.hear-role.result) c.hear-role.new.knows c.hear-role.new.machine c.hear-role.new.out.outputs ≡ step c.args.now c.args.history.now.points c.args.heard o = search rules in told))
+    subst (AsksWhereWon c.args.now c.args.heard (prepared c.args.now c.args.heard o)) (sym (let told : made (role_of c.hear-role.result) c.hear-role.new.knows c.hear-role.new.machine c.hear-role.new.out.outputs ≡ step c.args.now c.args.history.now.points c.args.heard o = search rules in told))
     (step-wins c.args.now c.args.history.now.points c.args.heard o)
 
 pub returns-clause-granted_key : goal.returns-clause-granted_key
 returns-clause-granted_key c =
     let o = made c.args.self.role c.args.self.knows c.args.machine.now c.args.out.now.outputs in
-    subst (BeginsWhereGranted c.args.now c.args.heard (before c.args.now o)) (sym (let told : made (role_of c.hear-role.result) c.hear-role.new.knows c.hear-role.new.machine c.hear-role.new.out.outputs ≡ step c.args.now c.args.history.now.points c.args.heard o = search rules in told))
+    subst (BeginsWhereGranted c.args.now c.args.heard (prepared c.args.now c.args.heard o)) (sym (let told : made (role_of c.hear-role.result) c.hear-role.new.knows c.hear-role.new.machine c.hear-role.new.out.outputs ≡ step c.args.now c.args.history.now.points c.args.heard o = search rules in told))
     (step-begins c.args.now c.args.history.now.points c.args.heard o)
