@@ -46,6 +46,16 @@ kinds_by member acknowledged log (Some beginnings.WithItsStart) = kinds.Server (
 abbrev pub begin_kinds : Member → List ℕ → ServerFacts → List EventKind
 begin_kinds member acknowledged s = kinds_by member acknowledged s.log (beginning_of s)
 
+-- what happens at a server in this state that starts again in its role: a primary ends first
+abbrev pub server_restart_in : Member → List ℕ → State → ServerFacts → List EventKind
+server_restart_in member acknowledged states.Primary s = kinds.Server (servers.Ended (server_of member)) ∷ kinds_by member acknowledged s.log (Some (again_by s.timeline s.start_delay))
+server_restart_in member acknowledged states.Replica s = kinds.Server (servers.StartsAsReplica (server_of member)) ∷ []
+server_restart_in member acknowledged _ s = []
+
+-- what the order of its agent to start again comes to at a server
+abbrev pub server_restart_kinds : Member → List ℕ → ServerFacts → List EventKind
+server_restart_kinds member acknowledged s = server_restart_in member acknowledged s.state s
+
 -- a start or a stop as a primary, of a server on this timeline in this state, is complete at this moment. Other starts and stops are complete with the
 -- tick itself
 abbrev pub completion_in : ℕ → ℕ → State → Option Completion

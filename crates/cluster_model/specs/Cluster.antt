@@ -17,7 +17,7 @@ use Rattle.event_book.specs.declared.link.LinkEnd.TheVariants as link_ends
 use Rattle.event_book.specs.declared.member.Member.{Member}
 use Rattle.event_book.specs.Facts.{facts_after}
 use Rattle.event_book.specs.Flight.{InFlightFacts, in_flight}
-use Rattle.ha_loop.specs.declared.heard.Heard.TheVariants.{Wake}
+use Rattle.ha_loop.specs.declared.heard.Heard.TheVariants.{Wake, Operated}
 use Rattle.ha_loop.specs.Agents.{AgentFacts, Outcome}
 use Rattle.cluster_model.specs.State.{Cluster}
 use Rattle.cluster_model.specs.Hearing.{heard_from}
@@ -43,9 +43,10 @@ agent_facts_moved scope options members now known (agents.Killed member) = agent
 agent_facts_moved scope options members now known (agents.Started member run) = with_changed known member.id.number (λ agent. Some (starting_agent (who_of scope options members member) now run))
 agent_facts_moved scope options members now known _ = known
 
--- the agents after one was woken, ended or started
+-- the agents after one was woken, did what an operator asked, ended or started
 abbrev pub agent_facts_by : Cluster → AgentEvent → List (Option AgentFacts)
 agent_facts_by cluster (agents.Woken member) = agent_facts_with cluster.agents member (outcome_of cluster member Wake)
+agent_facts_by cluster (agents.Operated member action) = agent_facts_with cluster.agents member (outcome_of cluster member (Operated action))
 agent_facts_by cluster happening = agent_facts_moved cluster.scope cluster.options cluster.book.members cluster.book.clock cluster.agents happening
 
 -- the agents after this message came to this receiver: the agent of a member acts on it, and none does at the key store

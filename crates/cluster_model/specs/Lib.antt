@@ -12,6 +12,7 @@ pub mod Messages
 pub mod Next
 pub mod Orders
 pub mod Parts
+pub mod Requests
 pub mod ServerCommands
 pub mod Starting
 pub mod State

@@ -1,5 +1,7 @@
 -- What messages bring: how they are sent, come, and are decided on.
-use Rattle.std.specs.Prelude.{ℕ, ◌+◌, nat_le, Bool, true, false, if◌then◌else◌, List, [], ◌∷◌, Option, Some, None, option_and_then, option_map, length, slice_get}
+use Rattle.std.specs.Prelude.{ℕ, ◌+◌, nat_le, Bool, true, false, if◌then◌else◌, List, [], ◌∷◌, Option, Some, None, Result, Ok, Err, option_and_then, option_map, length, slice_get}
+use Rattle.lease_store.specs.declared.action.OperatorAction.{OperatorAction}
+use Rattle.lease_store.specs.declared.action.OperatorRequest.{OperatorRequest}
 use Rattle.lease_store.specs.declared.txn.Txn.{Txn}
 use Rattle.lease_store.specs.declared.txn.Txn.TheVariants as txns
 use Rattle.lease_store.specs.Decision.{Decision, Grant, Refusal, decision_on}
@@ -8,12 +10,12 @@ use Rattle.pat_base.specs.declared.name.Name.{Name}
 use Rattle.event_book.specs.NameLists.{names_of}
 use Rattle.lease_store.specs.Writes.{is_lease}
 use Rattle.event_book.specs.declared.agent_process.AgentProcess.{AgentProcess}
-use Rattle.event_book.specs.declared.event.AgentEvent.TheVariants.{Woken}
+use Rattle.event_book.specs.declared.event.AgentEvent.TheVariants.{Woken, Operated}
 use Rattle.event_book.specs.declared.event.Event.{Event}
 use Rattle.event_book.specs.declared.event.EventKind.{EventKind}
 use Rattle.event_book.specs.declared.event.EventKind.TheVariants as kinds
 use Rattle.event_book.specs.declared.event.MessageEvent.TheVariants.{Sent, Delivered, Lost}
-use Rattle.event_book.specs.declared.event.Note.TheVariants.{NoMessage, Undeliverable}
+use Rattle.event_book.specs.declared.event.Note.TheVariants.{NoAnswer, NoMessage, Undeliverable}
 use Rattle.event_book.specs.declared.event.StoreEvent.TheVariants as stores
 use Rattle.event_book.specs.declared.link.LinkEnd.{LinkEnd}
 use Rattle.event_book.specs.declared.link.LinkEnd.TheVariants as link_ends
@@ -23,7 +25,9 @@ use Rattle.event_book.specs.declared.message.Body.TheVariants as bodies
 use Rattle.event_book.specs.declared.message.Message.{Message}
 use Rattle.event_book.specs.Flight.{InFlightFacts, in_flight}
 use Rattle.event_book.specs.declared.reason.Reason.{Reason}
-use Rattle.ha_loop.specs.declared.heard.Heard.TheVariants.{Wake}
+use Rattle.cluster_script.specs.declared.rest.RestCall.{RestCall}
+use Rattle.operator_keys.specs.declared.refusal.Refused.{Refused}
+use Rattle.ha_loop.specs.declared.heard.Heard.TheVariants.{Wake, Operated as HearsOperator}
 use Rattle.ha_loop.specs.declared.output.Output.{Output}
 use Rattle.ha_loop.specs.declared.output.Output.TheVariants as outputs
 use Rattle.ha_loop.specs.declared.output.Repair.{Repair}
@@ -35,12 +39,13 @@ use Rattle.cluster_model.specs.declared.delivery.Delivery.TheVariants as deliver
 use Rattle.cluster_model.specs.declared.heard_message.HeardMessage.{HeardMessage}
 use Rattle.cluster_model.specs.Deliveries.{delivery_of}
 use Rattle.cluster_model.specs.Hearing.{heard_from}
-use Rattle.cluster_model.specs.Beginnings.{begin_kinds}
+use Rattle.cluster_model.specs.Beginnings.{begin_kinds, server_restart_kinds}
 use Rattle.cluster_model.specs.Commands.{kinds_of}
 use Rattle.cluster_model.specs.Inputs.{moment_of, outcome_of, outcome_of_heard, may_act, outputs_of, standing_of, is_to_wake}
 use Rattle.cluster_model.specs.Limits.{most_in_flight}
 use Rattle.cluster_model.specs.Orders.{declared_member, order_kind, repair_over, replica_start_kinds, server_at, stop_kinds, feed_kinds, arming, feeding}
 use Rattle.cluster_model.specs.Parts.{event_of, events_of, events_then, for_some, each}
+use Rattle.cluster_model.specs.Requests.{action_of, decision_on_call, refusing}
 use Rattle.cluster_model.specs.State.{Cluster}
 
 -- the loss of the message of this number, where as many are in flight as may be
@@ -84,6 +89,10 @@ stop_events cluster member reason = for_some (server_at cluster member) (λ s. e
 abbrev pub begin_events : Cluster → Member → List Event
 begin_events cluster member = for_some (server_at cluster member) (λ s. events_of cluster (begin_kinds member cluster.book.acknowledged s))
 
+-- the server of a member starts again by the order of its agent
+abbrev pub server_restart_events : Cluster → Member → List Event
+server_restart_events cluster member = for_some (server_at cluster member) (λ s. events_of cluster (server_restart_kinds member cluster.book.acknowledged s))
+
 -- the log of a member's server is repaired by this leader's, if there is such a member, where it can be
 abbrev pub repair_events : Cluster → Member → Repair → Option Member → List Event
 repair_events cluster member repair leader = events_of cluster (kinds_of (option_and_then (repair_over cluster.book.cuts cluster.book.servers member repair) leader))
@@ -97,6 +106,7 @@ output_events member heard cluster (outputs.Armed until) = events_of cluster (fe
 output_events member heard cluster (outputs.Fed until) = events_of cluster (feed_kinds member heard (feeding member until heard))
 output_events member heard cluster (outputs.StartReplica leader) = replica_start_events cluster member (declared_member cluster.book.members leader)
 output_events member heard cluster (outputs.Stop reason) = stop_events cluster member reason
+output_events member heard cluster (outputs.Restart as_primary) = server_restart_events cluster member
 output_events member heard cluster (outputs.Repair leader repair) = repair_events cluster member repair (slice_get cluster.book.members leader.number)
 output_events member heard cluster output = events_of cluster (kinds_of (order_kind cluster member heard output))
 
@@ -131,6 +141,27 @@ wake_events cluster member = for_some (slice_get cluster.book.agents member.id.n
 -- an answer of the key store
 abbrev pub answer_message : Message → Body → Message
 answer_message message body = record { from = link_ends.Store; to = message.from; run = message.run; sequence = message.sequence; body = body }
+
+-- the agent of a member does what an operator asks
+abbrev pub operate_events : Cluster → Member → OperatorAction → List Event
+operate_events cluster member action = events_then cluster (event_of cluster (kinds.Agent (Operated member action))) (λ later. input_events later member no_message (outcome_of cluster member (HearsOperator action)))
+
+-- it does so, or answers what refuses the request
+abbrev pub decided_events : Cluster → Member → Outcome → Result OperatorRequest Refused → List Event
+decided_events cluster member o (Ok asked) = operate_events cluster member (action_of o asked)
+decided_events cluster member o (Err refused) = event_of cluster (refusing member refused)
+
+-- the agent of a member that stands so hears a call with this body
+abbrev pub call_events_of : Cluster → RestCall → List ℕ → Member → Outcome → List Event
+call_events_of cluster call body member o = decided_events cluster member o (decision_on_call (moment_of cluster) o call body)
+
+-- a call to the agent of a member: one that doesn't run or is suspended gives no answer
+abbrev pub call_events_if : Cluster → RestCall → List ℕ → Member → AgentProcess → List Event
+call_events_if cluster call body member process = if may_act process then for_some (standing_of cluster member) (call_events_of cluster call body member) else event_of cluster (kinds.Note (NoAnswer member))
+
+-- a script makes a request of the agent of a member
+abbrev pub call_events : Cluster → RestCall → List ℕ → Member → List Event
+call_events cluster call body member = for_some (slice_get cluster.book.agents member.id.number) (call_events_if cluster call body member)
 
 -- the names of the standbys that a request publishes
 abbrev pub published_names : List Member → Txn → List Name

@@ -1,16 +1,17 @@
 -- What orders of agents come to.
-use Rattle.std.specs.Prelude.{ℕ, ◌==◌, ◌&&◌, if◌then◌else◌, Bool, true, false, List, [], ◌∷◌, Option, Some, None, option_and_then, option_map, slice_get}
+use Rattle.std.specs.Prelude.{ℕ, ◌==◌, ◌&&◌, ◌||◌, if◌then◌else◌, Bool, true, false, List, [], ◌∷◌, Option, Some, None, option_and_then, option_map, slice_get}
 use Rattle.pat_base.specs.declared.member_id.MemberId.{MemberId}
 use Rattle.pat_base.specs.declared.name.Name.{Name}
 use Rattle.pat_base.specs.declared.server_state.Required.{Required}
 use Rattle.pat_base.specs.declared.server_state.Required.TheVariants as requireds
 use Rattle.pat_base.specs.declared.server_state.State.{State}
 use Rattle.pat_base.specs.declared.ticks.Ticks.{Ticks}
+use Rattle.pat_base.specs.ServerState.{live}
 use Rattle.lease_store.specs.declared.action.Bar.{Bar}
 use Rattle.lease_store.specs.declared.action.Bar.TheVariants as bars
 use Rattle.pg_model.specs.declared.answers.Rewound.{Rewound}
 use Rattle.pg_model.specs.Rewinding.{may_clone_at, rewind_at}
-use Rattle.pg_model.specs.Facts.{ServerFacts, is_down, is_replica, is_up}
+use Rattle.pg_model.specs.Facts.{ServerFacts, is_creating, is_down, is_replica, is_up}
 use Rattle.pg_model.specs.Running.{is_primary}
 use Rattle.event_book.specs.declared.event.EventKind.{EventKind}
 use Rattle.event_book.specs.declared.event.EventKind.TheVariants as kinds
@@ -31,6 +32,8 @@ use Rattle.ha_loop.specs.declared.output.Repair.{Repair}
 use Rattle.ha_loop.specs.declared.output.Repair.TheVariants as repairs
 use Rattle.cluster_model.specs.declared.heard_message.HeardMessage.{HeardMessage}
 use Rattle.cluster_model.specs.Commands.{kinds_of}
+use Rattle.cluster_model.specs.Inputs.{agent_at}
+use Rattle.cluster_model.specs.Requests.{told_kind}
 use Rattle.cluster_model.specs.State.{Cluster}
 use Rattle.cluster_model.specs.Streaming.{link_of_members}
 
@@ -92,6 +95,10 @@ abbrev pub required_names : List Member → Required → List Name
 required_names members (requireds.All set) = names_of set members
 required_names members _ = []
 
+-- a server that doesn't accept writes, and won't when its start is complete, is wiped, unless it waits for a copy already
+abbrev pub wipe_of : Member → ServerFacts → Option EventKind
+wipe_of member s = if is_creating s.state || live s.state then None else Some (kinds.Log (logs.Wiped (server_of member)))
+
 -- commits wait for these from now on, where that is a change
 abbrev pub require_of : List Member → Member → Required → ServerFacts → Option EventKind
 require_of members member required s =
@@ -135,6 +142,10 @@ declared_name members id = option_map (λ member. member.name) (declared_member 
 abbrev pub not_racing : List Member → Member → Bar → EventKind
 not_racing members member bar = kinds.Note (notes.DoesNotRace member bar (declared_name members (barring bar)))
 
+-- a member hands over to this one
+abbrev pub handing_over : Member → Member → EventKind
+handing_over member candidate = kinds.Note (notes.HandsOver member candidate)
+
 -- what an agent tells of its watchdog, but for its feeds, and of its promotion
 abbrev pub told_of : Member → Output → Option EventKind
 told_of member outputs.Disarmed = Some (kinds.Watchdog (watchdogs.Disarmed member))
@@ -148,5 +159,8 @@ order_kind cluster member heard (outputs.Follow leader) = option_and_then (upstr
 order_kind cluster member heard outputs.ShutDown = option_and_then (stop_of member) (server_at cluster member)
 order_kind cluster member heard (outputs.Require required) = option_and_then (require_of cluster.book.members member required) (server_at cluster member)
 order_kind cluster member heard (outputs.HoldTaken until from sequence) = option_map (hold_taken member until heard.run sequence) (slice_get cluster.book.members from.number)
+order_kind cluster member heard outputs.Wipe = option_and_then (wipe_of member) (server_at cluster member)
+order_kind cluster member heard (outputs.HandsOver candidate) = option_map (handing_over member) (slice_get cluster.book.members candidate.number)
+order_kind cluster member heard (outputs.Told request told) = told_kind member (agent_at cluster.agents member.id.number) told
 order_kind cluster member heard (outputs.DoesNotRace bar) = Some (not_racing cluster.book.members member bar)
 order_kind cluster member heard output = told_of member output

@@ -68,6 +68,7 @@ aside-sized May cluster (kinds.Message (messages.Sent number message)) is = absu
 aside-sized May cluster (kinds.Message (messages.Delivered number)) is = absurd is
 aside-sized May cluster (kinds.Watchdog (watchdogs.Reset member)) is = length-changed cluster.agents _ _
 aside-sized May cluster (kinds.Agent (agents.Woken agent)) is = absurd is
+aside-sized May cluster (kinds.Agent (agents.Operated agent action)) is = absurd is
 aside-sized May cluster (kinds.Agent (agents.Killed agent)) is = length-changed cluster.agents _ _
 aside-sized May cluster (kinds.Agent (agents.Started agent run)) is = absurd is
 aside-sized May cluster _ is = refl
@@ -120,6 +121,7 @@ aside-knows May cluster (kinds.Message (messages.Delivered number)) is old = abs
 aside-knows May cluster (kinds.Watchdog (watchdogs.Reset member)) is old =
     knows-changed cluster.book.agents cluster.agents member.id.number _ _ (λ m agent here none. absurd (none-there (slice_get cluster.agents m) agent none)) old
 aside-knows May cluster (kinds.Agent (agents.Woken agent)) is old = absurd is
+aside-knows May cluster (kinds.Agent (agents.Operated agent action)) is old = absurd is
 aside-knows May cluster (kinds.Agent (agents.Killed member)) is old =
     knows-changed cluster.book.agents cluster.agents member.id.number _ _ (λ m agent here none. absurd (none-there (slice_get cluster.agents m) agent none)) old
 aside-knows May cluster (kinds.Agent (agents.Started member run)) is old = absurd is

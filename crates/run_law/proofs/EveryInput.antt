@@ -1,9 +1,13 @@
--- Each input of an agent keeps the law: whoever is woken, and whatever message comes to one.
+-- Each input of an agent keeps the law: whoever is woken, whatever message comes to one, and whatever an operator asks of one.
 use Rattle.std.proofs.Common.{[], inr, inl, ◌⊎◌, ℕ, ◌≡◌, ◌≤◌, ◌++◌, ◌==◌, ◌&&◌, ◌||◌, not, Bool, true, false, cond, List, slice_get, slice_set, Option, Some, None, option_and_then, refl, ◌∙◌, ap, sym, subst, arith}
 use Rattle.std.proofs.lemmas.List.{set-get_or}
 use Rattle.std.proofs.lemmas.Option.{get_or_from_slice_get}
 use Rattle.pat_base.specs.Changes.{changed_at, with_changed}
+use Rattle.pat_base.specs.declared.ticks.Ticks.{Ticks}
+use Rattle.lease_store.specs.declared.action.OperatorAction.{OperatorAction}
+use Rattle.pg_model.specs.Facts.{ServerFacts}
 use Rattle.event_book.specs.declared.agent_process.AgentProcess.{AgentProcess}
+use Rattle.event_book.specs.declared.event.AgentEvent.{AgentEvent}
 use Rattle.event_book.specs.declared.event.AgentEvent.TheVariants as agents
 use Rattle.event_book.specs.declared.event.Event.{Event}
 use Rattle.event_book.specs.declared.event.EventKind.{EventKind}
@@ -18,9 +22,10 @@ use Rattle.event_book.specs.declared.message.Message.{Message}
 use Rattle.event_book.specs.Flight.{InFlightFacts, in_flight}
 use Rattle.event_book.specs.Links.{is_cut}
 use Rattle.ha_loop.specs.declared.heard.Heard.{Heard}
-use Rattle.ha_loop.specs.declared.heard.Heard.TheVariants.{Wake}
+use Rattle.ha_loop.specs.declared.heard.Heard.TheVariants.{Operated, Wake}
 use Rattle.ha_loop.specs.declared.machine.Machine.{Machine}
 use Rattle.ha_loop.specs.Agents.{AgentFacts, Outcome, made}
+use Rattle.ha_loop.specs.Lawful.{Hears}
 use Rattle.cluster_script.specs.Script.{HeadText}
 use Rattle.cluster_model.specs.declared.delivery.Delivery.TheVariants as deliveries
 use Rattle.cluster_model.specs.Cluster.{agent_after, agent_facts_reached, agent_facts_reached_at, agent_facts_with, cluster_after}
@@ -28,23 +33,26 @@ use Rattle.cluster_model.specs.Deliveries.{delivery_of, delivery_to, delivery_to
 use Rattle.cluster_model.specs.Hearing.{heard_from}
 use Rattle.cluster_model.specs.Inputs.{agent_at, moment_of, outcome_at, outcome_of, outcome_of_heard}
 use Rattle.cluster_model.specs.Machines.{machine_of, points_of}
-use Rattle.cluster_model.specs.Messages.{hear_events, heard_message, input_events, no_message, wake_events_of}
+use Rattle.cluster_model.specs.Messages.{hear_events, heard_message, input_events, no_message, operate_events, wake_events_of}
 use Rattle.cluster_model.specs.Parts.{event_of}
 use Rattle.cluster_model.specs.State.{Cluster}
 use Rattle.lease_law.specs.Actions.{Lose, Note}
 use Rattle.lease_law.specs.Books.{IsShown}
 use Rattle.lease_law.specs.Past.{Past, VolatileState, first_past, past_of, state_of}
+use Rattle.lease_law.specs.States.{State}
 use Rattle.lease_law.proofs.Showing.{past-append}
 use Rattle.lease_law.proofs.Tools.{both, eq-from, none-some, some-is}
 use Rattle.run_law.specs.Bridged.{Bridged, IsMatched}
-use Rattle.run_law.specs.Declaring.{declared_of}
+use Rattle.run_law.specs.Declaring.{declared_of, member_count}
+use Rattle.run_law.specs.Machines.{deadline_in, hold_in, live_in, run_in}
 use Rattle.run_law.specs.Parts.{InputsUphold}
 use Rattle.run_law.specs.Kept.{IsKept, one_writer}
 use Rattle.run_law.specs.Volatile.{agent_now, volatile_of}
 use Rattle.run_law.specs.Waiting.{IsAddressed, IsAnswer, IsPeerBody}
 use Rattle.run_law.proofs.Actions.{action-kept, machines-kept}
 use Rattle.run_law.proofs.InputHears.{hears-by, peers-hear}
-use Rattle.run_law.proofs.InputKept.{input-kept}
+use Rattle.run_law.proofs.InputKept.{IsBegun, begun-by, input-kept, opening-addressed}
+use Rattle.run_law.proofs.InputKinds.{IsOpening, opening-hands_off, opening-members}
 use Rattle.run_law.proofs.InputSeen.{found-of}
 use Rattle.run_law.proofs.SameMachine.{machine-same}
 use Rattle.run_law.proofs.StoreArrivals.{matched-after, same-volatile}
@@ -57,17 +65,22 @@ unchanged-at agents k (Some agent) is = ap (λ (a : Option AgentFacts). slice_se
 pub unchanged : (agents : List (Option AgentFacts)) (k : ℕ) → with_changed agents k (agent_after None) ≡ agents
 unchanged agents k = unchanged-at agents k (slice_get agents k) refl
 
--- a wake that nobody hears
-idle-wake : (head : HeadText) (book : List Event) (cluster : Cluster) (member : Member) → Bridged head book cluster → outcome_of cluster member Wake ≡ None
-    → IsKept head book cluster (event_of cluster (kinds.Agent (agents.Woken member)))
-idle-wake head book cluster member good none =
-    let kind : EventKind = kinds.Agent (agents.Woken member) in
+-- what comes to it is no message, and nobody hears it
+idle-called : (head : HeadText) (book : List Event) (cluster : Cluster) (member : Member) (heard : Heard) (happening : AgentEvent) → IsOpening None (kinds.Agent happening)
+    → (cluster_after cluster (kinds.Agent happening)).agents ≡ agent_facts_with cluster.agents member (outcome_of cluster member heard) → Bridged head book cluster → outcome_of cluster member heard ≡ None
+    → IsKept head book cluster (event_of cluster (kinds.Agent happening))
+idle-called head book cluster member heard happening opens acts good none =
+    let kind : EventKind = kinds.Agent happening in
     let events : List Event = event_of cluster kind in
-    let same : (cluster_after cluster kind).agents ≡ cluster.agents = ap (λ (o : Option Outcome). agent_facts_with cluster.agents member o) none ∙ unchanged cluster.agents member.id.number in
+    let later : Cluster = cluster_after cluster kind in
+    let begun : IsBegun member.id.number cluster later = begun-by member.id.number cluster None kind opens in
+    let same : later.agents ≡ cluster.agents = acts ∙ ap (λ (o : Option Outcome). agent_facts_with cluster.agents member o) none ∙ unchanged cluster.agents member.id.number in
     machines-kept head book cluster events Note good tt (tt, tt) (tt, tt)
-    (subst (λ (past : Past). IsMatched head past (cluster_after cluster kind)) (sym (past-append first_past book events))
-    (matched-after head (past_of book) cluster events (tt, (tt, tt)) ((tt, tt, tt), tt) (record { agents = same; servers = refl; processes = refl; asked = refl }) good.matched))
-    (λ m. machine-same _ _ _ _ _ _ _ _ _ _ _ _ refl refl refl refl (ap (λ (xs : List (Option AgentFacts)). agent_now (slice_get xs m)) same) refl)
+    (subst (λ (past : Past). IsMatched head past later) (sym (past-append first_past book events))
+    (matched-after head (past_of book) cluster events (tt, (tt, tt)) ((opening-hands_off None kind opens, opening-members (member_count head) None kind opens, opening-addressed None kind opens), tt)
+    (record { agents = same; servers = begun.servers; processes = begun.processes; asked = refl }) good.matched))
+    (λ m. machine-same _ _ _ _ _ _ _ _ _ _ _ _ (ap (λ (xs : List ServerFacts). live_in xs m) begun.servers) (ap (λ (xs : List (Option Ticks)). deadline_in xs m) begun.deadlines) refl
+    (ap (λ (xs : List (Option Ticks)). hold_in xs m) begun.holds) (ap (λ (xs : List (Option AgentFacts)). agent_now (slice_get xs m)) same) (ap (λ (xs : List AgentProcess). run_in xs m) begun.processes))
 
 -- a message that says nothing to its receiver, or comes to none: it is gone, as if it were lost
 idle-arrival : (head : HeadText) (book : List Event) (cluster : Cluster) (number : ℕ) → Bridged head book cluster → (cluster_after cluster (kinds.Message (Delivered number))).agents ≡ cluster.agents
@@ -102,18 +115,30 @@ the-outcome cluster member heard agent machine a m =
 from-none : (n : ℕ) → 0 ≤ n
 from-none n = omega arith
 
-module _ (head : HeadText) (book : List Event) (cluster : Cluster) (member : Member) (good : Bridged head book cluster) where
-  wake-by : (agent : Option AgentFacts) (machine : Option Machine) → agent_at cluster.agents member.id.number ≡ agent → machine_of cluster member ≡ machine
-      → IsKept head book cluster (event_of cluster (kinds.Agent (agents.Woken member)) ++ input_events (cluster_after cluster (kinds.Agent (agents.Woken member))) member no_message (outcome_at (moment_of cluster) (points_of cluster member) Wake agent machine))
-  wake-by None machine a m = idle-wake head book cluster member good (the-outcome cluster member Wake None machine a m)
-  wake-by (Some agent) None a m = idle-wake head book cluster member good (the-outcome cluster member Wake (Some agent) None a m)
-  wake-by (Some agent) (Some machine) a m =
-      input-kept head book cluster good member agent machine (found-of cluster member machine m) (agent-here cluster member agent a) Wake None no_message (kinds.Agent (agents.Woken member)) refl
-      (λ n e. absurd (none-some n e)) (from-none cluster.book.sent)
-      (ap (λ (o : Option Outcome). agent_facts_with cluster.agents member o) (the-outcome cluster member Wake (Some agent) (Some machine) a m)) (λ works. tt)
+-- what comes to it is no message, and the law needs nothing of that
+module _ (head : HeadText) (book : List Event) (cluster : Cluster) (member : Member) (good : Bridged head book cluster) (heard : Heard) (happening : AgentEvent) (opens : IsOpening None (kinds.Agent happening))
+    (acts : (cluster_after cluster (kinds.Agent happening)).agents ≡ agent_facts_with cluster.agents member (outcome_of cluster member heard))
+    (hears : (s : State) (m : ℕ) (now : Ticks) (o : Outcome) → Hears s m None now heard o) where
+  unheard : outcome_of cluster member heard ≡ None → IsKept head book cluster (event_of cluster (kinds.Agent happening))
+  unheard none = idle-called head book cluster member heard happening opens acts good none
 
-  pub kept-wake : IsKept head book cluster (wake_events_of cluster member)
-  kept-wake = wake-by (agent_at cluster.agents member.id.number) (machine_of cluster member) refl refl
+  called-by : (agent : Option AgentFacts) (machine : Option Machine) → agent_at cluster.agents member.id.number ≡ agent → machine_of cluster member ≡ machine
+      → IsKept head book cluster (event_of cluster (kinds.Agent happening) ++ input_events (cluster_after cluster (kinds.Agent happening)) member no_message (outcome_at (moment_of cluster) (points_of cluster member) heard agent machine))
+  called-by None machine a m = unheard (the-outcome cluster member heard None machine a m)
+  called-by (Some agent) None a m = unheard (the-outcome cluster member heard (Some agent) None a m)
+  called-by (Some agent) (Some machine) a m =
+      input-kept head book cluster good member agent machine (found-of cluster member machine m) (agent-here cluster member agent a) heard None no_message (kinds.Agent happening) opens
+      (λ n e. absurd (none-some n e)) (from-none cluster.book.sent)
+      (acts ∙ ap (λ (o : Option Outcome). agent_facts_with cluster.agents member o) (the-outcome cluster member heard (Some agent) (Some machine) a m)) (λ works. hears _ _ _ _)
+
+  kept-called : IsKept head book cluster (event_of cluster (kinds.Agent happening) ++ input_events (cluster_after cluster (kinds.Agent happening)) member no_message (outcome_of cluster member heard))
+  kept-called = called-by (agent_at cluster.agents member.id.number) (machine_of cluster member) refl refl
+
+pub kept-wake : (head : HeadText) (book : List Event) (cluster : Cluster) (member : Member) → Bridged head book cluster → IsKept head book cluster (wake_events_of cluster member)
+kept-wake head book cluster member good = kept-called head book cluster member good Wake (agents.Woken member) refl refl (λ s m now o. tt)
+
+pub kept-operated : (head : HeadText) (book : List Event) (cluster : Cluster) (member : Member) (action : OperatorAction) → Bridged head book cluster → IsKept head book cluster (operate_events cluster member action)
+kept-operated head book cluster member action good = kept-called head book cluster member good (Operated action) (agents.Operated member action) refl refl (λ s m now o. tt)
 
 -- ---- what stands in the way of a message
 or-second : (a b : Bool) → (a || b) ≡ false → b ≡ false
@@ -224,4 +249,5 @@ pub inputs-keep : (head : HeadText) → InputsUphold head (one_writer head)
 inputs-keep head = record {
   wakes = λ book cluster member process good declared found acts. kept-wake head book cluster member good;
   hears = λ book cluster number message member good found to opened. kept-hearing head book cluster number message member good found to opened;
+  operates = λ book cluster member process action good declared found acts. kept-operated head book cluster member action good;
 }

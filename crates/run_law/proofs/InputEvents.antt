@@ -1,12 +1,16 @@
 -- What an input of an agent brings, event by event.
-use Rattle.std.proofs.Common.{◌≡◌, ◌+◌, ◌==◌, ◌&&◌, nat_le, ℕ, Bool, true, false, if◌then◌else◌, List, [], ◌∷◌, Option, Some, None, length, slice_get, option_and_then, option_map, refl, ap}
-use Rattle.pg_model.specs.Facts.{ServerFacts, entries_of, is_down, is_replica, is_up}
+use Rattle.std.proofs.Common.{◌≡◌, ◌+◌, ◌==◌, ◌&&◌, ◌||◌, nat_le, ℕ, Bool, true, false, if◌then◌else◌, List, [], ◌∷◌, Option, Some, None, length, slice_get, option_and_then, option_map, refl, ap, inl, inr}
+use Rattle.pat_base.specs.declared.server_state.State.{State}
+use Rattle.pat_base.specs.declared.server_state.State.TheVariants as states
+use Rattle.pat_base.specs.ServerState.{live}
+use Rattle.pg_model.specs.Facts.{ServerFacts, entries_of, is_creating, is_down, is_replica, is_up}
 use Rattle.pg_model.specs.declared.answers.Rewound.{Rewound}
 use Rattle.pg_model.specs.Rewinding.{may_clone_at, rewind_at}
 use Rattle.pg_model.specs.Running.{is_primary}
 use Rattle.event_book.specs.declared.agent_process.AgentProcess.{AgentProcess}
 use Rattle.event_book.specs.declared.event.EventKind.{EventKind}
 use Rattle.event_book.specs.declared.event.EventKind.TheVariants as kinds
+use Rattle.event_book.specs.declared.event.LogEvent.TheVariants as logs
 use Rattle.event_book.specs.declared.event.MessageEvent.TheVariants.{Sent}
 use Rattle.event_book.specs.declared.event.ReplicationEvent.TheVariants as replications
 use Rattle.event_book.specs.declared.event.ServerEvent.TheVariants as servers
@@ -20,29 +24,35 @@ use Rattle.event_book.specs.declared.reason.Basis.TheVariants as bases
 use Rattle.event_book.specs.declared.reason.Reason.{Reason}
 use Rattle.event_book.specs.Links.{CutLinks, is_cut}
 use Rattle.event_book.specs.Members.{server_of}
+use Rattle.ha_loop.specs.declared.operating.Told.{Told}
+use Rattle.ha_loop.specs.declared.operating.Told.TheVariants as tolds
 use Rattle.ha_loop.specs.declared.output.Output.{Output}
 use Rattle.ha_loop.specs.declared.output.Output.TheVariants as outputs
 use Rattle.ha_loop.specs.declared.output.Repair.{Repair}
 use Rattle.ha_loop.specs.declared.output.Repair.TheVariants as repairs
 use Rattle.ha_loop.specs.declared.output.Target.TheVariants as targets
+use Rattle.ha_loop.specs.Agents.{AgentFacts}
+use Rattle.ha_loop.specs.Operators.{ok}
 use Rattle.ha_loop.specs.Orders.{IsAsk, IsOfTable}
 use Rattle.cluster_model.specs.declared.beginning.Beginning.{Beginning}
 use Rattle.cluster_model.specs.declared.beginning.Beginning.TheVariants as beginnings
 use Rattle.cluster_model.specs.declared.heard_message.HeardMessage.{HeardMessage}
-use Rattle.cluster_model.specs.Beginnings.{begin_kinds, beginning_of, kinds_by}
+use Rattle.cluster_model.specs.Beginnings.{again_by, begin_kinds, beginning_of, kinds_by, server_restart_in, server_restart_kinds}
 use Rattle.cluster_model.specs.Commands.{kinds_of}
+use Rattle.cluster_model.specs.Inputs.{agent_at}
 use Rattle.cluster_model.specs.Limits.{most_in_flight}
 use Rattle.summary.specs.Lacking.{lacks_in}
 use Rattle.cluster_model.specs.Losing.{loss_if}
 use Rattle.wal_model.specs.declared.entry.Entry.{Entry}
 use Rattle.cluster_model.specs.Messages.{agent_message, lost_at_once, sending_events, output_events, replying_events}
-use Rattle.cluster_model.specs.Orders.{declared_member, following_of, is_same_required, order_kind, arming, feeding, feed_kinds, replica_start_kinds, require_of, required_names, server_at, stop_kind, stop_kinds, stop_of, upstream_of, copying, repair_by, repair_over, rewinding}
+use Rattle.cluster_model.specs.Orders.{declared_member, following_of, handing_over, is_same_required, order_kind, arming, feeding, feed_kinds, replica_start_kinds, require_of, required_names, server_at, stop_kind, stop_kinds, stop_of, upstream_of, copying, repair_by, repair_over, rewinding, wipe_of}
 use Rattle.cluster_model.specs.Parts.{events_of, for_some}
+use Rattle.cluster_model.specs.Requests.{answering, config_text_of, told_kind}
 use Rattle.cluster_model.specs.State.{Cluster}
 use Rattle.cluster_model.specs.Streaming.{link_of_members}
 use Rattle.lease_law.specs.Premises.{AllAre}
 use Rattle.run_law.proofs.Lists.{AllKinds, HoldsIf, all-kinds, one-kind}
-use Rattle.run_law.specs.InputEvents.{Asks, AsksPeer, AnswersPeer, IsOfInput}
+use Rattle.run_law.specs.InputEvents.{Asks, AsksPeer, AnswersPeer, IsOfInput, IsToBegin}
 
 pub holds-then : {X : Type 0} (P : EventKind → Type 0) (f : X → Option EventKind) (found : Option X) → ((x : X) → HoldsIf P (f x)) → HoldsIf P (option_and_then f found)
 holds-then P f None all = tt
@@ -56,13 +66,18 @@ holds-unless : (P : EventKind → Type 0) (test : Bool) (o : Option EventKind) �
 holds-unless P true o is = tt
 holds-unless P false o is = is
 
--- a repair of a log changes the log of its member's server alone
-pub rewind-holds : (P : EventKind → Type 0) (member leader : Member) (rewind : Option Rewound) → ((r : Rewound) → P (rewinding member leader r)) → HoldsIf P (option_map (rewinding member leader) rewind)
-rewind-holds P member leader None is = tt
-rewind-holds P member leader (Some r) is = is r
+pub holds-mapped : {X : Type 0} (P : EventKind → Type 0) (f : X → EventKind) (found : Option X) → ((x : X) → P (f x)) → HoldsIf P (option_map f found)
+holds-mapped P f None all = tt
+holds-mapped P f (Some x) all = all x
 
+-- what an agent answers an operator is an answer
+pub told-holds : (P : EventKind → Type 0) (member : Member) (agent : Option AgentFacts) (told : Told) → ((status : ℕ) (body : List ℕ) → P (answering member status body)) → HoldsIf P (told_kind member agent told)
+told-holds P member agent (tolds.Text status text) answers = answers status _
+told-holds P member agent tolds.Written answers = holds-mapped P (answering member ok) (config_text_of agent) (answers ok)
+
+-- a repair of a log changes the log of its member's server alone
 repair-holds : (P : EventKind → Type 0) (known : List ServerFacts) (member : Member) (repair : Repair) (leader : Member) → ((r : Rewound) → P (rewinding member leader r)) → P (copying member leader) → HoldsIf P (repair_by known member repair leader)
-repair-holds P known member repairs.Rewind leader rewinds copies = rewind-holds P member leader (rewind_at known member.id.number leader.id.number) rewinds
+repair-holds P known member repairs.Rewind leader rewinds copies = holds-mapped P (rewinding member leader) (rewind_at known member.id.number leader.id.number) rewinds
 repair-holds P known member repairs.Clone leader rewinds copies = holds-if P (may_clone_at known member.id.number leader.id.number) (copying member leader) copies
 
 pub repaired-holds : (P : EventKind → Type 0) (cuts : CutLinks) (known : List ServerFacts) (member : Member) (repair : Repair) (found : Option Member) → ((leader : Member) (r : Rewound) → P (rewinding member leader r)) → ((leader : Member) → P (copying member leader))
@@ -79,14 +94,24 @@ module _ (member : Member) (run heard : ℕ) (Q : Output → Type 0) where
   loss-mine true = (refl, tt)
   loss-mine false = tt
 
-  begin-mine : (acknowledged : List ℕ) (log : Option (List Entry)) (begins : Option Beginning) → Q outputs.Begin → AllKinds Mine (kinds_by member acknowledged log begins)
+  begin-mine : (acknowledged : List ℕ) (log : Option (List Entry)) (begins : Option Beginning) → IsToBegin Q → AllKinds Mine (kinds_by member acknowledged log begins)
   begin-mine acknowledged log None is = tt
   begin-mine acknowledged log (Some (beginnings.AtOnce timeline)) is = ((refl, is), loss-mine (lacks_in (entries_of log) acknowledged))
   begin-mine acknowledged log (Some beginnings.WithItsStart) is = (refl, tt)
 
-  begins-mine : (cluster : Cluster) (found : Option ServerFacts) → Q outputs.Begin → AllAre Mine (for_some found (λ s. events_of cluster (begin_kinds member cluster.book.acknowledged s)))
+  begins-mine : (cluster : Cluster) (found : Option ServerFacts) → IsToBegin Q → AllAre Mine (for_some found (λ s. events_of cluster (begin_kinds member cluster.book.acknowledged s)))
   begins-mine cluster None is = tt
   begins-mine cluster (Some s) is = all-kinds Mine cluster (begin_kinds member cluster.book.acknowledged s) (begin-mine cluster.book.acknowledged s.log (beginning_of s) is)
+
+  -- it starts again
+  pub again-mine : (acknowledged : List ℕ) (state : State) (s : ServerFacts) → IsToBegin Q → AllKinds Mine (server_restart_in member acknowledged state s)
+  again-mine acknowledged states.Primary s is = (refl, begin-mine acknowledged s.log (Some (again_by s.timeline s.start_delay)) is)
+  again-mine acknowledged states.Replica s is = (refl, tt)
+  again-mine acknowledged _ s is = tt
+
+  restarts-mine : (cluster : Cluster) (found : Option ServerFacts) → IsToBegin Q → AllAre Mine (for_some found (λ s. events_of cluster (server_restart_kinds member cluster.book.acknowledged s)))
+  restarts-mine cluster None is = tt
+  restarts-mine cluster (Some s) is = all-kinds Mine cluster (server_restart_kinds member cluster.book.acknowledged s) (again-mine cluster.book.acknowledged s.state s is)
 
   follow-mine : (leader : Option Member) → HoldsIf Mine (following_of member leader)
   follow-mine None = tt
@@ -104,9 +129,9 @@ module _ (member : Member) (run heard : ℕ) (Q : Output → Type 0) where
   started-mine leader true = (refl, one-kind Mine (following_of member leader) (follow-mine leader))
   started-mine leader false = tt
 
-  require-mine : (kind : EventKind) (test : Bool) → Mine kind → HoldsIf Mine (if test then None else Some kind)
-  require-mine kind true is = tt
-  require-mine kind false is = is
+  unless-mine : (kind : EventKind) (test : Bool) → Mine kind → HoldsIf Mine (if test then None else Some kind)
+  unless-mine kind true is = tt
+  unless-mine kind false is = is
 
   starts-mine : (cluster : Cluster) (leader : Option Member) (found : Option ServerFacts) → AllAre Mine (for_some found (λ s. events_of cluster (replica_start_kinds member leader s)))
   starts-mine cluster leader None = tt
@@ -157,7 +182,7 @@ module _ (member : Member) (run heard : ℕ) (Q : Output → Type 0) where
   order-mine cluster message at (outputs.Follow leader) table is = holds-then Mine (upstream_of member (slice_get cluster.book.members leader.number)) (server_at cluster member) (λ s. upstream-mine (slice_get cluster.book.members leader.number) (is_replica s.state))
   order-mine cluster message at (outputs.Require required) table is =
       holds-then Mine (require_of cluster.book.members member required) (server_at cluster member)
-      (λ s. require-mine (kinds.Replication (replications.RequiredSet (server_of member) required (required_names cluster.book.members required))) (is_same_required s.required required) refl)
+      (λ s. unless-mine (kinds.Replication (replications.RequiredSet (server_of member) required (required_names cluster.book.members required))) (is_same_required s.required required) refl)
   order-mine cluster message at (outputs.Armed until) table is = tt
   order-mine cluster message at (outputs.Fed until) table is = tt
   order-mine cluster message at outputs.Disarmed table is = refl
@@ -167,6 +192,11 @@ module _ (member : Member) (run heard : ℕ) (Q : Output → Type 0) where
   order-mine cluster message at outputs.ShutDown table is = holds-then Mine (stop_of member) (server_at cluster member)
       (λ s. holds-if Mine (is_up s.state) (stop_kind member s.state s.stop_delay) (stop-mine (is_primary s.state && s.stop_delay.0 == 0)))
   order-mine cluster message at (outputs.Repair leader repair) table is = tt
+  order-mine cluster message at (outputs.Restart as_primary) table is = tt
+  order-mine cluster message at outputs.Wipe table is =
+      holds-then Mine (wipe_of member) (server_at cluster member) (λ s. unless-mine (kinds.Log (logs.Wiped (server_of member))) (is_creating s.state || live s.state) refl)
+  order-mine cluster message at (outputs.HandsOver candidate) table is = holds-mapped Mine (handing_over member) (slice_get cluster.book.members candidate.number) (λ other. tt)
+  order-mine cluster message at (outputs.Told request told) table is = told-holds Mine member (agent_at cluster.agents member.id.number) told (λ status body. tt)
   order-mine cluster message at (outputs.HoldTaken until from sequence) table is = absurd table
 
   ordered-mine : (cluster : Cluster) (message : HeardMessage) → message.number ≡ heard → (output : Output) → IsOfTable output → Q output → AllAre Mine (events_of cluster (kinds_of (order_kind cluster member message output)))
@@ -178,7 +208,8 @@ module _ (member : Member) (run heard : ℕ) (Q : Output → Type 0) where
   output-mine cluster message at runs (outputs.Send targets.Store sequence body) table is = sends-mine cluster sequence body (slice_get cluster.book.agents member.id.number) runs is
   output-mine cluster message at runs (outputs.Send (targets.Member id) sequence body) table is = member-mine cluster id sequence body (slice_get cluster.book.agents member.id.number) (slice_get cluster.book.members id.number) table runs is
   output-mine cluster message at runs (outputs.Answer to asked sequence answer) table is = replies-mine cluster to asked sequence answer (slice_get cluster.book.members to.number) is
-  output-mine cluster message at runs outputs.Begin table is = begins-mine cluster (server_at cluster member) is
+  output-mine cluster message at runs outputs.Begin table is = begins-mine cluster (server_at cluster member) (inl is)
+  output-mine cluster message at runs (outputs.Restart as_primary) table is = restarts-mine cluster (server_at cluster member) (inr (as_primary, is))
   output-mine cluster message at runs (outputs.Armed until) table is = all-kinds Mine cluster (feed_kinds member message (arming member until message)) (refl, ((refl, at, is), tt))
   output-mine cluster message at runs (outputs.Fed until) table is = all-kinds Mine cluster (feed_kinds member message (feeding member until message)) (refl, ((refl, ap (λ (n : ℕ). bases.Grant n) at, is), tt))
   output-mine cluster message at runs (outputs.StartReplica leader) table is = starts-mine cluster (declared_member cluster.book.members leader) (server_at cluster member)

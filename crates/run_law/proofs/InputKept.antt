@@ -85,18 +85,21 @@ pub record IsBegun (m : ℕ) (cluster later : Cluster) : Type 0 where
   pub holds : later.book.holds ≡ cluster.book.holds
   pub sent : later.book.sent ≡ cluster.book.sent
 
-begun-by : (m : ℕ) (cluster : Cluster) (heard : Option ℕ) (kind : EventKind) → IsOpening heard kind → IsBegun m cluster (cluster_after cluster kind)
+pub begun-by : (m : ℕ) (cluster : Cluster) (heard : Option ℕ) (kind : EventKind) → IsOpening heard kind → IsBegun m cluster (cluster_after cluster kind)
 begun-by m cluster heard (kinds.Agent (agents.Woken by)) is = record { processes = refl; clock = refl; servers = refl; deadlines = refl; holds = refl; sent = refl }
+begun-by m cluster heard (kinds.Agent (agents.Operated by action)) is = record { processes = refl; clock = refl; servers = refl; deadlines = refl; holds = refl; sent = refl }
 begun-by m cluster heard (kinds.Message (Delivered number)) is = record { processes = refl; clock = refl; servers = refl; deadlines = refl; holds = refl; sent = refl }
 begun-by m cluster heard _ is = absurd is
 
-opening-addressed : (heard : Option ℕ) (kind : EventKind) → IsOpening heard kind → SendsAddressed kind
+pub opening-addressed : (heard : Option ℕ) (kind : EventKind) → IsOpening heard kind → SendsAddressed kind
 opening-addressed heard (kinds.Agent (agents.Woken by)) is = tt
+opening-addressed heard (kinds.Agent (agents.Operated by action)) is = tt
 opening-addressed heard (kinds.Message (Delivered number)) is = tt
 opening-addressed heard _ is = absurd is
 
 opening-sent : (heard : Option ℕ) (kind : EventKind) (last : ℕ) → IsOpening heard kind → sent_after last kind ≡ last
 opening-sent heard (kinds.Agent (agents.Woken by)) last is = refl
+opening-sent heard (kinds.Agent (agents.Operated by action)) last is = refl
 opening-sent heard (kinds.Message (Delivered number)) last is = refl
 opening-sent heard _ last is = absurd is
 
@@ -305,6 +308,7 @@ module _ (head : HeadText) (book : List Event) (cluster : Cluster) (good : Bridg
 
     gone-if : (o : Option ℕ) (kind : EventKind) → IsOpening o kind → (number : ℕ) → o ≡ Some number → kind ≡ kinds.Message (Delivered number)
     gone-if o (kinds.Agent (agents.Woken by)) is number e = absurd (none-some number (sym is ∙ e))
+    gone-if o (kinds.Agent (agents.Operated by action)) is number e = absurd (none-some number (sym is ∙ e))
     gone-if o (kinds.Message (Delivered n)) is number e = ap (λ (k : ℕ). kinds.Message (Delivered k)) (some-is n number (sym is ∙ e))
     gone-if o _ is number e = absurd is
 
@@ -351,13 +355,15 @@ module _ (head : HeadText) (book : List Event) (cluster : Cluster) (good : Bridg
 
     opening-begins : (R : ℕ → Type 0) (o : Option ℕ) (kind : EventKind) → IsOpening o kind → BeginsKind R kind
     opening-begins R o (kinds.Agent (agents.Woken by)) is = tt
+    opening-begins R o (kinds.Agent (agents.Operated by action)) is = tt
     opening-begins R o (kinds.Message (Delivered n)) is = tt
     opening-begins R o _ is = absurd is
 
     begins-all : IsLawfulAnd S M After Theirs → BeginsBehind (MayBeginBehind S (Input M Theirs)) [] Events
     begins-all lawful = (
       opening-begins (May []) hn opening opens,
-      each-begins member agent.knows.run message (MayPromote S M Theirs) May grow makes First [] (record { tick = record { 0 = First.book.clock }; kind = opening } ∷ []) After.outputs runs table
+      each-begins member agent.knows.run message (MayPromote S M Theirs) May grow makes First machine [] (record { tick = record { 0 = First.book.clock }; kind = opening } ∷ []) After.outputs mirrors-first
+          (λ alive. (refl, inl (inl (ap (λ (x : MachineSeen). x.live) stands.member ∙ alive)))) runs table (step-carried-out Now (points_of cluster member) heard agent.role agent.knows machine).last
           (opening-moments message.number hn opening opens, tt) kept (λ e. absurd (no-one e)) lawful.begins,
     )
 

@@ -33,49 +33,58 @@ use Rattle.bridge_law.proofs.Flights.{asked-there, asked-new, flying-same}
 use Rattle.run_law.specs.InputEvents.{IsMessageOf, Asks, AsksPeer, AnswersPeer, IsOfInput}
 use Rattle.run_law.specs.Machines.{IsWithinMembers, IsByGrant}
 
--- the event with which an input begins: its agent is woken, or a message comes to it
+-- the event with which an input begins: its agent is woken, or asked by an operator, or a message comes to it
 abbrev pub IsOpening : Option ℕ → EventKind → Type 0
 IsOpening heard (kinds.Agent (agents.Woken by)) = heard ≡ None
+IsOpening heard (kinds.Agent (agents.Operated by action)) = heard ≡ None
 IsOpening heard (kinds.Message (Delivered number)) = heard ≡ Some number
 IsOpening heard _ = ⊥
 
 pub opening-own : (m : ℕ) (heard : Option ℕ) (kind : EventKind) → IsOpening heard kind → IsOwn m kind
 opening-own m heard (kinds.Agent (agents.Woken by)) is = tt
+opening-own m heard (kinds.Agent (agents.Operated by action)) is = tt
 opening-own m heard (kinds.Message (Delivered number)) is = tt
 opening-own m heard _ is = absurd is
 
 pub opening-taken : (clock : ℕ) (taken : List Taking) (heard : Option ℕ) (kind : EventKind) → IsOpening heard kind → taken_after clock taken kind ≡ taken
 opening-taken clock taken heard (kinds.Agent (agents.Woken by)) is = refl
+opening-taken clock taken heard (kinds.Agent (agents.Operated by action)) is = refl
 opening-taken clock taken heard (kinds.Message (Delivered number)) is = refl
 opening-taken clock taken heard _ is = absurd is
 
 pub opening-sends : (P : Flying → Type 0) (clock : ℕ) (heard : Option ℕ) (kind : EventKind) → IsOpening heard kind → SendsOnly P clock kind
 opening-sends P clock heard (kinds.Agent (agents.Woken by)) is = tt
+opening-sends P clock heard (kinds.Agent (agents.Operated by action)) is = tt
 opening-sends P clock heard (kinds.Message (Delivered number)) is = tt
 opening-sends P clock heard _ is = absurd is
 
 pub opening-from : (heard : Option ℕ) (kind : EventKind) → IsOpening heard kind → IsFromMembers kind
 opening-from heard (kinds.Agent (agents.Woken by)) is = tt
+opening-from heard (kinds.Agent (agents.Operated by action)) is = tt
 opening-from heard (kinds.Message (Delivered number)) is = tt
 opening-from heard _ is = absurd is
 
 pub opening-above : (last : ℕ) (heard : Option ℕ) (kind : EventKind) → IsOpening heard kind → IsNumberedAbove last kind
 opening-above last heard (kinds.Agent (agents.Woken by)) is = tt
+opening-above last heard (kinds.Agent (agents.Operated by action)) is = tt
 opening-above last heard (kinds.Message (Delivered number)) is = tt
 opening-above last heard _ is = absurd is
 
 pub opening-members : (count : ℕ) (heard : Option ℕ) (kind : EventKind) → IsOpening heard kind → IsWithinMembers count kind
 opening-members count heard (kinds.Agent (agents.Woken by)) is = tt
+opening-members count heard (kinds.Agent (agents.Operated by action)) is = tt
 opening-members count heard (kinds.Message (Delivered number)) is = tt
 opening-members count heard _ is = absurd is
 
 pub opening-hands_off : (heard : Option ℕ) (kind : EventKind) → IsOpening heard kind → IsHandsOffKind kind
 opening-hands_off heard (kinds.Agent (agents.Woken by)) is = tt
+opening-hands_off heard (kinds.Agent (agents.Operated by action)) is = tt
 opening-hands_off heard (kinds.Message (Delivered number)) is = tt
 opening-hands_off heard _ is = absurd is
 
 pub opening-moments : (n : ℕ) (heard : Option ℕ) (kind : EventKind) → IsOpening heard kind → KeepsMomentOf n kind
 opening-moments n heard (kinds.Agent (agents.Woken by)) is = tt
+opening-moments n heard (kinds.Agent (agents.Operated by action)) is = tt
 opening-moments n heard (kinds.Message (Delivered number)) is = tt
 opening-moments n heard _ is = absurd is
 

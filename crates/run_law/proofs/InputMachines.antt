@@ -1,6 +1,6 @@
 -- The machine of a member behind what an input of its agent brings.
 use Rattle.pat_base.specs.Changes.{with_changed}
-use Rattle.std.proofs.Common.{◌≡◌, ◌+◌, ◌==◌, ◌&&◌, ◌||◌, not, nat_le, ℕ, Bool, true, false, if◌then◌else◌, List, [], ◌∷◌, Option, Some, None, length, slice_get, option_and_then, refl, sym, subst, ap, ◌∙◌}
+use Rattle.std.proofs.Common.{◌≡◌, ◌+◌, ◌==◌, ◌&&◌, ◌||◌, not, nat_le, ℕ, Bool, true, false, if◌then◌else◌, List, [], ◌∷◌, Option, Some, None, length, slice_get, option_and_then, option_map, refl, sym, subst, ap, ◌∙◌}
 use Rattle.pat_base.specs.declared.member_id.MemberId.{MemberId}
 use Rattle.pat_base.specs.declared.server_id.ServerId.{ServerId}
 use Rattle.pat_base.specs.declared.server_state.Required.{Required}
@@ -8,14 +8,15 @@ use Rattle.pat_base.specs.declared.server_state.State.{State}
 use Rattle.pat_base.specs.declared.server_state.State.TheVariants as states
 use Rattle.pat_base.specs.declared.ticks.Ticks.{Ticks}
 use Rattle.pat_base.specs.ServerState.{live}
-use Rattle.pg_model.specs.Facts.{ServerFacts, entries_of, is_down, is_replica, is_up}
+use Rattle.pg_model.specs.Facts.{ServerFacts, entries_of, is_creating, is_down, is_replica, is_up}
 use Rattle.pg_model.specs.declared.status.ServerStatus.{ServerStatus}
-use Rattle.pg_model.specs.Running.{is_primary, moment_after, started, starting}
-use Rattle.pg_model.specs.Status.{status_promoted, status_started, status_starting, status_replica_started, status_primary_started, status_ending, status_stopping, status_following}
+use Rattle.pg_model.specs.Running.{is_primary, moment_after, started, starting, stopped, wiped}
+use Rattle.pg_model.specs.Status.{status_promoted, status_started, status_starting, status_replica_started, status_primary_started, status_ending, status_stopping, status_following, status_restarted, status_restarted_in, status_wiped}
 use Rattle.event_book.specs.declared.agent_process.AgentProcess.{AgentProcess}
 use Rattle.event_book.specs.declared.event.EventKind.{EventKind}
 use Rattle.event_book.specs.declared.event.EventKind.TheVariants as kinds
 use Rattle.event_book.specs.declared.event.LogEvent.{LogEvent}
+use Rattle.event_book.specs.declared.event.LogEvent.TheVariants as logs
 use Rattle.event_book.specs.declared.event.MessageEvent.TheVariants.{Sent, Lost}
 use Rattle.event_book.specs.declared.event.ReplicationEvent.TheVariants as replications
 use Rattle.event_book.specs.declared.event.ServerEvent.TheVariants as servers
@@ -29,8 +30,9 @@ use Rattle.event_book.specs.declared.link.LinkEnd.{LinkEnd}
 use Rattle.event_book.specs.declared.reason.Basis.TheVariants as bases
 use Rattle.event_book.specs.declared.reason.Reason.{Reason}
 use Rattle.event_book.specs.Members.{server_of, server_id_of}
-use Rattle.event_book.specs.Servers.{begun_in, starts_as_primary, starts_as_replica, stops, servers_by_log}
+use Rattle.event_book.specs.Servers.{begun_in, loses_log, replica_starts_in, starts_as_primary, starts_as_replica, stops, servers_by_log}
 use Rattle.event_book.proofs.Parts.{logged-kept}
+use Rattle.event_book.proofs.Starts.{down-starts}
 use Rattle.ha_loop.specs.declared.machine.Machine.{Machine}
 use Rattle.ha_loop.specs.declared.output.Output.{Output}
 use Rattle.ha_loop.specs.declared.output.Output.TheVariants as outputs
@@ -41,16 +43,18 @@ use Rattle.ha_loop.specs.Orders.{IsOfTable, machine_after_output, with_server}
 use Rattle.cluster_model.specs.declared.beginning.Beginning.TheVariants as beginnings
 use Rattle.cluster_model.specs.declared.heard_message.HeardMessage.{HeardMessage}
 use Rattle.cluster_model.specs.Cluster.{cluster_after, cluster_over}
-use Rattle.cluster_model.specs.Beginnings.{beginning_in, begin_kinds, kinds_by}
+use Rattle.cluster_model.specs.Beginnings.{beginning_in, begin_kinds, kinds_by, server_restart_in, server_restart_kinds}
 use Rattle.cluster_model.specs.Commands.{kinds_of}
+use Rattle.cluster_model.specs.Inputs.{agent_at}
 use Rattle.cluster_model.specs.Limits.{most_in_flight}
 use Rattle.cluster_model.specs.Messages.{agent_message, lost_at_once, send_events, sending_events, replying_events, receiver_of, output_events}
 use Rattle.summary.specs.Lacking.{lacks_in}
 use Rattle.cluster_model.specs.Losing.{loss_if}
-use Rattle.cluster_model.specs.Orders.{declared_member, following_of, is_same_required, not_racing, replica_start_kinds, require_of, required_names, server_at, stop_kind, stop_kinds, upstream_of, repair_over, stop_of}
+use Rattle.cluster_model.specs.Orders.{declared_member, following_of, handing_over, is_same_required, not_racing, replica_start_kinds, require_of, required_names, server_at, stop_kind, stop_kinds, upstream_of, repair_over, stop_of, wipe_of}
 use Rattle.cluster_model.specs.Parts.{events_of, for_some}
+use Rattle.cluster_model.specs.Requests.{told_kind}
 use Rattle.cluster_model.specs.State.{Cluster}
-use Rattle.run_law.proofs.InputEvents.{repaired-holds}
+use Rattle.run_law.proofs.InputEvents.{holds-mapped, repaired-holds, told-holds}
 use Rattle.run_law.proofs.Lists.{HoldsIf}
 use Rattle.run_law.proofs.Quiet.{live-kept}
 use Rattle.run_law.specs.Machines.{live_in, live_now}
@@ -118,6 +122,22 @@ seen_begins now states.Stopped x = seen_again now x
 seen_begins now states.Crashed x = seen_again now x
 seen_begins now _ x = x
 
+-- what the order to start again makes of it, by its state
+abbrev seen_restarted : Ticks → State → Seen → Seen
+seen_restarted now states.Primary x = seen_starting true now x
+seen_restarted now states.Replica x = seen_starting false now (record x { was_primary = false })
+seen_restarted now _ x = x
+
+-- it is wiped, unless it accepts writes or will
+abbrev seen_wiped : Seen → Seen
+seen_wiped x = if live x.state then x else record x { state = states.Creating }
+
+no-both : {A : Type 0} → true ≡ false → A
+no-both e = absurd (way e)
+  where
+    way : true ≡ false → ⊥
+    way e = cc
+
 -- a field of what is chosen
 chosen : {A B : Type 0} (field : A → B) (test : Bool) (x y : A) → field (if test then x else y) ≡ (if test then field x else field y)
 chosen field true x y = refl
@@ -176,6 +196,14 @@ status-following upstream s = by (is_replica s.state)
     by true = refl
     by false = refl
 
+status-restarted : (now : Ticks) (state : State) (s : ServerStatus) → status_seen (status_restarted_in state now s) ≡ seen_restarted now state (status_seen s)
+status-restarted now states.Primary s = status-starting true now s
+status-restarted now states.Replica s = status-starting false now (record s { was_primary = false })
+status-restarted now _ s = refl
+
+status-wiped : (s : ServerStatus) → status_seen (status_wiped s) ≡ seen_wiped (status_seen s)
+status-wiped s = chosen status_seen (live s.state) s (record s { state = states.Creating; end = None; diverged = false })
+
 -- ---- what events make of a server
 begun-seen : (state : State) (s : ServerFacts) → facts_seen (begun_in state s) ≡ seen_begun (facts_seen s)
 begun-seen states.Replica s = refl
@@ -190,12 +218,36 @@ facts-starting as_primary now s =
     chosen facts_seen (s.start_delay.0 == 0) (started as_primary s) (record s { state = states.Starting as_primary (moment_after now s.start_delay) })
     ∙ chosen-same (s.start_delay.0 == 0) (facts_seen (started as_primary s)) (seen_started as_primary (facts_seen s)) (record (facts_seen s) { state = states.Starting as_primary (moment_after now s.start_delay) }) (facts-started as_primary s)
 
-facts-replica-started : (now : ℕ) (s : ServerFacts) → facts_seen (starts_as_replica now s) ≡ seen_replica_started (record { 0 = now }) (facts_seen s)
-facts-replica-started now s =
+-- one that is down starts as a replica
+facts-replica-started : (now : ℕ) (s : ServerFacts) → is_down s.state ≡ true → facts_seen (starts_as_replica now s) ≡ seen_replica_started (record { 0 = now }) (facts_seen s)
+facts-replica-started now s down =
     let at : Ticks = record { 0 = now } in
     let behind : ServerFacts = record s { upstream = None; was_primary = false } in
-    chosen facts_seen (is_down s.state) (starting false at behind) s
-    ∙ chosen-same (is_down s.state) (facts_seen (starting false at behind)) (seen_starting false at (facts_seen behind)) (facts_seen s) (facts-starting false at behind)
+    ap facts_seen (down-starts now s down)
+    ∙ facts-starting false at behind
+    ∙ sym (ap (λ (b : Bool). if b then seen_starting false at (facts_seen behind) else facts_seen s) down)
+
+-- one that runs as a replica starts again
+replica-again-seen : (now : ℕ) (s : ServerFacts) → s.state ≡ states.Replica → facts_seen (starts_as_replica now s) ≡ seen_restarted (record { 0 = now }) states.Replica (facts_seen s)
+replica-again-seen now s is =
+    ap (λ (state : State). facts_seen (replica_starts_in state (record { 0 = now }) s)) is
+    ∙ facts-starting false (record { 0 = now }) (record s { upstream = s.upstream; was_primary = false })
+
+-- one is wiped
+facts-wiped : (s : ServerFacts) → facts_seen (loses_log s) ≡ seen_wiped (facts_seen s)
+facts-wiped s = chosen facts_seen (live s.state) (record s { log = None }) (wiped s)
+
+-- one that waits for a copy, or that accepts writes or will, isn't
+unwiped : (state : State) (was : Bool) (stop start : Ticks) → (is_creating state || live state) ≡ true → let x : Seen = record { state = state; was_primary = was; stop = stop; start = start } in seen_wiped x ≡ x
+unwiped states.Creating was stop start e = refl
+unwiped states.Primary was stop start e = refl
+unwiped (states.Starting true at) was stop start e = refl
+unwiped (states.Starting false at) was stop start e = no-both (sym e)
+unwiped (states.Stopping true at) was stop start e = refl
+unwiped (states.Stopping false at) was stop start e = no-both (sym e)
+unwiped states.Stopped was stop start e = no-both (sym e)
+unwiped states.Replica was stop start e = no-both (sym e)
+unwiped states.Crashed was stop start e = no-both (sym e)
 
 -- one that is down and whose starts take time starts as a primary
 slowly-started : (now : ℕ) (s : ServerFacts) (z : Bool) → (s.start_delay.0 == 0) ≡ z → is_down s.state ≡ true → z ≡ false → facts_seen (starts_as_primary now s) ≡ seen_starting true (record { 0 = now }) (facts_seen s)
@@ -204,12 +256,6 @@ slowly-started now s z e down slow =
     ap (λ (b : Bool). facts_seen (if b && not (s.start_delay.0 == 0) then starting true at s else s)) down
     ∙ ap (λ (b : Bool). facts_seen (if not b then starting true at s else s)) (e ∙ slow)
     ∙ facts-starting true at s
-
-no-both : {A : Type 0} → true ≡ false → A
-no-both e = absurd (way e)
-  where
-    way : true ≡ false → ⊥
-    way e = cc
 
 stops-by : (now : Ticks) (s : ServerFacts) (up primary z : Bool) → (primary && z) ≡ false
     → let after : ServerFacts = (if up && (not primary || not z) then (if z then record s { state = states.Stopped; waiting = [] } else record s { state = states.Stopping primary (moment_after now s.stop_delay) }) else s) in
@@ -305,6 +351,10 @@ repair-resembles cluster member message machine leader repair old =
     may-resemble cluster member.id.number machine (option_and_then (repair_over cluster.book.cuts cluster.book.servers member repair) (slice_get cluster.book.members leader.number))
     (repaired-holds IsOfLog cluster.book.cuts cluster.book.servers member repair (slice_get cluster.book.members leader.number) (λ other r. tt) (λ other. tt)) old
 
+abbrev IsOfNote : EventKind → Type 0
+IsOfNote (kinds.Note note) = Unit {0}
+IsOfNote _ = ⊥
+
 -- ---- the machine behind each output
 module _ (member : Member) where
   abbrev Here : Cluster → Machine → Type 0
@@ -317,6 +367,20 @@ module _ (member : Member) where
   loss-here : (cluster : Cluster) (machine : Machine) (test : Bool) → Here cluster machine → Here (Behind cluster (kinds_of (loss_if member test))) machine
   loss-here cluster machine true old = unmoved cluster (cluster_after cluster (kinds.Replication (replications.Lacks (server_of member)))) member.id.number machine refl refl refl old
   loss-here cluster machine false old = old
+
+  -- it ends at once
+  abbrev Ends : Cluster → Cluster
+  Ends cluster = cluster_after cluster (kinds.Server (servers.Ended (server_of member)))
+
+  abbrev down-status : Machine → ServerStatus
+  down-status machine = record machine.server { state = states.Stopped }
+
+  ended-here : (cluster : Cluster) (machine : Machine) → Here cluster machine → Here (Ends cluster) (with_server (down-status machine) machine)
+  ended-here cluster machine old =
+      let x = status_seen machine.server in
+      ordered cluster (Ends cluster) member.id.number machine (down-status machine) (record x { state = states.Stopped }) refl refl refl
+      (moves cluster (Ends cluster) member.id.number stopped x (record x { state = states.Stopped }) refl (λ s seen. ap (λ (y : Seen). let z : Seen = record y { state = states.Stopped } in z) seen) old.server)
+      old
 
   -- it begins at once
   at-once : (cluster : Cluster) (machine : Machine) (after : ServerStatus) (timeline : ℕ) (test : Bool) (s : ServerFacts) → slice_get cluster.book.servers member.id.number ≡ Some s → status_seen after ≡ seen_begun (facts_seen s)
@@ -371,6 +435,68 @@ module _ (member : Member) where
       (begin-by cluster machine after s s.state old.server.is refl
       (status-begun-seen now machine.server ∙ ap (λ (x : Seen). seen_begins now x.state x) (sym old.server.seen_is)) old)
 
+  -- a primary ends and starts again: at once, or when its start is complete
+  ended-again : (cluster : Cluster) (machine : Machine) (after : ServerStatus) (s : ServerFacts) (z : Bool) → slice_get cluster.book.servers member.id.number ≡ Some s → (s.start_delay.0 == 0) ≡ z
+      → status_seen after ≡ seen_starting true (record { 0 = cluster.book.clock }) (facts_seen s) → Here cluster machine
+      → Here (Behind cluster (kinds.Server (servers.Ended (server_of member)) ∷ kinds_by member cluster.book.acknowledged s.log (Some (if z then beginnings.AtOnce s.timeline else beginnings.WithItsStart)))) (with_server after machine)
+  ended-again cluster machine after s true is zero e old =
+      at-once (Ends cluster) (with_server (down-status machine) machine) after s.timeline (lacks_in (entries_of s.log) cluster.book.acknowledged) (stopped s) (item-here cluster.book.servers member.id.number stopped s is)
+      (e ∙ ap (λ (b : Bool). if b then seen_begun (facts_seen s) else record (facts_seen s) { state = states.Starting true (moment_after (record { 0 = cluster.book.clock }) s.start_delay) }) zero) (ended-here cluster machine old)
+  ended-again cluster machine after s false is zero e old =
+      with-start (Ends cluster) (with_server (down-status machine) machine) after (stopped s) (item-here cluster.book.servers member.id.number stopped s is) refl zero e (ended-here cluster machine old)
+
+  -- a replica starts again
+  replica-again : (cluster : Cluster) (machine : Machine) (after : ServerStatus) (s : ServerFacts) → slice_get cluster.book.servers member.id.number ≡ Some s → s.state ≡ states.Replica
+      → status_seen after ≡ seen_restarted (record { 0 = cluster.book.clock }) states.Replica (facts_seen s) → Here cluster machine
+      → Here (cluster_after cluster (kinds.Server (servers.StartsAsReplica (server_of member)))) (with_server after machine)
+  replica-again cluster machine after s is here e old =
+      let later = cluster_after cluster (kinds.Server (servers.StartsAsReplica (server_of member))) in
+      ordered cluster later member.id.number machine after (seen_restarted (record { 0 = cluster.book.clock }) states.Replica (facts_seen s)) refl refl e
+      (record { server = starts_as_replica cluster.book.clock s; is = item-here cluster.book.servers member.id.number (starts_as_replica cluster.book.clock) s is; seen_is = replica-again-seen cluster.book.clock s here }) old
+
+  again-by : (cluster : Cluster) (machine : Machine) (after : ServerStatus) (s : ServerFacts) (state : State) → slice_get cluster.book.servers member.id.number ≡ Some s → s.state ≡ state
+      → status_seen after ≡ seen_restarted (record { 0 = cluster.book.clock }) state (facts_seen s) → Here cluster machine
+      → Here (Behind cluster (server_restart_in member cluster.book.acknowledged state s)) (with_server after machine)
+  again-by cluster machine after s states.Primary is here e old = ended-again cluster machine after s (s.start_delay.0 == 0) is refl e old
+  again-by cluster machine after s states.Replica is here e old = replica-again cluster machine after s is here e old
+  again-by cluster machine after s _ is here e old = no-start cluster machine after s is e old
+
+  restart-here : (cluster : Cluster) (machine : Machine) → Here cluster machine
+      → Here (cluster_over cluster (for_some (server_at cluster member) (λ s. events_of cluster (server_restart_kinds member cluster.book.acknowledged s)))) (with_server (status_restarted (record { 0 = cluster.book.clock }) machine.server) machine)
+  restart-here cluster machine old =
+      let s = old.server.server in
+      let now : Ticks = record { 0 = cluster.book.clock } in
+      let after = status_restarted now machine.server in
+      subst (λ (found : Option ServerFacts). Here (cluster_over cluster (for_some found (λ s. events_of cluster (server_restart_kinds member cluster.book.acknowledged s)))) (with_server after machine)) (sym old.server.is)
+      (again-by cluster machine after s s.state old.server.is refl
+      (status-restarted now machine.server.state machine.server ∙ ap (λ (x : Seen). seen_restarted now x.state x) (sym old.server.seen_is)) old)
+
+  -- it is wiped, or isn't
+  wipe-by : (cluster : Cluster) (machine : Machine) (b : Bool) → (is_creating machine.server.state || live machine.server.state) ≡ b → Here cluster machine
+      → Here (Behind cluster (kinds_of (if b then None else Some (kinds.Log (logs.Wiped (server_of member)))))) (with_server (status_wiped machine.server) machine)
+  wipe-by cluster machine true stays old =
+      let x = status_seen machine.server in
+      ordered cluster cluster member.id.number machine (status_wiped machine.server) x refl refl
+      (status-wiped machine.server ∙ unwiped machine.server.state machine.server.was_primary machine.server.stop_delay machine.server.start_delay stays) old.server old
+  wipe-by cluster machine false stays old =
+      let x = status_seen machine.server in
+      let later = cluster_after cluster (kinds.Log (logs.Wiped (server_of member))) in
+      ordered cluster later member.id.number machine (status_wiped machine.server) (seen_wiped x) refl refl (status-wiped machine.server)
+      (moves cluster later member.id.number loses_log x (seen_wiped x) refl (λ s seen. facts-wiped s ∙ ap seen_wiped seen) old.server) old
+
+  wipe-here : (cluster : Cluster) (machine : Machine) → Here cluster machine
+      → Here (Behind cluster (kinds_of (option_and_then (wipe_of member) (server_at cluster member)))) (with_server (status_wiped machine.server) machine)
+  wipe-here cluster machine old =
+      let s = old.server.server in
+      subst (λ (found : Option ServerFacts). Here (Behind cluster (kinds_of (option_and_then (wipe_of member) found))) (with_server (status_wiped machine.server) machine)) (sym old.server.is)
+      (wipe-by cluster machine (is_creating s.state || live s.state) (ap (λ (x : Seen). is_creating x.state || live x.state) (sym old.server.seen_is)) old)
+
+  -- what is noted changes nothing
+  note-here : (cluster : Cluster) (machine : Machine) (found : Option EventKind) → HoldsIf IsOfNote found → Here cluster machine → Here (Behind cluster (kinds_of found)) machine
+  note-here cluster machine None is old = old
+  note-here cluster machine (Some (kinds.Note note)) is old = unmoved cluster (cluster_after cluster (kinds.Note note)) member.id.number machine refl refl refl old
+  note-here cluster machine (Some _) is old = absurd is
+
   -- it follows another one, or doesn't
   follows-here : (cluster : Cluster) (machine : Machine) (leader : Option Member) → Here cluster machine → Here (Behind cluster (kinds_of (following_of member leader))) machine
   follows-here cluster machine None old = old
@@ -424,7 +550,7 @@ module _ (member : Member) where
       follows-here later (with_server after machine) leader
       (ordered cluster later member.id.number machine after x refl refl (status-replica-started now upstream machine.server)
       (moves cluster later member.id.number (starts_as_replica cluster.book.clock) (status_seen machine.server) x refl
-      (λ s seen. facts-replica-started cluster.book.clock s ∙ ap (seen_replica_started now) seen) old.server)
+      (λ s seen. facts-replica-started cluster.book.clock s (ap (λ (x : Seen). is_down x.state) seen ∙ down) ∙ ap (seen_replica_started now) seen) old.server)
       old)
   start-by cluster machine upstream leader false down old =
       let now : Ticks = record { 0 = cluster.book.clock } in
@@ -539,4 +665,10 @@ module _ (member : Member) where
   output-here cluster message machine outputs.CannotArm table none old = unmoved cluster (cluster_after cluster (kinds.Note (notes.CannotArm member))) member.id.number machine refl refl refl old
   output-here cluster message machine outputs.PostponesPromotion table none old = unmoved cluster (cluster_after cluster (kinds.Note (notes.PostponesPromotion member))) member.id.number machine refl refl refl old
   output-here cluster message machine (outputs.DoesNotRace bar) table none old = unmoved cluster (cluster_after cluster (not_racing cluster.book.members member bar)) member.id.number machine refl refl refl old
+  output-here cluster message machine (outputs.Restart as_primary) table none old = restart-here cluster machine old
+  output-here cluster message machine outputs.Wipe table none old = wipe-here cluster machine old
+  output-here cluster message machine (outputs.HandsOver candidate) table none old =
+      note-here cluster machine (option_map (handing_over member) (slice_get cluster.book.members candidate.number)) (holds-mapped IsOfNote (handing_over member) (slice_get cluster.book.members candidate.number) (λ other. tt)) old
+  output-here cluster message machine (outputs.Told request told) table none old =
+      note-here cluster machine (told_kind member (agent_at cluster.agents member.id.number) told) (told-holds IsOfNote member (agent_at cluster.agents member.id.number) told (λ status body. tt)) old
   output-here cluster message machine (outputs.HoldTaken until from sequence) table none old = absurd table

@@ -4,7 +4,11 @@ use Rattle.run_law.proofs.Upholding.{over-append}
 use Rattle.std.proofs.Common.{◌≡◌, ◌⊎◌, ◌+◌, ◌++◌, ◌||◌, ◌≤◌, ◌<◌, nat_le, ℕ, Bool, true, false, List, [], ◌∷◌, Option, Some, None, All, length, slice_get, refl, sym, subst, ap, ◌∙◌, arith, inl, inr}
 use Rattle.std.proofs.lemmas.List.Elements.{All-head, All-tail}
 use Rattle.pat_base.specs.declared.member_id.MemberId.{MemberId}
+use Rattle.pat_base.specs.declared.server_state.State.{State}
+use Rattle.pat_base.specs.declared.server_state.State.TheVariants as states
 use Rattle.pat_base.specs.declared.ticks.Ticks.{Ticks}
+use Rattle.pat_base.specs.ServerState.{live}
+use Rattle.pg_model.specs.Facts.{ServerFacts}
 use Rattle.event_book.specs.declared.agent_process.AgentProcess.{AgentProcess}
 use Rattle.event_book.specs.declared.event.Event.{Event}
 use Rattle.event_book.specs.declared.event.EventKind.{EventKind}
@@ -20,27 +24,33 @@ use Rattle.event_book.specs.declared.message.Message.{Message}
 use Rattle.event_book.specs.declared.link.LinkEnd.{LinkEnd}
 use Rattle.event_book.specs.declared.reason.Basis.TheVariants as bases
 use Rattle.event_book.specs.Flight.{sent_after}
+use Rattle.event_book.specs.Members.{server_id_of}
 use Rattle.event_book.specs.Writers.{BeginsKind}
 use Rattle.ha_loop.specs.declared.machine.Machine.{Machine}
 use Rattle.ha_loop.specs.declared.output.Output.{Output}
 use Rattle.ha_loop.specs.declared.output.Output.TheVariants as outputs
 use Rattle.ha_loop.specs.declared.output.Repair.{Repair}
 use Rattle.ha_loop.specs.declared.output.Target.TheVariants as targets
+use Rattle.ha_loop.specs.Acting.{upstream_of}
 use Rattle.ha_loop.specs.Orders.{EndsRepairing, IsOfTable, RepairsLast, machine_after_output, machine_after_outputs}
 use Rattle.ha_loop.specs.Outputs.{is_arming, is_feeding, has_one, listed, BeginsOnly, OutputsBeginBehind}
 use Rattle.cluster_model.specs.declared.heard_message.HeardMessage.{HeardMessage}
+use Rattle.ha_loop.proofs.Living.{follow-live, restart-live, start-live, stop-live, wipe-live}
+use Rattle.cluster_model.specs.Beginnings.{server_restart_in, server_restart_kinds}
 use Rattle.cluster_model.specs.Cluster.{cluster_after, cluster_over}
 use Rattle.cluster_model.specs.Limits.{most_in_flight}
 use Rattle.cluster_model.specs.Messages.{agent_message, lost_at_once, send_events, sending_events, replying_events, receiver_of, output_events}
-use Rattle.cluster_model.specs.Parts.{each, events_of}
+use Rattle.cluster_model.specs.Orders.{server_at}
+use Rattle.cluster_model.specs.Parts.{each, events_of, for_some}
 use Rattle.cluster_model.specs.State.{Cluster}
 use Rattle.lease_law.specs.Claims.{BeginsBehind, IsArmedIn}
 use Rattle.lease_law.specs.Premises.{AllAre, KeepsMomentOf, IsFedBy}
 use Rattle.lease_law.proofs.Runs.{assoc, none-more}
 use Rattle.bridge_law.specs.Groups.{IsNumberedAbove, AreNumberedAbove}
-use Rattle.run_law.proofs.Lists.{all-both, all-front, all-back}
-use Rattle.run_law.specs.InputEvents.{IsMessageOf, Asks, AsksPeer, AnswersPeer, IsOfInput}
-use Rattle.run_law.proofs.InputEvents.{output-mine}
+use Rattle.run_law.proofs.Lists.{all-both, all-front, all-back, all-kinds}
+use Rattle.run_law.specs.InputEvents.{IsMessageOf, Asks, AsksPeer, AnswersPeer, IsOfInput, IsToBegin}
+use Rattle.run_law.specs.Machines.{live_in, live_now}
+use Rattle.run_law.proofs.InputEvents.{again-mine, output-mine}
 use Rattle.run_law.proofs.InputMachines.{Mirrors, RepairsNone, Resembles, mirrored, output-here, repair-resembles}
 use Rattle.run_law.proofs.InputStays.{Stays, stays-over}
 
@@ -104,6 +114,17 @@ moments-all member run heard last n Q [] low numbered all = tt
 moments-all member run heard last n Q (event ∷ events) low numbered all =
     (above-kept member run heard last n Q event.kind low numbered.0 all.0, moments-all member run heard (sent_after last event.kind) n Q events (last-rises event.kind last n low numbered.0) numbered.1 all.1)
 
+-- an output with which a server may come to accept writes has this
+abbrev MayBegin : Type 0 → Output → Type 0
+MayBegin X outputs.Begin = X
+MayBegin X (outputs.Restart as_primary) = X
+MayBegin X _ = Unit {0}
+
+-- no server starts again by this output
+abbrev RestartsNone : Output → Type 0
+RestartsNone (outputs.Restart as_primary) = ⊥
+RestartsNone _ = Unit {0}
+
 -- ---- the outputs
 module _ (member : Member) (run : ℕ) (message : HeardMessage) where
   abbrev Runs : List AgentProcess → Type 0
@@ -166,6 +187,10 @@ module _ (member : Member) (run : ℕ) (message : HeardMessage) where
   output-numbered cluster (outputs.DoesNotRace bar) runs table = other-numbered cluster (outputs.DoesNotRace bar) runs table tt
   output-numbered cluster outputs.ShutDown runs table = other-numbered cluster outputs.ShutDown runs table tt
   output-numbered cluster (outputs.Repair leader repair) runs table = other-numbered cluster (outputs.Repair leader repair) runs table tt
+  output-numbered cluster (outputs.Restart as_primary) runs table = other-numbered cluster (outputs.Restart as_primary) runs table tt
+  output-numbered cluster outputs.Wipe runs table = other-numbered cluster outputs.Wipe runs table tt
+  output-numbered cluster (outputs.HandsOver candidate) runs table = other-numbered cluster (outputs.HandsOver candidate) runs table tt
+  output-numbered cluster (outputs.Told request told) runs table = other-numbered cluster (outputs.Told request told) runs table tt
   output-numbered cluster (outputs.HoldTaken until from sequence) runs table = absurd table
 
   pub each-numbered : (cluster : Cluster) (outs : List Output) → Runs cluster.book.agents → All IsOfTable outs → AreNumberedAbove cluster.book.sent (each (output_events member message) cluster outs)
@@ -236,12 +261,16 @@ module _ (member : Member) (run : ℕ) (message : HeardMessage) where
       (first.0, begins-both R (before ++ x ∷ []) xs ys first.1 (subst (λ (l : List Event). BeginsBehind R l ys) (sym (assoc before (x ∷ []) xs)) second))
 
   -- in the events of one output
-  one-begins : (X : Type 0) (P : ℕ → Type 0) (kind : EventKind) → (X → P member.id.number) → IsOfInput member run message.number (BeginsOnly X) kind → BeginsKind P kind
-  one-begins X P (kinds.Server (servers.Began server timeline)) may is = subst (λ (s : ServerOf). P s.id.number) (sym is.0) (may is.1)
+  to-begin : (X : Type 0) → IsToBegin (MayBegin X) → X
+  to-begin X (inl x) = x
+  to-begin X (inr again) = again.1
+
+  one-begins : (X : Type 0) (P : ℕ → Type 0) (kind : EventKind) → (X → P member.id.number) → IsOfInput member run message.number (MayBegin X) kind → BeginsKind P kind
+  one-begins X P (kinds.Server (servers.Began server timeline)) may is = subst (λ (s : ServerOf). P s.id.number) (sym is.0) (may (to-begin X is.1))
   one-begins X P _ may is = tt
 
   output-begins : (X : Type 0) (R : List Event → ℕ → Type 0) → ((before more : List Event) → R before member.id.number → R (before ++ more) member.id.number) → (before events : List Event) → (X → R before member.id.number)
-      → AllAre (IsOfInput member run message.number (BeginsOnly X)) events → BeginsBehind R before events
+      → AllAre (IsOfInput member run message.number (MayBegin X)) events → BeginsBehind R before events
   output-begins X R grow before [] may all = tt
   output-begins X R grow before (event ∷ events) may all =
       (one-begins X (R before) event.kind may all.0, output-begins X R grow (before ++ event ∷ []) events (λ x. grow before (event ∷ []) (may x)) all.1)
@@ -303,24 +332,76 @@ module _ (member : Member) (run : ℕ) (message : HeardMessage) where
       no-way : false ≡ true → ⊥
       no-way e = cc
 
+  -- a server that starts again accepted writes before, if it does behind its start
+  again-begins : (R : List Event → ℕ → Type 0) → ((before more : List Event) → R before member.id.number → R (before ++ more) member.id.number) → (cluster : Cluster) (before : List Event) (state : State) (s : ServerFacts)
+      → (live state ≡ true → R before member.id.number) → BeginsBehind R before (events_of cluster (server_restart_in member cluster.book.acknowledged state s))
+  again-begins R grow cluster before states.Primary s may =
+      let list = server_restart_in member cluster.book.acknowledged states.Primary s in
+      output-begins (R before member.id.number) R grow before (events_of cluster list) (λ begins. begins)
+      (all-kinds (IsOfInput member run message.number (MayBegin (R before member.id.number))) cluster list (again-mine member run message.number (MayBegin (R before member.id.number)) cluster.book.acknowledged states.Primary s (inl (may refl))))
+  again-begins R grow cluster before states.Replica s may = (tt, tt)
+  again-begins R grow cluster before _ s may = tt
+
+  restart-begins : (R : List Event → ℕ → Type 0) → ((before more : List Event) → R before member.id.number → R (before ++ more) member.id.number) → (cluster : Cluster) (before : List Event) (found : Option ServerFacts)
+      → ((s : ServerFacts) → found ≡ Some s → live s.state ≡ true → R before member.id.number) → BeginsBehind R before (for_some found (λ s. events_of cluster (server_restart_kinds member cluster.book.acknowledged s)))
+  restart-begins R grow cluster before None may = tt
+  restart-begins R grow cluster before (Some s) may = again-begins R grow cluster before s.state s (may s refl)
+
+  -- in those of any output: it begins by the order to, or was live before
+  may-begin : (X : Type 0) (output : Output) → RestartsNone output → BeginsOnly X output → MayBegin X output
+  may-begin X outputs.Begin none is = is
+  may-begin X (outputs.Restart as_primary) none is = absurd none
+  may-begin X _ none is = tt
+
+  restarts-none : (output : Output) → RestartsNone output ⊎ ((as_primary : Bool) × (output ≡ outputs.Restart as_primary))
+  restarts-none (outputs.Restart as_primary) = inr (as_primary, refl)
+  restarts-none _ = inl tt
+
+  brings-begin : (P : List Output → Type 0) (R : List Event → ℕ → Type 0) → ((before more : List Event) → R before member.id.number → R (before ++ more) member.id.number)
+      → (cluster : Cluster) (done : List Output) (before : List Event) (output : Output) → Runs cluster.book.agents → IsOfTable output → BeginsOnly (P done) output → (P done → R before member.id.number)
+      → (live_in cluster.book.servers member.id.number ≡ true → R before member.id.number) → BeginsBehind R before (Brings cluster output)
+  brings-begin P R grow cluster done before output runs table begin makes lives = elim (restarts-none output) [
+    | inl none ↦ output-begins (P done) R grow before (Brings cluster output) makes (output-mine member run message.number (MayBegin (P done)) cluster message refl runs output table (may-begin (P done) output none begin))
+    | inr again ↦ subst (λ (x : Output). BeginsBehind R before (Brings cluster x)) (sym again.1)
+        (restart-begins R grow cluster before (server_at cluster member) (λ s is alive. lives (ap live_now is ∙ alive)))
+  ]
+
+  -- behind an output that isn't the order to begin a server is live that was live before
+  lives-on : {Y : Type 0} (now : Ticks) (machine : Machine) (X : Type 0) (output : Output) → BeginsOnly X output → (X → Y) → (live machine.server.state ≡ true → Y) → live (machine_after_output now machine output).server.state ≡ true → Y
+  lives-on now machine X outputs.Begin begin may lives e = may begin
+  lives-on now machine X (outputs.StartReplica leader) begin may lives e = lives (start-live now (upstream_of leader) machine.server e)
+  lives-on now machine X (outputs.Stop reason) begin may lives e = lives (stop-live now machine.server e)
+  lives-on now machine X outputs.ShutDown begin may lives e = lives (stop-live now machine.server e)
+  lives-on now machine X (outputs.Restart as_primary) begin may lives e = lives (restart-live now machine.server e)
+  lives-on now machine X outputs.Wipe begin may lives e = lives (wipe-live machine.server e)
+  lives-on now machine X (outputs.Follow leader) begin may lives e = lives (follow-live (server_id_of leader) machine.server e)
+  lives-on now machine X _ begin may lives e = lives e
+
   pub each-begins : (P : List Output → Type 0) (R : List Event → ℕ → Type 0) → ((before more : List Event) → R before member.id.number → R (before ++ more) member.id.number)
       → ((outs : List Output) (before : List Event) → P outs → (has_one is_arming outs ≡ true → ArmedIn before) → R before member.id.number)
-      → (cluster : Cluster) (done : List Output) (before : List Event) (outs : List Output) → Runs cluster.book.agents → All IsOfTable outs → Keeps before → Keeps (each (output_events member message) cluster outs)
+      → (cluster : Cluster) (machine : Machine) (done : List Output) (before : List Event) (outs : List Output) → Mirrors cluster member.id.number machine → (live machine.server.state ≡ true → R before member.id.number)
+      → Runs cluster.book.agents → All IsOfTable outs → RepairsLast outs → Keeps before → Keeps (each (output_events member message) cluster outs)
       → (has_one is_arming done ≡ true → ArmedIn before) → OutputsBeginBehind P done outs → BeginsBehind R before (each (output_events member message) cluster outs)
-  each-begins P R grow makes cluster done before [] runs table kept all armed begin = tt
-  each-begins P R grow makes cluster done before (output ∷ more) runs table kept all armed begin =
+  each-begins P R grow makes cluster machine done before [] mirrors lives runs table last kept all armed begin = tt
+  each-begins P R grow makes cluster machine done before (output ∷ more) mirrors lives runs table last kept all armed begin =
       let one = All-head IsOfTable output more table in
       let next = Later cluster output in
       let events = Brings cluster output in
       let rest = each (output_events member message) next more in
-      let mine = output-mine member run message.number (BeginsOnly (P done)) cluster message refl runs output one begin.0 in
+      let now : Ticks = record { 0 = cluster.book.clock } in
+      let may : P done → R before member.id.number = (λ p. makes done before p armed) in
       begins-both R before events rest
-      (output-begins (P done) R grow before events (λ p. makes done before p armed) mine)
-      (each-begins P R grow makes next (listed output done) (before ++ events) more (runs-later cluster output runs one) (All-tail IsOfTable output more table)
-      (all-both (KeepsMomentOf message.number) before events kept (all-front (KeepsMomentOf message.number) events rest all))
-      (all-back (KeepsMomentOf message.number) events rest all)
-      (λ e. elim (arms-or done output e) [ inl was ↦ armed-more member.id.number message.number before events (armed was) | inr now ↦ arming-told cluster output before kept now ])
-      begin.1)
+      (brings-begin P R grow cluster done before output runs one begin.0 may (λ alive. lives (sym (mirrored cluster member.id.number machine mirrors).lives ∙ alive)))
+      (elim (repairs-none output more last.0) [
+        | inl none ↦ each-begins P R grow makes next (machine_after_output now machine output) (listed output done) (before ++ events) more (output-here member cluster message machine output one none mirrors)
+            (lives-on now machine (P done) output begin.0 (λ p. grow before events (may p)) (λ alive. grow before events (lives alive)))
+            (runs-later cluster output runs one) (All-tail IsOfTable output more table) last.1
+            (all-both (KeepsMomentOf message.number) before events kept (all-front (KeepsMomentOf message.number) events rest all))
+            (all-back (KeepsMomentOf message.number) events rest all)
+            (λ e. elim (arms-or done output e) [ inl was ↦ armed-more member.id.number message.number before events (armed was) | inr here ↦ arming-told cluster output before kept here ])
+            begin.1
+        | inr ends ↦ subst (λ (l : List Output). BeginsBehind R (before ++ events) (each (output_events member message) next l)) (sym ends.1.1.1) tt
+      ])
 
   -- ---- what is fed
   pub record FedIn (events : List Event) : Type 0 where

@@ -96,6 +96,7 @@ module _ (member : Member) (run heard : ℕ) (Q : Output → Type 0) where
   logs-by : (known : List ServerFacts) (happening : LogEvent) → Mine (kinds.Log happening) → (n : ℕ) → n ≢ member.id.number → slice_get (servers_by_log known happening) n ≡ slice_get known n
   logs-by known (logs.Rewound server from kept at) is n other = other-one known server _ n other is
   logs-by known (logs.Copied server from) is n other = copied-one known server (slice_get known from.id.number) n other is
+  logs-by known (logs.Wiped server) is n other = other-one known server _ n other is
   logs-by known _ is n other = absurd is
 
   servers-one : (now : ℕ) (known : List ServerFacts) (kind : EventKind) → Mine kind → (n : ℕ) → n ≢ member.id.number → slice_get (servers_after now known kind) n ≡ slice_get known n

@@ -2,7 +2,10 @@
 use Rattle.std.proofs.Common.{ℕ, ◌≡◌, ◌≢◌, ◌≤◌, ◌<◌, List, [], ◌∷◌, slice_get, Option, Some, None, All, refl, ◌∙◌, ap, sym, subst, arith}
 use Rattle.std.proofs.lemmas.List.Elements.{All-head, All-tail}
 use Rattle.pat_base.specs.declared.ticks.Ticks.{Ticks}
+use Rattle.lease_store.specs.declared.action.OperatorAction.{OperatorAction}
+use Rattle.wal_model.specs.declared.entry.HistoryPoint.{HistoryPoint}
 use Rattle.event_book.specs.declared.agent_process.AgentProcess.{AgentProcess}
+use Rattle.event_book.specs.declared.event.AgentEvent.{AgentEvent}
 use Rattle.event_book.specs.declared.event.AgentEvent.TheVariants as agents
 use Rattle.event_book.specs.declared.event.Event.{Event}
 use Rattle.event_book.specs.declared.event.EventKind.{EventKind}
@@ -10,22 +13,24 @@ use Rattle.event_book.specs.declared.event.EventKind.TheVariants as kinds
 use Rattle.event_book.specs.declared.event.MessageEvent.TheVariants as messages
 use Rattle.event_book.specs.declared.event.WatchdogEvent.TheVariants as watchdogs
 use Rattle.event_book.specs.declared.member.Member.{Member}
+use Rattle.event_book.specs.Agents.{agents_after}
 use Rattle.event_book.specs.Flight.{InFlightFacts, in_flight}
 use Rattle.ha_loop.specs.declared.heard.Heard.{Heard}
-use Rattle.ha_loop.specs.declared.heard.Heard.TheVariants.{Wake}
+use Rattle.ha_loop.specs.declared.heard.Heard.TheVariants.{Operated, Wake}
+use Rattle.ha_loop.specs.declared.knowledge.Knowledge.{Knowledge}
 use Rattle.ha_loop.specs.declared.machine.Machine.{Machine}
 use Rattle.ha_loop.specs.declared.output.Output.{Output}
 use Rattle.ha_loop.specs.declared.output.Output.TheVariants as outputs
-use Rattle.ha_loop.specs.Agents.{AgentFacts, made}
+use Rattle.ha_loop.specs.Agents.{AgentFacts, RoleFacts, made}
 use Rattle.ha_loop.specs.Orders.{IsOfTable}
 use Rattle.ha_loop.specs.Table.{step}
 use Rattle.ha_loop.proofs.Orders.{step-carried-out}
 use Rattle.cluster_model.specs.declared.heard_message.HeardMessage.{HeardMessage}
 use Rattle.cluster_model.specs.Cluster.{cluster_after, cluster_over}
 use Rattle.cluster_model.specs.Hearing.{heard_from}
-use Rattle.cluster_model.specs.Inputs.{agent_at, moment_of, outcome_at, outcome_of_heard}
+use Rattle.cluster_model.specs.Inputs.{agent_at, moment_of, outcome_at, outcome_of, outcome_of_heard}
 use Rattle.cluster_model.specs.Machines.{machine_of, points_of}
-use Rattle.cluster_model.specs.Messages.{hear_events, heard_message, input_events, no_message, output_events, wake_events_of}
+use Rattle.cluster_model.specs.Messages.{hear_events, heard_message, input_events, no_message, operate_events, output_events, wake_events_of}
 use Rattle.cluster_model.specs.Parts.{each}
 use Rattle.cluster_model.specs.State.{Cluster}
 use Rattle.lease_law.specs.Premises.{Moments, moments_after}
@@ -40,7 +45,7 @@ use Rattle.run_law.proofs.InputStays.{each-mine}
 use Rattle.run_law.proofs.Lists.{all-more}
 use Rattle.run_law.proofs.Measuring.{IsUnfed, Measures, measured-both, unfed-measured}
 use Rattle.run_law.proofs.Moments.{KnowsSending, moments_over}
-use Rattle.run_law.proofs.Unfed.{FeedsNone, wakes-feed-none}
+use Rattle.run_law.proofs.Unfed.{FeedsNone, actions-feed-none, wakes-feed-none}
 
 -- an input's events that come of no feed
 mine-unfed : (member : Member) (run heard : ℕ) (kind : EventKind) → IsOfInput member run heard FeedsNone kind → IsUnfed kind
@@ -102,6 +107,10 @@ module _ (member : Member) (run : ℕ) (message : HeardMessage) where
   output-measured moments since cluster outputs.ShutDown runs table heard = silent moments since cluster outputs.ShutDown runs table tt
   output-measured moments since cluster (outputs.Repair leader repair) runs table heard = silent moments since cluster (outputs.Repair leader repair) runs table tt
   output-measured moments since cluster (outputs.DoesNotRace bar) runs table heard = silent moments since cluster (outputs.DoesNotRace bar) runs table tt
+  output-measured moments since cluster (outputs.Restart as_primary) runs table heard = silent moments since cluster (outputs.Restart as_primary) runs table tt
+  output-measured moments since cluster outputs.Wipe runs table heard = silent moments since cluster outputs.Wipe runs table tt
+  output-measured moments since cluster (outputs.HandsOver candidate) runs table heard = silent moments since cluster (outputs.HandsOver candidate) runs table tt
+  output-measured moments since cluster (outputs.Told request told) runs table heard = silent moments since cluster (outputs.Told request told) runs table tt
   output-measured moments since cluster (outputs.HoldTaken until from sequence) runs table heard = absurd table
 
   -- all of them
@@ -124,28 +133,43 @@ module _ (member : Member) (run : ℕ) (message : HeardMessage) where
 runs-in : (cluster : Cluster) (k : ℕ) (process : AgentProcess) → slice_get cluster.book.agents k ≡ Some process → process.run ≡ run_in cluster.book.agents k
 runs-in cluster k process e = sym (ap run_now e)
 
--- ---- a wake
-module _ (moments : Moments) (cluster : Cluster) (member : Member) where
-  abbrev Woken : EventKind
-  Woken = kinds.Agent (agents.Woken member)
+-- ---- an agent that hears no message
+-- such an input feeds nothing
+abbrev FeedsNothing : Ticks → List HistoryPoint → Heard → Type 0
+FeedsNothing now points heard = (role : RoleFacts) (knows : Knowledge) (machine : Machine) → All FeedsNone (step now points heard (made role knows machine [])).outputs
+
+-- behind this event, at which no process changes
+module _ (moments : Moments) (cluster : Cluster) (member : Member) (heard : Heard) (happening : AgentEvent) (same : agents_after cluster.book.agents (kinds.Agent happening) ≡ cluster.book.agents)
+    (none : FeedsNothing (moment_of cluster) (points_of cluster member) heard) where
+  abbrev Called : EventKind
+  Called = kinds.Agent happening
 
   abbrev Run : ℕ
   Run = run_in cluster.book.agents member.id.number
 
-  wake-told : (agent : Option AgentFacts) (machine : Option Machine)
-      → Measures moments cluster (record { tick = record { 0 = cluster.book.clock }; kind = Woken } ∷ input_events (cluster_after cluster Woken) member no_message (outcome_at (moment_of cluster) (points_of cluster member) Wake agent machine))
-  wake-told None machine = record { measured = λ since. (tt, tt); numbered = (tt, tt) }
-  wake-told (Some agent) None = record { measured = λ since. (tt, tt); numbered = (tt, tt) }
-  wake-told (Some agent) (Some machine) =
-      let outs = (step (moment_of cluster) (points_of cluster member) Wake (made agent.role agent.knows machine [])).outputs in
-      let table = (step-carried-out (moment_of cluster) (points_of cluster member) Wake agent.role agent.knows machine).kinds in
+  runs-on : Runs member Run no_message (cluster_after cluster Called).book.agents
+  runs-on = subst (Runs member Run no_message) (sym same) (runs-in cluster member.id.number)
+
+  called-told : (agent : Option AgentFacts) (machine : Option Machine)
+      → Measures moments cluster (record { tick = record { 0 = cluster.book.clock }; kind = Called } ∷ input_events (cluster_after cluster Called) member no_message (outcome_at (moment_of cluster) (points_of cluster member) heard agent machine))
+  called-told None machine = record { measured = λ since. (tt, tt); numbered = (tt, tt) }
+  called-told (Some agent) None = record { measured = λ since. (tt, tt); numbered = (tt, tt) }
+  called-told (Some agent) (Some machine) =
+      let outs = (step (moment_of cluster) (points_of cluster member) heard (made agent.role agent.knows machine [])).outputs in
+      let table = (step-carried-out (moment_of cluster) (points_of cluster member) heard agent.role agent.knows machine).kinds in
       record {
-        measured = λ since. (tt, each-unfed member Run no_message (moments_after moments Woken) since (cluster_after cluster Woken) outs (runs-in cluster member.id.number) table (wakes-feed-none (moment_of cluster) (points_of cluster member) agent.role agent.knows machine));
-        numbered = (tt, each-numbered member Run no_message (cluster_after cluster Woken) outs (runs-in cluster member.id.number) table);
+        measured = λ since. (tt, each-unfed member Run no_message (moments_after moments Called) since (cluster_after cluster Called) outs runs-on table (none agent.role agent.knows machine));
+        numbered = (tt, each-numbered member Run no_message (cluster_after cluster Called) outs runs-on table);
       }
 
-  pub told-wake : Measures moments cluster (wake_events_of cluster member)
-  told-wake = wake-told (agent_at cluster.agents member.id.number) (machine_of cluster member)
+  told-called : Measures moments cluster (record { tick = record { 0 = cluster.book.clock }; kind = Called } ∷ input_events (cluster_after cluster Called) member no_message (outcome_of cluster member heard))
+  told-called = called-told (agent_at cluster.agents member.id.number) (machine_of cluster member)
+
+pub told-wake : (moments : Moments) (cluster : Cluster) (member : Member) → Measures moments cluster (wake_events_of cluster member)
+told-wake moments cluster member = told-called moments cluster member Wake (agents.Woken member) refl (wakes-feed-none (moment_of cluster) (points_of cluster member))
+
+pub told-operated : (moments : Moments) (cluster : Cluster) (member : Member) (action : OperatorAction) → Measures moments cluster (operate_events cluster member action)
+told-operated moments cluster member action = told-called moments cluster member (Operated action) (agents.Operated member action) refl (actions-feed-none (moment_of cluster) (points_of cluster member) action)
 
 -- ---- a message that comes
 module _ (moments : Moments) (cluster : Cluster) (number : ℕ) (message : InFlightFacts) (member : Member) (knows : KnowsSending moments cluster.book) (found : in_flight cluster.book.flight number ≡ Some message) where

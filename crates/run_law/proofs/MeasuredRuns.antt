@@ -1,5 +1,11 @@
 -- Each run tells before each feed from when it is measured.
-use Rattle.std.proofs.Common.{ℕ, ◌≡◌, List, [], ◌∷◌, slice_get, Option, Some, None, zero, suc, refl}
+use Rattle.std.proofs.Common.{ℕ, ◌≡◌, List, [], ◌∷◌, slice_get, Option, Some, None, Result, Ok, Err, zero, suc, refl}
+use Rattle.lease_store.specs.declared.action.OperatorRequest.{OperatorRequest}
+use Rattle.operator_keys.specs.declared.refusal.Refused.{Refused}
+use Rattle.cluster_script.specs.declared.rest.RestCall.{RestCall}
+use Rattle.event_book.specs.declared.event.EventKind.TheVariants as kinds
+use Rattle.event_book.specs.declared.event.Note.TheVariants.{NoAnswer}
+use Rattle.ha_loop.specs.Agents.{Outcome}
 use Rattle.std.specs.Map.{keys_of}
 use Rattle.event_book.specs.declared.link.LinkEnd.{LinkEnd}
 use Rattle.event_book.specs.declared.link.LinkEnd.TheVariants as ends
@@ -15,9 +21,10 @@ use Rattle.cluster_model.specs.declared.delivery.Delivery.TheVariants as deliver
 use Rattle.cluster_model.specs.Deliveries.{delivery_of}
 use Rattle.cluster_model.specs.Inputs.{is_to_wake, may_act, moment_of, standing_of}
 use Rattle.cluster_model.specs.Limits.{most_rounds}
-use Rattle.cluster_model.specs.Messages.{arrival_events_at, deliver_events, deliver_events_by, message_events, message_events_by, turn_events, turn_events_if, wake_events, wake_events_if, wake_events_of}
+use Rattle.cluster_model.specs.Messages.{arrival_events_at, call_events, call_events_if, call_events_of, decided_events, deliver_events, deliver_events_by, message_events, message_events_by, turn_events, turn_events_if, wake_events, wake_events_if, wake_events_of}
 use Rattle.cluster_model.specs.Next.{acknowledge_events, command_events, declared, next_events, promote_events, receive_events_at_most, receive_events_of, restart_events, round_events, rounds_events, run_events, scheduled_events, step_events}
-use Rattle.cluster_model.specs.Parts.{each, is_empty}
+use Rattle.cluster_model.specs.Parts.{each, event_of, for_some, is_empty}
+use Rattle.cluster_model.specs.Requests.{action_of, decision_on_call}
 use Rattle.cluster_model.specs.Starting.{cluster_of}
 use Rattle.cluster_model.specs.State.{Cluster}
 use Rattle.cluster_model.specs.Ticking.{tick_events}
@@ -25,7 +32,7 @@ use Rattle.lease_law.specs.Premises.{Moments, first_moments}
 use Rattle.lease_law.proofs.Tools.{none-some}
 use Rattle.summary.specs.Sights.{first_since}
 use Rattle.summary.specs.Telling.{AreMeasured}
-use Rattle.run_law.proofs.MeasuredInputs.{told-hearing, told-wake}
+use Rattle.run_law.proofs.MeasuredInputs.{told-hearing, told-operated, told-wake}
 use Rattle.run_law.proofs.MeasuredParts.{tells-acknowledge, tells-kind, tells-promote, tells-receive, tells-receive-at-most, tells-restart, tells-tick, told-lose, told-store}
 use Rattle.run_law.proofs.Measuring.{Measures, Tells, tells-each, tells-none, tells-then, told-for_some, told-if, told-plain}
 use Rattle.run_law.proofs.Moments.{KnowsSending}
@@ -39,6 +46,18 @@ tells-turn : (member : Member) → Tells (λ cluster. turn_events cluster member
 tells-turn member moments cluster knows =
     told-for_some moments cluster (slice_get cluster.book.agents member.id.number) (turn_events_if cluster member) (λ process is.
     told-if moments cluster (may_act process) (wake_events_of cluster member) [] (told-wake moments cluster member) (tells-none moments cluster))
+
+-- a call is answered, or its agent does what it asks
+told-decided : (moments : Moments) (cluster : Cluster) (member : Member) (o : Outcome) (decision : Result OperatorRequest Refused) → Measures moments cluster (decided_events cluster member o decision)
+told-decided moments cluster member o (Ok asked) = told-operated moments cluster member (action_of o asked)
+told-decided moments cluster member o (Err refused) = told-plain moments cluster _ (tt, tt)
+
+tells-call : (call : RestCall) (body : List ℕ) (member : Member) → Tells (λ cluster. call_events cluster call body member)
+tells-call call body member moments cluster knows =
+    told-for_some moments cluster (slice_get cluster.book.agents member.id.number) (call_events_if cluster call body member) (λ process is.
+    told-if moments cluster (may_act process) (for_some (standing_of cluster member) (call_events_of cluster call body member)) (event_of cluster (kinds.Note (NoAnswer member)))
+    (told-for_some moments cluster (standing_of cluster member) (call_events_of cluster call body member) (λ o is. told-decided moments cluster member o (decision_on_call (moment_of cluster) o call body)))
+    (told-plain moments cluster _ (tt, tt)))
 
 told-arrival : (moments : Moments) (cluster : Cluster) (number : ℕ) (message : InFlightFacts) (to : LinkEnd) → KnowsSending moments cluster.book → in_flight cluster.book.flight number ≡ Some message
     → Measures moments cluster (arrival_events_at cluster number message to)
@@ -92,6 +111,7 @@ tells-command (commands.Deliver number) moments cluster knows = told-deliver mom
 tells-command (commands.Lose number) moments cluster knows = told-lose moments cluster number (in_flight cluster.book.flight number)
 tells-command (commands.Restart id) moments cluster knows = told-for_some moments cluster (declared cluster id) (restart_events cluster) (λ m is. tells-restart m moments cluster knows)
 tells-command (commands.Promote id) moments cluster knows = told-for_some moments cluster (declared cluster id) (promote_events cluster) (λ m is. tells-promote m moments cluster knows)
+tells-command (commands.Rest id call body) moments cluster knows = told-for_some moments cluster (declared cluster id) (call_events cluster call body) (λ m is. tells-call call body m moments cluster knows)
 tells-command (commands.Stream id most) moments cluster knows = told-for_some moments cluster (declared cluster id) (receive_events_at_most cluster most) (λ m is. tells-receive-at-most most m moments cluster knows)
 tells-command command moments cluster knows = tells-kind command moments cluster knows
 

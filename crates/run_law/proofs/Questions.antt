@@ -5,6 +5,7 @@ use Rattle.pat_base.specs.MemberId.{member_of}
 use Rattle.pat_base.specs.declared.member_id.MemberId.{MemberId}
 use Rattle.pat_base.specs.declared.peer_answer.PeerAnswer.{PeerAnswer}
 use Rattle.pat_base.specs.declared.ticks.Ticks.{Ticks}
+use Rattle.lease_store.specs.declared.action.OperatorRequest.{OperatorRequest}
 use Rattle.lease_store.specs.declared.config.Config.{Config}
 use Rattle.lease_store.specs.declared.granted.Granted.{Granted}
 use Rattle.lease_store.specs.declared.txn.Txn.{Txn}
@@ -20,38 +21,41 @@ use Rattle.sync_state.specs.declared.steps.Plan.{Plan}
 use Rattle.sync_state.specs.declared.steps.Plan.TheVariants as plans
 use Rattle.sync_state.specs.Plans.{plan_of}
 use Rattle.ha_loop.specs.declared.heard.Heard.{Heard}
-use Rattle.ha_loop.specs.declared.heard.Heard.TheVariants.{Wake, Got, Granted as HeardGranted, Mismatch, Asked, Answered}
+use Rattle.ha_loop.specs.declared.heard.Heard.TheVariants.{Wake, Got, Granted as HeardGranted, Mismatch, Asked, Answered, Operated}
 use Rattle.ha_loop.specs.declared.knowledge.Knowledge.{Knowledge}
 use Rattle.ha_loop.specs.declared.knowledge.Question.{Question}
-use Rattle.ha_loop.specs.declared.knowledge.Question.TheVariants.{Reading, Asking, Creating, Renewing, Claiming, Syncing}
+use Rattle.ha_loop.specs.declared.knowledge.Question.TheVariants.{Reading, Asking, Checking, Creating, Renewing, Claiming, Syncing}
 use Rattle.ha_loop.specs.declared.knowledge.Settling.{Settling}
 use Rattle.ha_loop.specs.declared.knowledge.Settling.TheVariants.{Stays, Lists, Empties}
 use Rattle.ha_loop.specs.declared.knowledge.SyncRead.{SyncRead}
 use Rattle.ha_loop.specs.declared.knowledge.Waited.{Waited}
 use Rattle.ha_loop.specs.declared.machine.Machine.{Machine}
+use Rattle.ha_loop.specs.declared.operating.Told.{Told}
 use Rattle.ha_loop.specs.declared.output.Output.{Output}
 use Rattle.ha_loop.specs.declared.output.Output.TheVariants as outputs
 use Rattle.ha_loop.specs.declared.output.Target.TheVariants as targets
 use Rattle.ha_loop.specs.declared.role.Why.{Why}
 use Rattle.ha_loop.specs.declared.role.Why.TheVariants.{HandOver, Lost}
-use Rattle.ha_loop.specs.Acting.{requiring, ending_server, seconds_after, lease_span, counted, arming, feeding, armed, fed_until, disarmed, disarming, sending, asking, touching, starting_replica, is_refusing, deadline_after, waiting_no_more}
+use Rattle.ha_loop.specs.Acting.{requiring, ending_server, seconds_after, lease_span, counted, arming, feeding, armed, fed_until, disarmed, disarming, sending, asking, touching, starting_replica, is_refusing, deadline_after, waiting, waiting_no_more}
 use Rattle.ha_loop.specs.Agents.{RoleFacts, Follower, Ending, Outcome, made}
 use Rattle.ha_loop.specs.Before.{has_ended, before}
 use Rattle.ha_loop.specs.Claiming.{begins, claims, begins_or_claims, postpones}
 use Rattle.ha_loop.specs.Decisions.{asks_lease, asks_sync, is_start_too_long, leader_renewed, takes_over, stray_renewed, may_take, gives_back, arms, takes_key, granted, refused}
-use Rattle.ha_loop.specs.Planning.{writing_sync, switching_off, planned_as, planned_on, planned, leader_view, noting}
+use Rattle.ha_loop.specs.Planning.{writing_sync, switching_off, planned_as, planned_on, leader_view, noting}
 use Rattle.ha_loop.specs.Synchronous.{expected_of, sync_read_if, unnamed, waiting_for}
 use Rattle.pat_base.specs.declared.server_state.Required.{Required}
 use Rattle.pat_base.specs.declared.server_state.Required.TheVariants as needs
+use Rattle.ha_loop.specs.HandingOver.{asking_whom, checking, duties}
+use Rattle.ha_loop.specs.Operators.{answering, given_up, learned, looked, operated, operating, restarting, wiping}
 use Rattle.ha_loop.specs.Outputs.{listed}
 use Rattle.ha_loop.specs.Racing.{finds_free, judged, answers_until, asking_others, unheard}
 use Rattle.ha_loop.specs.Repairs.{repair_of}
 use Rattle.ha_loop.specs.Snapshots.{informed, follows, read_noted, got, follow_row}
-use Rattle.ha_loop.specs.Table.{step}
+use Rattle.ha_loop.specs.Table.{granted_any, refused_any, step}
 use Rattle.ha_loop.specs.Wake.{turn_noted, overdue, turned, woken}
-use Rattle.ha_loop.proofs.Rows.{led_on, if-cases, begins-or-claims-by, before-by, overdue-by, turn-by, wake-by, got-by, refused-by, follow-by, repaired-by, free-by, granted-by, judged-by, answered-by}
+use Rattle.ha_loop.proofs.Rows.{HandoverRows, IsOperatorTxn, ReplyRows, dropping, led_on, if-cases, begins-or-claims-by, before-by, duties-by, given-up-by, granted-any-by, looked-by, operated-by, overdue-by, refused-any-by, turn-by, wake-by, got-by, refused-by, follow-by, repaired-by, free-by, granted-by, judged-by, answered-by}
 use Rattle.ha_loop.specs.declared.who.Who.{Who}
-use Rattle.ha_loop.specs.Answers.{is_other, most_answers, asking_one, asking_first}
+use Rattle.ha_loop.specs.Answers.{is_other, most_answers, asking_all, asking_one, asking_first}
 use Rattle.ha_loop.specs.Peers.{keeping, answered}
 use Rattle.lease_law.proofs.Tools.{both}
 use Rattle.run_law.specs.Questions.{IsQuestion, IsPutBy, IsPutByBody, span_asked, SendsBetween, AsksFor, WaitsOn, Same, Nothing, New, AsksAnew}
@@ -226,17 +230,55 @@ asks-none waited (outputs.Send to sequence body) lease write = λ _. record {
 }
 asks-none waited _ lease write = tt
 
-others-reach : (now : Ticks) (known : Knowledge) (o : Outcome) → Reaches now known o → Reaches now known (asking_others now o)
-others-reach now known o r =
-    let waited : Waited = record { question = Asking; sequence = o.knows.sequence + 1; until = answers_until now; ttl = lease_span o.knows.settings; sent = now } in
+-- they are asked under one number more, and their answers are waited for
+peers-reach : (now : Ticks) (known : Knowledge) (question : Question) (o : Outcome) (outs : List Output) → asks_lease question ≡ false → asks_sync question ≡ false
+    → (All (SendsBetween known.sequence (o.knows.sequence + 1)) o.outputs → All (SendsBetween known.sequence (o.knows.sequence + 1)) outs) → Reaches now known o
+    → AsksAnew now known (waiting now question (answers_until now) (counted o.knows)) outs
+peers-reach now known question o outs lease write more r =
+    let waited : Waited = record { question = question; sequence = o.knows.sequence + 1; until = answers_until now; ttl = lease_span o.knows.settings; sent = now } in
     record {
       who = r.who;
       run = r.run;
       last = omega (arith, r.last);
-      sends = asks-send known.sequence (o.knows.sequence + 1) o.knows.who (o.knows.sequence + 1) most_answers o.outputs (omega (arith, r.last)) (omega arith)
-          (all-of (SendsBetween known.sequence o.knows.sequence) (SendsBetween known.sequence (o.knows.sequence + 1)) o.outputs (between-later known.sequence o.knows.sequence (o.knows.sequence + 1) (omega arith)) r.sends);
-      waits = New waited refl (omega (arith, r.last)) (omega arith) refl (is-lease o.knows.settings) (λ k d h. asks-none waited _ refl refl);
+      sends = more (all-of (SendsBetween known.sequence o.knows.sequence) (SendsBetween known.sequence (o.knows.sequence + 1)) o.outputs (between-later known.sequence o.knows.sequence (o.knows.sequence + 1) (omega arith)) r.sends);
+      waits = New waited refl (omega (arith, r.last)) (omega arith) refl (is-lease o.knows.settings) (λ k d h. asks-none waited _ lease write);
     }
+
+others-reach : (now : Ticks) (known : Knowledge) (o : Outcome) → Reaches now known o → Reaches now known (asking_others now o)
+others-reach now known o r =
+    peers-reach now known Asking o (asking_all o.knows.who (o.knows.sequence + 1) o.outputs) refl refl
+    (asks-send known.sequence (o.knows.sequence + 1) o.knows.who (o.knows.sequence + 1) most_answers o.outputs (omega (arith, r.last)) (omega arith)) r
+
+-- the same of a leader that is to hand over
+whom-send : (low high : ℕ) (who : Who) (candidate : Option MemberId) (sequence : ℕ) (outs : List Output) → low < sequence → sequence ≤ high → All (SendsBetween low high) outs → All (SendsBetween low high) (asking_whom who candidate sequence outs)
+whom-send low high who None sequence outs later less all = asks-send low high who sequence most_answers outs later less all
+whom-send low high who (Some candidate) sequence outs later less all = ask-sends low high who sequence (Some candidate) outs later less all
+
+check-reaches : (now : Ticks) (known : Knowledge) (candidate : Option MemberId) (o : Outcome) → Reaches now known o → Reaches now known (checking now candidate o)
+check-reaches now known candidate o r =
+    peers-reach now known Checking o (asking_whom o.knows.who candidate (o.knows.sequence + 1) o.outputs) refl refl
+    (whom-send known.sequence (o.knows.sequence + 1) o.knows.who candidate (o.knows.sequence + 1) o.outputs (omega (arith, r.last)) (omega arith)) r
+
+-- a failover key is to be removed
+drop-reaches : (now : Ticks) (known : Knowledge) (revision : ℕ) (o : Outcome) → Reaches now known o → Reaches now known (dropping revision o)
+drop-reaches now known revision o r = send-reaches now known (bodies.Request (txns.DropFailover revision)) o tt r
+
+-- a handover is judged
+handover-reaches : (now : Ticks) (known : Knowledge) (revision : ℕ) (o : Outcome) → Reaches now known o → HandoverRows (Reaches now known) now revision o
+handover-reaches now known revision o r =
+    let quiet : Reaches now known (waiting_no_more o) = rests now known o.knows _ o.outputs refl refl refl refl r in
+    record {
+      kept = quiet;
+      clears = λ compared. drop-reaches now known compared (waiting_no_more o) quiet;
+      hands = λ candidate. one-more now known (waiting_no_more o).knows (listed (outputs.HandsOver candidate) o.outputs) outputs.ShutDown tt (one-more now known (waiting_no_more o).knows o.outputs (outputs.HandsOver candidate) tt quiet);
+    }
+
+-- operators are answered
+answer-reaches : (now : Ticks) (known : Knowledge) (request : ℕ) (told : Told) (o : Outcome) → Reaches now known o → Reaches now known (answering request told o)
+answer-reaches now known request told o r = goes-on now known o.knows (answering request told o).knows _ refl refl refl refl (one-more now known o.knows o.outputs (outputs.Told request told) tt r)
+
+reply-reaches : (now : Ticks) (known : Knowledge) (o : Outcome) → Reaches now known o → ReplyRows (Reaches now known) o
+reply-reaches now known o r = record { kept = r; answers = λ request told. answer-reaches now known request told o r }
 
 -- a promotion that is postponed
 postpone-reaches : (now : Ticks) (known : Knowledge) (held : ℕ) (o : Outcome) → Reaches now known o → Reaches now known (postpones held o)
@@ -252,6 +294,7 @@ overdue-reaches now known o r =
       stray = λ _. one-more now known _ o.outputs _ tt quiet;
       judges = λ _. judged-reaches now known o r;
       ready = λ held _. postpone-reaches now known held (waiting_no_more o) quiet;
+      checks = λ held _. handover-reaches now known held o r;
     })
 
 turn-reaches : (now : Ticks) (known : Knowledge) (o : Outcome) → Reaches now known o → Reaches now known (turned now o)
@@ -262,7 +305,9 @@ turn-reaches now known o r =
 
 wake-reaches : (now : Ticks) (known : Knowledge) (o : Outcome) → Reaches now known o → Reaches now known (woken now o)
 wake-reaches now known o r = let first = before-reaches now known o r in
-    wake-by (Reaches now known) now o first (turn-reaches now known (overdue now (before now o)) (overdue-reaches now known (before now o) first))
+    let told : Outcome = given_up now (before now o) in
+    wake-by (Reaches now known) now o first
+    (turn-reaches now known (overdue now told) (overdue-reaches now known told (given-up-by (Reaches now known) now (before now o) (reply-reaches now known (before now o) first))))
 
 touch-reaches : (now : Ticks) (known : Knowledge) (o : Outcome) → Reaches now known o → Reaches now known (touching o)
 touch-reaches now known o r = send-reaches now known _ o tt r
@@ -296,6 +341,7 @@ answered-reaches now known sequence answer o r =
       quiet = rests now known o.knows _ o.outputs refl refl refl refl r;
       keeps = kept;
       judges = λ _. judged-reaches now known (keeping answer o) kept;
+      checks = λ held _. handover-reaches now known held (keeping answer o) kept;
     })
 
 got-reaches : (now : Ticks) (points : List HistoryPoint) (known : Knowledge) (sequence : ℕ) (snapshot : SnapshotFacts) (o : Outcome) → Reaches now known o → Reaches now known (got now points sequence snapshot o)
@@ -345,7 +391,7 @@ write-reaches now known settling txn o puts r = ask-reaches now known (Syncing s
 require-reaches : (now : Ticks) (known : Knowledge) (required : Required) (o : Outcome) → Reaches now known o → Reaches now known (requiring required o)
 require-reaches now known required o r = one-more now known o.knows o.outputs (outputs.Require required) tt r
 
--- a leader's step
+-- a leader's step with its standbys
 off-reaches : (now : Ticks) (known : Knowledge) (revision : ℕ) (read : Option SyncRead) (o : Outcome) → Reaches now known o → Reaches now known (switching_off now revision read o)
 off-reaches now known revision None o r = r
 off-reaches now known revision (Some read) o r = write-reaches now known Empties (txns.DropSync revision read.revision) o tt r
@@ -363,11 +409,22 @@ planned-reaches : (now : Ticks) (known : Knowledge) (revision : ℕ) (seen : Opt
 planned-reaches now known revision None o r = r
 planned-reaches now known revision (Some snapshot) o r = plan-reaches now known revision (plan_of (leader_view now o.knows o.machine) snapshot) o r
 
+-- what it owes its cluster with each renewal
+duties-reach : (now : Ticks) (known : Knowledge) (revision : ℕ) (o : Outcome) → Reaches now known o → Reaches now known (duties now revision o)
+duties-reach now known revision o r =
+    let alone : Reaches now known (unheard o) = goes-on now known o.knows (unheard o).knows o.outputs refl refl refl refl r in
+    duties-by (Reaches now known) now revision o (planned-reaches now known revision o.knows.seen o r) (record {
+      kept = r;
+      clears = λ compared. drop-reaches now known compared o r;
+      asks = λ candidate. check-reaches now known candidate (unheard o) alone;
+      judges = handover-reaches now known revision (unheard o) alone;
+    })
+
 renewed-reaches : (now ttl : Ticks) (known : Knowledge) (revision : ℕ) (o : Outcome) → Reaches now known o → Reaches now known (leader_renewed now ttl revision o)
 renewed-reaches now ttl known revision o r = let led : Outcome = led_on now ttl revision o in
     let fed : Reaches now known led = feed-reaches now ttl known o r in
-    if-cases (Reaches now known) (is_start_too_long now led.knows led.machine.server.state) (record (ending_server now StartTooLong led) { role = Ending revision HandOver }) (planned now revision led)
-    (λ _. one-more now known led.knows led.outputs _ tt fed) (λ _. planned-reaches now known revision led.knows.seen led fed)
+    if-cases (Reaches now known) (is_start_too_long now led.knows led.machine.server.state) (record (ending_server now StartTooLong led) { role = Ending revision HandOver }) (duties now revision led)
+    (λ _. one-more now known led.knows led.outputs _ tt fed) (λ _. duties-reach now known revision led fed)
 
 stray-reaches : (now ttl : Ticks) (known : Knowledge) (revision : ℕ) (o : Outcome) → Reaches now known o → Reaches now known (stray_renewed now ttl revision o)
 stray-reaches now ttl known revision o r = let armed-now : Outcome = arming now ttl o in
@@ -410,13 +467,41 @@ granted-reaches now known sequence grant snapshot o r =
       settles = λ required _. require-reaches now known required told next;
     })
 
+-- what an operator waits for was granted, or refused
+granted-any-reaches : (now : Ticks) (known : Knowledge) (sequence : ℕ) (grant : Granted) (snapshot : SnapshotFacts) (o : Outcome) → Reaches now known o → Reaches now known (granted_any now sequence grant snapshot o)
+granted-any-reaches now known sequence grant snapshot o r =
+    granted-any-by (Reaches now known) now sequence grant snapshot o r (reply-reaches now known (learned snapshot o) (goes-on now known o.knows (learned snapshot o).knows o.outputs refl refl refl refl r))
+    (granted-reaches now known sequence grant snapshot o r)
+
+refused-any-reaches : (now : Ticks) (known : Knowledge) (sequence : ℕ) (o : Outcome) → Reaches now known o → Reaches now known (refused_any now sequence o)
+refused-any-reaches now known sequence o r = refused-any-by (Reaches now known) now sequence o (reply-reaches now known o r) (refused-reaches now known sequence o r)
+
+-- what an operator asks is done
+operator-question : (txn : Txn) → IsOperatorTxn txn → IsQuestion (bodies.Request txn)
+operator-question (txns.SetFailover failover ttl) is = tt
+operator-question (txns.SetConfig revision config) is = tt
+operator-question _ is = absurd is
+
+operated-reaches : (now : Ticks) (known : Knowledge) (request : ℕ) (asked : OperatorRequest) (o : Outcome) → Reaches now known o → Reaches now known (operated now request asked o)
+operated-reaches now known request asked o r = operated-by (Reaches now known) now request asked o (record {
+  asks = λ operation txn is.
+      let body : Body = bodies.Request txn in
+      goes-on now known (sending body o).knows (operating now request operation body o).knows _ refl refl refl refl (send-reaches now known body o (operator-question txn is) r);
+  restarts = λ told.
+      let again : Outcome = restarting now o in
+      one-more now known again.knows again.outputs (outputs.Told request told) tt (goes-on now known o.knows again.knows again.outputs refl refl refl refl (one-more now known o.knows o.outputs _ tt r));
+  wipes = λ told. one-more now known o.knows (wiping o).outputs (outputs.Told request told) tt (one-more now known o.knows o.outputs outputs.Wipe tt r);
+})
+
 step-reaches : (now : Ticks) (points : List HistoryPoint) (heard : Heard) (known : Knowledge) (o : Outcome) → Reaches now known o → Reaches now known (step now points heard o)
 step-reaches now points Wake known o r = wake-reaches now known o r
-step-reaches now points (Got sequence snapshot) known o r = got-reaches now points known sequence snapshot (before now o) (before-reaches now known o r)
-step-reaches now points (HeardGranted sequence grant snapshot) known o r = granted-reaches now known sequence grant snapshot (before now o) (before-reaches now known o r)
-step-reaches now points (Mismatch sequence key found) known o r = refused-reaches now known sequence (before now o) (before-reaches now known o r)
+step-reaches now points (Got sequence snapshot) known o r =
+    got-reaches now points known sequence snapshot (looked sequence snapshot (before now o)) (looked-by (Reaches now known) sequence snapshot (before now o) (reply-reaches now known (before now o) (before-reaches now known o r)))
+step-reaches now points (HeardGranted sequence grant snapshot) known o r = granted-any-reaches now known sequence grant snapshot (before now o) (before-reaches now known o r)
+step-reaches now points (Mismatch sequence key found) known o r = refused-any-reaches now known sequence (before now o) (before-reaches now known o r)
 step-reaches now points (Asked from run sequence) known o r = one-more now known (before now o).knows (before now o).outputs _ tt (before-reaches now known o r)
 step-reaches now points (Answered sequence answer) known o r = answered-reaches now known sequence answer (before now o) (before-reaches now known o r)
+step-reaches now points (Operated action) known o r = operated-reaches now known action.request action.asked (before now o) (before-reaches now known o r)
 
 pub step-asks-anew : (now : Ticks) (points : List HistoryPoint) (heard : Heard) (role : RoleFacts) (knows : Knowledge) (machine : Machine)
     → let after = step now points heard (made role knows machine []) in AsksAnew now knows after.knows after.outputs

@@ -71,7 +71,6 @@ quiet-machine cluster (kinds.Replication happening) is m =
     machine-same _ _ _ _ _ _ _ _ _ _ _ _ (live-kept cluster.book.servers _ m (replicated-kept (λ s. live s.state) (λ s t state log. ap live state) cluster.book.servers happening)) refl refl refl refl refl
 quiet-machine cluster (kinds.Agent (agents.Suspended agent)) is m = machine-same _ _ _ _ _ _ _ _ _ _ _ _ refl refl refl refl refl (seen-kept run_now cluster.book.agents agent.id.number m _ (suspended-run true))
 quiet-machine cluster (kinds.Agent (agents.Resumed agent)) is m = machine-same _ _ _ _ _ _ _ _ _ _ _ _ refl refl refl refl refl (seen-kept run_now cluster.book.agents agent.id.number m _ (suspended-run false))
-quiet-machine cluster (kinds.Agent (agents.Operated agent action)) is m = refl
 quiet-machine cluster (kinds.Agent (agents.Passed agent)) is m = refl
 quiet-machine cluster (kinds.Link happening) is m = refl
 quiet-machine cluster (kinds.Note note) is m = refl
@@ -91,7 +90,6 @@ quiet-aside (kinds.Log happening) is = tt
 quiet-aside (kinds.Replication happening) is = tt
 quiet-aside (kinds.Agent (agents.Suspended agent)) is = tt
 quiet-aside (kinds.Agent (agents.Resumed agent)) is = tt
-quiet-aside (kinds.Agent (agents.Operated agent action)) is = tt
 quiet-aside (kinds.Agent (agents.Passed agent)) is = tt
 quiet-aside (kinds.Link happening) is = tt
 quiet-aside (kinds.Note note) is = tt

@@ -1,13 +1,14 @@
--- An agent that is woken feeds nothing.
-use Rattle.std.proofs.Common.{Bool, true, false, cond, List, [], Option, Some, None, All}
+-- An agent that is woken, or asked by an operator, feeds nothing.
+use Rattle.std.proofs.Common.{ℕ, Bool, true, false, cond, List, [], Option, Some, None, All}
 use Rattle.std.proofs.lemmas.List.Elements.{All-nil, All-push}
 use Rattle.pat_base.specs.ServerState.{live}
 use Rattle.pat_base.specs.declared.ticks.Ticks.{Ticks}
+use Rattle.lease_store.specs.declared.action.OperatorAction.{OperatorAction}
 use Rattle.wal_model.specs.declared.entry.HistoryPoint.{HistoryPoint}
-use Rattle.ha_loop.specs.declared.heard.Heard.TheVariants.{Wake}
+use Rattle.ha_loop.specs.declared.heard.Heard.TheVariants.{Operated, Wake}
 use Rattle.ha_loop.specs.declared.knowledge.Knowledge.{Knowledge}
 use Rattle.ha_loop.specs.declared.knowledge.Question.{Question}
-use Rattle.ha_loop.specs.declared.knowledge.Question.TheVariants.{Asking, Creating, Reading, Renewing, Claiming, Syncing}
+use Rattle.ha_loop.specs.declared.knowledge.Question.TheVariants.{Asking, Checking, Creating, Reading, Renewing, Claiming, Syncing}
 use Rattle.ha_loop.specs.declared.knowledge.Waited.{Waited}
 use Rattle.ha_loop.specs.declared.machine.Machine.{Machine}
 use Rattle.ha_loop.specs.declared.output.Output.{Output}
@@ -16,13 +17,15 @@ use Rattle.ha_loop.specs.declared.role.Why.{Why}
 use Rattle.ha_loop.specs.declared.role.Why.TheVariants.{HandOver, Lost}
 use Rattle.ha_loop.specs.Acting.{disarmed, waiting_no_more}
 use Rattle.ha_loop.specs.Agents.{RoleFacts, Follower, Holder, Ready, Leader, Ending, Stray, Outcome, made}
-use Rattle.ha_loop.proofs.Rows.{judged-by}
+use Rattle.ha_loop.proofs.Rows.{HandoverRows, given-up-by, handover-by, judged-by, operated-by}
 use Rattle.ha_loop.specs.Before.{before, before_as, has_ended}
 use Rattle.ha_loop.specs.Claiming.{claim_fails_as}
 use Rattle.ha_loop.specs.Decisions.{may_create}
+use Rattle.ha_loop.specs.HandingOver.{judged_if_leading}
+use Rattle.ha_loop.specs.Operators.{given_up}
 use Rattle.ha_loop.specs.Racing.{judged}
 use Rattle.ha_loop.specs.Table.{step}
-use Rattle.ha_loop.specs.Wake.{has_turn, is_due, is_overdue, is_stopping, out_of_reach_as, overdue, overdue_for, turn_as, turn_begins, turn_noted, turned, unanswered, woken}
+use Rattle.ha_loop.specs.Wake.{has_turn, is_due, is_overdue, is_stopping, out_of_reach_as, overdue, overdue_for, roused, turn_as, turn_begins, turn_noted, turned, unanswered, woken}
 
 -- an output that feeds no watchdog
 abbrev pub FeedsNone : Output → Type 0
@@ -65,12 +68,27 @@ none-failed : (role : RoleFacts) (o : Outcome) → NoneFed o → NoneFed (claim_
 none-failed (Ready revision) o all = All-push FeedsNone _ _ (none-disarmed o.machine.watchdog.deadline o.outputs all) tt
 none-failed _ o all = all
 
+none-handover : (now : Ticks) (revision : ℕ) (o : Outcome) → NoneFed o → HandoverRows NoneFed now revision o
+none-handover now revision o all = record {
+  kept = all;
+  clears = λ compared. All-push FeedsNone _ _ all tt;
+  hands = λ candidate. All-push FeedsNone _ _ (All-push FeedsNone _ _ all tt) tt;
+}
+
+none-leading : (now : Ticks) (role : RoleFacts) (o : Outcome) → NoneFed o → NoneFed (judged_if_leading now role o)
+none-leading now (Leader revision) o all = handover-by NoneFed now revision o (none-handover now revision o all)
+none-leading now _ o all = all
+
+none-given : (now : Ticks) (o : Outcome) → NoneFed o → NoneFed (given_up now o)
+none-given now o all = given-up-by NoneFed now o (record { kept = all; answers = λ request told. All-push FeedsNone _ _ all tt })
+
 none-unanswered : (now : Ticks) (question : Question) (o : Outcome) → NoneFed o → NoneFed (unanswered now question o)
 none-unanswered now Reading o all = none-reach now o.role (waiting_no_more o) all
 none-unanswered now Renewing o all = none-reach now o.role (waiting_no_more o) all
 none-unanswered now Creating o all = all
 none-unanswered now Claiming o all = none-failed o.role (waiting_no_more o) all
 none-unanswered now (Syncing settling) o all = all
+none-unanswered now Checking o all = none-leading now o.role o all
 none-unanswered now Asking o all = none-if (may_create o.role) (judged now o) (waiting_no_more o) (none-judged now o all) all
 
 none-overdue : (now : Ticks) (waited : Option Waited) (o : Outcome) → NoneFed o → NoneFed (overdue_for now waited o)
@@ -87,9 +105,19 @@ none-turned now o all = none-if (has_turn now o.knows) (turn_begins now o) o (no
 
 none-woken : (now : Ticks) (o : Outcome) → NoneFed o → NoneFed (woken now o)
 none-woken now o all =
-    let b : Outcome = before now o in
-    let first : NoneFed b = none-before now o.role o all in
-    none-if (is_due now o.role o.knows o.machine) (turned now (overdue now b)) b (none-turned now (overdue now b) (none-overdue now b.knows.waited b first)) first
+    let first : NoneFed (before now o) = none-before now o.role o all in
+    let told : Outcome = given_up now (before now o) in
+    none-if (is_due now o.role o.knows o.machine) (roused now o) (before now o) (none-turned now (overdue now told) (none-overdue now told.knows.waited told (none-given now (before now o) first))) first
 
 pub wakes-feed-none : (now : Ticks) (points : List HistoryPoint) (role : RoleFacts) (knows : Knowledge) (machine : Machine) → All FeedsNone (step now points Wake (made role knows machine [])).outputs
 wakes-feed-none now points role knows machine = none-woken now (made role knows machine []) (All-nil FeedsNone)
+
+pub actions-feed-none : (now : Ticks) (points : List HistoryPoint) (action : OperatorAction) (role : RoleFacts) (knows : Knowledge) (machine : Machine) → All FeedsNone (step now points (Operated action) (made role knows machine [])).outputs
+actions-feed-none now points action role knows machine =
+    let o : Outcome = made role knows machine [] in
+    let first : NoneFed (before now o) = none-before now role o (All-nil FeedsNone) in
+    operated-by NoneFed now action.request action.asked (before now o) (record {
+      asks = λ operation txn is. All-push FeedsNone _ _ first tt;
+      restarts = λ told. All-push FeedsNone _ _ (All-push FeedsNone _ _ first tt) tt;
+      wipes = λ told. All-push FeedsNone _ _ (All-push FeedsNone _ _ first tt) tt;
+    })

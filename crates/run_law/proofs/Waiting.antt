@@ -80,6 +80,7 @@ aside-left May cluster (kinds.Message (messages.Sent number message)) m agent is
 aside-left May cluster (kinds.Message (messages.Delivered number)) m agent is e = absurd is
 aside-left May cluster (kinds.Watchdog (watchdogs.Reset member)) m agent is e = left-there cluster.agents member.id.number m agent e
 aside-left May cluster (kinds.Agent (agents.Woken member)) m agent is e = absurd is
+aside-left May cluster (kinds.Agent (agents.Operated member action)) m agent is e = absurd is
 aside-left May cluster (kinds.Agent (agents.Killed member)) m agent is e = left-there cluster.agents member.id.number m agent e
 aside-left May cluster (kinds.Agent (agents.Started member run)) m agent is e = absurd is
 aside-left May cluster _ m agent is e = e

@@ -20,6 +20,7 @@ IsAsideIn May (kinds.Watchdog (watchdogs.HoldTaken member until from run sequenc
 IsAsideIn May (kinds.Server (servers.Began server timeline)) = May server.id.number
 IsAsideIn May (kinds.Server (servers.Promoted server)) = ⊥
 IsAsideIn May (kinds.Agent (agents.Woken agent)) = ⊥
+IsAsideIn May (kinds.Agent (agents.Operated agent action)) = ⊥
 IsAsideIn May (kinds.Agent (agents.Started agent run)) = ⊥
 IsAsideIn May _ = Unit {0}
 
@@ -40,7 +41,6 @@ IsQuiet (kinds.Log happening) = Unit {0}
 IsQuiet (kinds.Replication happening) = Unit {0}
 IsQuiet (kinds.Agent (agents.Suspended agent)) = Unit {0}
 IsQuiet (kinds.Agent (agents.Resumed agent)) = Unit {0}
-IsQuiet (kinds.Agent (agents.Operated agent action)) = Unit {0}
 IsQuiet (kinds.Agent (agents.Passed agent)) = Unit {0}
 IsQuiet (kinds.Link happening) = Unit {0}
 IsQuiet (kinds.Note note) = Unit {0}

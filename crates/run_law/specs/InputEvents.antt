@@ -1,5 +1,5 @@
 -- What an input of an agent brings, event by event.
-use Rattle.std.specs.Prelude.{ℕ, ◌≡◌}
+use Rattle.std.specs.Prelude.{ℕ, ◌≡◌, ◌⊎◌, Bool}
 use Rattle.pat_base.specs.declared.member_id.MemberId.{MemberId}
 use Rattle.pat_base.specs.declared.peer_answer.PeerAnswer.{PeerAnswer}
 use Rattle.event_book.specs.declared.event.EventKind.{EventKind}
@@ -35,11 +35,15 @@ pub data IsMessageOf (member : Member) (run : ℕ) (Q : Output → Type 0) (mess
   AsksPeer : (peer : Member) → (id : MemberId) → (sequence : ℕ) → (is : message ≡ agent_message member (ends.Member peer) run sequence bodies.Ask) → (from : Q (outputs.Send (targets.Member id) sequence bodies.Ask)) → IsMessageOf member run Q message
   AnswersPeer : (peer : Member) → (id : MemberId) → (asked sequence : ℕ) → (answer : PeerAnswer) → (is : message ≡ agent_message member (ends.Member peer) asked sequence (bodies.Answer answer)) → (from : Q (outputs.Answer id asked sequence answer)) → IsMessageOf member run Q message
 
+-- its server begins to accept writes by an output with this property: it is to begin, or to start again
+abbrev pub IsToBegin : (Output → Type 0) → Type 0
+IsToBegin Q = Q outputs.Begin ⊎ ((as_primary : Bool) × Q (outputs.Restart as_primary))
+
 -- what an output with this property brings, of an agent of this member in its run that heard the message of this number
 abbrev pub IsOfInput : Member → ℕ → ℕ → (Output → Type 0) → EventKind → Type 0
 IsOfInput member run heard Q (kinds.Message (messages.Sent number message)) = IsMessageOf member run Q message
 IsOfInput member run heard Q (kinds.Message (messages.Lost number)) = Unit {0}
-IsOfInput member run heard Q (kinds.Server (servers.Began server timeline)) = (server ≡ server_of member) × Q outputs.Begin
+IsOfInput member run heard Q (kinds.Server (servers.Began server timeline)) = (server ≡ server_of member) × IsToBegin Q
 IsOfInput member run heard Q (kinds.Server (servers.StartsAsReplica server)) = server ≡ server_of member
 IsOfInput member run heard Q (kinds.Server (servers.StartsAsPrimary server)) = server ≡ server_of member
 IsOfInput member run heard Q (kinds.Server (servers.Follows server upstream)) = server ≡ server_of member
@@ -47,6 +51,7 @@ IsOfInput member run heard Q (kinds.Server (servers.Ended server)) = server ≡ 
 IsOfInput member run heard Q (kinds.Server (servers.Stops server)) = server ≡ server_of member
 IsOfInput member run heard Q (kinds.Log (logs.Rewound server from kept at)) = server ≡ server_of member
 IsOfInput member run heard Q (kinds.Log (logs.Copied server from)) = server ≡ server_of member
+IsOfInput member run heard Q (kinds.Log (logs.Wiped server)) = server ≡ server_of member
 IsOfInput member run heard Q (kinds.Watchdog (watchdogs.Armed by until answer)) = (by ≡ member) × (answer ≡ heard) × Q (outputs.Armed until)
 IsOfInput member run heard Q (kinds.Watchdog (watchdogs.Fed by until basis)) = (by ≡ member) × (basis ≡ bases.Grant heard) × Q (outputs.Fed until)
 IsOfInput member run heard Q (kinds.Watchdog (watchdogs.Disarmed by)) = by ≡ member

@@ -1,6 +1,7 @@
 -- What the parts of a step owe a promise, so that each step keeps it.
 use Rattle.std.specs.Prelude.{ℕ, ◌≡◌, true, List, Some, slice_get}
 use Rattle.pat_base.specs.declared.member_id.MemberId.{MemberId}
+use Rattle.lease_store.specs.declared.action.OperatorAction.{OperatorAction}
 use Rattle.cluster_script.specs.declared.line.Command.{Command}
 use Rattle.cluster_script.specs.Script.{HeadText}
 use Rattle.event_book.specs.declared.agent_process.AgentProcess.{AgentProcess}
@@ -15,7 +16,7 @@ use Rattle.cluster_model.specs.declared.delivery.Delivery.TheVariants.{Open}
 use Rattle.cluster_model.specs.Commands.{kinds_of}
 use Rattle.cluster_model.specs.Deliveries.{delivery_of}
 use Rattle.cluster_model.specs.Inputs.{may_act}
-use Rattle.cluster_model.specs.Messages.{arrival_events_at, hear_events, wake_events_of}
+use Rattle.cluster_model.specs.Messages.{arrival_events_at, hear_events, operate_events, wake_events_of}
 use Rattle.cluster_model.specs.Next.{acknowledge_events, command_kind, declared, promote_events, receive_events_at_most, restart_events}
 use Rattle.cluster_model.specs.Parts.{event_of, events_of, for_some}
 use Rattle.cluster_model.specs.State.{Cluster}
@@ -24,7 +25,7 @@ use Rattle.run_law.specs.Declaring.{declared_members}
 use Rattle.run_law.specs.Members.{IsDeclared}
 use Rattle.run_law.specs.Promise.{Promise, Upholds, UpholdsAlways}
 
--- agents that may act and are woken uphold a promise, and so do those to which a message comes
+-- agents that may act and are woken uphold a promise, and so do those to which a message comes, and those that an operator asks
 pub record InputsUphold (head : HeadText) (promise : Promise) : Type 0 where
   pub wakes : (book : List Event) (cluster : Cluster) (member : Member) (process : AgentProcess) → promise.between book cluster → IsDeclared head member
       → slice_get cluster.book.agents member.id.number ≡ Some process → may_act process ≡ true
@@ -32,6 +33,9 @@ pub record InputsUphold (head : HeadText) (promise : Promise) : Type 0 where
   pub hears : (book : List Event) (cluster : Cluster) (number : ℕ) (message : InFlightFacts) (member : Member) → promise.between book cluster
       → in_flight cluster.book.flight number ≡ Some message → message.message.to ≡ ends.Member member → delivery_of cluster.book.cuts cluster.book.agents message.message ≡ Open
       → Upholds promise book cluster (hear_events cluster number message member)
+  pub operates : (book : List Event) (cluster : Cluster) (member : Member) (process : AgentProcess) (action : OperatorAction) → promise.between book cluster → IsDeclared head member
+      → slice_get cluster.book.agents member.id.number ≡ Some process → may_act process ≡ true
+      → Upholds promise book cluster (operate_events cluster member action)
 
 -- each part of a step upholds a promise, while the members are those that the head declares
 pub record PartsUphold (head : HeadText) (promise : Promise) : Type 0 where
