@@ -1,9 +1,12 @@
 -- Outputs of an agent that are actions of their own.
-use Rattle.std.proofs.Common.{◌≡◌, Bool, true, false, cond, List, [], ◌∷◌, All, slice_get, Option, Some, None, option_and_then, refl}
+use Rattle.std.proofs.Common.{◌≡◌, ◌||◌, Bool, true, false, cond, List, [], ◌∷◌, All, slice_get, Option, Some, None, option_and_then, option_map, refl}
 use Rattle.std.proofs.lemmas.List.Elements.{All-head, All-tail}
-use Rattle.pg_model.specs.Facts.{ServerFacts, is_down, is_replica}
+use Rattle.pat_base.specs.ServerState.{live}
+use Rattle.pg_model.specs.Facts.{ServerFacts, is_creating, is_down, is_replica}
 use Rattle.event_book.specs.declared.event.EventKind.{EventKind}
 use Rattle.event_book.specs.declared.event.EventKind.TheVariants as kinds
+use Rattle.event_book.specs.declared.event.LogEvent.TheVariants as logs
+use Rattle.event_book.specs.declared.event.Note.{Note}
 use Rattle.event_book.specs.declared.event.Note.TheVariants as notes
 use Rattle.event_book.specs.declared.event.ServerEvent.TheVariants as servers
 use Rattle.event_book.specs.declared.event.WatchdogEvent.TheVariants as watchdogs
@@ -11,23 +14,30 @@ use Rattle.event_book.specs.declared.member.Member.{Member}
 use Rattle.event_book.specs.declared.reason.Reason.{Reason}
 use Rattle.event_book.specs.Facts.{Facts}
 use Rattle.event_book.specs.Members.{server_of}
+use Rattle.ha_loop.specs.declared.operating.Told.{Told}
+use Rattle.ha_loop.specs.declared.operating.Told.TheVariants as tolds
 use Rattle.ha_loop.specs.declared.output.Output.{Output}
 use Rattle.ha_loop.specs.declared.output.Output.TheVariants as outputs
 use Rattle.ha_loop.specs.declared.output.Repair.{Repair}
 use Rattle.ha_loop.specs.declared.output.Target.TheVariants as targets
+use Rattle.ha_loop.specs.Agents.{AgentFacts}
 use Rattle.ha_loop.specs.Committing.{StandsAlone}
+use Rattle.ha_loop.specs.Operators.{ok}
 use Rattle.ha_loop.specs.Orders.{IsOfTable}
 use Rattle.cluster_model.specs.declared.heard_message.HeardMessage.{HeardMessage}
+use Rattle.cluster_model.specs.Beginnings.{server_restart_kinds}
 use Rattle.cluster_model.specs.Cluster.{cluster_after, cluster_over}
 use Rattle.cluster_model.specs.Commands.{kinds_of}
+use Rattle.cluster_model.specs.Inputs.{agent_at}
 use Rattle.cluster_model.specs.Messages.{output_events, repair_events}
-use Rattle.cluster_model.specs.Orders.{arming, declared_member, feed_kinds, feeding, following_of, order_kind, repair_over, replica_start_kinds, server_at, stop_kinds, stop_of, upstream_of}
+use Rattle.cluster_model.specs.Orders.{arming, declared_member, feed_kinds, feeding, following_of, handing_over, order_kind, repair_over, replica_start_kinds, server_at, stop_kinds, stop_of, upstream_of, wipe_of}
 use Rattle.cluster_model.specs.Parts.{each, event_of, events_of, for_some}
+use Rattle.cluster_model.specs.Requests.{config_text_of, told_kind}
 use Rattle.cluster_model.specs.State.{Cluster}
 use Rattle.commit_law.specs.Past.{Past, Setup, past_over}
 use Rattle.commit_log_law.specs.Acting.{Fits}
 use Rattle.commit_log_law.specs.Happening.{MayFollow, MayHappen}
-use Rattle.commit_log_law.proofs.Repairing.{repair-follow}
+use Rattle.commit_log_law.proofs.Repairing.{repair-follow, wipe-follow}
 use Rattle.run_law.proofs.InputEvents.{holds-then, repaired-holds}
 use Rattle.run_law.proofs.Lists.{AllKinds, HoldsIf, all-kinds, all-more, one-kind}
 use Rattle.commit_step_law.specs.Reading.{volatile_of}
@@ -35,6 +45,7 @@ use Rattle.commit_step_law.proofs.Moving.{Moves, moves-none, moves-then}
 use Rattle.commit_input_law.proofs.Sending.{member-moves, question-moves}
 use Rattle.commit_step_law.proofs.Servers.{moves-follow}
 use Rattle.commit_step_law.proofs.Still.{IsStill}
+use Rattle.commit_input_law.proofs.Restarting.{restart-moves}
 use Rattle.commit_input_law.proofs.Stopping.{stop-moves}
 
 -- an output that answers no other member
@@ -85,9 +96,21 @@ upstream-free : (member : Member) (leader : Option Member) (test : Bool) → Hol
 upstream-free member leader true = following-free member leader
 upstream-free member leader false = tt
 
+noted-free : {X : Type 0} (note : X → Note) (found : Option X) → HoldsIf IsFree (option_map (λ x. kinds.Note (note x)) found)
+noted-free note None = tt
+noted-free note (Some x) = tt
+
+told-free : (member : Member) (agent : Option AgentFacts) (told : Told) → HoldsIf IsFree (told_kind member agent told)
+told-free member agent (tolds.Text status text) = tt
+told-free member agent tolds.Written = noted-free (λ body. notes.Answered member ok body) (config_text_of agent)
+
 starts-free : (member : Member) (leader : Option Member) (test : Bool) → AllKinds IsFree (cond test (kinds.Server (servers.StartsAsReplica (server_of member)) ∷ kinds_of (following_of member leader)) [])
 starts-free member leader true = (tt, one-kind IsFree (following_of member leader) (following-free member leader))
 starts-free member leader false = tt
+
+wipe-still : (member : Member) (stays : Bool) → HoldsIf IsStill (cond stays None (Some (kinds.Log (logs.Wiped (server_of member)))))
+wipe-still member true = tt
+wipe-still member false = tt
 
 -- ---- the outputs
 module _ (setup : Setup) (member : Member) where
@@ -114,6 +137,19 @@ module _ (setup : Setup) (member : Member) where
       → Moves setup past cluster (events_of cluster (kinds_of (option_and_then (stop_of member) found)))
   shuts-moves past cluster None is fits = moves-none setup past cluster fits
   shuts-moves past cluster (Some s) is fits = stop-moves setup past cluster fits member s is
+
+  restarts-moves : (past : Past) (cluster : Cluster) (found : Option ServerFacts) → server_at cluster member ≡ found → Fits past cluster.book (volatile_of cluster)
+      → Moves setup past cluster (for_some found (λ s. events_of cluster (server_restart_kinds member cluster.book.acknowledged s)))
+  restarts-moves past cluster None is fits = moves-none setup past cluster fits
+  restarts-moves past cluster (Some s) is fits = restart-moves setup past cluster fits member s is
+
+  wipes-moves : (past : Past) (cluster : Cluster) (found : Option ServerFacts) → server_at cluster member ≡ found → Fits past cluster.book (volatile_of cluster)
+      → Moves setup past cluster (events_of cluster (kinds_of (option_and_then (wipe_of member) found)))
+  wipes-moves past cluster None is fits = moves-none setup past cluster fits
+  wipes-moves past cluster (Some s) is fits =
+      let kind : Option EventKind = wipe_of member s in
+      moves-follow setup past cluster (events_of cluster (kinds_of kind)) fits (all-kinds IsStill cluster (kinds_of kind) (one-kind IsStill kind (wipe-still member (is_creating s.state || live s.state))))
+      (wipe-follow cluster member s is)
 
   repair-moves : (past : Past) (cluster : Cluster) (repair : Repair) (leader : Option Member) → Fits past cluster.book (volatile_of cluster) → Moves setup past cluster (repair_events cluster member repair leader)
   repair-moves past cluster repair leader fits =
@@ -147,6 +183,14 @@ module _ (setup : Setup) (member : Member) where
     output-moves past cluster outputs.ShutDown fits table alone answers = shuts-moves past cluster (server_at cluster member) refl fits
     output-moves past cluster (outputs.Repair leader repair) fits table alone answers = repair-moves past cluster repair (slice_get cluster.book.members leader.number) fits
     output-moves past cluster (outputs.HoldTaken until from sequence) fits table alone answers = absurd table
+    output-moves past cluster (outputs.Restart as_primary) fits table alone answers = restarts-moves past cluster (server_at cluster member) refl fits
+    output-moves past cluster outputs.Wipe fits table alone answers = wipes-moves past cluster (server_at cluster member) refl fits
+    output-moves past cluster (outputs.HandsOver candidate) fits table alone answers =
+        let kind : Option EventKind = option_map (handing_over member) (slice_get cluster.book.members candidate.number) in
+        free-moves past cluster (kinds_of kind) fits (one-kind IsFree kind (noted-free (λ next. notes.HandsOver member next) (slice_get cluster.book.members candidate.number)))
+    output-moves past cluster (outputs.Told request told) fits table alone answers =
+        let kind : Option EventKind = told_kind member (agent_at cluster.agents member.id.number) told in
+        free-moves past cluster (kinds_of kind) fits (one-kind IsFree kind (told-free member (agent_at cluster.agents member.id.number) told))
 
     -- outputs that stand alone, of which none answers a member, are actions one after another, wherever servers fit
     pub alone-moves : (past : Past) (cluster : Cluster) (outs : List Output) → Fits past cluster.book (volatile_of cluster) → All IsOfTable outs → All StandsAlone outs → All AnswersNone outs

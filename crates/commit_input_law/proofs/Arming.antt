@@ -67,6 +67,7 @@ module _ (head : HeadText) (book : List Event) (cluster : Cluster) (good : Commi
   revision-by works (heards.Mismatch sequence key found) revision fed hears arms = absurd arms
   revision-by works (heards.Asked from run sequence) revision fed hears arms = absurd arms
   revision-by works (heards.Answered sequence answer) revision fed hears arms = absurd arms
+  revision-by works (heards.Operated action) revision fed hears arms = absurd arms
 
   unready-by : (heard : Heard) (revision : ℕ) → ArmsOn (moment_of cluster) heard (Before head book cluster good a) revision → is_ready_role a.agent.role ≡ false
   unready-by (heards.Granted sequence grant snapshot) revision arms = arms.2
@@ -75,6 +76,7 @@ module _ (head : HeadText) (book : List Event) (cluster : Cluster) (good : Commi
   unready-by (heards.Mismatch sequence key found) revision arms = absurd arms
   unready-by (heards.Asked from run sequence) revision arms = absurd arms
   unready-by (heards.Answered sequence answer) revision arms = absurd arms
+  unready-by (heards.Operated action) revision arms = absurd arms
 
   pub arms-alone : MeetsPremises head (book ++ Events head book cluster good a) → (revision : ℕ) → ArmsOn (moment_of cluster) a.heard (Before head book cluster good a) revision → (S.members M).live ≡ false → is_ready_role (After head book cluster good a).role ≡ true
       → ArmsAlone S M revision

@@ -238,6 +238,8 @@ module _ (member : Member) (run heard : ℕ) (outs : List Output) (Q : Output �
       → (i : ℕ) (q : Asked) → (lease_past.past_over (lease_past.past_after named kind) rest).asked i ≡ Some q → OldOrNew member run named.clock outs named.asked past.asked i q ((past_over (past_after past kind) rest).asked i)
   behind-opening named past hn (kinds.Agent (agents.Woken by)) rest last low opens all above =
       asked-rest (lease_past.past_after named (kinds.Agent (agents.Woken by))) (past_after past (kinds.Agent (agents.Woken by))) rest named.clock last refl all above low
+  behind-opening named past hn (kinds.Agent (agents.Operated by action)) rest last low opens all above =
+      asked-rest (lease_past.past_after named (kinds.Agent (agents.Operated by action))) (past_after past (kinds.Agent (agents.Operated by action))) rest named.clock last refl all above low
   behind-opening named past hn (kinds.Message (Delivered number)) rest last low opens all above =
       asked-rest (lease_past.past_after named (kinds.Message (Delivered number))) (past_after past (kinds.Message (Delivered number))) rest named.clock last refl all above low
   behind-opening named past hn _ rest last low opens all above = absurd opens

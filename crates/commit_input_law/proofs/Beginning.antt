@@ -61,7 +61,7 @@ module _ (setup : Setup) (past : Past) (states : ℕ → VolatileState) (cluster
       record { transitions = []; whole = refl; allowed = tt; once = tt; last = stands; fits = record { same = same; live = record { live = λ m. refl }; sound = sound } }
 
   -- it begins with its start, which takes time
-  starts-begin : let kind : EventKind = kinds.Server (servers.StartsAsPrimary (server_of member)) in
+  pub starts-begin : let kind : EventKind = kinds.Server (servers.StartsAsPrimary (server_of member)) in
       live_in (cluster_after cluster kind).book.servers member.id.number ≡ true → MovesFrom setup past states cluster (event_of cluster kind)
   starts-begin here =
       let kind : EventKind = kinds.Server (servers.StartsAsPrimary (server_of member)) in
@@ -73,7 +73,7 @@ module _ (setup : Setup) (past : Past) (states : ℕ → VolatileState) (cluster
       (idle-shown setup past states (event_of cluster kind) (tt, tt)))
 
   -- it begins at once
-  begins-at-once : (timeline : ℕ) (s : ServerFacts) → slice_get cluster.book.servers member.id.number ≡ Some s → has_data s.state ≡ true
+  pub begins-at-once : (timeline : ℕ) (s : ServerFacts) → slice_get cluster.book.servers member.id.number ≡ Some s → has_data s.state ≡ true
       → MovesFrom setup past states cluster (events_of cluster (beginning_kinds member timeline cluster.book.acknowledged s.log))
   begins-at-once timeline s is with_data =
       let kind : EventKind = kinds.Server (servers.Began (server_of member) timeline) in

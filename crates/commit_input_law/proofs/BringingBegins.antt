@@ -55,6 +55,8 @@ kept-by now machine outputs.Disarmed covered = refl
 kept-by now machine outputs.CannotArm covered = refl
 kept-by now machine outputs.PostponesPromotion covered = refl
 kept-by now machine (outputs.DoesNotRace bar) covered = refl
+kept-by now machine (outputs.HandsOver candidate) covered = refl
+kept-by now machine (outputs.Told request told) covered = refl
 kept-by now machine _ covered = absurd covered
 
 begun-by : (now : Ticks) (machine : Machine) (front : List Output) (required : Required) → All IsCovered front → (machine_after_outputs now machine (front ++ outputs.Require required ∷ outputs.Begin ∷ [])).server ≡ status_begun now machine.server

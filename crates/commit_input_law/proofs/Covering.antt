@@ -14,6 +14,8 @@ use Rattle.event_book.specs.declared.event.Event.{Event}
 use Rattle.event_book.specs.declared.event.EventKind.{EventKind}
 use Rattle.event_book.specs.declared.event.EventKind.TheVariants as kinds
 use Rattle.event_book.specs.declared.event.MessageEvent.TheVariants.{Sent}
+use Rattle.event_book.specs.declared.event.Note.{Note}
+use Rattle.event_book.specs.declared.event.Note.TheVariants as notes
 use Rattle.event_book.specs.declared.link.LinkEnd.TheVariants as ends
 use Rattle.event_book.specs.declared.member.Member.{Member}
 use Rattle.event_book.specs.declared.message.Body.{Body}
@@ -21,17 +23,23 @@ use Rattle.event_book.specs.declared.message.Body.TheVariants as bodies
 use Rattle.event_book.specs.declared.message.Message.{Message}
 use Rattle.event_book.specs.Functions.{put_at}
 use Rattle.event_book.specs.Logs.{Logs}
+use Rattle.ha_loop.specs.declared.operating.Told.{Told as OperatorTold}
+use Rattle.ha_loop.specs.declared.operating.Told.TheVariants as tolds
 use Rattle.ha_loop.specs.declared.output.Output.{Output}
 use Rattle.ha_loop.specs.declared.output.Output.TheVariants as outputs
 use Rattle.ha_loop.specs.declared.output.Target.TheVariants as targets
 use Rattle.ha_loop.specs.Agents.{AgentFacts}
 use Rattle.ha_loop.specs.Committing.{IsCovered, IsQuietBody, IsQuietTxn}
+use Rattle.ha_loop.specs.Operators.{ok}
 use Rattle.ha_loop.specs.Orders.{IsAsk, IsOfTable}
 use Rattle.cluster_model.specs.declared.heard_message.HeardMessage.{HeardMessage}
 use Rattle.cluster_model.specs.Cluster.{cluster_after, cluster_over}
+use Rattle.cluster_model.specs.Commands.{kinds_of}
+use Rattle.cluster_model.specs.Inputs.{agent_at}
 use Rattle.cluster_model.specs.Limits.{most_in_flight}
 use Rattle.cluster_model.specs.Messages.{agent_message, lost_at_once, output_events, send_events, sending_events}
 use Rattle.cluster_model.specs.Parts.{each, event_of, events_of}
+use Rattle.cluster_model.specs.Requests.{config_text_of, told_kind}
 use Rattle.cluster_model.specs.State.{Cluster}
 use Rattle.lease_law.specs.Leases.{LeaderKey}
 use Rattle.lease_law.proofs.Tools.{none-some, put-all}
@@ -239,6 +247,15 @@ module _ (member : Member) (message : HeardMessage) where
   member-covers past cluster none found peer sequence bodies.Ask ask = ask-covers past cluster none found peer sequence
   member-covers past cluster none found peer sequence _ ask = absurd ask
 
+  -- a note, if there is one
+  said-covers : {X : Type 0} (past : Past) (cluster : Cluster) (note : X → Note) (found : Option X) → Covers M past cluster (events_of cluster (kinds_of (option_map (λ x. kinds.Note (note x)) found)))
+  said-covers past cluster note None = covers-none M past cluster
+  said-covers past cluster note (Some x) = record { own = (tt, tt); leaves = (tt, tt); aside = (tt, tt); ordered = (tt, tt); flight = λ i. refl; live = refl; told = refl; held = refl; later = omega arith }
+
+  told-covers : (past : Past) (cluster : Cluster) (agent : Option AgentFacts) (told : OperatorTold) → Covers M past cluster (events_of cluster (kinds_of (told_kind member agent told)))
+  told-covers past cluster agent (tolds.Text status text) = record { own = (tt, tt); leaves = (tt, tt); aside = (tt, tt); ordered = (tt, tt); flight = λ i. refl; live = refl; told = refl; held = refl; later = omega arith }
+  told-covers past cluster agent tolds.Written = said-covers past cluster (λ body. notes.Answered member ok body) (config_text_of agent)
+
   pub output-covers : (past : Past) (cluster : Cluster) → NoneAbove past cluster → (output : Output) → IsCovered output → IsOfTable output → Covers M past cluster (output_events member message cluster output)
   output-covers past cluster none (outputs.Send targets.Store sequence body) covered table = question-covers past cluster none (slice_get cluster.book.agents M) sequence body covered
   output-covers past cluster none (outputs.Send (targets.Member id) sequence body) covered table = member-covers past cluster none (slice_get cluster.book.agents M) (slice_get cluster.book.members id.number) sequence body table
@@ -248,6 +265,8 @@ module _ (member : Member) (message : HeardMessage) where
   output-covers past cluster none outputs.CannotArm covered table = record { own = (tt, tt); leaves = (tt, tt); aside = (tt, tt); ordered = (tt, tt); flight = λ i. refl; live = refl; told = refl; held = refl; later = omega arith }
   output-covers past cluster none outputs.PostponesPromotion covered table = record { own = (tt, tt); leaves = (tt, tt); aside = (tt, tt); ordered = (tt, tt); flight = λ i. refl; live = refl; told = refl; held = refl; later = omega arith }
   output-covers past cluster none (outputs.DoesNotRace bar) covered table = record { own = (tt, tt); leaves = (tt, tt); aside = (tt, tt); ordered = (tt, tt); flight = λ i. refl; live = refl; told = refl; held = refl; later = omega arith }
+  output-covers past cluster none (outputs.HandsOver candidate) covered table = said-covers past cluster (λ next. notes.HandsOver member next) (slice_get cluster.book.members candidate.number)
+  output-covers past cluster none (outputs.Told request told) covered table = told-covers past cluster (agent_at cluster.agents M) told
   output-covers past cluster none _ covered table = absurd covered
 
   pub each-covers : (past : Past) (cluster : Cluster) → NoneAbove past cluster → (outs : List Output) → All IsCovered outs → All IsOfTable outs → Covers M past cluster (each (output_events member message) cluster outs)

@@ -1,6 +1,7 @@
--- Each input of an agent upholds commits: whoever is woken, and whatever message comes to one.
+-- Each input of an agent upholds commits: whoever is woken, whatever an operator asks of one, and whatever message comes to one.
 use Rattle.std.proofs.Common.{ℕ, ◌≡◌, ◌≤◌, ◌++◌, List, [], Option, Some, None, option_map, slice_get, true, refl, sym, ap, ◌∙◌, subst, arith, inl, inr}
 use Rattle.std.proofs.Math.Path.{fun_ext}
+use Rattle.event_book.specs.declared.event.AgentEvent.{AgentEvent}
 use Rattle.event_book.specs.declared.event.AgentEvent.TheVariants as agents
 use Rattle.event_book.specs.declared.event.Event.{Event}
 use Rattle.event_book.specs.declared.event.EventKind.{EventKind}
@@ -16,23 +17,27 @@ use Rattle.cluster_script.specs.Script.{HeadText}
 use Rattle.ha_loop.specs.declared.heard.Heard.{Heard}
 use Rattle.ha_loop.specs.declared.heard.Heard.TheVariants as heards
 use Rattle.ha_loop.specs.declared.machine.Machine.{Machine}
+use Rattle.lease_store.specs.declared.action.OperatorAction.{OperatorAction}
 use Rattle.lease_store.specs.declared.granted.Granted.{Granted}
 use Rattle.ha_loop.specs.Agents.{AgentFacts, Outcome, made}
+use Rattle.ha_loop.specs.Committing.{HearsBelow, HearsOn, HearsToCommit}
 use Rattle.ha_loop.specs.Lawful.{Hears}
 use Rattle.cluster_model.specs.declared.delivery.Delivery.TheVariants as deliveries
-use Rattle.cluster_model.specs.Cluster.{agent_facts_with, cluster_after}
+use Rattle.cluster_model.specs.Cluster.{agent_facts_by, agent_facts_with, cluster_after}
 use Rattle.cluster_model.specs.Deliveries.{delivery_of}
 use Rattle.cluster_model.specs.Hearing.{heard_from, heard_in, member_at_end, snapshot_in}
-use Rattle.cluster_model.specs.Inputs.{agent_at, moment_of, outcome_at, outcome_of_heard}
+use Rattle.cluster_model.specs.Inputs.{agent_at, moment_of, outcome_at, outcome_of, outcome_of_heard}
 use Rattle.cluster_model.specs.Machines.{machine_of, points_of}
-use Rattle.cluster_model.specs.Messages.{hear_events, heard_message, input_events, no_message, wake_events_of}
+use Rattle.cluster_model.specs.Messages.{hear_events, heard_message, input_events, no_message, operate_events, wake_events_of}
 use Rattle.cluster_model.specs.Parts.{event_of}
 use Rattle.cluster_model.specs.State.{Cluster}
 use Rattle.lease_law.specs.Past as lease_past
 use Rattle.lease_law.proofs.Tools.{none-some, some-is}
 use Rattle.commit_law.specs.Actions.{IsNumbered, Lose, Note}
 use Rattle.commit_law.specs.Books.{IsShown}
+use Rattle.commit_law.specs.Inputs.{AgentInput}
 use Rattle.commit_law.specs.Past.{VolatileState}
+use Rattle.commit_law.specs.Showing.{IsIdle}
 use Rattle.commit_law.proofs.Showing.{idle-shown}
 use Rattle.run_law.specs.Declaring.{declared_of, member_count, works_of}
 use Rattle.run_law.specs.Kept.{IsKept}
@@ -40,8 +45,9 @@ use Rattle.run_law.specs.Parts.{InputsUphold}
 use Rattle.run_law.specs.Promise.{Upholds}
 use Rattle.run_law.specs.Volatile as run_volatile
 use Rattle.run_law.specs.Waiting.{IsAnswer}
-use Rattle.run_law.proofs.EveryInput.{acted, agent-here, kept-hearing, kept-wake, sender, same-run, the-outcome, unchanged}
+use Rattle.run_law.proofs.EveryInput.{acted, agent-here, kept-hearing, kept-operated, kept-wake, sender, same-run, the-outcome, unchanged}
 use Rattle.run_law.proofs.InputHears.{hears-by, peers-hear}
+use Rattle.run_law.proofs.InputKinds.{IsOpening}
 use Rattle.run_law.proofs.InputSeen.{IsFound, found-of}
 use Rattle.run_law.proofs.Members.{numbered}
 use Rattle.commit_log_law.specs.Matching.{live_in}
@@ -58,17 +64,17 @@ states-same : (before later : Cluster) → later.book.servers ≡ before.book.se
 states-same before later servers same =
     fun_ext (λ m. volatile-same _ _ _ _ (ap (λ known. live_in known m) (sym servers)) (ap (λ (known : List (Option AgentFacts)). agent_now (slice_get known m)) (sym same)))
 
--- an agent is woken that isn't there
-idle-wake : (head : HeadText) (book : List Event) (cluster : Cluster) (member : Member) → CommitsBridged head book cluster → (cluster_after cluster (kinds.Agent (agents.Woken member))).agents ≡ cluster.agents
-    → IsKept head book cluster (event_of cluster (kinds.Agent (agents.Woken member))) → Upholds (kept_commits head) book cluster (event_of cluster (kinds.Agent (agents.Woken member)))
-idle-wake head book cluster member good same kept =
-    let kind : EventKind = kinds.Agent (agents.Woken member) in
+-- an agent is to act by itself that isn't there
+idle-itself : (head : HeadText) (book : List Event) (cluster : Cluster) (happening : AgentEvent) → CommitsBridged head book cluster → IsIdle (kinds.Agent happening) → (cluster_after cluster (kinds.Agent happening)).agents ≡ cluster.agents
+    → IsKept head book cluster (event_of cluster (kinds.Agent happening)) → Upholds (kept_commits head) book cluster (event_of cluster (kinds.Agent happening))
+idle-itself head book cluster happening good idle same kept =
+    let kind : EventKind = kinds.Agent happening in
     let later : Cluster = cluster_after cluster kind in
     let states = states-same cluster later refl same in
     upheld-moves head book cluster (event_of cluster kind) good
     (moves-one (setup_of head) (past_of head book) (volatile_of cluster) cluster kind Note good.fits.servers.same good.fits.servers.sound tt tt tt
     (subst (λ (v : ℕ → VolatileState). IsShown (setup_of head) (past_of head book) (volatile_of cluster) (record { action = Note; events = event_of cluster kind; volatile_states = v })) states
-    (idle-shown (setup_of head) (past_of head book) (volatile_of cluster) (event_of cluster kind) (tt, tt))))
+    (idle-shown (setup_of head) (past_of head book) (volatile_of cluster) (event_of cluster kind) (idle, tt))))
     kept (tt, (tt, tt)) (tt, tt) (tt, tt)
     (subst (λ (known : List (Option AgentFacts)). AreAgentsSynchronous (member_count head) (lease_past.past_of book).asked (past_of head book).asked known) (sym same) good.fits.agents)
 
@@ -88,39 +94,66 @@ idle-arrival head book cluster number good same kept =
 from-none : (n : ℕ) → 0 ≤ n
 from-none n = omega arith
 
--- ---- an agent is woken
-module _ (head : HeadText) (few : member_count head ≤ 16) (book : List Event) (cluster : Cluster) (member : Member) (good : CommitsBridged head book cluster) where
-  abbrev Woken : EventKind
-  Woken = kinds.Agent (agents.Woken member)
+-- ---- an agent acts by itself
+-- an agent is woken, or an operator asks it for something: what it hears comes with no message, and says nothing to the laws
+record IsByItself (head : HeadText) (book : List Event) (cluster : Cluster) (member : Member) (heard : Heard) (happening : AgentEvent) : Type 0 where
+  opens : IsOpening None (kinds.Agent happening)
+  idle : IsIdle (kinds.Agent happening)
+  acts : agent_facts_by cluster happening ≡ agent_facts_with cluster.agents member (outcome_of cluster member heard)
+  hears : (agent : AgentFacts) (machine : Machine) (input : AgentInput) → HearsToCommit (state_of_run head book cluster) member.id.number input heard (made agent.role agent.knows machine [])
+  on : HearsOn heard
+  below : HearsBelow (member_count head) heard
+  hears_lease : (agent : AgentFacts) (machine : Machine)
+      → Hears (lease_past.state_of (declared_of head) (lease_past.past_of book) (run_volatile.volatile_of cluster)) member.id.number None (moment_of cluster) heard (made agent.role agent.knows machine [])
+  may : MayAnswer head book cluster heard
 
-  wake-by : (agent : Option AgentFacts) (machine : Option Machine) → agent_at cluster.agents member.id.number ≡ agent → machine_of cluster member ≡ machine
-      → IsKept head book cluster (event_of cluster Woken ++ input_events (cluster_after cluster Woken) member no_message (outcome_at (moment_of cluster) (points_of cluster member) heards.Wake agent machine))
-      → Upholds (kept_commits head) book cluster (event_of cluster Woken ++ input_events (cluster_after cluster Woken) member no_message (outcome_at (moment_of cluster) (points_of cluster member) heards.Wake agent machine))
-  wake-by None machine a m kept = idle-wake head book cluster member good (ap (λ (o : Option Outcome). agent_facts_with cluster.agents member o) (the-outcome cluster member heards.Wake None machine a m) ∙ unchanged cluster.agents member.id.number) kept
-  wake-by (Some agent) None a m kept = idle-wake head book cluster member good (ap (λ (o : Option Outcome). agent_facts_with cluster.agents member o) (the-outcome cluster member heards.Wake (Some agent) None a m) ∙ unchanged cluster.agents member.id.number) kept
-  wake-by (Some agent) (Some machine) a m kept = input-upheld head book cluster good few (record {
-    member = member;
-    agent = agent;
-    here = agent-here cluster member agent a;
-    machine = machine;
-    machine_is = m;
-    heard = heards.Wake;
-    number = None;
-    message = no_message;
-    opening = Woken;
-    opening_is = refl;
-    acts = ap (λ (o : Option Outcome). agent_facts_with cluster.agents member o) (the-outcome cluster member heards.Wake (Some agent) (Some machine) a m);
-    hears = λ input is. tt;
-    on = tt;
-    below = tt;
-    hears_lease = λ works. tt;
-    numbered = λ n e. absurd (none-some n e);
-    low = from-none cluster.book.sent;
-  }) tt kept
+module _ (head : HeadText) (few : member_count head ≤ 16) (book : List Event) (cluster : Cluster) (member : Member) (good : CommitsBridged head book cluster) where
+  module _ (heard : Heard) (happening : AgentEvent) (itself : IsByItself head book cluster member heard happening) where
+    abbrev Opening : EventKind
+    Opening = kinds.Agent happening
+
+    idle-by : outcome_of cluster member heard ≡ None → IsKept head book cluster (event_of cluster Opening) → Upholds (kept_commits head) book cluster (event_of cluster Opening)
+    idle-by none kept =
+        idle-itself head book cluster happening good itself.idle (itself.acts ∙ ap (λ (o : Option Outcome). agent_facts_with cluster.agents member o) none ∙ unchanged cluster.agents member.id.number) kept
+
+    itself-by : (agent : Option AgentFacts) (machine : Option Machine) → agent_at cluster.agents member.id.number ≡ agent → machine_of cluster member ≡ machine
+        → IsKept head book cluster (event_of cluster Opening ++ input_events (cluster_after cluster Opening) member no_message (outcome_at (moment_of cluster) (points_of cluster member) heard agent machine))
+        → Upholds (kept_commits head) book cluster (event_of cluster Opening ++ input_events (cluster_after cluster Opening) member no_message (outcome_at (moment_of cluster) (points_of cluster member) heard agent machine))
+    itself-by None machine a m kept = idle-by (the-outcome cluster member heard None machine a m) kept
+    itself-by (Some agent) None a m kept = idle-by (the-outcome cluster member heard (Some agent) None a m) kept
+    itself-by (Some agent) (Some machine) a m kept = input-upheld head book cluster good few (record {
+      member = member;
+      agent = agent;
+      here = agent-here cluster member agent a;
+      machine = machine;
+      machine_is = m;
+      heard = heard;
+      number = None;
+      message = no_message;
+      opening = Opening;
+      opening_is = itself.opens;
+      acts = itself.acts ∙ ap (λ (o : Option Outcome). agent_facts_with cluster.agents member o) (the-outcome cluster member heard (Some agent) (Some machine) a m);
+      hears = λ input is. itself.hears agent machine input;
+      on = itself.on;
+      below = itself.below;
+      hears_lease = λ works. itself.hears_lease agent machine;
+      numbered = λ n e. absurd (none-some n e);
+      low = from-none cluster.book.sent;
+    }) itself.may kept
+
+    upheld-itself : IsKept head book cluster (event_of cluster Opening ++ input_events (cluster_after cluster Opening) member no_message (outcome_of cluster member heard))
+        → Upholds (kept_commits head) book cluster (event_of cluster Opening ++ input_events (cluster_after cluster Opening) member no_message (outcome_of cluster member heard))
+    upheld-itself = itself-by (agent_at cluster.agents member.id.number) (machine_of cluster member) refl refl
 
   pub upheld-wake : Upholds (kept_commits head) book cluster (wake_events_of cluster member)
   upheld-wake =
-      wake-by (agent_at cluster.agents member.id.number) (machine_of cluster member) refl refl (kept-wake head book cluster member good.lease)
+      upheld-itself heards.Wake (agents.Woken member) (record { opens = refl; idle = tt; acts = refl; hears = λ agent machine input. tt; on = tt; below = tt; hears_lease = λ agent machine. tt; may = tt })
+      (kept-wake head book cluster member good.lease)
+
+  pub upheld-operated : (action : OperatorAction) → Upholds (kept_commits head) book cluster (operate_events cluster member action)
+  upheld-operated action =
+      upheld-itself (heards.Operated action) (agents.Operated member action) (record { opens = refl; idle = tt; acts = refl; hears = λ agent machine input. tt; on = tt; below = tt; hears_lease = λ agent machine. tt; may = tt })
+      (kept-operated head book cluster member action good.lease)
 
 -- ---- a message comes to an agent
 module _ (head : HeadText) (few : member_count head ≤ 16) (book : List Event) (cluster : Cluster) (number : ℕ) (message : InFlightFacts) (member : Member) (good : CommitsBridged head book cluster)
@@ -222,5 +255,6 @@ module _ (head : HeadText) (few : member_count head ≤ 16) (book : List Event) 
 pub inputs-uphold : (head : HeadText) → member_count head ≤ 16 → InputsUphold head (kept_commits head)
 inputs-uphold head few = record {
   wakes = λ book cluster member process good declared found acts. upheld-wake head few book cluster member good;
+  operates = λ book cluster member process action good declared found acts. upheld-operated head few book cluster member good action;
   hears = λ book cluster number message member good found to opened. upheld-hearing head few book cluster number message member good found to opened;
 }

@@ -96,16 +96,19 @@ grows-by now heard o s m input was (SettlingRequired settles) as-it = as-it
 -- ---- the event with which it begins is its own
 opening-own : (m : ℕ) (heard : Option ℕ) (cluster : Cluster) (kind : EventKind) → IsOpening heard kind → AreOwn m (event_of cluster kind) × AllLeaveCommits (event_of cluster kind)
 opening-own m heard cluster (kinds.Agent (agents.Woken by)) is = ((tt, tt), (tt, tt))
+opening-own m heard cluster (kinds.Agent (agents.Operated by action)) is = ((tt, tt), (tt, tt))
 opening-own m heard cluster (kinds.Message (Delivered number)) is = ((tt, tt), (tt, tt))
 opening-own m heard cluster _ is = absurd is
 
 opening-aside : (heard : Option ℕ) (cluster : Cluster) (kind : EventKind) → IsOpening heard kind → LeavesOrder kind
 opening-aside heard cluster (kinds.Agent (agents.Woken by)) is = tt
+opening-aside heard cluster (kinds.Agent (agents.Operated by action)) is = tt
 opening-aside heard cluster (kinds.Message (Delivered number)) is = tt
 opening-aside heard cluster _ is = absurd is
 
 pub opening-ordered : (past : Past) (cluster : Cluster) (heard : Option ℕ) (kind : EventKind) → IsOpening heard kind → HappensInOrder past cluster kind
 opening-ordered past cluster heard (kinds.Agent (agents.Woken by)) is = tt
+opening-ordered past cluster heard (kinds.Agent (agents.Operated by action)) is = tt
 opening-ordered past cluster heard (kinds.Message (Delivered number)) is = tt
 opening-ordered past cluster heard _ is = absurd is
 
@@ -130,7 +133,7 @@ change-none (event ∷ events) leaves = inr leaves.1
 abbrev pub outcome_by : Cluster → Member → AgentFacts → Machine → Heard → Outcome
 outcome_by cluster member agent machine heard = step (moment_of cluster) (points_of cluster member) heard (made agent.role agent.knows machine [])
 
--- an agent acts: it is woken, or hears a message, which the law hears so; and synchronous mode is on in what comes with it
+-- an agent acts: it is woken, does what an operator asks, or hears a message, which the law hears so; and synchronous mode is on in what comes with it
 pub record Acting (head : HeadText) (book : List Event) (cluster : Cluster) : Type 0 where
   pub member : Member
   pub agent : AgentFacts

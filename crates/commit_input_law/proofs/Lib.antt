@@ -4,8 +4,9 @@ pub mod Covering
 pub mod Quietly
 pub mod Sending
 pub mod Stopping
-pub mod Alone
 pub mod Beginning
+pub mod Restarting
+pub mod Alone
 pub mod Page
 pub mod Connected
 pub mod Inputs

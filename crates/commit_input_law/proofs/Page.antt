@@ -80,6 +80,8 @@ pub record Opens (m : ℕ) (heard : Option ℕ) (past : Past) (cluster : Cluster
 pub opens : (m : ℕ) (heard : Option ℕ) (past : Past) (cluster : Cluster) (kind : EventKind) → IsOpening heard kind → Opens m heard past cluster kind
 opens m heard past cluster (kinds.Agent (agents.Woken by)) is =
     record { flight = λ i. ap (λ (h : Option ℕ). forget h past.flight i) (sym is); live = refl; told = refl; servers = refl; commits = refl; acknowledged = refl; processes = refl; sent = refl }
+opens m heard past cluster (kinds.Agent (agents.Operated by action)) is =
+    record { flight = λ i. ap (λ (h : Option ℕ). forget h past.flight i) (sym is); live = refl; told = refl; servers = refl; commits = refl; acknowledged = refl; processes = refl; sent = refl }
 opens m heard past cluster (kinds.Message (Delivered number)) is =
     record { flight = λ i. ap (λ (h : Option ℕ). forget h past.flight i) (sym is); live = refl; told = refl; servers = refl; commits = refl; acknowledged = refl; processes = refl; sent = refl }
 opens m heard past cluster _ is = absurd is

@@ -19,6 +19,7 @@ use Rattle.lease_store.specs.declared.key.Key.{Key}
 use Rattle.lease_store.specs.declared.txn.Expected.{Expected}
 use Rattle.cluster_config.specs.Snapshots.{SnapshotFacts}
 use Rattle.cluster_script.specs.Script.{HeadText}
+use Rattle.lease_store.specs.declared.action.OperatorAction.{OperatorAction}
 use Rattle.ha_loop.specs.declared.heard.Heard.{Heard}
 use Rattle.ha_loop.specs.declared.heard.Heard.TheVariants as heards
 use Rattle.ha_loop.specs.declared.output.Output.{Output}
@@ -110,6 +111,7 @@ answer-none (heards.Got number snapshot) other (outputs.Answer to run sequence a
 answer-none (heards.Granted number grant snapshot) other (outputs.Answer to run sequence answer) replies = replies
 answer-none (heards.Mismatch number key found) other (outputs.Answer to run sequence answer) replies = replies
 answer-none (heards.Answered number given) other (outputs.Answer to run sequence answer) replies = replies
+answer-none (heards.Operated action) other (outputs.Answer to run sequence answer) replies = replies
 answer-none heard other _ replies = tt
 
 wake-asks : (from : MemberId) (run sequence : ℕ) → ◌≡◌ {A = Heard} heards.Wake (heards.Asked from run sequence) → ⊥
@@ -127,6 +129,9 @@ refused-asks number key found from run sequence e = cc
 answered-asks : (number : ℕ) (answer : PeerAnswer) (from : MemberId) (run sequence : ℕ) → ◌≡◌ {A = Heard} (heards.Answered number answer) (heards.Asked from run sequence) → ⊥
 answered-asks number answer from run sequence e = cc
 
+operated-asks : (action : OperatorAction) (from : MemberId) (run sequence : ℕ) → ◌≡◌ {A = Heard} (heards.Operated action) (heards.Asked from run sequence) → ⊥
+operated-asks action from run sequence e = cc
+
 -- ---- the runs of agents
 mine-runs : (member : Member) (run heard : ℕ) (Q : Output → Type 0) (runs : ℕ → ℕ) (kind : EventKind) → IsOfInput member run heard Q kind → runs_after runs kind ≡ runs
 mine-runs member run heard Q runs (kinds.Agent happening) is = absurd is
@@ -138,11 +143,13 @@ runs-stay member run heard Q past (event ∷ events) all = runs-stay member run 
 
 opening-runs : (heard : Option ℕ) (past : Past) (kind : EventKind) → IsOpening heard kind → (past_after past kind).runs ≡ past.runs
 opening-runs heard past (kinds.Agent (agents.Woken by)) is = refl
+opening-runs heard past (kinds.Agent (agents.Operated by action)) is = refl
 opening-runs heard past (kinds.Message (Delivered number)) is = refl
 opening-runs heard past _ is = absurd is
 
 opening-asks : (s : State) (count : ℕ) (heard : Option ℕ) (kind : EventKind) → IsOpening heard kind → AsksAsOn s count kind
 opening-asks s count heard (kinds.Agent (agents.Woken by)) is = tt
+opening-asks s count heard (kinds.Agent (agents.Operated by action)) is = tt
 opening-asks s count heard (kinds.Message (Delivered number)) is = tt
 opening-asks s count heard _ is = absurd is
 
@@ -284,6 +291,7 @@ module _ (head : HeadText) (book : List Event) (cluster : Cluster) (good : Commi
   heard-upheld (heards.Granted number grant snapshot) is may kept = other-upheld (λ from run sequence e. granted-asks number grant snapshot from run sequence (sym is ∙ e)) kept
   heard-upheld (heards.Mismatch number key found) is may kept = other-upheld (λ from run sequence e. refused-asks number key found from run sequence (sym is ∙ e)) kept
   heard-upheld (heards.Answered number answer) is may kept = other-upheld (λ from run sequence e. answered-asks number answer from run sequence (sym is ∙ e)) kept
+  heard-upheld (heards.Operated action) is may kept = other-upheld (λ from run sequence e. operated-asks action from run sequence (sym is ∙ e)) kept
 
   pub input-upheld : MayAnswer head book cluster a.heard → IsKept head book cluster All_ → Upholds (kept_commits head) book cluster All_
   input-upheld may kept = heard-upheld a.heard refl may kept

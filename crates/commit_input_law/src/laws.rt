@@ -4,7 +4,7 @@ ghost use Rattle.run_law.specs.Parts.{InputsUphold};
 ghost use Rattle.commit_step_law.specs.Bridged.{kept_commits};
 
 /// While synchronous mode is on and the premises of one writer are met, each input of an agent upholds kept commits, at each moment inside
-/// it too: the wake of one, and a message that comes to one.
+/// it too: the wake of one, what an operator has one do, and a message that comes to one.
 pub fn inputs_uphold_commits()
     ensures { (head : HeadText) → IsHead head → InputsUphold head (kept_commits head) }
 {}

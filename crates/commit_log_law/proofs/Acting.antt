@@ -34,15 +34,15 @@ use Rattle.event_book.specs.Facts.{Facts, facts_after}
 use Rattle.event_book.specs.Clock.{now_after}
 use Rattle.event_book.specs.Writers.{writes_now, BeginsKind}
 use Rattle.lease_law.proofs.Tools.{some-is, both}
-use Rattle.commit_law.specs.Actions.{Commit, Acknowledge, Receive, Confirm, Rewind, Clone, Accept, End, Note, CopiesFrom, MayAcknowledge}
+use Rattle.commit_law.specs.Actions.{Commit, Acknowledge, Receive, Confirm, Rewind, Clone, Wipe, Accept, End, Note, CopiesFrom, MayAcknowledge}
 use Rattle.commit_law.specs.Keys.{Meets}
 use Rattle.commit_law.specs.Past.{Setup, Past, VolatileState, front_to, log_found, need_in, need_of, position_in, position_of, past_after, state_of}
 use Rattle.commit_law.specs.Showing.{IsIdle}
 use Rattle.commit_law.specs.States.{HasLog, HasEntryOf, Reaches}
-use Rattle.commit_law.proofs.Showing.{commit-shown, receive-shown, rewind-shown, clone-shown, acknowledge-shown, confirm-shown, accept-shown, ended-shown, crashed-shown, reset-shown, idle-shown}
+use Rattle.commit_law.proofs.Showing.{commit-shown, receive-shown, rewind-shown, clone-shown, wipe-shown, acknowledge-shown, confirm-shown, accept-shown, ended-shown, crashed-shown, reset-shown, idle-shown}
 use Rattle.commit_log_law.specs.Matching.{IsSameServers, IsLiveAs, live_now, volatile_after}
 use Rattle.commit_log_law.specs.Sound.{IsServerSound, StandsIn, AllStandIn, WaitsForMembers}
-use Rattle.commit_log_law.specs.Happening.{Appends, Takes, Receives, Rewinds, Copies, Confirms, Acknowledges, MayHappen, MayHappenToLog, MayHappenToServer, MayBeReplicated, MayFollow}
+use Rattle.commit_log_law.specs.Happening.{Appends, Takes, Receives, Rewinds, Copies, Wipes, Confirms, Acknowledges, MayHappen, MayHappenToLog, MayHappenToServer, MayBeReplicated, MayFollow}
 use Rattle.commit_log_law.specs.Acting.{IsAction, Fits, Leads, AreActions}
 use Rattle.commit_log_law.proofs.Fronts.{front-prefix, front-entry}
 use Rattle.commit_log_law.proofs.Keeping.{leaves-sound, live-data, sound-by, writes-live}
@@ -170,6 +170,15 @@ module _ (setup : Setup) (past : Past) (facts : Facts) (volatile_states : ℕ �
         shown = λ tick. clone-shown setup past volatile_states tick server from may.takes.server.log may.takes.source.log (log-at past facts fits.same m may.takes.server may.takes.is) (log-at past facts fits.same n may.takes.source may.takes.source_is);
       }
 
+  wiped-action : (server : ServerOf) → Wipes facts.servers server.id.number → IsAction setup past volatile_states (kinds.Log (logs.Wiped server)) volatile_states
+  wiped-action server may =
+      let m = server.id.number in
+      record {
+        action = Wipe m;
+        allowed = live-at volatile_states facts.servers m may.server fits.live may.is ∙ may.not_live;
+        shown = λ tick. wipe-shown setup past volatile_states tick server may.server.log (log-at past facts fits.same m may.server may.is);
+      }
+
   confirmed-action : (server : ServerOf) (by : Member) (end : Lsn) → Confirms facts.servers server.id.number by.id.number end → IsAction setup past volatile_states (kinds.Replication (replications.Confirmed server by end)) volatile_states
   confirmed-action server by end may =
       let m = server.id.number in
@@ -227,7 +236,7 @@ module _ (setup : Setup) (past : Past) (facts : Facts) (volatile_states : ℕ �
   log-action (logs.Received server from count) may = received-action server from count may
   log-action (logs.Rewound server from kept at) may = rewound-action server from kept at may
   log-action (logs.Copied server from) may = copied-action server from may
-  log-action (logs.Wiped server) may = absurd may
+  log-action (logs.Wiped server) may = wiped-action server may
 
   replication-action : (happening : ReplicationEvent) → MayBeReplicated facts.servers happening → IsAction setup past volatile_states (kinds.Replication happening) volatile_states
   replication-action (replications.RequiredSet server required names) may = absurd may

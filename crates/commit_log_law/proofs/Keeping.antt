@@ -1,5 +1,5 @@
 -- Each event leaves each server sound.
-use Rattle.std.proofs.Common.{ℕ, ◌≡◌, ◌+◌, Bool, true, false, cond, List, slice_get, Option, Some, refl, ◌∙◌, ap, sym, subst, arith}
+use Rattle.std.proofs.Common.{ℕ, ◌≡◌, ◌+◌, Bool, true, false, cond, List, slice_get, Option, Some, None, refl, ◌∙◌, ap, sym, subst, arith}
 use Rattle.pat_base.specs.Changes.{with_changed}
 use Rattle.pat_base.specs.declared.server_state.State.{State}
 use Rattle.pat_base.specs.declared.server_state.State.TheVariants as states
@@ -8,7 +8,7 @@ use Rattle.wal_model.specs.declared.entry.Entry.{Entry}
 use Rattle.pg_model.specs.Facts.{ServerFacts, has_data, is_creating}
 use Rattle.pg_model.specs.Replication.{appended, following, received_from}
 use Rattle.pg_model.specs.Rewinding.{cloned, is_rewindable, rewound_to}
-use Rattle.pg_model.specs.Running.{crashed, delayed, stopped}
+use Rattle.pg_model.specs.Running.{crashed, delayed, stopped, wiped}
 use Rattle.pg_model.specs.Servers.{ticked_unless_live}
 use Rattle.event_book.specs.declared.event.EventKind.{EventKind}
 use Rattle.event_book.specs.declared.event.EventKind.TheVariants as kinds
@@ -23,13 +23,13 @@ use Rattle.event_book.specs.declared.event.WatchdogEvent.TheVariants as watchdog
 use Rattle.event_book.specs.Acknowledged.{commits_after}
 use Rattle.event_book.specs.Clock.{now_after}
 use Rattle.event_book.specs.Facts.{Facts, facts_after}
-use Rattle.event_book.specs.Servers.{becomes_copy, copied_by, cut_to, goes_back, received_by, servers_after, servers_by, servers_by_log, servers_by_replication, servers_by_watchdog, starts_as_primary, starts_as_replica, stops}
+use Rattle.event_book.specs.Servers.{becomes_copy, copied_by, cut_to, goes_back, loses_log, received_by, servers_after, servers_by, servers_by_log, servers_by_replication, servers_by_watchdog, starts_as_primary, starts_as_replica, stops}
 use Rattle.lease_law.proofs.Tools.{some-is, both}
 use Rattle.commit_law.specs.States.{HasLog}
 use Rattle.commit_log_law.specs.Sound.{IsServerSound, AreServersSound}
-use Rattle.commit_log_law.specs.Happening.{Appends, Takes, Receives, Rewinds, Copies, IsLiveAt, HasDataAt, MayHappenToLog, MayHappenToServer, MayBeReplicated, MayHappen, LeavesSound}
+use Rattle.commit_log_law.specs.Happening.{Appends, Takes, Receives, Rewinds, Copies, Wipes, IsLiveAt, HasDataAt, MayHappenToLog, MayHappenToServer, MayBeReplicated, MayHappen, LeavesSound}
 use Rattle.commit_log_law.proofs.Places.{each-changed, each-mapped}
-use Rattle.commit_log_law.proofs.Sound.{sound-acknowledged, sound-appended, sound-as_primary, sound-as_replica, sound-aside, sound-begun, sound-cloned, sound-confirming, sound-crashed, sound-later, sound-received, sound-requiring, sound-rewound, sound-stopped, sound-stops, sound-ticked}
+use Rattle.commit_log_law.proofs.Sound.{sound-acknowledged, sound-appended, sound-as_primary, sound-as_replica, sound-aside, sound-begun, sound-cloned, sound-confirming, sound-crashed, sound-later, sound-received, sound-requiring, sound-rewound, sound-stopped, sound-stops, sound-ticked, sound-wiped}
 
 -- each of these servers is sound
 abbrev Each : ℕ → List ServerFacts → Type 0
@@ -130,6 +130,13 @@ copied-sound commits known m from may all =
     (copy-sound commits may.takes.server source (is_creating may.takes.server.state) may.creating (quiet-taker known m from may.takes)
     (live-data source.state (writes-live source.state may.takes.is_writer)) (all from source may.takes.source_is)) all)
 
+lost-sound : (commits : ℕ) (s : ServerFacts) (is_live : Bool) → is_live ≡ false → IsServerSound commits s → IsServerSound commits (cond is_live (record s { log = None }) (wiped s))
+lost-sound commits s true e is = absurd (both (sym e))
+lost-sound commits s false e is = sound-wiped commits s is
+
+wiped-sound : (commits : ℕ) (known : List ServerFacts) (m : ℕ) → Wipes known m → Each commits known → Each commits (with_changed known m loses_log)
+wiped-sound commits known m may all = this-sound commits known m loses_log may.server may.is (lost-sound commits may.server (live may.server.state) may.not_live) all
+
 appended-sound : (facts : Facts) (m : ℕ) (entry : Entry) → Appends facts m entry → Each facts.commits facts.servers → Each entry.serial (with_changed facts.servers m (appended entry))
 appended-sound facts m entry may all =
     each-changed (IsServerSound facts.commits) (IsServerSound entry.serial) facts.servers m (appended entry)
@@ -142,7 +149,7 @@ log-sound facts (logs.Appended server entry) may all = appended-sound facts serv
 log-sound facts (logs.Received server from count) may all = received-sound facts.commits facts.servers server.id.number from.id.number count may all
 log-sound facts (logs.Rewound server from kept at) may all = rewound-sound facts.commits facts.servers server.id.number from.id.number kept may all
 log-sound facts (logs.Copied server from) may all = copied-sound facts.commits facts.servers server.id.number from.id.number may all
-log-sound facts (logs.Wiped server) may all = absurd may
+log-sound facts (logs.Wiped server) may all = wiped-sound facts.commits facts.servers server.id.number may all
 
 -- ---- all else
 replicated-sound : (facts : Facts) (happening : ReplicationEvent) → LeavesSound facts (kinds.Replication happening) → Each facts.commits facts.servers → Each facts.commits (servers_by_replication facts.servers happening)

@@ -2,12 +2,13 @@
 use Rattle.std.proofs.Common.{ℕ, ◌≡◌, ◌==◌, Bool, true, false, nat_le, cond, List, map, slice_get, Option, Some, None, option_map, refl, ◌∙◌, ap, sym, inl, inr}
 use Rattle.std.proofs.lemmas.Bool.{cases_eq}
 use Rattle.std.proofs.lemmas.Option.{slice_get-map}
+use Rattle.pat_base.specs.declared.server_id.ServerId.{ServerId}
 use Rattle.pat_base.specs.declared.server_state.State.{State}
 use Rattle.pat_base.specs.declared.server_state.State.TheVariants as states
 use Rattle.pat_base.specs.declared.ticks.Ticks.{Ticks}
 use Rattle.pat_base.specs.Changes.{with_changed}
 use Rattle.pat_base.specs.ServerState.{live}
-use Rattle.pg_model.specs.Facts.{ServerFacts, is_down}
+use Rattle.pg_model.specs.Facts.{ServerFacts}
 use Rattle.pg_model.specs.Running.{completed, crashed, crashed_state, moment_after, replica_started, started, stopped}
 use Rattle.pg_model.specs.Servers.{ticked_unless_live}
 use Rattle.event_book.specs.declared.event.EventKind.{EventKind}
@@ -16,7 +17,7 @@ use Rattle.event_book.specs.declared.event.ServerEvent.{ServerEvent}
 use Rattle.event_book.specs.declared.event.ServerEvent.TheVariants as servers
 use Rattle.event_book.specs.declared.event.WatchdogEvent.TheVariants as watchdogs
 use Rattle.event_book.specs.Facts.{Facts}
-use Rattle.event_book.specs.Servers.{begun_in, servers_by, servers_after}
+use Rattle.event_book.specs.Servers.{begun_in, replica_starts_in, servers_by, servers_after}
 use Rattle.event_book.proofs.Changed.{same-if}
 use Rattle.event_book.proofs.Parts.{logged-kept, replicated-kept}
 use Rattle.lease_law.proofs.Tools.{put-all}
@@ -54,15 +55,16 @@ live-completed now _ s is = refl
 pub live-ticked : (now : Ticks) (known : List ServerFacts) (m : ℕ) → live_in (map (ticked_unless_live now) known) m ≡ live_in known m
 live-ticked now known m = seen-each live_now known (ticked_unless_live now) (λ s. live-completed now s.state s refl) m
 
-live-starts : (now : Ticks) (s : ServerFacts) → live (replica_started now None s).state ≡ false
-live-starts now s =
-    let told : ServerFacts = record s { upstream = None; was_primary = false } in
+live-starts : (now : Ticks) (upstream : Option ServerId) (s : ServerFacts) → live (replica_started now upstream s).state ≡ false
+live-starts now upstream s =
+    let told : ServerFacts = record s { upstream = upstream; was_primary = false } in
     same-if (λ s. live s.state) (s.start_delay.0 == 0) (started false told) (record told { state = states.Starting false (moment_after now s.start_delay) }) false refl refl
 
-live-down : (now : ℕ) (state : State) (s : ServerFacts) → s.state ≡ state → live (cond (is_down state) (replica_started (record { 0 = now }) None s) s).state ≡ live s.state
-live-down now states.Stopped s is = live-starts (record { 0 = now }) s ∙ sym (ap live is)
-live-down now states.Crashed s is = live-starts (record { 0 = now }) s ∙ sym (ap live is)
-live-down now _ s is = refl
+live-replica : (now : Ticks) (state : State) (s : ServerFacts) → s.state ≡ state → live (replica_starts_in state now s).state ≡ live s.state
+live-replica now states.Stopped s is = live-starts now None s ∙ sym (ap live is)
+live-replica now states.Crashed s is = live-starts now None s ∙ sym (ap live is)
+live-replica now states.Replica s is = live-starts now s.upstream s ∙ sym (ap live is)
+live-replica now _ s is = refl
 
 live-begun : (state : State) (s : ServerFacts) → live (begun_in state s).state ≡ true
 live-begun states.Replica s = refl
@@ -114,7 +116,7 @@ live-server volatile_states now known (servers.Ended server) may is = live-ended
 live-server volatile_states now known (servers.Crashed server) may is = live-ended volatile_states known server.id.number crashed (λ s. live-crashed s.state) is
 live-server volatile_states now known (servers.Stops server) may is = absurd may
 live-server volatile_states now known (servers.StartsAsPrimary server) may is = absurd may
-live-server volatile_states now known (servers.StartsAsReplica server) may is = stays volatile_states known _ (one-stays known server.id.number _ (λ s. live-down now s.state s refl)) is
+live-server volatile_states now known (servers.StartsAsReplica server) may is = stays volatile_states known _ (one-stays known server.id.number _ (λ s. live-replica (record { 0 = now }) s.state s refl)) is
 live-server volatile_states now known (servers.Follows server upstream) may is = stays volatile_states known _ (one-stays known server.id.number _ (λ s. refl)) is
 live-server volatile_states now known (servers.Diverged server upstream at) may is = stays volatile_states known _ (one-stays known server.id.number _ (λ s. refl)) is
 live-server volatile_states now known (servers.Slowed server stop start) may is = stays volatile_states known _ (one-stays known server.id.number _ (λ s. refl)) is

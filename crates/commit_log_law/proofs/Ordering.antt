@@ -6,7 +6,7 @@ use Rattle.pat_base.specs.declared.server_state.Required.{Required}
 use Rattle.pat_base.specs.declared.server_state.State.{State}
 use Rattle.pat_base.specs.declared.server_state.State.TheVariants as states
 use Rattle.pg_model.specs.Facts.{ServerFacts, entries_of, has_data, is_down, is_replica, is_up}
-use Rattle.pg_model.specs.Running.{is_primary}
+use Rattle.pg_model.specs.Running.{is_primary, stopped}
 use Rattle.event_book.specs.declared.event.EventKind.{EventKind}
 use Rattle.event_book.specs.declared.event.EventKind.TheVariants as kinds
 use Rattle.event_book.specs.declared.event.Event.{Event}
@@ -18,11 +18,11 @@ use Rattle.event_book.specs.declared.reason.Reason.{Reason}
 use Rattle.event_book.specs.Facts.{Facts}
 use Rattle.event_book.specs.Members.{server_of}
 use Rattle.cluster_model.specs.declared.beginning.Beginning.TheVariants as beginnings
-use Rattle.cluster_model.specs.Beginnings.{begin_kinds, beginning_in, kinds_by}
+use Rattle.cluster_model.specs.Beginnings.{begin_kinds, beginning_in, kinds_by, server_restart_in, server_restart_kinds}
 use Rattle.cluster_model.specs.Cluster.{cluster_after}
 use Rattle.cluster_model.specs.Commands.{kinds_of}
 use Rattle.cluster_model.specs.Losing.{beginning_kinds, loss_if}
-use Rattle.cluster_model.specs.Messages.{begin_events, replica_start_events, stop_events}
+use Rattle.cluster_model.specs.Messages.{begin_events, replica_start_events, server_restart_events, stop_events}
 use Rattle.cluster_model.specs.Next.{promote_events}
 use Rattle.cluster_model.specs.Orders.{following_of, is_same_required, replica_start_kinds, require_of, required_names, stop_kind, stop_kinds, stop_of}
 use Rattle.cluster_model.specs.Parts.{events_of, for_some}
@@ -33,6 +33,7 @@ use Rattle.lease_law.proofs.Tools.{both}
 use Rattle.commit_log_law.specs.Sound.{WaitsForMembers}
 use Rattle.commit_log_law.specs.Happening.{AllLeaveSound, LeavesSound}
 use Rattle.commit_log_law.proofs.Following.{unless-some}
+use Rattle.commit_log_law.proofs.Places.{changed-here}
 
 leave-if : (cluster : Cluster) (found : Option EventKind) → ((kind : EventKind) → found ≡ Some kind → LeavesSound cluster.book kind) → AllLeaveSound cluster.book (events_of cluster (kinds_of found))
 leave-if cluster None leaves = tt
@@ -87,6 +88,21 @@ module _ (cluster : Cluster) (member : Member) (acknowledged : List ℕ) (s : Se
 pub begin-leaves : (cluster : Cluster) (member : Member) → AllLeaveSound cluster.book (begin_events cluster member)
 begin-leaves cluster member =
     leave-for_some cluster.book (slice_get cluster.book.servers member.id.number) (λ s. events_of cluster (begin_kinds member cluster.book.acknowledged s)) (λ s is. begin-by cluster member cluster.book.acknowledged s is s.state refl)
+
+-- a restart: a primary ends and begins again, at once or with its start
+restart-by : (cluster : Cluster) (member : Member) (s : ServerFacts) (state : State) → slice_get cluster.book.servers member.id.number ≡ Some s → s.state ≡ state
+    → AllLeaveSound cluster.book (events_of cluster (server_restart_in member cluster.book.acknowledged state s))
+restart-by cluster member s states.Primary found is = (
+  record { server = s; is = found; with_data = ap has_data is },
+  again-leaves (cluster_after cluster (kinds.Server (servers.Ended (server_of member)))) member cluster.book.acknowledged (stopped s) (changed-here cluster.book.servers member.id.number stopped s found) s.timeline true (s.start_delay.0 == 0) refl,
+)
+restart-by cluster member s states.Replica found is = (tt, tt)
+restart-by cluster member s _ found is = tt
+
+pub restart-leaves : (cluster : Cluster) (member : Member) → AllLeaveSound cluster.book (server_restart_events cluster member)
+restart-leaves cluster member =
+    leave-for_some cluster.book (slice_get cluster.book.servers member.id.number) (λ s. events_of cluster (server_restart_kinds member cluster.book.acknowledged s))
+    (λ s is. restart-by cluster member s s.state is refl)
 
 pub promote-leaves : (cluster : Cluster) (member : Member) → AllLeaveSound cluster.book (promote_events cluster member)
 promote-leaves cluster member =

@@ -1,7 +1,7 @@
--- How logs are repaired.
-use Rattle.std.proofs.Common.{ℕ, ◌≡◌, true, false, length, slice_get, Option, Some, None, refl, ap, sym, subst}
-use Rattle.std.proofs.lemmas.Bool.{and_parts}
-use Rattle.std.proofs.lemmas.Option.{cond_some, none-some}
+-- How logs are repaired, and wiped.
+use Rattle.std.proofs.Common.{ℕ, ◌≡◌, ◌||◌, Bool, true, false, cond, length, slice_get, Option, Some, None, refl, ap, sym, subst}
+use Rattle.std.proofs.lemmas.Bool.{and_parts, or_parts}
+use Rattle.std.proofs.lemmas.Option.{cond_some, none-some, same_Some}
 use Rattle.std.specs.Prelude.{option_and_then, List}
 use Rattle.pat_base.specs.declared.server_state.State.{State}
 use Rattle.pat_base.specs.declared.server_state.State.TheVariants as states
@@ -12,13 +12,18 @@ use Rattle.pg_model.specs.declared.answers.Rewound.{Rewound}
 use Rattle.pg_model.specs.Facts.{ServerFacts, is_creating}
 use Rattle.pg_model.specs.Rewinding.{common_log, holds_between, is_rewindable, may_clone, may_rewind, rewind_at, rewind_between}
 use Rattle.event_book.specs.declared.event.EventKind.{EventKind}
+use Rattle.event_book.specs.declared.event.EventKind.TheVariants as kinds
+use Rattle.event_book.specs.declared.event.LogEvent.TheVariants as logs
 use Rattle.event_book.specs.declared.member.Member.{Member}
 use Rattle.event_book.specs.Facts.{Facts}
 use Rattle.event_book.specs.Links.{CutLinks, is_cut}
+use Rattle.event_book.specs.Members.{server_of}
 use Rattle.ha_loop.specs.declared.output.Repair.{Repair}
 use Rattle.ha_loop.specs.declared.output.Repair.TheVariants as repairs
+use Rattle.cluster_model.specs.Commands.{kinds_of}
 use Rattle.cluster_model.specs.Messages.{repair_events}
-use Rattle.cluster_model.specs.Orders.{copying, repair_by, repair_over, rewinding}
+use Rattle.cluster_model.specs.Orders.{copying, repair_by, repair_over, rewinding, wipe_of}
+use Rattle.cluster_model.specs.Parts.{events_of}
 use Rattle.cluster_model.specs.State.{Cluster}
 use Rattle.cluster_model.specs.Streaming.{link_of_members}
 use Rattle.lease_law.proofs.Tools.{both}
@@ -83,3 +88,16 @@ repair-leader cluster member repair (Some leader) kind e = repair-may cluster.bo
 
 pub repair-follow : (cluster : Cluster) (member : Member) (repair : Repair) (leader : Option Member) → MayFollow cluster.book (repair_events cluster member repair leader)
 repair-follow cluster member repair leader = follow-if cluster (option_and_then (repair_over cluster.book.cuts cluster.book.servers member repair) leader) (repair-leader cluster member repair leader)
+
+-- ---- wipes
+wipes-by : (facts : Facts) (member : Member) (s : ServerFacts) (kind : EventKind) (stays : Bool) → slice_get facts.servers member.id.number ≡ Some s → (is_creating s.state || live s.state) ≡ stays
+    → cond stays None (Some (kinds.Log (logs.Wiped (server_of member)))) ≡ Some kind → MayHappen facts kind
+wipes-by facts member s kind true is e wiped = absurd (none-some kind wiped)
+wipes-by facts member s kind false is e wiped =
+    subst (MayHappen facts) (same_Some (kinds.Log (logs.Wiped (server_of member))) kind wiped) (record { server = s; is = is; not_live = (or_parts (is_creating s.state) (live s.state) e).1 })
+
+pub wipe-may : (facts : Facts) (member : Member) (s : ServerFacts) (kind : EventKind) → slice_get facts.servers member.id.number ≡ Some s → wipe_of member s ≡ Some kind → MayHappen facts kind
+wipe-may facts member s kind is wiped = wipes-by facts member s kind (is_creating s.state || live s.state) is refl wiped
+
+pub wipe-follow : (cluster : Cluster) (member : Member) (s : ServerFacts) → slice_get cluster.book.servers member.id.number ≡ Some s → MayFollow cluster.book (events_of cluster (kinds_of (wipe_of member s)))
+wipe-follow cluster member s is = follow-if cluster (wipe_of member s) (λ kind wiped. wipe-may cluster.book member s kind is wiped)

@@ -6,6 +6,7 @@ use Rattle.std.proofs.Math.ListN.{length-set}
 use Rattle.pat_base.proofs.Positions.{lsn_at-position}
 use Rattle.pat_base.specs.declared.lsn.Lsn.{Lsn}
 use Rattle.pat_base.specs.declared.member_id.MemberId.{MemberId}
+use Rattle.pat_base.specs.declared.server_id.ServerId.{ServerId}
 use Rattle.pat_base.specs.declared.server_state.Required.{Required}
 use Rattle.pat_base.specs.declared.server_state.State.{State}
 use Rattle.pat_base.specs.declared.server_state.State.TheVariants as states
@@ -18,9 +19,9 @@ use Rattle.pg_model.specs.declared.waiting.Waiting.{Waiting}
 use Rattle.pg_model.specs.Facts.{ServerFacts, entries_of, has_data, is_down, is_up}
 use Rattle.pg_model.specs.Replication.{appended, confirming, received_from}
 use Rattle.pg_model.specs.Rewinding.{cloned, rewound_to}
-use Rattle.pg_model.specs.Running.{completed, crashed, crashed_state, is_primary, moment_after, promoted, replica_started, started, stopped, stopping}
+use Rattle.pg_model.specs.Running.{completed, crashed, crashed_state, is_primary, moment_after, promoted, replica_started, started, stopped, stopping, wiped}
 use Rattle.pg_model.specs.Servers.{requiring, ticked_unless_live}
-use Rattle.event_book.specs.Servers.{begun_in, starts_as_primary, starts_as_replica, stops, stops_quietly}
+use Rattle.event_book.specs.Servers.{begun_in, replica_starts_in, starts_as_primary, starts_as_replica, stops, stops_quietly}
 use Rattle.lease_law.proofs.Tools.{both}
 use Rattle.commit_law.specs.States.{HasLog}
 use Rattle.commit_law.proofs.Prefixes.{end-append, end-le, received-prefix}
@@ -88,6 +89,17 @@ module _ (commits : ℕ) where
   pub sound-crashed : (s : ServerFacts) → IsServerSound commits s → IsServerSound commits (crashed s)
   sound-crashed s is = sound-resting s (crashed s) refl refl refl refl (data-crashed s.state) is
 
+  pub sound-wiped : (s : ServerFacts) → IsServerSound commits s → IsServerSound commits (wiped s)
+  sound-wiped s is = record {
+    end = omega arith;
+    log = λ e. absurd (both e);
+    numbered = tt;
+    waiting = tt;
+    none_waits = λ e. refl;
+    places = is.places;
+    required = is.required;
+  }
+
   sound-replica : (s : ServerFacts) → has_data s.state ≡ true → writes s.state ≡ false → IsServerSound commits s → IsServerSound commits (started false s)
   sound-replica s with_data quiet is = sound-going s (started false s) refl is.places refl refl (λ e. with_data) (λ e. quiet) is
 
@@ -128,19 +140,26 @@ module _ (commits : ℕ) where
   sound-starting : (as_primary : Bool) (at : Ticks) (s : ServerFacts) → has_data s.state ≡ true → writes s.state ≡ false → IsServerSound commits s → IsServerSound commits (record s { state = states.Starting as_primary at })
   sound-starting as_primary at s with_data quiet is = sound-going s (record s { state = states.Starting as_primary at }) refl is.places refl refl (λ e. with_data) (λ e. quiet) is
 
-  sound-told : (s : ServerFacts) → IsServerSound commits s → IsServerSound commits (record s { upstream = None; was_primary = false })
-  sound-told s is = sound-going s (record s { upstream = None; was_primary = false }) refl is.places refl refl (λ e. e) (λ e. e) is
+  sound-told : (upstream : Option ServerId) (s : ServerFacts) → IsServerSound commits s → IsServerSound commits (record s { upstream = upstream; was_primary = false })
+  sound-told upstream s is = sound-going s (record s { upstream = upstream; was_primary = false }) refl is.places refl refl (λ e. e) (λ e. e) is
 
-  replica-started : (now : Ticks) (s : ServerFacts) (at_once : Bool) → has_data s.state ≡ true → writes s.state ≡ false → IsServerSound commits s
+  starting-replica : (now : Ticks) (s : ServerFacts) (at_once : Bool) → has_data s.state ≡ true → writes s.state ≡ false → IsServerSound commits s
       → IsServerSound commits (cond at_once (started false s) (record s { state = states.Starting false (moment_after now s.start_delay) }))
-  replica-started now s true with_data quiet is = sound-replica s with_data quiet is
-  replica-started now s false with_data quiet is = sound-starting false (moment_after now s.start_delay) s with_data quiet is
+  starting-replica now s true with_data quiet is = sound-replica s with_data quiet is
+  starting-replica now s false with_data quiet is = sound-starting false (moment_after now s.start_delay) s with_data quiet is
+
+  replica-started : (now : Ticks) (upstream : Option ServerId) (s : ServerFacts) → has_data s.state ≡ true → writes s.state ≡ false → IsServerSound commits s → IsServerSound commits (replica_started now upstream s)
+  replica-started now upstream s with_data quiet is =
+      starting-replica now (record s { upstream = upstream; was_primary = false }) (s.start_delay.0 == 0) with_data quiet (sound-told upstream s is)
+
+  replica-starts : (now : Ticks) (state : State) (s : ServerFacts) → s.state ≡ state → IsServerSound commits s → IsServerSound commits (replica_starts_in state now s)
+  replica-starts now states.Stopped s e is = replica-started now None s (ap has_data e) (ap writes e) is
+  replica-starts now states.Crashed s e is = replica-started now None s (ap has_data e) (ap writes e) is
+  replica-starts now states.Replica s e is = replica-started now s.upstream s (ap has_data e) (ap writes e) is
+  replica-starts now _ s e is = is
 
   pub sound-as_replica : (now : ℕ) (s : ServerFacts) → IsServerSound commits s → IsServerSound commits (starts_as_replica now s)
-  sound-as_replica now s is =
-      let told : ServerFacts = record s { upstream = None; was_primary = false } in
-      sound-if (is_down s.state) (replica_started (record { 0 = now }) None s) s
-      (λ e. replica-started (record { 0 = now }) told (s.start_delay.0 == 0) (data-down s.state e) (quiet-down s.state e) (sound-told s is)) (λ e. is)
+  sound-as_replica now s is = replica-starts (record { 0 = now }) s.state s refl is
 
   primary-started : (now : Ticks) (s : ServerFacts) (down at_once : Bool) → is_down s.state ≡ down → IsServerSound commits s
       → IsServerSound commits (cond (down && not at_once) (cond at_once (started true s) (record s { state = states.Starting true (moment_after now s.start_delay) })) s)

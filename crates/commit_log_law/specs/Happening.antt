@@ -58,6 +58,12 @@ pub record Copies (servers : List ServerFacts) (m from : ℕ) : Type 0 where
   pub takes : Takes servers m from
   pub creating : is_creating takes.server.state ≡ true
 
+-- a server that isn't live loses its log
+pub record Wipes (servers : List ServerFacts) (m : ℕ) : Type 0 where
+  pub server : ServerFacts
+  pub is : slice_get servers m ≡ Some server
+  pub not_live : live server.state ≡ false
+
 -- a member confirms the end of its log to a server that accepts writes, of whose log it is a front
 pub record Confirms (servers : List ServerFacts) (m by : ℕ) (end : Lsn) : Type 0 where
   pub server : ServerFacts
@@ -92,13 +98,13 @@ pub record HasDataAt (servers : List ServerFacts) (m : ℕ) : Type 0 where
   pub is : slice_get servers m ≡ Some server
   pub with_data : has_data server.state ≡ true
 
--- what may happen to a log. No log is wiped yet
+-- what may happen to a log
 abbrev pub MayHappenToLog : Facts → LogEvent → Type 0
 MayHappenToLog facts (logs.Appended server entry) = Appends facts server.id.number entry
 MayHappenToLog facts (logs.Received server from count) = Receives facts.servers server.id.number from.id.number
 MayHappenToLog facts (logs.Rewound server from kept at) = Rewinds facts.servers server.id.number from.id.number kept
 MayHappenToLog facts (logs.Copied server from) = Copies facts.servers server.id.number from.id.number
-MayHappenToLog facts (logs.Wiped server) = ⊥
+MayHappenToLog facts (logs.Wiped server) = Wipes facts.servers server.id.number
 
 -- what may happen to a server beside an input of its agent: it begins where it was live before, and it ends
 abbrev pub MayHappenToServer : List ServerFacts → ServerEvent → Type 0

@@ -12,9 +12,9 @@ ghost use Rattle.cluster_script.specs.declared.line.SlowedCall.{SlowedCall};
 ghost use Rattle.cluster_script.specs.declared.ranges.Delay.{Delay};
 ghost use Rattle.ha_loop.specs.declared.output.Repair.{Repair};
 ghost use Rattle.cluster_model.specs.Losing.{beginning_kinds};
-ghost use Rattle.cluster_model.specs.Messages.{begin_events, repair_events, replica_start_events, stop_events};
+ghost use Rattle.cluster_model.specs.Messages.{begin_events, repair_events, replica_start_events, server_restart_events, stop_events};
 ghost use Rattle.cluster_model.specs.Next.{acknowledge_events, promote_events, receive_events_at_most, receive_events_of};
-ghost use Rattle.cluster_model.specs.Orders.{repair_over, require_of, stop_of};
+ghost use Rattle.cluster_model.specs.Orders.{repair_over, require_of, stop_of, wipe_of};
 ghost use Rattle.cluster_model.specs.Parts.{events_of};
 ghost use Rattle.cluster_model.specs.ServerCommands.{commit_of, crash_of, freezing_of, slow_of};
 ghost use Rattle.cluster_model.specs.State.{Cluster};
@@ -50,11 +50,13 @@ pub fn acknowledgements()
     ensures { (cluster : Cluster) (member : Member) → MayFollow cluster.book (acknowledge_events cluster member) }
 {}
 
-/// What repairs a log may happen: a rewind, and a copy.
+/// What repairs a log may happen: a rewind, and a copy; and so may a wipe.
 pub fn repairs()
     ensures one { (facts : Facts) (cuts : CutLinks) (member leader : Member) (repair : Repair) (kind : EventKind)
         → repair_over cuts facts.servers member repair leader ≡ Some kind → MayHappen facts kind }
     ensures events { (cluster : Cluster) (member : Member) (repair : Repair) (leader : Option Member) → MayFollow cluster.book (repair_events cluster member repair leader) }
+    ensures wipe { (facts : Facts) (member : Member) (s : ServerFacts) (kind : EventKind)
+        → slice_get facts.servers member.id.number ≡ Some s → wipe_of member s ≡ Some kind → MayHappen facts kind }
 {}
 
 /// What a tick brings at servers beside the clock may happen: resets, and the starts and stops of primaries that are complete.
@@ -80,6 +82,7 @@ pub fn orders_leave_sound()
     ensures shut_down { (facts : Facts) (member : Member) (s : ServerFacts) (kind : EventKind)
         → slice_get facts.servers member.id.number ≡ Some s → stop_of member s ≡ Some kind → LeavesSound facts kind }
     ensures start_replica { (cluster : Cluster) (member : Member) (leader : Option Member) → AllLeaveSound cluster.book (replica_start_events cluster member leader) }
+    ensures restart { (cluster : Cluster) (member : Member) → AllLeaveSound cluster.book (server_restart_events cluster member) }
     ensures require { (facts : Facts) (members : List Member) (member : Member) (required : Required) (s : ServerFacts) (kind : EventKind)
         → WaitsForMembers required → require_of members member required s ≡ Some kind → LeavesSound facts kind }
     ensures promote { (cluster : Cluster) (member : Member) → AllLeaveSound cluster.book (promote_events cluster member) }

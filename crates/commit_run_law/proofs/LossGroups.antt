@@ -1,4 +1,4 @@
--- What may bring a loss, a server that begins and a commit that is acknowledged, tells it; and a log that is repaired brings none.
+-- What may bring a loss, a server that begins and a commit that is acknowledged, tells it; and a log that is repaired or wiped brings none.
 use Rattle.std.proofs.Common.{ℕ, ◌≡◌, ◌⊎◌, ◌<◌, ◌≤◌, ◌++◌, ◌&&◌, ◌∙◌, not, Bool, true, false, List, [], ◌∷◌, length, slice_get, Option, Some, None, option_map, take, zero, suc, refl, ap, sym, subst, inl, inr}
 use Rattle.std.proofs.lemmas.Bool.{and_parts, cases_eq}
 use Rattle.std.proofs.lemmas.Option.{none-some, same_Some, slice_get-map, slice_get_within}
@@ -236,10 +236,11 @@ upheld-acknowledge head few member book cluster good =
     (acknowledge-tells head cluster.book.servers cluster.book.members member finds found book cluster (record { logs = good.same.logs; writing = good.same.writes }))
     (all-quiet-begin (λ n. n < member_count head) (events_of cluster list) (all-kinds IsQuiet cluster list (acknowledge-quiet cluster.book.servers cluster.book.members member found)))
 
--- ---- a log is repaired, of a server that accepts no writes
+-- ---- a log is repaired or wiped, of a server that accepts no writes
 abbrev pub IsRepair : EventKind → Type 0
 IsRepair (kinds.Log (log_events.Rewound server from kept at)) = Unit {0}
 IsRepair (kinds.Log (log_events.Copied server from)) = Unit {0}
+IsRepair (kinds.Log (log_events.Wiped server)) = Unit {0}
 IsRepair _ = ⊥
 
 -- another log at a place where nobody writes
@@ -261,6 +262,8 @@ hold-repaired past facts (kinds.Log (log_events.Rewound server from kept at)) sa
     hold-changed past server.id.number (λ log. Some (take kept (entries_of log))) (quiet-taker past facts server.id.number from.id.number same may.takes) hold
 hold-repaired past facts (kinds.Log (log_events.Copied server from)) same is may hold =
     hold-copied past server.id.number (slice_get past.logs from.id.number) (quiet-taker past facts server.id.number from.id.number same may.takes) hold
+hold-repaired past facts (kinds.Log (log_events.Wiped server)) same is may hold =
+    hold-changed past server.id.number (λ log. None) (same.writes server.id.number ∙ ap writes_now may.is ∙ not-live-quiet may.server.state may.not_live) hold
 hold-repaired past facts _ same is may hold = absurd is
 
 repair-begins : (P : ℕ → Type 0) (kind : EventKind) → IsRepair kind → BeginsKind P kind

@@ -1,15 +1,19 @@
 -- Each run tells the first loss of an acknowledged commit behind the event that brings it.
-use Rattle.std.proofs.Common.{ℕ, ◌≡◌, ◌≤◌, ◌++◌, ◌==◌, ◌&&◌, Bool, true, false, cond, List, [], ◌∷◌, length, slice_get, Option, Some, None, option_and_then, refl}
+use Rattle.std.proofs.Common.{ℕ, ◌≡◌, ◌≤◌, ◌++◌, ◌==◌, ◌&&◌, ◌||◌, Bool, true, false, cond, if◌then◌else◌, List, [], ◌∷◌, length, slice_get, Option, Some, None, option_and_then, refl, sym}
 use Rattle.std.proofs.lemmas.List.{length-replicate}
-use Rattle.pg_model.specs.Facts.{ServerFacts, is_down, is_replica, is_up}
-use Rattle.pg_model.specs.Running.{is_primary}
+use Rattle.pat_base.specs.declared.server_state.State.{State}
+use Rattle.pat_base.specs.declared.server_state.State.TheVariants as states
+use Rattle.pat_base.specs.ServerState.{live}
+use Rattle.pg_model.specs.Facts.{ServerFacts, is_creating, is_down, is_replica, is_up}
+use Rattle.pg_model.specs.Running.{is_primary, stopped}
 use Rattle.cluster_script.specs.declared.line.Step.{Step}
 use Rattle.cluster_script.specs.Script.{HeadText, IsHead, names_of}
 use Rattle.event_book.specs.declared.agent_process.AgentProcess.{AgentProcess}
-use Rattle.event_book.specs.declared.event.AgentEvent.TheVariants.{Woken}
+use Rattle.event_book.specs.declared.event.AgentEvent.TheVariants.{Operated, Woken}
 use Rattle.event_book.specs.declared.event.Event.{Event}
 use Rattle.event_book.specs.declared.event.EventKind.{EventKind}
 use Rattle.event_book.specs.declared.event.EventKind.TheVariants as kinds
+use Rattle.event_book.specs.declared.event.LogEvent.TheVariants as logs
 use Rattle.event_book.specs.declared.event.MessageEvent.TheVariants.{Delivered}
 use Rattle.event_book.specs.declared.event.ServerEvent.TheVariants as servers
 use Rattle.event_book.specs.declared.link.LinkEnd.{LinkEnd}
@@ -18,7 +22,7 @@ use Rattle.event_book.specs.declared.message.Body.{Body}
 use Rattle.event_book.specs.declared.message.Body.TheVariants as bodies
 use Rattle.event_book.specs.Members.{server_of}
 use Rattle.pg_model.specs.Facts.{fresh}
-use Rattle.ha_loop.specs.declared.heard.Heard.TheVariants.{Wake}
+use Rattle.ha_loop.specs.declared.heard.Heard.TheVariants.{Operated as HearsOperator, Wake}
 use Rattle.ha_loop.specs.declared.output.Output.{Output}
 use Rattle.ha_loop.specs.declared.output.Output.TheVariants as outputs
 use Rattle.ha_loop.specs.declared.output.Target.TheVariants as targets
@@ -26,14 +30,14 @@ use Rattle.ha_loop.specs.Agents.{Outcome}
 use Rattle.cluster_model.specs.declared.beginning.Beginning.{Beginning}
 use Rattle.cluster_model.specs.declared.beginning.Beginning.TheVariants as beginnings
 use Rattle.cluster_model.specs.declared.heard_message.HeardMessage.{HeardMessage}
-use Rattle.cluster_model.specs.Beginnings.{beginning_of, kinds_by}
+use Rattle.cluster_model.specs.Beginnings.{again_by, beginning_of, kinds_by, server_restart_in}
 use Rattle.cluster_model.specs.Cluster.{cluster_after}
 use Rattle.cluster_model.specs.Commands.{kinds_of}
 use Rattle.cluster_model.specs.Hearing.{heard_from}
-use Rattle.cluster_model.specs.Inputs.{outcome_of, outcome_of_heard, outputs_of}
+use Rattle.cluster_model.specs.Inputs.{agent_at, outcome_of, outcome_of_heard, outputs_of}
 use Rattle.cluster_model.specs.Messages.{agent_message, heard_message, input_events, no_message, output_events, receiver_of, replying_events, sending_events}
 use Rattle.cluster_model.specs.Next.{run_events}
-use Rattle.cluster_model.specs.Orders.{declared_member, following_of, is_same_required, order_kind, repair_over, replica_start_kinds, server_at, stop_kind, stop_kinds, stop_of}
+use Rattle.cluster_model.specs.Orders.{declared_member, following_of, is_same_required, order_kind, repair_over, replica_start_kinds, server_at, stop_kind, stop_kinds, stop_of, wipe_of}
 use Rattle.cluster_model.specs.Parts.{event_of, events_of}
 use Rattle.cluster_model.specs.Starting.{cluster_of}
 use Rattle.cluster_model.specs.State.{Cluster}
@@ -43,7 +47,9 @@ use Rattle.commit_log_law.proofs.Matching.{same-first}
 use Rattle.commit_log_law.proofs.Repairing.{repair-follow}
 use Rattle.run_law.specs.Parts.{PartsUphold}
 use Rattle.run_law.specs.Promise.{Upholds, UpholdsAlways}
-use Rattle.run_law.proofs.InputEvents.{holds-if, holds-then, repaired-holds}
+use Rattle.lease_law.proofs.Tools.{both}
+use Rattle.run_law.proofs.InputEvents.{holds-if, holds-then, repaired-holds, told-holds}
+use Rattle.run_law.proofs.InputStays.{item-here}
 use Rattle.run_law.proofs.Lists.{HoldsIf}
 use Rattle.run_law.proofs.Upholding.{upheld-for_some, upheld-none, upheld-then, upholds-all}
 use Rattle.run_law.proofs.Walking.{upholds-run}
@@ -54,6 +60,10 @@ use Rattle.commit_run_law.proofs.Losses.{LosesNone, TellsSoFar, composable, loss
 use Rattle.commit_run_law.proofs.LossGroups.{IsRepair, upheld-acknowledge, upheld-begun, upheld-repair}
 use Rattle.commit_run_law.proofs.LossParts.{holds-cond, holds-mapped, kind-cond, none-if, sends-none, upheld-arrival, upholds-command, upholds-promote, upholds-receive, upholds-restart, upholds-tick}
 
+not-or : (a b : Bool) → (a || b) ≡ false → b ≡ false
+not-or true b e = absurd (both (sym e))
+not-or false b e = e
+
 -- ---- the orders of agents
 follow-none : (member : Member) (leader : Option Member) → HoldsIf LosesNone (following_of member leader)
 follow-none member None = tt
@@ -63,17 +73,25 @@ stop-none : (member : Member) (s : ServerFacts) → HoldsIf LosesNone (stop_of m
 stop-none member s =
     holds-if LosesNone (is_up s.state) (stop_kind member s.state s.stop_delay) (kind-cond (is_primary s.state && s.stop_delay.0 == 0) (kinds.Server (servers.Ended (server_of member))) (kinds.Server (servers.Stops (server_of member))) tt tt)
 
-order-none : (cluster : Cluster) (member : Member) (heard : HeardMessage) (output : Output) → HoldsIf LosesNone (order_kind cluster member heard output)
-order-none cluster member heard (outputs.Follow leader) =
+-- an output by which no server is wiped
+abbrev WipesNone : Output → Type 0
+WipesNone outputs.Wipe = ⊥
+WipesNone _ = Unit {0}
+
+order-none : (cluster : Cluster) (member : Member) (heard : HeardMessage) (output : Output) → WipesNone output → HoldsIf LosesNone (order_kind cluster member heard output)
+order-none cluster member heard outputs.Wipe none = absurd none
+order-none cluster member heard (outputs.Follow leader) none =
     holds-then LosesNone _ (server_at cluster member) (λ s. holds-cond (is_replica s.state) (following_of member (slice_get cluster.book.members leader.number)) None (follow-none member (slice_get cluster.book.members leader.number)) tt)
-order-none cluster member heard outputs.ShutDown = holds-then LosesNone (stop_of member) (server_at cluster member) (stop-none member)
-order-none cluster member heard (outputs.Require required) = holds-then LosesNone _ (server_at cluster member) (λ s. holds-cond (is_same_required s.required required) None _ tt tt)
-order-none cluster member heard (outputs.HoldTaken until from sequence) = holds-mapped (slice_get cluster.book.members from.number) _ (λ m. tt)
-order-none cluster member heard (outputs.DoesNotRace bar) = tt
-order-none cluster member heard outputs.Disarmed = tt
-order-none cluster member heard outputs.CannotArm = tt
-order-none cluster member heard outputs.PostponesPromotion = tt
-order-none cluster member heard _ = tt
+order-none cluster member heard outputs.ShutDown none = holds-then LosesNone (stop_of member) (server_at cluster member) (stop-none member)
+order-none cluster member heard (outputs.Require required) none = holds-then LosesNone _ (server_at cluster member) (λ s. holds-cond (is_same_required s.required required) None _ tt tt)
+order-none cluster member heard (outputs.HoldTaken until from sequence) none = holds-mapped (slice_get cluster.book.members from.number) _ (λ m. tt)
+order-none cluster member heard (outputs.HandsOver candidate) none = holds-mapped (slice_get cluster.book.members candidate.number) _ (λ m. tt)
+order-none cluster member heard (outputs.Told request told) none = told-holds LosesNone member (agent_at cluster.agents member.id.number) told (λ status body. tt)
+order-none cluster member heard (outputs.DoesNotRace bar) none = tt
+order-none cluster member heard outputs.Disarmed none = tt
+order-none cluster member heard outputs.CannotArm none = tt
+order-none cluster member heard outputs.PostponesPromotion none = tt
+order-none cluster member heard _ none = tt
 
 sending-none : (cluster : Cluster) (member : Member) (found : Option AgentProcess) (to : Option LinkEnd) (sequence : ℕ) (body : Body) → AllAre LosesNone (sending_events cluster member found to sequence body)
 sending-none cluster member None to sequence body = tt
@@ -101,6 +119,31 @@ module _ (head : HeadText) where
   repaired-upheld book cluster None good is may = upheld-none (losses_told head) (composable head) book cluster good
   repaired-upheld book cluster (Some kind) good is may = upheld-repair head book cluster kind good is may.0
 
+  -- a server that is wiped accepts no writes
+  wiped-by : (book : List Event) (cluster : Cluster) (member : Member) (s : ServerFacts) (test : Bool) → TellsSoFar head book cluster → slice_get cluster.book.servers member.id.number ≡ Some s → (is_creating s.state || live s.state) ≡ test
+      → Upholds (losses_told head) book cluster (events_of cluster (kinds_of (if test then None else Some (kinds.Log (logs.Wiped (server_of member))))))
+  wiped-by book cluster member s true good is stays = upheld-none (losses_told head) (composable head) book cluster good
+  wiped-by book cluster member s false good is goes =
+      upheld-then (losses_told head) (composable head) book cluster (event_of cluster (kinds.Log (logs.Wiped (server_of member)))) []
+      (upheld-repair head book cluster (kinds.Log (logs.Wiped (server_of member))) good tt (record { server = s; is = is; not_live = not-or (is_creating s.state) (live s.state) goes }))
+      (λ later. upheld-none (losses_told head) (composable head) _ _ later)
+
+  wiped-upheld : (book : List Event) (cluster : Cluster) (member : Member) (found : Option ServerFacts) → TellsSoFar head book cluster → slice_get cluster.book.servers member.id.number ≡ found
+      → Upholds (losses_told head) book cluster (events_of cluster (kinds_of (option_and_then (wipe_of member) found)))
+  wiped-upheld book cluster member None good is = upheld-none (losses_told head) (composable head) book cluster good
+  wiped-upheld book cluster member (Some s) good is = wiped-by book cluster member s (is_creating s.state || live s.state) good is refl
+
+  -- a server that starts again tells what it lacks as one that begins does
+  again-upheld : (book : List Event) (cluster : Cluster) (member : Member) (s : ServerFacts) (state : State) → TellsSoFar head book cluster → slice_get cluster.book.servers member.id.number ≡ Some s
+      → Upholds (losses_told head) book cluster (events_of cluster (server_restart_in member cluster.book.acknowledged state s))
+  again-upheld book cluster member s states.Primary good is =
+      let ends : EventKind = kinds.Server (servers.Ended (server_of member)) in
+      let found : Option Beginning = Some (again_by s.timeline s.start_delay) in
+      upheld-then (losses_told head) (composable head) book cluster (event_of cluster ends) (events_of (cluster_after cluster ends) (kinds_by member cluster.book.acknowledged s.log found)) (upheld-loseless head book cluster _ good (tt, tt))
+      (λ later. begins-upheld (book ++ event_of cluster ends) (cluster_after cluster ends) member (stopped s) found later (item-here cluster.book.servers member.id.number stopped s is))
+  again-upheld book cluster member s states.Replica good is = upheld-loseless head book cluster _ good (tt, tt)
+  again-upheld book cluster member s _ good is = upheld-none (losses_told head) (composable head) book cluster good
+
   -- an output
   upholds-output : (member : Member) (heard : HeardMessage) (output : Output) → UpholdsAlways (losses_told head) (λ cluster. output_events member heard cluster output)
   upholds-output member heard (outputs.Send to sequence body) book cluster good =
@@ -109,6 +152,9 @@ module _ (head : HeadText) where
       upheld-loseless head book cluster _ good (replying-none cluster member (receiver_of cluster.book.members (targets.Member to)) run sequence (bodies.Answer answer))
   upholds-output member heard outputs.Begin book cluster good =
       upheld-for_some (losses_told head) (composable head) book cluster (server_at cluster member) _ good (λ s is. begins-upheld book cluster member s (beginning_of s) good is)
+  upholds-output member heard (outputs.Restart as_primary) book cluster good =
+      upheld-for_some (losses_told head) (composable head) book cluster (server_at cluster member) _ good (λ s is. again-upheld book cluster member s s.state good is)
+  upholds-output member heard outputs.Wipe book cluster good = wiped-upheld book cluster member (server_at cluster member) good refl
   upholds-output member heard (outputs.Armed until) book cluster good = upheld-loseless head book cluster _ good (tt, (tt, tt))
   upholds-output member heard (outputs.Fed until) book cluster good = upheld-loseless head book cluster _ good (tt, (tt, tt))
   upholds-output member heard (outputs.StartReplica leader) book cluster good =
@@ -121,7 +167,7 @@ module _ (head : HeadText) where
       let found = slice_get cluster.book.members leader.number in
       repaired-upheld book cluster (option_and_then (repair_over cluster.book.cuts cluster.book.servers member repair) found) good
       (repaired-holds IsRepair cluster.book.cuts cluster.book.servers member repair found (λ other r. tt) (λ other. tt)) (repair-follow cluster member repair found)
-  upholds-output member heard output book cluster good = upheld-loseless head book cluster _ good (none-if cluster (order_kind cluster member heard output) (order-none cluster member heard output))
+  upholds-output member heard output book cluster good = upheld-loseless head book cluster _ good (none-if cluster (order_kind cluster member heard output) (order-none cluster member heard output tt))
 
   -- what an agent does behind an event
   input-upheld : (book : List Event) (cluster : Cluster) (kind : EventKind) (member : Member) (heard : HeardMessage) (outcome : Option Outcome) → TellsSoFar head book cluster → LosesNone kind
@@ -136,6 +182,7 @@ module _ (head : HeadText) where
     inputs = record {
       wakes = λ book cluster member process good is found acts. input-upheld book cluster (kinds.Agent (Woken member)) member no_message (outcome_of cluster member Wake) good tt;
       hears = λ book cluster number message member good found to through. input-upheld book cluster (kinds.Message (Delivered number)) member (heard_message number message) (outcome_of_heard cluster member (heard_from cluster message)) good tt;
+      operates = λ book cluster member process action good is found acts. input-upheld book cluster (kinds.Agent (Operated member action)) member no_message (outcome_of cluster member (HearsOperator action)) good tt;
     };
     arrivals = λ book cluster number message good found to. upheld-arrival head book cluster number message good;
     losses = λ number book cluster good. upheld-loseless head book cluster _ good (tt, tt);

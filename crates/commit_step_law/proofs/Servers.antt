@@ -91,6 +91,7 @@ upheld-still head book cluster kind good still may kept = upheld-follow head boo
 pub quiet-still : (kind : EventKind) → IsQuiet kind → IsStill kind
 quiet-still (kinds.Watchdog happening) quiet = absurd quiet
 quiet-still (kinds.Agent (agents.Woken agent)) quiet = absurd quiet
+quiet-still (kinds.Agent (agents.Operated agent action)) quiet = absurd quiet
 quiet-still (kinds.Agent (agents.Started agent run)) quiet = absurd quiet
 quiet-still (kinds.Agent (agents.Killed agent)) quiet = absurd quiet
 quiet-still kinds.Tick quiet = absurd quiet
