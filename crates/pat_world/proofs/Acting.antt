@@ -5,6 +5,8 @@ use Rattle.pat_base.specs.MemberId.{member_of}
 use Rattle.pat_base.specs.declared.member_id.MemberId.{MemberId}
 use Rattle.pat_base.specs.declared.peer_answer.PeerAnswer.{PeerAnswer}
 use Rattle.pat_base.specs.declared.ticks.Ticks.{Ticks}
+use Rattle.lease_store.specs.declared.action.OperatorRequest.{OperatorRequest}
+use Rattle.lease_store.specs.declared.action.OperatorRequest.TheVariants as requests
 use Rattle.lease_store.specs.declared.granted.Granted.{Granted}
 use Rattle.lease_store.specs.declared.txn.Txn.{Txn}
 use Rattle.lease_store.specs.declared.txn.Txn.TheVariants as txns
@@ -25,13 +27,15 @@ use Rattle.ha_loop.specs.Agents.{Follower, Outcome}
 use Rattle.ha_loop.specs.Before.{before, has_ended}
 use Rattle.ha_loop.specs.Claiming.{begins, begins_or_claims, claims, postpones}
 use Rattle.ha_loop.specs.Decisions.{arms, gives_back, granted, leader_renewed, may_take, refused, stray_renewed, takes_key, takes_over}
+use Rattle.ha_loop.specs.HandingOver.{asking_whom, hands_over}
+use Rattle.ha_loop.specs.Operators.{given_up, looked, operated}
 use Rattle.ha_loop.specs.Outputs.{listed, most_outputs}
 use Rattle.ha_loop.specs.Racing.{finds_free, judged, unheard}
 use Rattle.ha_loop.specs.Repairs.{repair_of}
 use Rattle.ha_loop.specs.Snapshots.{follow_row, follows, got, informed, read_noted}
-use Rattle.ha_loop.specs.Table.{step}
+use Rattle.ha_loop.specs.Table.{granted_any, refused_any, step}
 use Rattle.ha_loop.specs.Wake.{overdue, turned, woken}
-use Rattle.ha_loop.proofs.Rows.{WritesSync, led_on, if-cases, begins-or-claims-by, renewed-by, before-by, overdue-by, turn-by, wake-by, got-by, refused-by, granted-by, follow-by, repaired-by, free-by, judged-by, answered-by}
+use Rattle.ha_loop.proofs.Rows.{HandoverRows, ReplyRows, WritesSync, led_on, if-cases, begins-or-claims-by, renewed-by, before-by, overdue-by, turn-by, wake-by, got-by, refused-by, granted-by, follow-by, repaired-by, free-by, judged-by, answered-by, given-up-by, looked-by, granted-any-by, refused-any-by}
 use Rattle.ha_loop.specs.Answers.{is_other, most_answers, asking_one, asking_first}
 use Rattle.ha_loop.specs.Peers.{keeping, answered}
 use Rattle.pat_world.specs.Short.{AsksShortly}
@@ -126,6 +130,55 @@ postponed-row held o =
     (disarmed-one o.knows.sequence o.machine.watchdog.deadline o.outputs)
     (one o.knows.sequence o.knows.sequence (disarmed o.machine.watchdog.deadline o.outputs) outputs.PostponesPromotion (omega arith) tt)
 
+-- a leader hands over
+hands-row : (now : Ticks) (held : ℕ) (candidate : MemberId) (o : Outcome) → Brings 2 o (hands_over now held candidate o)
+hands-row now held candidate o =
+    grows-then 1 1 2 o.knows.sequence o.knows.sequence o.knows.sequence o.outputs (listed (outputs.HandsOver candidate) o.outputs) _ (omega arith)
+    (one o.knows.sequence o.knows.sequence o.outputs (outputs.HandsOver candidate) (omega arith) tt)
+    (one o.knows.sequence o.knows.sequence (listed (outputs.HandsOver candidate) o.outputs) outputs.ShutDown (omega arith) tt)
+
+handover-rows : (now : Ticks) (held : ℕ) (o : Outcome) → HandoverRows (Brings 2 o) now held o
+handover-rows now held o = record {
+  kept = weaker 1 2 _ _ _ _ (omega arith) (none o.knows.sequence o.outputs);
+  clears = λ compared. weaker 1 2 _ _ _ _ (omega arith) (one o.knows.sequence (o.knows.sequence + 1) o.outputs _ (omega arith) (omega arith));
+  hands = λ candidate. hands-row now held candidate (waiting_no_more o);
+}
+
+-- the same behind what came before
+handed-on : (most whole : ℕ) (now : Ticks) (held : ℕ) (start o : Outcome) → most + 2 ≤ whole → Brings most start o → HandoverRows (Brings whole start) now held o
+handed-on most whole now held start o h before =
+    let rows = handover-rows now held o in
+    record {
+      kept = grows-then most 2 whole _ _ _ _ _ _ h before rows.kept;
+      clears = λ compared. grows-then most 2 whole _ _ _ _ _ _ h before (rows.clears compared);
+      hands = λ candidate. grows-then most 2 whole _ _ _ _ _ _ h before (rows.hands candidate);
+    }
+
+-- operators are answered
+reply-rows : (most : ℕ) (o : Outcome) → 1 ≤ most → ReplyRows (Brings most o) o
+reply-rows most o some = record {
+  kept = weaker 1 most _ _ _ _ some (none o.knows.sequence o.outputs);
+  answers = λ request told. weaker 1 most _ _ _ _ some (one o.knows.sequence o.knows.sequence o.outputs (outputs.Told request told) (omega arith) tt);
+}
+
+looked-row : (sequence : ℕ) (snapshot : SnapshotFacts) (o : Outcome) → Brings 1 o (looked sequence snapshot o)
+looked-row sequence snapshot o = looked-by (Brings 1 o) sequence snapshot o (reply-rows 1 o (omega arith))
+
+given-up-row : (now : Ticks) (o : Outcome) → Brings 1 o (given_up now o)
+given-up-row now o = given-up-by (Brings 1 o) now o (reply-rows 1 o (omega arith))
+
+-- what an operator asks is done
+operated-row : (now : Ticks) (request : ℕ) (asked : OperatorRequest) (o : Outcome) → Brings 2 o (operated now request asked o)
+operated-row now request (requests.Failover kind failover) o =
+    weaker 1 2 _ _ _ _ (omega arith) (one o.knows.sequence (o.knows.sequence + 1) o.outputs _ (omega arith) (omega (arith, o.knows.settings.ttl_range)))
+operated-row now request (requests.Configuration config) o = weaker 1 2 _ _ _ _ (omega arith) (one o.knows.sequence (o.knows.sequence + 1) o.outputs _ (omega arith) (omega arith))
+operated-row now request requests.Restart o =
+    grows-then 1 1 2 o.knows.sequence o.knows.sequence o.knows.sequence o.outputs _ _ (omega arith)
+    (one o.knows.sequence o.knows.sequence o.outputs _ (omega arith) tt) (one o.knows.sequence o.knows.sequence _ _ (omega arith) tt)
+operated-row now request requests.Reinit o =
+    grows-then 1 1 2 o.knows.sequence o.knows.sequence o.knows.sequence o.outputs _ _ (omega arith)
+    (one o.knows.sequence o.knows.sequence o.outputs outputs.Wipe (omega arith) tt) (one o.knows.sequence o.knows.sequence _ _ (omega arith) tt)
+
 overdue-row : (now : Ticks) (o : Outcome) → Row o (overdue now o)
 overdue-row now o = overdue-by (Row o) now o (record {
   kept = kept;
@@ -134,6 +187,7 @@ overdue-row now o = overdue-by (Row o) now o (record {
   stray = λ _. said o.knows.sequence o.knows.sequence o.outputs _ (omega arith) tt;
   judges = λ _. judged-row now o;
   ready = λ held _. postponed-row held (waiting_no_more o);
+  checks = λ held _. handed-on 1 9 now held o o (omega arith) (none o.knows.sequence o.outputs);
 })
 
 turn-row : (now : Ticks) (o : Outcome) → Row o (turned now o)
@@ -175,6 +229,15 @@ asks-short who sequence (suc count) outs all = asked-short who sequence (member_
 asks-row : (who : Who) (sequence count : ℕ) (outs : List Output) → count ≤ 16 → Grows 16 sequence (sequence + 1) outs (asking_first who (sequence + 1) count outs)
 asks-row who sequence count outs most = record { numbers = omega arith; few = omega (arith, most, asks-few who (sequence + 1) count outs); short = asks-short who (sequence + 1) count outs }
 
+-- those of a leader that is to hand over
+whom-row : (who : Who) (candidate : Option MemberId) (sequence : ℕ) (outs : List Output) → Grows 16 sequence (sequence + 1) outs (asking_whom who candidate (sequence + 1) outs)
+whom-row who None sequence outs = asks-row who sequence most_answers outs (omega arith)
+whom-row who (Some candidate) sequence outs = record {
+  numbers = omega arith;
+  few = omega (arith, asked-few who (sequence + 1) (Some candidate) outs);
+  short = asked-short who (sequence + 1) (Some candidate) outs;
+}
+
 free-row : (now : Ticks) (o : Outcome) → Brings 16 o (finds_free now o)
 free-row now o = free-by (Brings 16 o) now (record o { role = Follower }) (record {
   starts = more _ _ _ _ (said-both o.knows.sequence o.outputs _ _ tt (omega (arith, o.knows.settings.ttl_range)));
@@ -200,7 +263,13 @@ got-row now points sequence snapshot o =
     })
 
 answered-row : (now : Ticks) (sequence : ℕ) (answer : PeerAnswer) (o : Outcome) → Row o (answered now sequence answer o)
-answered-row now sequence answer o = answered-by (Row o) now sequence answer o (record { kept = kept; quiet = kept; keeps = kept; judges = λ _. judged-row now (keeping answer o) })
+answered-row now sequence answer o = answered-by (Row o) now sequence answer o (record {
+  kept = kept;
+  quiet = kept;
+  keeps = kept;
+  judges = λ _. judged-row now (keeping answer o);
+  checks = λ held _. handed-on 1 9 now held o (keeping answer o) (omega arith) (none o.knows.sequence o.outputs);
+})
 
 refused-row : (now : Ticks) (sequence : ℕ) (o : Outcome) → Row o (refused now sequence o)
 refused-row now sequence o = refused-by (Row o) now sequence o (record {
@@ -243,17 +312,22 @@ sync-short (txns.SetSync revision sync standbys) writes = omega arith
 sync-short (txns.DropSync revision sync) writes = omega arith
 sync-short _ writes = absurd writes
 
-renewed-row : (now ttl : Ticks) (held : ℕ) (o : Outcome) → Row o (leader_renewed now ttl held o)
+renewed-row : (now ttl : Ticks) (held : ℕ) (o : Outcome) → Brings 17 o (leader_renewed now ttl held o)
 renewed-row now ttl held o =
     let led : Outcome = led_on now ttl held o in
     let fed : Brings 1 o led = fed-one o.knows.sequence (deadline_after now ttl o.machine.watchdog) o.outputs in
-    let and-one : (later : ℕ) (output : Output) → later ≤ o.knows.sequence + 1 → AsksShortly output → Grows 9 o.knows.sequence later o.outputs (listed output led.outputs) =
-    λ later output h asks. grows-then 1 1 9 o.knows.sequence o.knows.sequence later o.outputs led.outputs (listed output led.outputs) (omega arith) fed (one o.knows.sequence later led.outputs output h asks) in
-    renewed-by (Row o) now ttl held o (and-one o.knows.sequence _ (omega arith) tt) (record {
-      kept = weaker 1 9 o.knows.sequence o.knows.sequence o.outputs led.outputs (omega arith) fed;
-      writes = λ settling txn writes. and-one (o.knows.sequence + 1) _ (omega arith) (sync-short txn writes);
-      adds = λ required. and-one o.knows.sequence (outputs.Require required) (omega arith) tt;
-      drops = λ required. and-one o.knows.sequence (outputs.Require required) (omega arith) tt;
+    let and-one : (later : ℕ) (output : Output) → later ≤ o.knows.sequence + 1 → AsksShortly output → Grows 17 o.knows.sequence later o.outputs (listed output led.outputs) =
+    λ later output h asks. grows-then 1 1 17 o.knows.sequence o.knows.sequence later o.outputs led.outputs (listed output led.outputs) (omega arith) fed (one o.knows.sequence later led.outputs output h asks) in
+    renewed-by (Brings 17 o) now ttl held o (and-one o.knows.sequence _ (omega arith) tt) (record {
+      plan = record {
+        kept = weaker 1 17 o.knows.sequence o.knows.sequence o.outputs led.outputs (omega arith) fed;
+        writes = λ settling txn writes. and-one (o.knows.sequence + 1) _ (omega arith) (sync-short txn writes);
+        adds = λ required. and-one o.knows.sequence (outputs.Require required) (omega arith) tt;
+        drops = λ required. and-one o.knows.sequence (outputs.Require required) (omega arith) tt;
+      };
+      clears = λ compared. and-one (o.knows.sequence + 1) _ (omega arith) (omega arith);
+      asks = λ candidate. grows-then 1 16 17 o.knows.sequence o.knows.sequence (o.knows.sequence + 1) o.outputs led.outputs _ (omega arith) fed (whom-row led.knows.who candidate o.knows.sequence led.outputs);
+      judges = handed-on 1 17 now held o (unheard led) (omega arith) fed;
     })
 
 stray-row : (now ttl : Ticks) (held : ℕ) (o : Outcome) → Row o (stray_renewed now ttl held o)
@@ -261,21 +335,34 @@ stray-row now ttl held o = if-cases (Row o) (is_refusing o.machine.watchdog.mode
     (λ _. said o.knows.sequence o.knows.sequence o.outputs _ (omega arith) tt)
     (λ _. weaker 1 9 o.knows.sequence o.knows.sequence o.outputs _ (omega arith) (armed-one o.knows.sequence (deadline_after now ttl o.machine.watchdog) o.outputs))
 
-granted-row : (now : Ticks) (sequence : ℕ) (grant : Granted) (snapshot : SnapshotFacts) (o : Outcome) → Row o (granted now sequence grant snapshot o)
+granted-row : (now : Ticks) (sequence : ℕ) (grant : Granted) (snapshot : SnapshotFacts) (o : Outcome) → Brings 17 o (granted now sequence grant snapshot o)
 granted-row now sequence grant snapshot o =
     let told : Outcome = record o { knows = informed snapshot o.knows } in
-    granted-by (Row o) now sequence grant snapshot o kept kept (λ asked _ _. record {
-      other = kept;
+    let still : Grows 17 o.knows.sequence o.knows.sequence o.outputs o.outputs = as-much _ _ _ _ kept in
+    granted-by (Brings 17 o) now sequence grant snapshot o still still (λ asked _ _. record {
+      other = still;
       leader = λ held _. renewed-row now asked.ttl grant.revision told;
-      stray = λ _. stray-row now asked.ttl grant.revision told;
-      takes = λ _. takes-row now asked.ttl grant.revision told;
+      stray = λ _. as-much _ _ _ _ (stray-row now asked.ttl grant.revision told);
+      takes = λ _. as-much _ _ _ _ (takes-row now asked.ttl grant.revision told);
     })
     (record {
-      other = kept;
-      begins = λ held _. weaker 2 9 _ _ _ _ (omega arith) (begins-row now held told);
-      postpones = λ held _. postponed-row held told;
-      settles = λ required _. said o.knows.sequence o.knows.sequence o.outputs (outputs.Require required) (omega arith) tt;
+      other = still;
+      begins = λ held _. weaker 2 17 _ _ _ _ (omega arith) (begins-row now held told);
+      postpones = λ held _. as-much _ _ _ _ (postponed-row held told);
+      settles = λ required _. as-much _ _ _ _ (said o.knows.sequence o.knows.sequence o.outputs (outputs.Require required) (omega arith) tt);
     })
+  where
+    as-much : (sequence later : ℕ) (before after : List Output) → Grows 9 sequence later before after → Grows 17 sequence later before after
+    as-much sequence later before after row = weaker 9 17 sequence later before after (omega arith) row
+
+-- a grant or a refusal, of what an operator wants or the agent by itself
+granted-any-row : (now : Ticks) (sequence : ℕ) (grant : Granted) (snapshot : SnapshotFacts) (o : Outcome) → Brings 17 o (granted_any now sequence grant snapshot o)
+granted-any-row now sequence grant snapshot o =
+    let replies = reply-rows 17 o (omega arith) in
+    granted-any-by (Brings 17 o) now sequence grant snapshot o replies.kept (record { kept = replies.kept; answers = replies.answers }) (granted-row now sequence grant snapshot o)
+
+refused-any-row : (now : Ticks) (sequence : ℕ) (o : Outcome) → Row o (refused_any now sequence o)
+refused-any-row now sequence o = refused-any-by (Row o) now sequence o (reply-rows 9 o (omega arith)) (refused-row now sequence o)
 
 -- an input brings at most so many messages and so many outputs, and asks shortly
 pub record IsSmall (o after : Outcome) : Type 0 where
@@ -283,23 +370,32 @@ pub record IsSmall (o after : Outcome) : Type 0 where
   pub few : length after.outputs ≤ length o.outputs + most_outputs
   pub short : All AsksShortly o.outputs → All AsksShortly after.outputs
 
-small : (o mid after : Outcome) → Row o mid → Brings 18 mid after → IsSmall o after
+small : (o mid after : Outcome) → Row o mid → Brings 19 mid after → IsSmall o after
 small o mid after one two = record { sequence = omega (arith, one.numbers, two.numbers); few = omega (arith, one.few, two.few); short = λ all. two.short (one.short all) }
 
 woken-small : (now : Ticks) (o : Outcome) → IsSmall o (woken now o)
-woken-small now o = wake-by (IsSmall o) now o
-    (small o (before now o) (before now o) (before-row now o) (weaker 9 18 _ _ _ _ (omega arith) kept))
-    (small o (before now o) _ (before-row now o)
-    (grows-then 9 9 18 _ _ _ _ _ _ (omega arith) (overdue-row now (before now o)) (turn-row now (overdue now (before now o)))))
+woken-small now o =
+    let found : Outcome = before now o in
+    let over : Outcome = given_up now found in
+    wake-by (IsSmall o) now o
+    (small o found found (before-row now o) (weaker 9 19 _ _ _ _ (omega arith) kept))
+    (small o found _ (before-row now o)
+    (grows-then 10 9 19 _ _ _ _ _ _ (omega arith)
+    (grows-then 1 9 10 _ _ _ _ _ _ (omega arith) (given-up-row now found) (overdue-row now over)) (turn-row now (overdue now over))))
 
 one-more : (o mid after : Outcome) → Row o mid → Row mid after → IsSmall o after
-one-more o mid after one two = small o mid after one (weaker 9 18 _ _ _ _ (omega arith) two)
+one-more o mid after one two = small o mid after one (weaker 9 19 _ _ _ _ (omega arith) two)
 
 -- so it is with each input
 pub step-small : (now : Ticks) (points : List HistoryPoint) (heard : Heard) (o : Outcome) → IsSmall o (step now points heard o)
 step-small now points heards.Wake o = woken-small now o
-step-small now points (heards.Got sequence snapshot) o = small o (before now o) _ (before-row now o) (weaker 16 18 _ _ _ _ (omega arith) (got-row now points sequence snapshot (before now o)))
-step-small now points (heards.Granted sequence grant snapshot) o = one-more o (before now o) _ (before-row now o) (granted-row now sequence grant snapshot (before now o))
-step-small now points (heards.Mismatch sequence key found) o = one-more o (before now o) _ (before-row now o) (refused-row now sequence (before now o))
+step-small now points (heards.Got sequence snapshot) o =
+    let found : Outcome = before now o in
+    small o found _ (before-row now o)
+    (grows-then 1 16 19 _ _ _ _ _ _ (omega arith) (looked-row sequence snapshot found) (got-row now points sequence snapshot (looked sequence snapshot found)))
+step-small now points (heards.Granted sequence grant snapshot) o =
+    small o (before now o) _ (before-row now o) (weaker 17 19 _ _ _ _ (omega arith) (granted-any-row now sequence grant snapshot (before now o)))
+step-small now points (heards.Mismatch sequence key found) o = one-more o (before now o) _ (before-row now o) (refused-any-row now sequence (before now o))
 step-small now points (heards.Asked from run sequence) o = one-more o (before now o) _ (before-row now o) (said (before now o).knows.sequence (before now o).knows.sequence (before now o).outputs _ (omega arith) tt)
 step-small now points (heards.Answered sequence answer) o = one-more o (before now o) _ (before-row now o) (answered-row now sequence answer (before now o))
+step-small now points (heards.Operated action) o = small o (before now o) _ (before-row now o) (weaker 2 19 _ _ _ _ (omega arith) (operated-row now action.request action.asked (before now o)))

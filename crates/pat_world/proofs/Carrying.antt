@@ -1,5 +1,5 @@
 -- What an agent did is carried out, one after another.
-use Rattle.std.proofs.Common.{◌≡◌, ℕ, ◌+◌, ◌*◌, ◌≤◌, List, [], ◌∷◌, ◌++◌, All, length, Option, Some, arith, refl, ◌∙◌, ap, sym, subst}
+use Rattle.std.proofs.Common.{Bool, ◌≡◌, ℕ, ◌+◌, ◌*◌, ◌≤◌, List, [], ◌∷◌, ◌++◌, All, length, Option, Some, arith, refl, ◌∙◌, ap, sym, subst}
 use Rattle.std.specs.Prelude.{option_and_then, option_to_list, slice_get}
 use Rattle.std.proofs.lemmas.List.Elements.{All-head, All-tail}
 use Rattle.pat_base.specs.declared.member_id.MemberId.{MemberId}
@@ -70,20 +70,27 @@ pub carrying-end : (member : Member) (heard : HeardMessage) (start cluster : Clu
 carrying-end member heard start cluster had has whole rest c nothing =
     Left-end start cluster had has (each (output_events member heard) start whole) _ outputs_cost (output_cost * length rest) c.left (ap (each (output_events member heard) cluster) nothing)
 
--- an output that is no message, no feed, and no start or end of a server is an order that brings one event at most
+-- an output is carried out that brings these events, and no more than an output may
+pub carried : (cluster after : Cluster) (had has those : List Event) (member : Member) (heard : HeardMessage) (output : Output) (cost : ℕ) → Emits cluster after had has those cost → output_events member heard cluster output ≡ those → cost ≤ output_cost
+    → Emits cluster after had has (output_events member heard cluster output) output_cost
+carried cluster after had has those member heard output cost took is less =
+    Emits-weaker cluster after had has (output_events member heard cluster output) cost output_cost (subst (λ (es : List Event). Emits cluster after had has es cost) (sym is) took) less
+
+-- an output that is no message, no feed, and no start, restart or end of a server is an order that brings one event at most
 pub order-same : (cluster : Cluster) (member : Member) (heard : HeardMessage) (output : Output) → ((to : Target) (n : ℕ) (body : Body) → output ≡ outputs.Send to n body → ⊥) → ((to : MemberId) (run n : ℕ) (answer : PeerAnswer) → output ≡ outputs.Answer to run n answer → ⊥) → (output ≡ outputs.Begin → ⊥)
     → ((leader : Option MemberId) → output ≡ outputs.StartReplica leader → ⊥) → ((reason : Reason) → output ≡ outputs.Stop reason → ⊥) → ((until : Ticks) → output ≡ outputs.Armed until → ⊥) → ((until : Ticks) → output ≡ outputs.Fed until → ⊥)
-    → ((leader : MemberId) (repair : Repair) → output ≡ outputs.Repair leader repair → ⊥)
+    → ((leader : MemberId) (repair : Repair) → output ≡ outputs.Repair leader repair → ⊥) → ((as_primary : Bool) → output ≡ outputs.Restart as_primary → ⊥)
     → output_events member heard cluster output ≡ events_of cluster (kinds_of (order_kind cluster member heard output))
-order-same cluster member heard (outputs.Send to n body) send reply begin start stop arm feed mends = absurd (send to n body refl)
-order-same cluster member heard (outputs.Answer to run n answer) send reply begin start stop arm feed mends = absurd (reply to run n answer refl)
-order-same cluster member heard outputs.Begin send reply begin start stop arm feed mends = absurd (begin refl)
-order-same cluster member heard (outputs.StartReplica leader) send reply begin start stop arm feed mends = absurd (start leader refl)
-order-same cluster member heard (outputs.Stop reason) send reply begin start stop arm feed mends = absurd (stop reason refl)
-order-same cluster member heard (outputs.Armed until) send reply begin start stop arm feed mends = absurd (arm until refl)
-order-same cluster member heard (outputs.Fed until) send reply begin start stop arm feed mends = absurd (feed until refl)
-order-same cluster member heard (outputs.Repair leader repair) send reply begin start stop arm feed mends = absurd (mends leader repair refl)
-order-same cluster member heard _ send reply begin start stop arm feed mends = refl
+order-same cluster member heard (outputs.Send to n body) send reply begin start stop arm feed mends again = absurd (send to n body refl)
+order-same cluster member heard (outputs.Answer to run n answer) send reply begin start stop arm feed mends again = absurd (reply to run n answer refl)
+order-same cluster member heard outputs.Begin send reply begin start stop arm feed mends again = absurd (begin refl)
+order-same cluster member heard (outputs.StartReplica leader) send reply begin start stop arm feed mends again = absurd (start leader refl)
+order-same cluster member heard (outputs.Stop reason) send reply begin start stop arm feed mends again = absurd (stop reason refl)
+order-same cluster member heard (outputs.Armed until) send reply begin start stop arm feed mends again = absurd (arm until refl)
+order-same cluster member heard (outputs.Fed until) send reply begin start stop arm feed mends again = absurd (feed until refl)
+order-same cluster member heard (outputs.Repair leader repair) send reply begin start stop arm feed mends again = absurd (mends leader repair refl)
+order-same cluster member heard (outputs.Restart as_primary) send reply begin start stop arm feed mends again = absurd (again as_primary refl)
+order-same cluster member heard _ send reply begin start stop arm feed mends again = refl
 
 -- what an order comes to that brings one event at most
 pub order-took : (cluster after : Cluster) (had has : List Event) (member : Member) (heard : HeardMessage) (output : Output) (found : Option EventKind)

@@ -32,6 +32,7 @@ Emits-told before after tick kind had has counts state at told =
 -- what becomes of agents where nothing is brought that they act on
 agents-apart-by : (cluster : Cluster) (happening : AgentEvent) → IsBare (kinds.Agent happening) → agent_facts_by cluster happening ≡ agent_facts_moved cluster.scope cluster.options cluster.book.members cluster.book.clock cluster.agents happening
 agents-apart-by cluster (agents.Woken member) bare = absurd bare
+agents-apart-by cluster (agents.Operated member action) bare = absurd bare
 agents-apart-by cluster _ bare = refl
 
 agents-apart-message : (cluster : Cluster) (happening : MessageEvent) → IsBare (kinds.Message happening) → agent_facts_by_message cluster happening ≡ cluster.agents

@@ -1,5 +1,6 @@
 pub mod Acting
 pub mod Acknowledgements
+pub mod Calling
 pub mod Carrying
 pub mod Changing
 pub mod Comings
@@ -21,6 +22,7 @@ pub mod KeptCommits
 pub mod Passing
 pub mod Promoting
 pub mod Rest
+pub mod Restarting
 pub mod Rooms
 pub mod Sending
 pub mod ServerCommanding

@@ -1,5 +1,5 @@
 -- What messages bring has greater numbers than what is in flight.
-use Rattle.std.proofs.Common.{◌≡◌, ℕ, ◌+◌, ◌≤◌, ◌<◌, ◌==◌, ◌&&◌, nat_le, Bool, true, false, List, [], ◌∷◌, length, Option, Some, None, if◌then◌else◌, arith, refl, ap, ◌∙◌, cond, option_and_then}
+use Rattle.std.proofs.Common.{◌≡◌, ℕ, ◌+◌, ◌≤◌, ◌<◌, ◌==◌, ◌&&◌, ◌||◌, nat_le, Bool, true, false, List, [], ◌∷◌, length, Option, Some, None, if◌then◌else◌, arith, refl, ap, ◌∙◌, cond, option_and_then}
 use Rattle.std.specs.Prelude.{slice_get, option_map}
 use Rattle.std.specs.BTreeMap.{insert_entry, is_at}
 use Rattle.std.specs.Map.{remove_entry}
@@ -11,12 +11,16 @@ use Rattle.lease_store.specs.declared.txn.Txn.{Txn}
 use Rattle.lease_store.specs.Decision.{Decision, Grant, Refusal, decision_on}
 use Rattle.lease_store.specs.Keys.{Keys}
 use Rattle.wal_model.specs.declared.entry.Entry.{Entry}
-use Rattle.pg_model.specs.Facts.{ServerFacts, entries_of, is_down, is_replica, is_up}
+use Rattle.pat_base.specs.declared.server_state.State.{State}
+use Rattle.pat_base.specs.declared.server_state.State.TheVariants as states
+use Rattle.pat_base.specs.ServerState.{live}
+use Rattle.pg_model.specs.Facts.{ServerFacts, entries_of, is_creating, is_down, is_replica, is_up}
 use Rattle.pg_model.specs.Running.{is_primary}
 use Rattle.event_book.specs.declared.agent_process.AgentProcess.{AgentProcess}
 use Rattle.event_book.specs.declared.event.Event.{Event}
 use Rattle.event_book.specs.declared.event.EventKind.{EventKind}
 use Rattle.event_book.specs.declared.event.EventKind.TheVariants as kinds
+use Rattle.event_book.specs.declared.event.LogEvent.TheVariants as logs
 use Rattle.event_book.specs.declared.event.MessageEvent.TheVariants.{Sent, Delivered, Lost}
 use Rattle.event_book.specs.declared.event.ReplicationEvent.TheVariants as replications
 use Rattle.event_book.specs.declared.event.ServerEvent.TheVariants as servers
@@ -29,24 +33,29 @@ use Rattle.event_book.specs.declared.message.Message.{Message}
 use Rattle.event_book.specs.declared.reason.Reason.{Reason}
 use Rattle.event_book.specs.Flight.{Flight, InFlightFacts, flight_after, in_flight, sent_after}
 use Rattle.event_book.specs.Members.{server_of}
+use Rattle.ha_loop.specs.declared.operating.Told.{Told}
+use Rattle.ha_loop.specs.declared.operating.Told.TheVariants as tolds
 use Rattle.ha_loop.specs.declared.output.Output.{Output}
 use Rattle.ha_loop.specs.declared.output.Output.TheVariants as outputs
 use Rattle.ha_loop.specs.declared.output.Target.TheVariants as targets
+use Rattle.ha_loop.specs.Agents.{AgentFacts}
+use Rattle.ha_loop.specs.Operators.{ok}
 use Rattle.cluster_model.specs.declared.beginning.Beginning.{Beginning}
 use Rattle.cluster_model.specs.declared.beginning.Beginning.TheVariants as beginnings
 use Rattle.cluster_model.specs.declared.delivery.Delivery.{Delivery}
 use Rattle.cluster_model.specs.declared.delivery.Delivery.TheVariants as deliveries
 use Rattle.cluster_model.specs.declared.heard_message.HeardMessage.{HeardMessage}
-use Rattle.cluster_model.specs.Beginnings.{begin_kinds, beginning_of, kinds_by}
+use Rattle.cluster_model.specs.Beginnings.{again_by, begin_kinds, beginning_of, kinds_by, server_restart_in, server_restart_kinds}
 use Rattle.cluster_model.specs.Cluster.{cluster_after, cluster_over}
 use Rattle.cluster_model.specs.Commands.{kinds_of}
 use Rattle.cluster_model.specs.Deliveries.{delivery_of}
 use Rattle.cluster_model.specs.Hearing.{heard_from}
-use Rattle.cluster_model.specs.Inputs.{outcome_of_heard, outputs_of}
+use Rattle.cluster_model.specs.Inputs.{agent_at, outcome_of_heard, outputs_of}
 use Rattle.cluster_model.specs.Limits.{most_in_flight}
 use Rattle.cluster_model.specs.Losing.{loss_if}
 use Rattle.cluster_model.specs.Messages.{answer_events_by, answer_message, arrival_events_at, decision_body, decision_events, heard_message, lost_at_once, message_events, message_events_by, output_events, receiver_of, send_events, sending_events, replying_events}
-use Rattle.cluster_model.specs.Orders.{arming, declared_member, feed_kinds, feeding, following_of, hold_taken, is_same_required, order_kind, replica_start_kinds, require_of, required_names, server_at, stop_kind, stop_kinds, stop_of, upstream_of, repair_over}
+use Rattle.cluster_model.specs.Orders.{arming, declared_member, feed_kinds, feeding, following_of, handing_over, hold_taken, is_same_required, order_kind, replica_start_kinds, require_of, required_names, server_at, stop_kind, stop_kinds, stop_of, upstream_of, repair_over, wipe_of}
+use Rattle.cluster_model.specs.Requests.{answering, config_text_of, told_kind}
 use Rattle.cluster_model.specs.Parts.{each, events_of, for_some}
 use Rattle.cluster_model.specs.State.{Cluster}
 use Rattle.summary.specs.Lacking.{lacks_in}
@@ -189,13 +198,27 @@ stops-above last cluster member reason (Some s) =
     all-kinds (IsAbove last) cluster (stop_kinds member reason s)
     (tt, one-kind (IsAbove last) (stop_of member s) (holds-if (IsAbove last) (is_up s.state) (stop_kind member s.state s.stop_delay) (stop-above last member (is_primary s.state && s.stop_delay.0 == 0))))
 
+restart-above : (last : ℕ) (member : Member) (acknowledged : List ℕ) (state : State) (s : ServerFacts) → AllKinds (IsAbove last) (server_restart_in member acknowledged state s)
+restart-above last member acknowledged states.Primary s = (tt, beginning-above last member acknowledged s.log (Some (again_by s.timeline s.start_delay)))
+restart-above last member acknowledged states.Replica s = (tt, tt)
+restart-above last member acknowledged _ s = tt
+
+restarts-above : (last : ℕ) (cluster : Cluster) (member : Member) (found : Option ServerFacts) → AllAre (IsAbove last) (for_some found (λ s. events_of cluster (server_restart_kinds member cluster.book.acknowledged s)))
+restarts-above last cluster member None = tt
+restarts-above last cluster member (Some s) =
+    all-kinds (IsAbove last) cluster (server_restart_kinds member cluster.book.acknowledged s) (restart-above last member cluster.book.acknowledged s.state s)
+
 require-above : (last : ℕ) (kind : EventKind) (test : Bool) → IsAbove last kind → HoldsIf (IsAbove last) (if test then None else Some kind)
 require-above last kind true is = tt
 require-above last kind false is = is
 
-held-above : (last : ℕ) (hold : Member → EventKind) (found : Option Member) → ((from : Member) → IsAbove last (hold from)) → HoldsIf (IsAbove last) (option_map hold found)
-held-above last hold None all = tt
-held-above last hold (Some from) all = all from
+mapped-above : {X : Type 0} (last : ℕ) (told : X → EventKind) (found : Option X) → ((x : X) → IsAbove last (told x)) → HoldsIf (IsAbove last) (option_map told found)
+mapped-above last told None all = tt
+mapped-above last told (Some x) all = all x
+
+told-above : (last : ℕ) (member : Member) (agent : Option AgentFacts) (told : Told) → HoldsIf (IsAbove last) (told_kind member agent told)
+told-above last member agent (tolds.Text status text) = tt
+told-above last member agent tolds.Written = mapped-above last (answering member ok) (config_text_of agent) (λ text. tt)
 
 order-above : (last : ℕ) (cluster : Cluster) (member : Member) (heard : HeardMessage) (output : Output) → HoldsIf (IsAbove last) (order_kind cluster member heard output)
 order-above last cluster member heard (outputs.Send to sequence body) = tt
@@ -217,7 +240,12 @@ order-above last cluster member heard (outputs.DoesNotRace bar) = tt
 order-above last cluster member heard outputs.ShutDown =
     holds-then (IsAbove last) (stop_of member) (server_at cluster member) (λ s. holds-if (IsAbove last) (is_up s.state) (stop_kind member s.state s.stop_delay) (stop-above last member (is_primary s.state && s.stop_delay.0 == 0)))
 order-above last cluster member heard (outputs.Repair leader repair) = tt
-order-above last cluster member heard (outputs.HoldTaken until from sequence) = held-above last (hold_taken member until heard.run sequence) (slice_get cluster.book.members from.number) (λ from. tt)
+order-above last cluster member heard (outputs.HoldTaken until from sequence) = mapped-above last (hold_taken member until heard.run sequence) (slice_get cluster.book.members from.number) (λ from. tt)
+order-above last cluster member heard (outputs.Restart as_primary) = tt
+order-above last cluster member heard outputs.Wipe =
+    holds-then (IsAbove last) (wipe_of member) (server_at cluster member) (λ s. require-above last (kinds.Log (logs.Wiped (server_of member))) (is_creating s.state || live s.state) tt)
+order-above last cluster member heard (outputs.HandsOver candidate) = mapped-above last (handing_over member) (slice_get cluster.book.members candidate.number) (λ candidate. tt)
+order-above last cluster member heard (outputs.Told request told) = told-above last member (agent_at cluster.agents member.id.number) told
 
 ordered-above : (last : ℕ) (cluster : Cluster) (member : Member) (heard : HeardMessage) (output : Output) → AllAre (IsAbove last) (events_of cluster (kinds_of (order_kind cluster member heard output)))
 ordered-above last cluster member heard output =
@@ -230,6 +258,7 @@ output-above last cluster member heard outputs.Begin low = begins-above last clu
 output-above last cluster member heard (outputs.Armed until) low = all-kinds (IsAbove last) cluster (feed_kinds member heard (arming member until heard)) (tt, (tt, tt))
 output-above last cluster member heard (outputs.Fed until) low = all-kinds (IsAbove last) cluster (feed_kinds member heard (feeding member until heard)) (tt, (tt, tt))
 output-above last cluster member heard (outputs.StartReplica leader) low = starts-above last cluster member (declared_member cluster.book.members leader) (server_at cluster member)
+output-above last cluster member heard (outputs.Restart as_primary) low = restarts-above last cluster member (server_at cluster member)
 output-above last cluster member heard (outputs.Stop reason) low = stops-above last cluster member reason (server_at cluster member)
 output-above last cluster member heard (outputs.Repair leader repair) low =
     let kind = option_and_then (repair_over cluster.book.cuts cluster.book.servers member repair) (slice_get cluster.book.members leader.number) in

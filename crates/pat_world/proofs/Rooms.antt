@@ -26,7 +26,7 @@ use Rattle.event_book.specs.Clock.{now_after}
 use Rattle.event_book.specs.Flight.{InFlightFacts, Flight, in_flight, sent_after}
 use Rattle.event_book.specs.Keys.{keys_after}
 use Rattle.ha_loop.specs.declared.heard.Heard.{Heard}
-use Rattle.ha_loop.specs.declared.heard.Heard.TheVariants.{Wake}
+use Rattle.ha_loop.specs.declared.heard.Heard.TheVariants.{Wake, Operated}
 use Rattle.ha_loop.specs.declared.machine.Machine.{Machine}
 use Rattle.ha_loop.specs.Agents.{AgentFacts, made, most_messages}
 use Rattle.ha_loop.specs.Outputs.{most_outputs}
@@ -148,6 +148,7 @@ moved-numbers scope options members now events known _ enough all = numbered-few
 
 agent-numbers : (cluster : Cluster) (events : ℕ) (happening : AgentEvent) → most_outputs * (1 + events) ≤ most_messages → Numbered (1 + events) cluster.agents → Numbered events (agent_facts_by cluster happening)
 agent-numbers cluster events (agents.Woken member) enough all = input-numbers cluster member Wake events all
+agent-numbers cluster events (agents.Operated member action) enough all = input-numbers cluster member (Operated action) events all
 agent-numbers cluster events happening enough all = moved-numbers cluster.scope cluster.options cluster.book.members cluster.book.clock events cluster.agents happening enough all
 
 reached-numbers_at : (cluster : Cluster) (events : ℕ) (message : InFlightFacts) (to : LinkEnd) → Numbered (1 + events) cluster.agents → Numbered events (agent_facts_reached_at cluster message to)

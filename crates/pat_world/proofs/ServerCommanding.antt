@@ -1,18 +1,21 @@
 -- What commands do at servers.
-use Rattle.std.proofs.Common.{◌≡◌, ℕ, ◌+◌, ◌^◌, ◌<◌, ◌&&◌, nat_le, Bool, true, false, List, Option, Some, None, arith, refl, ◌∙◌, ap, sym, subst}
+use Rattle.std.proofs.Common.{◌≡◌, ◌≢◌, ℕ, ◌+◌, ◌^◌, ◌<◌, ◌&&◌, nat_le, Bool, true, false, List, Option, Some, None, arith, refl, ◌∙◌, ap, sym, subst}
 use Rattle.std.specs.Prelude.{slice_get, slice_set, if◌then◌else◌, IfSome}
 use Rattle.std.proofs.lemmas.List.{set-get_or}
 use Rattle.std.proofs.lemmas.Option.{get_or_from_slice_get, none-some, same_Some}
+use Rattle.pat_base.specs.declared.server_state.State.{State}
+use Rattle.pat_base.specs.declared.server_state.State.TheVariants as states
+use Rattle.pat_base.specs.declared.ticks.Ticks.{Ticks}
 use Rattle.pat_base.specs.Changes.{changed_at, with_changed}
 use Rattle.pat_base.specs.ServerState.{writes}
 use Rattle.wal_model.specs.declared.entry.Entry.{Entry}
 use Rattle.wal_model.specs.Log.{end_of}
 use Rattle.pg_model.specs.Facts.{ServerFacts, entries_of, is_down}
 use Rattle.pg_model.specs.Replication.{entry_of}
-use Rattle.pg_model.specs.Running.{primary_started, replica_started, stopping}
+use Rattle.pg_model.specs.Running.{primary_started, stopping}
 use Rattle.pg_model.specs.Servers.{entry_at, entry_for}
 use Rattle.event_book.specs.declared.member.Member.{Member}
-use Rattle.event_book.specs.Servers.{starts_as_primary, starts_as_replica, starts_slowly, stops, stops_quietly}
+use Rattle.event_book.specs.Servers.{replica_starts_in, starts_as_primary, starts_as_replica, starts_slowly, stops, stops_quietly}
 use Rattle.cluster_model.specs.State.{Cluster}
 use Rattle.pat_world.specs.Comes.{MayCome}
 use Rattle.pat_world.specs.Room.{HasRoom}
@@ -60,13 +63,20 @@ replica-if false next timeline is = absurd (none-some timeline is)
 set-got : (known : List ServerFacts) (place : ℕ) (s : ServerFacts) → slice_get known place ≡ Some s → slice_set known place s ≡ known
 set-got known place s there = ap (λ (t : ServerFacts). slice_set known place t) (sym (get_or_from_slice_get known place s s there)) ∙ set-get_or known place s
 
--- a server that isn't down doesn't start
-pub not-down : (known : List ServerFacts) (place now : ℕ) (s : ServerFacts) → slice_get known place ≡ Some s → is_down s.state ≡ false → known ≡ with_changed known place (starts_as_replica now)
-not-down known place now s there up =
-    sym (ap (λ (o : Option ServerFacts). changed_at known place (starts_as_replica now) o) there
-    ∙ ap (λ (down : Bool). slice_set known place (if down then replica_started (record { 0 = now }) None s else s)) up ∙ set-got known place s there)
+-- a server that is neither down nor a replica doesn't start as a replica
+pub others-stay-at : (known : List ServerFacts) (place : ℕ) (now : Ticks) (s : ServerFacts) → slice_get known place ≡ Some s → s.state ≢ states.Stopped → s.state ≢ states.Crashed → s.state ≢ states.Replica
+    → known ≡ with_changed known place (starts_as_replica now.0)
+others-stay-at known place now s there not_stopped not_crashed not_replica =
+    sym (ap (λ (o : Option ServerFacts). changed_at known place (starts_as_replica now.0) o) there
+    ∙ ap (slice_set known place) (stays s.state not_stopped not_crashed not_replica) ∙ set-got known place s there)
+  where
+    stays : (state : State) → state ≢ states.Stopped → state ≢ states.Crashed → state ≢ states.Replica → replica_starts_in state now s ≡ s
+    stays states.Stopped not_stopped not_crashed not_replica = absurd (not_stopped refl)
+    stays states.Crashed not_stopped not_crashed not_replica = absurd (not_crashed refl)
+    stays states.Replica not_stopped not_crashed not_replica = absurd (not_replica refl)
+    stays _ not_stopped not_crashed not_replica = refl
 
--- nor does one start as a primary, or one whose starts take no time, with an event of its own
+-- one that is not down doesn't start as a primary, nor does one whose starts take no time, with an event of its own
 pub no-primary-start : (known : List ServerFacts) (place now : ℕ) (s : ServerFacts) → slice_get known place ≡ Some s → is_down s.state && starts_slowly s ≡ false → known ≡ with_changed known place (starts_as_primary now)
 no-primary-start known place now s there quick =
     sym (ap (λ (o : Option ServerFacts). changed_at known place (starts_as_primary now) o) there

@@ -3,6 +3,7 @@ use Rattle.std.proofs.Common.{◌≡◌, ℕ, ◌+◌, ◌^◌, ◌≤◌, ◌<�
 use Rattle.std.specs.Prelude.{slice_get, if◌then◌else◌}
 use Rattle.std.proofs.lemmas.List.Elements.{All-map, All-set}
 use Rattle.std.proofs.lemmas.Option.{slice_get_within, get_or_from_slice_get}
+use Rattle.pat_base.specs.declared.server_id.ServerId.{ServerId}
 use Rattle.pat_base.specs.declared.server_state.State.{State}
 use Rattle.pat_base.specs.declared.server_state.State.TheVariants as states
 use Rattle.pat_base.specs.declared.ticks.Ticks.{Ticks}
@@ -11,7 +12,7 @@ use Rattle.pat_base.specs.ServerState.{live}
 use Rattle.pg_model.specs.Facts.{ServerFacts, is_creating, is_down}
 use Rattle.pg_model.specs.Replication.{received_from}
 use Rattle.pg_model.specs.Rewinding.{cloned, is_rewindable, rewound_to}
-use Rattle.pg_model.specs.Running.{completed, is_primary, primary_started, replica_started, started, stopped, stopping, ticked}
+use Rattle.pg_model.specs.Running.{completed, is_primary, primary_started, replica_started, started, stopped, stopping, ticked, wiped}
 use Rattle.pg_model.specs.Servers.{ticked_unless_live}
 use Rattle.event_book.specs.declared.event.EventKind.{EventKind}
 use Rattle.event_book.specs.declared.event.EventKind.TheVariants as kinds
@@ -24,7 +25,7 @@ use Rattle.event_book.specs.declared.event.ServerEvent.TheVariants as servers
 use Rattle.event_book.specs.declared.event.WatchdogEvent.{WatchdogEvent}
 use Rattle.event_book.specs.declared.event.WatchdogEvent.TheVariants as watchdogs
 use Rattle.event_book.specs.Acknowledged.{commits_after}
-use Rattle.event_book.specs.Servers.{becomes_copy, begun_in, copied_by, cut_to, goes_back, received_by, servers_after, servers_by, servers_by_log, servers_by_replication, servers_by_watchdog, starts_as_primary, starts_as_replica, starts_slowly, stops, stops_quietly}
+use Rattle.event_book.specs.Servers.{becomes_copy, begun_in, copied_by, cut_to, goes_back, loses_log, received_by, replica_starts_in, servers_after, servers_by, servers_by_log, servers_by_replication, servers_by_watchdog, starts_as_primary, starts_as_replica, starts_slowly, stops, stops_quietly}
 use Rattle.pat_world.specs.Comes.{CountsLog}
 
 -- what holds of each element holds of one
@@ -69,9 +70,14 @@ starting-if : (as_primary : Bool) (now : Ticks) (s : ServerFacts) (at_once : Boo
 starting-if as_primary now s true = started-timeline as_primary s
 starting-if as_primary now s false = refl
 
-starts-if : (now : ℕ) (s : ServerFacts) (down : Bool) → (if down then replica_started (record { 0 = now }) None s else s).timeline ≡ s.timeline
-starts-if now s true = starting-if false (record { 0 = now }) (record s { upstream = None; was_primary = false }) (s.start_delay.0 == 0)
-starts-if now s false = refl
+replica-timeline : (now : Ticks) (upstream : Option ServerId) (s : ServerFacts) → (replica_started now upstream s).timeline ≡ s.timeline
+replica-timeline now upstream s = starting-if false now (record s { upstream = upstream; was_primary = false }) (s.start_delay.0 == 0)
+
+starts-in : (now : Ticks) (state : State) (s : ServerFacts) → (replica_starts_in state now s).timeline ≡ s.timeline
+starts-in now states.Stopped s = replica-timeline now None s
+starts-in now states.Crashed s = replica-timeline now None s
+starts-in now states.Replica s = replica-timeline now s.upstream s
+starts-in now _ s = refl
 
 stopping-if : (now : Ticks) (s : ServerFacts) (at_once : Bool) → (if at_once then stopped s else record s { state = states.Stopping (is_primary s.state) (record { 0 = now.0 + s.stop_delay.0 }) }).timeline ≡ s.timeline
 stopping-if now s true = refl
@@ -119,7 +125,7 @@ room-by now events known (servers.Ended server) all = with-same events known ser
 room-by now events known (servers.Crashed server) all = with-same events known server.id.number _ (λ s. refl) all
 room-by now events known (servers.Stops server) all = with-same events known server.id.number (stops now) (λ s. stops-if now s (stops_quietly s)) all
 room-by now events known (servers.StartsAsPrimary server) all = with-same events known server.id.number (starts_as_primary now) (λ s. again-if now s (is_down s.state && starts_slowly s)) all
-room-by now events known (servers.StartsAsReplica server) all = with-same events known server.id.number (starts_as_replica now) (λ s. starts-if now s (is_down s.state)) all
+room-by now events known (servers.StartsAsReplica server) all = with-same events known server.id.number (starts_as_replica now) (λ s. starts-in (record { 0 = now }) s.state s) all
 room-by now events known (servers.Follows server upstream) all = with-same events known server.id.number _ (λ s. refl) all
 room-by now events known (servers.Diverged server upstream at) all = with-same events known server.id.number _ (λ s. refl) all
 room-by now events known (servers.Slowed server stop start) all = with-same events known server.id.number _ (λ s. refl) all
@@ -152,12 +158,16 @@ room-copied events known number from (Some source) is all =
     let roomy = All-at ServerFacts (HasTimeline (1 + events)) known from source all is in
     with-all (HasTimeline (1 + events)) (HasTimeline events) known number (becomes_copy source) all (timeline-fewer events) (λ s room. copy-if events source s (is_creating s.state) roomy room)
 
+lost-if : (s : ServerFacts) (is_live : Bool) → (if is_live then record s { log = None } else wiped s).timeline ≡ s.timeline
+lost-if s true = refl
+lost-if s false = refl
+
 room-logged : (events : ℕ) (known : List ServerFacts) (happening : LogEvent) → Roomy (1 + events) known → Roomy events (servers_by_log known happening)
 room-logged events known (logs.Appended server entry) all = with-same events known server.id.number _ (λ s. refl) all
 room-logged events known (logs.Received server from count) all = room-received events known server.id.number from.id.number count (slice_get known from.id.number) refl all
 room-logged events known (logs.Rewound server from kept at) all = room-back events known server.id.number from.id.number kept (slice_get known from.id.number) refl all
 room-logged events known (logs.Copied server from) all = room-copied events known server.id.number from.id.number (slice_get known from.id.number) refl all
-room-logged events known (logs.Wiped server) all = with-same events known server.id.number _ (λ s. refl) all
+room-logged events known (logs.Wiped server) all = with-same events known server.id.number loses_log (λ s. lost-if s (live s.state)) all
 
 room-replicated : (events : ℕ) (known : List ServerFacts) (happening : ReplicationEvent) → Roomy (1 + events) known → Roomy events (servers_by_replication known happening)
 room-replicated events known (replications.RequiredSet server required names) all = with-same events known server.id.number _ (λ s. refl) all

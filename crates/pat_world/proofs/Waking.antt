@@ -4,24 +4,25 @@ use Rattle.std.specs.Prelude.{if◌then◌else◌, slice_get}
 use Rattle.std.proofs.lemmas.List.Elements.{All-nil}
 use Rattle.pat_base.specs.declared.ticks.Ticks.{Ticks}
 use Rattle.wal_model.specs.declared.entry.HistoryPoint.{HistoryPoint}
+use Rattle.lease_store.specs.declared.action.OperatorAction.{OperatorAction}
 use Rattle.event_book.specs.declared.agent_process.AgentProcess.{AgentProcess}
 use Rattle.event_book.specs.declared.event.Event.{Event}
 use Rattle.event_book.specs.declared.event.EventKind.TheVariants as kinds
-use Rattle.event_book.specs.declared.event.AgentEvent.TheVariants.{Woken}
+use Rattle.event_book.specs.declared.event.AgentEvent.TheVariants.{Woken, Operated}
 use Rattle.event_book.specs.declared.member.Member.{Member}
 use Rattle.ha_loop.specs.declared.heard.Heard.{Heard}
-use Rattle.ha_loop.specs.declared.heard.Heard.TheVariants.{Wake}
+use Rattle.ha_loop.specs.declared.heard.Heard.TheVariants.{Wake, Operated as HearsOperator}
 use Rattle.ha_loop.specs.declared.machine.Machine.{Machine}
 use Rattle.ha_loop.specs.declared.output.Output.{Output}
 use Rattle.ha_loop.specs.Agents.{AgentFacts, made}
 use Rattle.ha_loop.specs.Outputs.{most_outputs}
 use Rattle.cluster_model.specs.Inputs.{agent_at, is_to_wake, may_act, moment_of, outcome_at, outcome_of, outcome_of_heard, outputs_of, standing_of}
 use Rattle.cluster_model.specs.Machines.{machine_of, points_of}
-use Rattle.cluster_model.specs.Messages.{input_events, no_message, output_events, turn_events, turn_events_if, wake_events, wake_events_if, wake_events_of}
+use Rattle.cluster_model.specs.Messages.{input_events, no_message, operate_events, output_events, turn_events, turn_events_if, wake_events, wake_events_if, wake_events_of}
 use Rattle.cluster_model.specs.Parts.{each, event_of}
 use Rattle.cluster_model.specs.State.{Cluster}
 use Rattle.pat_world.specs.Emits.{Emits}
-use Rattle.pat_world.specs.Room.{input_cost, outputs_cost}
+use Rattle.pat_world.specs.Room.{call_cost, input_cost, outputs_cost}
 use Rattle.pat_world.specs.Short.{AsksShortly}
 use Rattle.pat_world.proofs.Acting.{step-small}
 use Rattle.pat_world.proofs.Taking.{Emits-then, found-took}
@@ -53,7 +54,15 @@ awaken-took cluster rousing after member outputs had mid has one is rest =
     Emits-then cluster rousing after had mid has (event_of cluster (kinds.Agent (Woken member))) (λ later. input_events later member no_message (outcome_of cluster member Wake)) 1 outputs_cost input_cost one
     (subst (λ (os : List Output). Emits rousing after mid has (each (output_events member no_message) rousing os) outputs_cost) is rest) (omega arith)
 
--- so is one that has something to do
+-- an agent does what an operator asks
+pub operate-took : (cluster obeying after : Cluster) (member : Member) (action : OperatorAction) (outputs : List Output) (had mid has : List Event)
+    → Emits cluster obeying had mid (event_of cluster (kinds.Agent (Operated member action))) 1 → outputs ≡ outputs_of (outcome_of cluster member (HearsOperator action))
+    → Emits obeying after mid has (each (output_events member no_message) obeying outputs) outputs_cost → Emits cluster after had has (operate_events cluster member action) call_cost
+operate-took cluster obeying after member action outputs had mid has one is rest =
+    Emits-then cluster obeying after had mid has (event_of cluster (kinds.Agent (Operated member action))) (λ later. input_events later member no_message (outcome_of cluster member (HearsOperator action))) 1 outputs_cost call_cost one
+    (subst (λ (os : List Output). Emits obeying after mid has (each (output_events member no_message) obeying os) outputs_cost) is rest) (omega arith)
+
+-- an agent is woken that has something to do
 pub wake-took : (cluster after : Cluster) (member : Member) (process : AgentProcess) (had has : List Event) → slice_get cluster.book.agents member.id.number ≡ Some process
     → is_to_wake (moment_of cluster) process (standing_of cluster member) ≡ true → Emits cluster after had has (wake_events_of cluster member) input_cost → Emits cluster after had has (wake_events cluster member) input_cost
 wake-took cluster after member process had has there ready woken =

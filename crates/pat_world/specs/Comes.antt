@@ -4,6 +4,7 @@ use Rattle.std.specs.Option.{ForSome}
 use Rattle.pat_base.specs.declared.server_state.State.{State}
 use Rattle.pat_base.specs.declared.server_state.State.TheVariants as states
 use Rattle.pat_base.specs.declared.ticks.Ticks.{Ticks}
+use Rattle.pat_base.specs.ServerState.{live}
 use Rattle.pg_model.specs.Facts.{ServerFacts}
 use Rattle.pg_model.specs.Servers.{entry_for}
 use Rattle.event_book.specs.declared.agent_process.AgentProcess.{AgentProcess}
@@ -44,12 +45,14 @@ Counts cluster (kinds.Agent happening) = CountsAgent cluster.book.agents happeni
 Counts cluster (kinds.Log happening) = CountsLog cluster.book.commits happening
 Counts cluster _ = Unit {0}
 
--- it brings nothing but itself: a message that is sent has a grant and a snapshot, a grant has an answer, and an agent acts
+-- it brings nothing but itself: a message that is sent has a grant and a snapshot, a grant has an answer, and an agent acts that is woken or does what an
+-- operator asks
 abbrev pub IsBare : EventKind → Type 0
 IsBare (kinds.Message (messages.Sent number message)) = ⊥
 IsBare (kinds.Message (messages.Delivered number)) = ⊥
 IsBare (kinds.Store (stores.Granted number by txn standbys)) = ⊥
 IsBare (kinds.Agent (agents.Woken agent)) = ⊥
+IsBare (kinds.Agent (agents.Operated agent action)) = ⊥
 IsBare _ = Unit {0}
 
 -- whether a server in this state, whose stops take so long, can accept writes no longer from this moment on: it accepts them, and
@@ -82,9 +85,10 @@ ServerComes now known (servers.StartsAsPrimary server) = IfSome (slice_get known
 ServerComes now known (servers.Diverged server upstream at) = ⊥
 ServerComes now known _ = Unit {0}
 
--- a commit is the one that its server appends. What else changes logs isn't done in this way
+-- a commit is the one that its server appends, and who is wiped isn't live. What else changes logs isn't done in this way
 abbrev pub LogComes : List ServerFacts → LogEvent → Type 0
 LogComes known (logs.Appended server entry) = entry_for known server.id.number entry.serial entry.bytes ≡ Some entry
+LogComes known (logs.Wiped server) = IfSome (slice_get known server.id.number) (λ s. live s.state ≡ false)
 LogComes known _ = ⊥
 
 -- required lists and confirmations come. That a commit is acknowledged doesn't come in this way

@@ -1,5 +1,6 @@
 pub mod Apart
 pub mod Book
+pub mod Calls
 pub mod Comes
 pub mod Emits
 pub mod Idle

@@ -41,9 +41,13 @@ feeding_cost = 1 + 1
 abbrev pub beginning_cost : ℕ
 beginning_cost = 1 + 1
 
--- no output brings more than a message
+-- a server that is live ends, and begins again
+abbrev pub server_restart_cost : ℕ
+server_restart_cost = 1 + beginning_cost
+
+-- no output brings more than the restart of a server
 abbrev pub output_cost : ℕ
-output_cost = sending_cost
+output_cost = server_restart_cost
 
 -- all outputs of an input
 abbrev pub outputs_cost : ℕ
@@ -73,7 +77,11 @@ promotion_cost = 1 + beginning_cost
 abbrev pub restart_cost : ℕ
 restart_cost = 1 + 1
 
--- no command brings more than a turn, or a message that is delivered
+-- a request comes to an agent, and it acts; what it answers of itself is less
+abbrev pub call_cost : ℕ
+call_cost = 1 + outputs_cost
+
+-- no command brings more than a turn, a request or a message that is delivered
 abbrev pub command_cost : ℕ
 command_cost = input_cost
 

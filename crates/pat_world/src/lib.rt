@@ -15,6 +15,7 @@ mod orders;
 mod places;
 mod processes;
 mod replication;
+mod requests;
 mod server_changes;
 mod server_commands;
 mod stage;

@@ -2,14 +2,15 @@
 ghost use Rattle.std.specs.Prelude.{ℕ, ◌≡◌, ◌<◌, ◌+◌, ◌^◌, IfSome, IfOk, Some, None, option_and_then, option_map, slice_get};
 ghost use Rattle.event_book.specs.Members.{server_of};
 ghost use Rattle.cluster_model.specs.Messages.{receiver_of};
-ghost use Rattle.cluster_model.specs.Orders.{arming, barring, declared_member, declared_name, feeding, following_of, hold_taken, is_same_required, not_racing, require_of, stop_kind, stop_of, told_of, upstream_of};
+ghost use Rattle.cluster_model.specs.Orders.{arming, barring, declared_member, declared_name, feeding, following_of, handing_over, hold_taken, is_same_required, not_racing, require_of, stop_kind, stop_of, told_of, upstream_of, wipe_of};
 ghost use Rattle.cluster_model.specs.State.{Cluster};
 ghost use Rattle.pat_world.specs.Comes.{MayCome};
 
 use crate::naming::required_names;
 use cluster_model::HeardMessage;
 use event_book::{
-    Basis, EventKind, LinkEnd, Member, Note, ReplicationEvent, ServerEvent, ServerOf, WatchdogEvent,
+    Basis, EventKind, LinkEnd, LogEvent, Member, Note, ReplicationEvent, ServerEvent, ServerOf,
+    WatchdogEvent,
 };
 use ha_loop::{Output, Target};
 use lease_store::Bar;
@@ -92,6 +93,22 @@ fn stop_kind(member: Member, state: State, delay: Ticks) -> EventKind
     }
 }
 
+/// The server of a member is wiped: what happens where it doesn't accept writes, won't when its start is complete, and doesn't wait
+/// for a copy already.
+pub fn wipe_of(servers: &Servers, member: Member) -> Option<EventKind>
+    ensures kind { result ≡ option_and_then (wipe_of member) (slice_get servers.now member.id.number) }
+    ensures comes { (cluster : Cluster) → cluster.book.servers ≡ servers.now → IfSome result (MayCome cluster) }
+{
+    let server = servers.get(member.id.number as usize)?;
+    if server.state() == State::Creating || server.live() {
+        None
+    } else {
+        Some(EventKind::Log(LogEvent::Wiped {
+            server: ServerOf::of(member),
+        }))
+    }
+}
+
 /// A change of those whom commits wait for: what happens where that is one. It fails only for want of memory.
 pub fn require_of(
     alloc: Global,
@@ -148,6 +165,15 @@ pub fn hold_of_request(
         run,
         sequence,
     }))
+}
+
+/// A member hands over to this one: what happens where there is that one.
+pub fn handing_over(member: Member, candidate: Option<Member>) -> Option<EventKind>
+    ensures kind { result ≡ option_map (handing_over member) candidate }
+    ensures comes { (cluster : Cluster) → IfSome result (MayCome cluster) }
+{
+    let candidate = candidate?;
+    Some(EventKind::Note(Note::HandsOver { member, candidate }))
 }
 
 /// The first deadline of a watchdog, on the message that was heard.

@@ -120,7 +120,7 @@ fn start_primary(servers: &mut Servers, now: Ticks, place: usize)
     }
 }
 
-/// The server at a place starts as a replica of none, where it is down.
+/// The server at a place starts as a replica: of none where it is down, and where it runs as one again, of whom it follows.
 fn start_replica(servers: &mut Servers, now: Ticks, place: usize)
     requires { now.0 < 2 ^ 61 }
     ensures { servers.new ≡ with_changed servers.old place (starts_as_replica now.0) }
@@ -128,8 +128,10 @@ fn start_replica(servers: &mut Servers, now: Ticks, place: usize)
     let Some(server) = servers.get(place) else {
         return;
     };
-    if is_down(server.state()) {
-        servers.start_replica(place, now, None);
+    match server.state() {
+        State::Stopped | State::Crashed => servers.start_replica(place, now, None),
+        State::Replica => servers.restart(place, now),
+        _ => {}
     }
 }
 
@@ -183,8 +185,12 @@ fn change_log(servers: &mut Servers, happening: &LogEvent) -> Result<(), AllocEr
     requires { LogComes servers.old happening.now }
     ensures { OnOk result (servers.new ≡ servers_by_log servers.old happening.now) }
 {
-    if let LogEvent::Appended { server, entry } = happening {
-        servers.commit(server.id.number as usize, entry.serial, entry.bytes)?;
+    match happening {
+        LogEvent::Appended { server, entry } => {
+            servers.commit(server.id.number as usize, entry.serial, entry.bytes)?;
+        }
+        LogEvent::Wiped { server } => servers.wipe(server.id.number as usize),
+        _ => {}
     }
     Ok(())
 }

@@ -1,5 +1,5 @@
 //! What commands of a script come to at servers.
-ghost use Rattle.std.specs.Prelude.{◌≡◌, ◌<◌, ◌^◌, IfSome, option_and_then, slice_get};
+ghost use Rattle.std.specs.Prelude.{◌≡◌, ◌<◌, ◌^◌, IfSome, option_and_then, option_map, slice_get};
 ghost use Rattle.pg_model.specs.Servers.{entry_for};
 ghost use Rattle.cluster_model.specs.State.{Cluster};
 ghost use Rattle.cluster_model.specs.Beginnings.{again_by, beginning_of, completion_in, completion_of};
@@ -63,6 +63,14 @@ pub fn beginning_of(servers: &Servers, member: Member) -> Option<Beginning>
         }
         _ => None,
     }
+}
+
+/// How the server of a member begins that starts again as the primary that it is.
+pub fn restart_of(servers: &Servers, member: Member) -> Option<Beginning>
+    ensures { result ≡ option_map (λ s. again_by s.timeline s.start_delay) (slice_get servers.now member.id.number) }
+{
+    let server = servers.get(member.id.number as usize)?;
+    Some(again_by(server.timeline(), server.start_delay()))
 }
 
 /// A start as a primary on this timeline, where starts take so long.

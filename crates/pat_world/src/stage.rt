@@ -16,6 +16,7 @@ ghost use Rattle.pat_world.specs.Room.{HasRoom, HasRoomFor, command_cost, round_
 
 mod acknowledging;
 mod agents;
+mod calls;
 mod happening;
 mod idling;
 mod messages;
@@ -234,13 +235,16 @@ impl Stage {
         requires declared { IsCommand (names_in self.old.book.members) command.now }
         ensures { OnOk result (Emits self.old self.new events.old.items events.new.items (command_events self.old command.now) command_cost) }
     {
-        match *command {
-            Command::Turn(id) => self.turn(self.declared(id), events),
-            Command::Deliver(number) => self.deliver(number, events),
-            Command::Lose(number) => self.lose(number, events),
-            Command::Restart(id) => self.restart(self.declared(id), events),
-            Command::Promote(id) => self.promote(self.declared(id), events),
-            Command::Stream(id, most) => self.receive(self.declared(id), most, events),
+        match command {
+            Command::Turn(id) => self.turn(self.declared(*id), events),
+            Command::Deliver(number) => self.deliver(*number, events),
+            Command::Lose(number) => self.lose(*number, events),
+            Command::Restart(id) => self.restart(self.declared(*id), events),
+            Command::Promote(id) => self.promote(self.declared(*id), events),
+            Command::Stream(id, most) => self.receive(self.declared(*id), *most, events),
+            Command::Rest(id, call, body) => {
+                self.call(self.declared(*id), *call, body.as_slice(), events)
+            }
             _ => self.happen_if(self.command_kind(command), events),
         }
     }
@@ -252,31 +256,31 @@ impl Stage {
         ensures kind { result ≡ command_kind self.now command.now }
         ensures comes { IfSome result (MayCome self.now) }
     {
-        match *command {
+        match command {
             Command::Hold(id) => {
-                let member = self.declared(id);
+                let member = self.declared(*id);
                 hold_of(member, self.process(member)?)
             }
             Command::Resume(id) => {
-                let member = self.declared(id);
+                let member = self.declared(*id);
                 resume_of(member, self.process(member)?)
             }
             Command::Kill(id) => {
-                let member = self.declared(id);
+                let member = self.declared(*id);
                 kill_of(member, self.process(member)?)
             }
-            Command::Crash(id) => crash_of(&self.servers, self.declared(id)),
+            Command::Crash(id) => crash_of(&self.servers, self.declared(*id)),
             Command::Commit(id, size) => {
-                let member = self.declared(id);
+                let member = self.declared(*id);
                 Some(commit_of(&self.servers, member, self.commits + 1, size.bytes))
             }
-            Command::Freeze(id) => freezing_of(&self.frozen, self.declared(id), true),
-            Command::Thaw(id) => freezing_of(&self.frozen, self.declared(id), false),
+            Command::Freeze(id) => freezing_of(&self.frozen, self.declared(*id), true),
+            Command::Thaw(id) => freezing_of(&self.frozen, self.declared(*id), false),
             Command::Slow(id, slowed, delay) => {
-                slow_of(&self.servers, self.declared(id), slowed, delay)
+                slow_of(&self.servers, self.declared(*id), *slowed, *delay)
             }
-            Command::Cut(first, second) => cut_of(&self.cuts, self.link(first, second)),
-            Command::Join(first, second) => join_of(&self.cuts, self.link(first, second)),
+            Command::Cut(first, second) => cut_of(&self.cuts, self.link(*first, *second)),
+            Command::Join(first, second) => join_of(&self.cuts, self.link(*first, *second)),
             _ => None,
         }
     }

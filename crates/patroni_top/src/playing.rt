@@ -114,8 +114,7 @@ impl Player {
         ensures { Plays K.Sink self.old self.new out.old out.new result (steps_of script.now.body) }
     {
         for place in 0..script.len() {
-            let line = line_at(script, place);
-            self.play_line(&line, out)?;
+            self.play_line(line_at(script, place), out)?;
         }
         Ok(())
     }
@@ -128,7 +127,7 @@ impl Player {
         match line {
             Line::Run(count) => self.play_ticks(*count, &Step::Scheduled, out),
             Line::Tick(count) => self.play_ticks(*count, &Step::Tick, out),
-            Line::Command(command) => self.play_step(&Step::Command(*command), out),
+            Line::Command(command) => self.play_step(&Step::Command(command.try_clone()?), out),
         }
     }
 
@@ -199,12 +198,12 @@ fn note_ticks(summary: &mut Summary, ticks: u64) -> Result<(), AllocError>
     Ok(())
 }
 
-fn line_at(script: &Script, place: usize) -> Line
+fn line_at(script: &Script, place: usize) -> &Line
     requires { place < length script.now.body }
-    ensures { slice_get script.now.body place ≡ Some result }
+    ensures { slice_get script.now.body place ≡ Some result.now }
 {
     match script.get(place) {
-        Some(line) => *line,
+        Some(line) => line,
         None => unreachable!(),
     }
 }

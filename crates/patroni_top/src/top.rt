@@ -42,7 +42,7 @@ pub fn run<S: Source, K: Sink, E: Sink>(
     ensures premises_guard { Known (S.rest input.old) (IfScript GuardsWriters) }
 
     // With synchronous mode on from the beginning each server that accepts writes has each commit that a client was told of, at each moment of the
-    // run up to which the premises are met, the mode stays on, and no member outside the sync key takes the leader key.
+    // run up to which the premises are met and the mode stays on.
     ensures kept_commits { Known (S.rest input.old) (IfScript KeepsCommits) }
     // At each of these moments the sync key names who accepts writes as the leader, and its commits wait for each standby in that key. Each claim
     // of that key was granted where there was none, or one that named its sender; and who asked to add a standby to it had commits wait for

@@ -36,7 +36,7 @@ use std::mem;
 const MOST_OUTPUTS: usize = 40;
 
 /// No message is heard by an agent that is woken.
-const NO_MESSAGE: HeardMessage = HeardMessage {
+pub const NO_MESSAGE: HeardMessage = HeardMessage {
     number: 0,
     run: 0,
     sent: Ticks(0),
@@ -160,7 +160,7 @@ impl Stage {
     }
 
     /// The agent of a member acts on what it hears, if there is one: what it does is put into the list.
-    fn hear(&mut self, member: Member, heard: Heard, outputs: &mut Outputs)
+    pub fn hear(&mut self, member: Member, heard: Heard, outputs: &mut Outputs)
         requires room { HasRoom self.old 1 }
         requires spare { most_outputs ≤ outputs.old.spare }
         requires none { outputs.old.outputs ≡ [] }
@@ -259,7 +259,7 @@ impl Stage {
     }
 
     /// The machine of a member, as its agent finds it.
-    fn machine(&self, member: Member) -> Option<Machine>
+    pub fn machine(&self, member: Member) -> Option<Machine>
         ensures machine { result ≡ machine_of self.now member }
         ensures within { HasRoom self.now 1 → IfSome result (λ machine. IsWithin machine.server) }
     {

@@ -13,9 +13,11 @@ ghost use Rattle.pat_world.specs.Short.{AsksShortly, IsAsked};
 
 use super::Stage;
 use crate::orders::{
-    arming, declared_member, feeding, hold_of_request, member_at, not_racing, receiver_of,
-    require_of, stop_of, told_of, upstream_of,
+    arming, declared_member, feeding, handing_over, hold_of_request, member_at, not_racing,
+    receiver_of, require_of, stop_of, told_of, upstream_of, wipe_of,
 };
+use crate::places::agent_at;
+use crate::requests::told_kind;
 use cluster_model::HeardMessage;
 use event_book::{Body, Event, EventKind, LinkEnd, Member, Message, WatchdogEvent};
 use ha_loop::{Output, Outputs, Target};
@@ -81,6 +83,7 @@ impl Stage {
                 self.start_replica(member, leader, events)
             }
             Output::Stop { reason } => self.stop(member, reason, events),
+            Output::Restart { .. } => self.restart_server(member, events),
             Output::Repair { leader, repair } => {
                 let leader = member_at(&self.members, leader);
                 self.repair(member, repair, leader, events)
@@ -197,6 +200,14 @@ impl Stage {
             } => {
                 let from = member_at(&self.members, *from);
                 Ok(hold_of_request(member, *until, heard.run, *sequence, from))
+            }
+            Output::Wipe => Ok(wipe_of(&self.servers, member)),
+            Output::HandsOver { candidate } => {
+                Ok(handing_over(member, member_at(&self.members, *candidate)))
+            }
+            Output::Told { told, .. } => {
+                let agent = agent_at(&self.agents, member.id.number as usize);
+                told_kind(self.alloc, member, agent, *told)
             }
             Output::DoesNotRace { bar } => Ok(Some(not_racing(&self.members, member, *bar))),
             _ => Ok(told_of(member, output)),

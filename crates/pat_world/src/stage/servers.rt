@@ -1,19 +1,21 @@
 //! What commands and agents do to servers.
 ghost use Rattle.std.specs.Prelude.{◌≡◌, ◌+◌, OnOk, Some, option_map};
+ghost use Rattle.pat_base.specs.declared.server_state.State.TheVariants as states;
 ghost use Rattle.event_book.specs.Members.{server_of};
-ghost use Rattle.cluster_model.specs.Messages.{begin_events, replica_start_events, stop_events};
+ghost use Rattle.cluster_model.specs.Beginnings.{again_by};
+ghost use Rattle.cluster_model.specs.Messages.{begin_events, replica_start_events, server_restart_events, stop_events};
 ghost use Rattle.cluster_model.specs.Next.{promote_events};
 ghost use Rattle.cluster_model.specs.Orders.{server_at};
 ghost use Rattle.pat_world.specs.Comes.{MayCome};
 ghost use Rattle.pat_world.specs.Emits.{Emits};
 ghost use Rattle.pat_world.specs.Promoting.{beginning_at};
-ghost use Rattle.pat_world.specs.Room.{HasRoom, beginning_cost, promotion_cost, replica_start_cost, stopping_cost};
+ghost use Rattle.pat_world.specs.Room.{HasRoom, beginning_cost, promotion_cost, replica_start_cost, server_restart_cost, stopping_cost};
 
-use super::Stage;
+use super::{Stage, note};
 use crate::losing::loss_of_any;
 use crate::orders::{following_of, stop_of};
 use crate::server_changes::is_down;
-use crate::server_commands::{beginning_of, promoted_timeline};
+use crate::server_commands::{beginning_of, promoted_timeline, restart_of};
 use cluster_model::Beginning;
 use event_book::{Event, EventKind, Member, Note, Reason, ServerEvent, ServerOf};
 use pat_base::State;
@@ -114,6 +116,81 @@ impl Stage {
             stop,
             events,
         )
+    }
+
+    /// The server of a member starts again in its role by the order of its agent, where it runs.
+    pub fn restart_server(
+        &mut self,
+        member: Member,
+        events: &mut Vec<Event>,
+    ) -> Result<(), AllocError>
+        requires { HasRoom self.old server_restart_cost }
+        ensures { OnOk result (Emits self.old self.new events.old.items events.new.items (server_restart_events self.old member) server_restart_cost) }
+    {
+        match self.server_state(member) {
+            Some(State::Primary) => self.restart_primary(member, events),
+            Some(State::Replica) => {
+                let server = ServerOf::of(member);
+                self.happen(
+                    EventKind::Server(ServerEvent::StartsAsReplica { server }),
+                    events,
+                )
+            }
+            _ => Ok(()),
+        }
+    }
+
+    /// The server of a member, a primary, ends and starts again as one, at once or when its start is complete. It ends however long its
+    /// stops take: so both are done at once.
+    fn restart_primary(&mut self, member: Member, events: &mut Vec<Event>) -> Result<(), AllocError>
+        requires room { HasRoom self.old server_restart_cost }
+        requires primary { option_map (λ s. s.state) (server_at self.old member) ≡ Some states.Primary }
+        ensures { OnOk result (Emits self.old self.new events.old.items events.new.items (server_restart_events self.old member) server_restart_cost) }
+    {
+        let Some(beginning) = restart_of(&self.servers, member) else {
+            return Ok(());
+        };
+        match beginning {
+            Beginning::AtOnce { timeline } => self.restart_at_once(member, timeline, events),
+            Beginning::WithItsStart => self.restart_slowly(member, events),
+        }
+    }
+
+    /// A primary ends, and begins again on its timeline at once. That it lacks an acknowledged commit then is told.
+    fn restart_at_once(
+        &mut self,
+        member: Member,
+        timeline: u64,
+        events: &mut Vec<Event>,
+    ) -> Result<(), AllocError>
+        requires room { HasRoom self.old server_restart_cost }
+        requires primary { option_map (λ s. s.state) (server_at self.old member) ≡ Some states.Primary }
+        requires again { option_map (λ s. again_by s.timeline s.start_delay) (server_at self.old member) ≡ Some (Beginning.AtOnce timeline) }
+        ensures { OnOk result (Emits self.old self.new events.old.items events.new.items (server_restart_events self.old member) server_restart_cost) }
+    {
+        let server = ServerOf::of(member);
+        let loss = loss_of_any(self.alloc, &self.servers, member, &self.acknowledged)?;
+        let ended = EventKind::Server(ServerEvent::Ended { server });
+        note(events, self.clock, ended)?;
+        self.servers.restart(member.id.number as usize, self.clock);
+        let began = EventKind::Server(ServerEvent::Began { server, timeline });
+        note(events, self.clock, began)?;
+        self.happen_if(loss, events)
+    }
+
+    /// A primary ends, and its start as one begins.
+    fn restart_slowly(&mut self, member: Member, events: &mut Vec<Event>) -> Result<(), AllocError>
+        requires room { HasRoom self.old server_restart_cost }
+        requires primary { option_map (λ s. s.state) (server_at self.old member) ≡ Some states.Primary }
+        requires again { option_map (λ s. again_by s.timeline s.start_delay) (server_at self.old member) ≡ Some Beginning.WithItsStart }
+        ensures { OnOk result (Emits self.old self.new events.old.items events.new.items (server_restart_events self.old member) server_restart_cost) }
+    {
+        let server = ServerOf::of(member);
+        let ended = EventKind::Server(ServerEvent::Ended { server });
+        note(events, self.clock, ended)?;
+        self.servers.restart(member.id.number as usize, self.clock);
+        let starts = EventKind::Server(ServerEvent::StartsAsPrimary { server });
+        note(events, self.clock, starts)
     }
 
     /// The state of a member's server.
