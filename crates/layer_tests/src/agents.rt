@@ -5,7 +5,10 @@ use cluster_config::{RoleWord, Snapshot};
 use event_book::{Body, Reason};
 use ha_loop::{Agent, Heard, Machine, Output, Outputs, Replication, Who};
 use leader_key::{Mode, Watchdog};
-use lease_store::{ConfigValue, MemberInfo, Store, Txn, TxnKind};
+use lease_store::{
+    ConfigValue, FailoverKey, FailoverKind, MemberInfo, OperatorAction, OperatorRequest, Store,
+    Txn, TxnKind,
+};
 use pat_base::{Host, Lsn, MemberId, Name, Required, State, Tags, Ticks, Word};
 use pg_model::ServerStatus;
 use std::alloc::Global;
@@ -43,6 +46,18 @@ fn server(rt: &impl Abort) -> ServerStatus {
     }
 }
 
+fn machine(rt: &impl Abort) -> Machine {
+    Machine {
+        server: server(rt),
+        replication: Replication {
+            required: Required::Nobody,
+            connected: [None; 16],
+        },
+        watchdog: Watchdog::new(Mode::Automatic, true, Some(Ticks(50))),
+        hold: None,
+    }
+}
+
 /// What an output does, in a word.
 fn word(output: &Output) -> &'static str {
     match output {
@@ -56,6 +71,9 @@ fn word(output: &Output) -> &'static str {
         Output::Armed { until: Ticks(251) } => "armed until 251",
         Output::Fed { until: Ticks(351) } => "fed until 351",
         Output::Disarmed => "disarmed",
+        Output::Restart { as_primary: false } => "restart as a replica",
+        Output::Wipe => "wipe",
+        Output::Told { request: 7, .. } => "answer to 7",
         _ => "another",
     }
 }
@@ -63,6 +81,7 @@ fn word(output: &Output) -> &'static str {
 fn request(body: &Body) -> &'static str {
     match body {
         Body::Read => "read",
+        Body::Request(Txn::SetFailover { .. }) => "failover key",
         Body::Request(txn) => match txn.kind() {
             TxnKind::Create => "create",
             TxnKind::Renewal => "renewal",
@@ -91,12 +110,43 @@ fn input(
     assert!(rt; machine.server.stop_delay == Ticks(0));
     assert!(rt; machine.server.start_delay == Ticks(0));
     let agent = agent.step(at, heard, history, machine, out);
+    check_outputs(rt, out, wanted);
+    agent
+}
+
+/// Takes all outputs, and checks the words of what they do.
+fn check_outputs(rt: &impl Abort, out: &mut Outputs, wanted: &[&str]) {
     for word_wanted in wanted {
         let output = out.take().expect(rt, "an output");
         assert_eq!(rt; word(&output), *word_wanted);
     }
     assert!(rt; out.take().is_none());
-    agent
+}
+
+/// What a new agent of a replica does for an operator; how many messages of its run are left then.
+fn asked_of_a_replica(
+    rt: &impl Abort,
+    alloc: Global,
+    asked: OperatorRequest,
+    wanted: &[&str],
+) -> Result<u64, Fail> {
+    let history = History::new(alloc);
+    let mut out = Outputs::new(alloc);
+    out.reserve(40)?;
+    let mut machine = machine(rt);
+    let agent = Agent::start(who(rt), Ticks(0), 1, &mut machine);
+    assert!(rt; agent.seen().is_none());
+    assert!(rt; agent.room() >= 40);
+    assert!(rt; out.spare() >= 40);
+    assert!(rt; machine.server.timeline < 1000);
+    assert!(rt; machine.server.stop_delay == Ticks(0));
+    assert!(rt; machine.server.start_delay == Ticks(0));
+    let action = OperatorAction { request: 7, asked };
+    let agent = agent.act(Ticks(1), action, &history, &mut machine, &mut out);
+    check_outputs(rt, &mut out, wanted);
+    let room = agent.room();
+    agent.wreck();
+    Ok(room)
 }
 
 /// What the store of one member holds at a moment.
@@ -129,15 +179,7 @@ fn one_member(rt: HostRuntime) -> Result<(), Fail> {
     let granted = store.apply(Ticks(1), who(&rt).me, &create)?;
     let held = snapshot(rt.alloc(), &rt, &store, Ticks(1))?;
     let read = snapshot(rt.alloc(), &rt, &store, Ticks(101))?;
-    let mut machine = Machine {
-        server: server(&rt),
-        replication: Replication {
-            required: Required::Nobody,
-            connected: [None; 16],
-        },
-        watchdog: Watchdog::new(Mode::Automatic, true, Some(Ticks(50))),
-        hold: None,
-    };
+    let mut machine = machine(&rt);
     let agent = Agent::start(who(&rt), Ticks(0), 1, &mut machine);
     let agent = input(
         &rt,
@@ -236,5 +278,35 @@ fn one_member(rt: HostRuntime) -> Result<(), Fail> {
     let is_follower = ended.view(Ticks(202), &machine).role == RoleWord::Follower;
     ended.wreck();
     assert!(rt; is_follower);
+    Ok(())
+}
+
+#[test]
+fn requests_of_operators(rt: HostRuntime) -> Result<(), Fail> {
+    let failover = OperatorRequest::Failover {
+        kind: FailoverKind::Failover,
+        failover: FailoverKey {
+            leader: None,
+            candidate: MemberId::new(0),
+        },
+    };
+    let alloc = rt.alloc();
+    let all = 1 << 60;
+    let left = asked_of_a_replica(&rt, alloc, failover, &["failover key"])?;
+    assert_eq!(rt; left, all - 1);
+    let left = asked_of_a_replica(
+        &rt,
+        alloc,
+        OperatorRequest::Restart,
+        &["restart as a replica", "answer to 7"],
+    )?;
+    assert_eq!(rt; left, all);
+    let left = asked_of_a_replica(
+        &rt,
+        alloc,
+        OperatorRequest::Reinit,
+        &["wipe", "answer to 7"],
+    )?;
+    assert_eq!(rt; left, all);
     Ok(())
 }

@@ -5,11 +5,15 @@
 #[cfg(test)]
 mod agents;
 #[cfg(test)]
+mod clusters;
+#[cfg(test)]
 mod configurations;
 #[cfg(test)]
 mod limits;
 #[cfg(test)]
 mod logs;
+#[cfg(test)]
+mod operators;
 #[cfg(test)]
 mod races;
 #[cfg(test)]

@@ -1,16 +1,16 @@
 //! Races for a free leader key, worked by hand.
 
+use crate::clusters::{
+    NOW, ask_failover, name, name_standbys, replica, snapshot_of, store_of, tags,
+};
 use crate::store::{TTL, ask, info, member};
-use cluster_config::{AgentView, RoleWord, Snapshot};
+use cluster_config::{AgentView, Snapshot};
 use leader_race::{may_race, wins};
-use lease_store::{Bar, Config, ConfigValue, Expected, FailoverKey, Store, Txn};
-use pat_base::{Host, Lsn, MemberSet, Name, PeerAnswer, State, Tags, Ticks};
+use lease_store::{Bar, Config, FailoverKey, Store, Txn};
+use pat_base::{Host, Lsn, MemberSet, PeerAnswer, State, Ticks};
 use std::alloc::Global;
 use std::process::Abort;
 use std::test::Fail;
-
-/// The moment of each race.
-const NOW: Ticks = Ticks(104);
 
 /// What a race turns on. Members go by their numbers, sets of them by their bits, and member 0 led before.
 #[derive(Clone, Copy, Debug)]
@@ -468,44 +468,14 @@ fn at(position: u32) -> Lsn {
     }
 }
 
-fn name(rt: &impl Abort) -> Name {
-    Name::read(b"demo").expect(rt, "a name")
-}
-
-/// Tags of a priority of 0, 1 or 2.
-fn tags(nofailover: bool, priority: u8) -> Tags {
-    let failover_priority = match priority {
-        0 => 0,
-        1 => 1,
-        _ => 2,
-    };
-    Tags {
-        nofailover,
-        nosync: false,
-        noloadbalance: false,
-        failover_priority,
-    }
-}
-
 fn view<'a>(rt: &impl Abort, setup: &Setup, seen: &'a Snapshot) -> AgentView<'a> {
     AgentView {
-        moment: NOW,
-        scope: name(rt),
         me: member(rt, setup.me),
-        name: name(rt),
         tags: tags(setup.nofailover, 1),
         state: setup.state,
-        timeline: 2,
         end: setup.end.map(at),
-        receives: false,
-        diverged: false,
-        was_primary: false,
-        role: RoleWord::Follower,
-        seen: Some(seen),
-        last_read: Some(NOW),
-        last_turn: Some(NOW),
         hold: setup.hold.map(|until| Ticks(u64::from(until))),
-        waits: false,
+        ..replica(rt, Some(seen))
     }
 }
 
@@ -529,12 +499,10 @@ fn snapshot(rt: &impl Abort, alloc: Global, setup: &Setup) -> Result<Snapshot, F
     config.pause = setup.pause;
     config.synchronous_mode = setup.synchronous;
     config.failsafe_mode = setup.failsafe_mode;
-    let text = String::from_str(alloc, "{}")?;
-    let mut store = Store::new(alloc, ConfigValue::new(text, config))?;
+    let mut store = store_of(alloc, config)?;
     lead(rt, &mut store, setup)?;
     name_members(rt, &mut store, setup)?;
-    let entries = store.entries(NOW)?;
-    Ok(Snapshot::read(alloc, name(rt), &[(name(rt), Host::local())], entries)?)
+    snapshot_of(rt, alloc, &store, &[(name(rt, b"demo"), Host::local())])
 }
 
 /// Member 0 takes the leader key, as revision 2, and renews it, as revision 3.
@@ -561,25 +529,14 @@ fn lead(rt: &impl Abort, store: &mut Store, setup: &Setup) -> Result<(), Fail> {
 /// It names standbys, and a failover is asked for.
 fn name_members(rt: &impl Abort, store: &mut Store, setup: &Setup) -> Result<(), Fail> {
     if let Some(bits) = setup.standbys {
-        let publish = Txn::SetSync {
-            revision: 3,
-            sync: Expected::Absent,
-            standbys: MemberSet { bits },
-        };
-        ask(rt, store, NOW, member(rt, 0), publish)?;
+        name_standbys(rt, store, member(rt, 0), 3, MemberSet { bits })?;
     }
     if let Some((leader, candidate)) = setup.failover {
         let failover = FailoverKey {
             leader: leader.map(|number| member(rt, number)),
             candidate: candidate.map(|number| member(rt, number)),
         };
-        ask(
-            rt,
-            store,
-            NOW,
-            member(rt, 0),
-            Txn::SetFailover { failover, ttl: TTL },
-        )?;
+        ask_failover(rt, store, failover)?;
     }
     Ok(())
 }

@@ -1,5 +1,7 @@
 //! Scripts that are read, and the first fault of bytes that are none.
-use cluster_script::{Command, CommitSize, Delay, End, Fault, Line, ScriptFault, SlowedCall, read};
+use cluster_script::{
+    Command, CommitSize, Delay, End, Fault, Line, RestCall, ScriptFault, SlowedCall, read,
+};
 use leader_key::Mode;
 use pat_base::MemberId;
 use std::alloc::Global;
@@ -456,9 +458,28 @@ const FAULTY_SERVER_LINES: [(&[u8], Fault); 35] = [
     (b"thaw", Fault::WordCount),
 ];
 
+/// Requests to the REST interface, and the first fault there.
+const FAULTY_REQUESTS: [(&[u8], Fault); 14] = [
+    (b"rest A GET /", Fault::NotBuilt),
+    (b"rest zz POST /switchover/", Fault::NotBuilt),
+    (b"rest a post /restart", Fault::NotBuilt),
+    (b"rest a P@ST /restart", Fault::NotBuilt),
+    (b"rest a  /restart", Fault::NotBuilt),
+    (b"rest A POST /restart", Fault::BadName),
+    (b"rest A P@ST", Fault::BadName),
+    (b"rest zz P@ST", Fault::BadOption),
+    (b"rest zz POST /restart", Fault::UnknownName),
+    (b"rest zz POST", Fault::UnknownName),
+    (b"rest a POST ", Fault::WordCount),
+    (b"rest a POST", Fault::WordCount),
+    (b"rest a", Fault::WordCount),
+    (b"rest", Fault::WordCount),
+];
+
 /// Lines that are to come.
-const NOT_BUILT: [&[u8]; 5] = [
+const NOT_BUILT: [&[u8]; 6] = [
     b"rest a GET /",
+    b"rest a DELETE /restart",
     b"ctl list",
     b"member c margin=-1",
     b"member c device=ok margin=-1",
@@ -580,6 +601,42 @@ fn lines_of_servers_say_what_they_say(rt: HostRuntime) -> Result<(), Fail> {
     for (line, command) in cases {
         let script = read(alloc, &with_body(alloc, line, 1)?).map_err(|_| "none")?;
         assert_eq!(rt; *script.get(0).ok_or("none")?, Line::Command(command));
+    }
+    Ok(())
+}
+
+#[test]
+fn requests_say_what_they_say(rt: HostRuntime) -> Result<(), Fail> {
+    let alloc = rt.alloc();
+    let a = MemberId::new(0).ok_or("none")?;
+    let cases: [(&[u8], RestCall, &[u8]); 7] = [
+        (
+            b"rest a POST /switchover {\"leader\":\"a\"} ",
+            RestCall::Switchover,
+            b"{\"leader\":\"a\"} ",
+        ),
+        (b"rest a DELETE /switchover", RestCall::DropSwitchover, b""),
+        (b"rest a POST /failover  {}", RestCall::Failover, b" {}"),
+        (
+            b"rest a POST /failover \xc3\xa4",
+            RestCall::Failover,
+            b"\xc3\xa4",
+        ),
+        (b"rest a POST /restart ", RestCall::Restart, b""),
+        (b"rest a POST /reinitialize\n", RestCall::Reinitialize, b""),
+        (b"rest a POST /reinitialize #", RestCall::Reinitialize, b"#"),
+    ];
+    for (line, call, body) in cases {
+        let script = read(alloc, &with_body(alloc, line, 1)?).map_err(|_| "none")?;
+        let told = match script.get(0) {
+            Some(Line::Command(Command::Rest(member, call, body))) => Some((
+                *member,
+                *call,
+                body.as_slice(),
+            )),
+            _ => None,
+        };
+        assert_eq!(rt; told, Some((a, call, body)));
     }
     Ok(())
 }
@@ -725,6 +782,11 @@ fn configurations_with_a_fault(rt: HostRuntime) -> Result<(), Fail> {
 #[test]
 fn lines_of_servers_with_a_fault(rt: HostRuntime) -> Result<(), Fail> {
     have_faults(&rt, rt.alloc(), 4, &FAULTY_SERVER_LINES)
+}
+
+#[test]
+fn requests_with_a_fault(rt: HostRuntime) -> Result<(), Fail> {
+    have_faults(&rt, rt.alloc(), 4, &FAULTY_REQUESTS)
 }
 
 #[test]

@@ -1,6 +1,7 @@
 //! Worked runs of the calls of servers, alone and in a cluster.
-ghost use Rattle.std.specs.Prelude.{◌<◌, ◌^◌, IsTrue, IfSome, slice_get};
-ghost use Rattle.pg_model.specs.Facts.{is_replica, is_down};
+ghost use Rattle.std.specs.Prelude.{◌≡◌, ◌<◌, ◌^◌, false, IsTrue, IfSome, slice_get};
+ghost use Rattle.pat_base.specs.ServerState.{live};
+ghost use Rattle.pg_model.specs.Facts.{is_replica, is_down, is_running};
 
 use pat_base::{Lsn, MemberId, MemberSet, Required, ServerId, State, Ticks};
 use pg_model::{CommitFault, InState, PgFault, Rewound, Server, Servers, Streamed};
@@ -21,6 +22,7 @@ enum Case {
     CrashedPrimary,
     StartingReplica,
     StartingPrimary,
+    Wiped,
 }
 
 /// The calls that a state may forbid.
@@ -35,9 +37,11 @@ enum Call {
     Stream,
     Rewind,
     CloneFrom,
+    Restart,
+    Wipe,
 }
 
-const ALL: [Call; 9] = [
+const ALL: [Call; 11] = [
     Call::Promote,
     Call::StartReplica,
     Call::StartPrimary,
@@ -47,11 +51,12 @@ const ALL: [Call; 9] = [
     Call::Stream,
     Call::Rewind,
     Call::CloneFrom,
+    Call::Restart,
+    Call::Wipe,
 ];
 
-/// Which calls are made in each state, with an upstream and a source that accepts writes; all others are refused. No server
-/// waits for a copy yet, so none is cloned.
-const CALLS: [(Case, &[Call]); 10] = [
+/// Which calls are made in each state, with an upstream and a source that accepts writes; all others are refused.
+const CALLS: [(Case, &[Call]); 11] = [
     (
         Case::Replica,
         &[
@@ -60,23 +65,34 @@ const CALLS: [(Case, &[Call]); 10] = [
             Call::Follow,
             Call::Stream,
             Call::Rewind,
+            Call::Restart,
+            Call::Wipe,
         ],
     ),
-    (Case::Primary, &[Call::Stop, Call::Commit]),
-    (Case::StoppingReplica, &[]),
+    (Case::Primary, &[Call::Stop, Call::Commit, Call::Restart]),
+    (Case::StoppingReplica, &[Call::Wipe]),
     (Case::StoppingPrimary, &[Call::Commit]),
-    (Case::StoppedReplica, &[Call::StartReplica, Call::Rewind]),
+    (
+        Case::StoppedReplica,
+        &[Call::StartReplica, Call::Rewind, Call::Wipe],
+    ),
     (
         Case::StoppedPrimary,
-        &[Call::StartReplica, Call::StartPrimary, Call::Rewind],
+        &[
+            Call::StartReplica,
+            Call::StartPrimary,
+            Call::Rewind,
+            Call::Wipe,
+        ],
     ),
-    (Case::CrashedReplica, &[Call::StartReplica]),
+    (Case::CrashedReplica, &[Call::StartReplica, Call::Wipe]),
     (
         Case::CrashedPrimary,
-        &[Call::StartReplica, Call::StartPrimary],
+        &[Call::StartReplica, Call::StartPrimary, Call::Wipe],
     ),
-    (Case::StartingReplica, &[Call::Stop]),
-    (Case::StartingPrimary, &[Call::Stop]),
+    (Case::StartingReplica, &[Call::Stop, Call::Wipe]),
+    (Case::StartingPrimary, &[Call::Stop, Call::Wipe]),
+    (Case::Wiped, &[Call::CloneFrom, Call::Wipe]),
 ];
 
 // The calls once more, without a contract: what a test proves would grow with each of them.
@@ -134,6 +150,14 @@ fn rewind(server: &mut Server, source: &Server) -> Result<Lsn, PgFault> {
 
 fn clone_from(server: &mut Server, source: &Server) -> Result<(), PgFault> {
     server.clone_from(source)
+}
+
+fn restart(server: &mut Server, at: u32) -> Result<(), InState> {
+    server.restart(Ticks(u64::from(at)))
+}
+
+fn wipe(server: &mut Server) -> Result<(), InState> {
+    server.wipe()
 }
 
 fn require(server: &mut Server, required: Required) {
@@ -290,6 +314,8 @@ fn is_made(server: &mut Server, call: Call, upstream: &Server) -> bool {
         Call::Stream => stream(server, upstream, 1).is_some(),
         Call::Rewind => rewind(server, upstream).is_ok(),
         Call::CloneFrom => clone_from(server, upstream).is_ok(),
+        Call::Restart => restart(server, 20).is_ok(),
+        Call::Wipe => wipe(server).is_ok(),
     }
 }
 
@@ -307,6 +333,7 @@ fn bring(server: &mut Server, case: Case) -> Result<(), InState> {
         Case::CrashedPrimary => promote(server).and_then(|_| crash_wholly(server)),
         Case::StartingReplica => stop_wholly(server).and_then(|_| start_replica(server, 16, None)),
         Case::StartingPrimary => bring_up_again(server),
+        Case::Wiped => wipe(server),
     }
 }
 
@@ -338,7 +365,9 @@ enum Act {
     Confirm(usize, u8, u32),
     Acknowledge(usize),
     Crash(usize),
-    Restart(usize, u8),
+    StartReplica(usize, u8),
+    Restart(usize),
+    Wipe(usize),
     /// The server, and the one that it is rewound to.
     Rewind(usize, usize),
     /// The server, and the one that it becomes a copy of.
@@ -359,7 +388,7 @@ enum Answer {
 }
 
 /// A run of three servers, whose logs begin with 10 bytes.
-const RUN: [(Act, Answer); 46] = [
+const RUN: [(Act, Answer); 56] = [
     (Act::Commit(0, 9, 5), Answer::Nothing),
     (Act::Follow(1, 0), Answer::Done),
     (Act::Follow(2, 0), Answer::Done),
@@ -398,7 +427,7 @@ const RUN: [(Act, Answer); 46] = [
     // It is told again after a start.
     (Act::Crash(2), Answer::Done),
     (Act::Stream(2, 1, 9), Answer::Nothing),
-    (Act::Restart(2, 1), Answer::Done),
+    (Act::StartReplica(2, 1), Answer::Done),
     (Act::Stream(2, 1, 9), Answer::Diverged(23)),
     (Act::Crash(7), Answer::Done),
     (Act::Acknowledge(7), Answer::Nothing),
@@ -411,6 +440,18 @@ const RUN: [(Act, Answer); 46] = [
     (Act::Stream(2, 1, 9), Answer::Nothing),
     (Act::CloneFrom(2, 1), Answer::Nothing),
     (Act::CloneFrom(7, 1), Answer::Nothing),
+    // Who accepts writes isn't wiped. Who is waits for a copy, and only of one that accepts writes.
+    (Act::Wipe(0), Answer::Nothing),
+    (Act::Wipe(2), Answer::Done),
+    (Act::Stream(2, 1, 9), Answer::Nothing),
+    (Act::StartReplica(2, 1), Answer::Nothing),
+    (Act::Restart(2), Answer::Nothing),
+    (Act::CloneFrom(2, 2), Answer::Nothing),
+    (Act::CloneFrom(2, 1), Answer::Done),
+    (Act::Restart(2), Answer::Done),
+    (Act::Stream(2, 1, 9), Answer::Nothing),
+    // A primary that restarts is one again, on its timeline.
+    (Act::Restart(0), Answer::Done),
 ];
 
 #[test]
@@ -423,6 +464,8 @@ fn run_of_a_cluster(rt: HostRuntime) -> Result<(), Fail> {
     assert_eq!(rt; end_at(&servers, 0), Some(at(24)));
     assert_eq!(rt; end_at(&servers, 1), Some(at(24)));
     assert_eq!(rt; end_at(&servers, 2), Some(at(24)));
+    assert_eq!(rt; state_at(&servers, 0), Some(State::Primary));
+    assert_eq!(rt; state_at(&servers, 2), Some(State::Replica));
     assert_eq!(rt; servers.len(), 3);
     Ok(())
 }
@@ -432,7 +475,7 @@ fn starts_of_a_cluster(rt: HostRuntime) -> Result<(), Fail> {
     let mut servers = cluster(rt.alloc())?;
     wait(&mut servers, 2, 5);
     perform(&mut servers, Act::Crash(2))?;
-    perform(&mut servers, Act::Restart(2, 0))?;
+    perform(&mut servers, Act::StartReplica(2, 0))?;
     tick_all(&mut servers, 24);
     assert_eq!(rt;
         state_at(&servers, 2),
@@ -477,7 +520,9 @@ fn perform(servers: &mut Servers, act: Act) -> Result<Answer, AllocError> {
         Act::Confirm(place, by, end) => Ok(confirm_at(servers, place, by, end)),
         Act::Acknowledge(place) => Ok(acknowledge_at(servers, place)),
         Act::Crash(place) => Ok(crash_at(servers, place)),
-        Act::Restart(place, upstream) => Ok(restart_at(servers, place, upstream)),
+        Act::StartReplica(place, upstream) => Ok(start_replica_at(servers, place, upstream)),
+        Act::Restart(place) => Ok(restart_at(servers, place)),
+        Act::Wipe(place) => Ok(wipe_at(servers, place)),
         Act::Rewind(place, from) => rewind_at(servers, place, from),
         Act::CloneFrom(place, from) => clone_at(servers, place, from),
     }
@@ -501,6 +546,26 @@ fn is_down_at(servers: &Servers, place: usize) -> bool
     match servers.get(place) {
         Some(server) => matches!(server.state(), State::Stopped | State::Crashed),
         None => true,
+    }
+}
+
+/// Whether the server at a place, if there is one there, runs.
+fn runs_at(servers: &Servers, place: usize) -> bool
+    ensures { IsTrue result → IfSome (slice_get servers.now place) (λ s. IsTrue (is_running s.state)) }
+{
+    match servers.get(place) {
+        Some(server) => matches!(server.state(), State::Primary | State::Replica),
+        None => true,
+    }
+}
+
+/// Whether there is a live server at a place.
+fn is_live_at(servers: &Servers, place: usize) -> bool
+    ensures { result ≡ false → IfSome (slice_get servers.now place) (λ s. live s.state ≡ false) }
+{
+    match servers.get(place) {
+        Some(server) => server.live(),
+        None => false,
     }
 }
 
@@ -574,11 +639,27 @@ fn crash_at(servers: &mut Servers, place: usize) -> Answer {
     Answer::Done
 }
 
-fn restart_at(servers: &mut Servers, place: usize, upstream: u8) -> Answer {
+fn start_replica_at(servers: &mut Servers, place: usize, upstream: u8) -> Answer {
     if !is_down_at(servers, place) {
         return Answer::Nothing;
     }
     servers.start_replica(place, Ticks(20), ServerId::new(upstream));
+    Answer::Done
+}
+
+fn restart_at(servers: &mut Servers, place: usize) -> Answer {
+    if !runs_at(servers, place) {
+        return Answer::Nothing;
+    }
+    servers.restart(place, Ticks(20));
+    Answer::Done
+}
+
+fn wipe_at(servers: &mut Servers, place: usize) -> Answer {
+    if is_live_at(servers, place) {
+        return Answer::Nothing;
+    }
+    servers.wipe(place);
     Answer::Done
 }
 

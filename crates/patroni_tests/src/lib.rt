@@ -11,6 +11,8 @@ mod runs_of_configurations;
 #[cfg(test)]
 mod runs_of_messages;
 #[cfg(test)]
+mod runs_of_operators;
+#[cfg(test)]
 mod runs_of_races;
 #[cfg(test)]
 mod runs_of_servers;
