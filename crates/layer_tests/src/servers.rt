@@ -91,7 +91,7 @@ const CALLS: [(Case, &[Call]); 11] = [
         &[Call::StartReplica, Call::StartPrimary, Call::Wipe],
     ),
     (Case::StartingReplica, &[Call::Stop, Call::Wipe]),
-    (Case::StartingPrimary, &[Call::Stop, Call::Wipe]),
+    (Case::StartingPrimary, &[Call::Stop]),
     (Case::Wiped, &[Call::CloneFrom, Call::Wipe]),
 ];
 
