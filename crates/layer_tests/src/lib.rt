@@ -17,6 +17,8 @@ mod operators;
 #[cfg(test)]
 mod races;
 #[cfg(test)]
+mod requests;
+#[cfg(test)]
 mod scripts;
 #[cfg(test)]
 mod servers;

@@ -1,7 +1,5 @@
 //! Scripts that are read, and the first fault of bytes that are none.
-use cluster_script::{
-    Command, CommitSize, Delay, End, Fault, Line, RestCall, ScriptFault, SlowedCall, read,
-};
+use cluster_script::{Command, CommitSize, Delay, End, Fault, Line, ScriptFault, SlowedCall, read};
 use leader_key::Mode;
 use pat_base::MemberId;
 use std::alloc::Global;
@@ -458,24 +456,6 @@ const FAULTY_SERVER_LINES: [(&[u8], Fault); 35] = [
     (b"thaw", Fault::WordCount),
 ];
 
-/// Requests to the REST interface, and the first fault there.
-const FAULTY_REQUESTS: [(&[u8], Fault); 14] = [
-    (b"rest A GET /", Fault::NotBuilt),
-    (b"rest zz POST /switchover/", Fault::NotBuilt),
-    (b"rest a post /restart", Fault::NotBuilt),
-    (b"rest a P@ST /restart", Fault::NotBuilt),
-    (b"rest a  /restart", Fault::NotBuilt),
-    (b"rest A POST /restart", Fault::BadName),
-    (b"rest A P@ST", Fault::BadName),
-    (b"rest zz P@ST", Fault::BadOption),
-    (b"rest zz POST /restart", Fault::UnknownName),
-    (b"rest zz POST", Fault::UnknownName),
-    (b"rest a POST ", Fault::WordCount),
-    (b"rest a POST", Fault::WordCount),
-    (b"rest a", Fault::WordCount),
-    (b"rest", Fault::WordCount),
-];
-
 /// Lines that are to come.
 const NOT_BUILT: [&[u8]; 6] = [
     b"rest a GET /",
@@ -517,7 +497,7 @@ fn has_fault(alloc: Global, bytes: &[u8], line: u64, fault: Fault) -> bool {
 }
 
 /// The head of a script, and so many times this line behind it.
-fn with_body(alloc: Global, line: &[u8], count: usize) -> Result<Vec<u8>, Fail> {
+pub(crate) fn with_body(alloc: Global, line: &[u8], count: usize) -> Result<Vec<u8>, Fail> {
     let mut bytes = Vec::new(alloc);
     bytes.extend_from_slice(HEAD)?;
     for _ in 0..count {
@@ -601,42 +581,6 @@ fn lines_of_servers_say_what_they_say(rt: HostRuntime) -> Result<(), Fail> {
     for (line, command) in cases {
         let script = read(alloc, &with_body(alloc, line, 1)?).map_err(|_| "none")?;
         assert_eq!(rt; *script.get(0).ok_or("none")?, Line::Command(command));
-    }
-    Ok(())
-}
-
-#[test]
-fn requests_say_what_they_say(rt: HostRuntime) -> Result<(), Fail> {
-    let alloc = rt.alloc();
-    let a = MemberId::new(0).ok_or("none")?;
-    let cases: [(&[u8], RestCall, &[u8]); 7] = [
-        (
-            b"rest a POST /switchover {\"leader\":\"a\"} ",
-            RestCall::Switchover,
-            b"{\"leader\":\"a\"} ",
-        ),
-        (b"rest a DELETE /switchover", RestCall::DropSwitchover, b""),
-        (b"rest a POST /failover  {}", RestCall::Failover, b" {}"),
-        (
-            b"rest a POST /failover \xc3\xa4",
-            RestCall::Failover,
-            b"\xc3\xa4",
-        ),
-        (b"rest a POST /restart ", RestCall::Restart, b""),
-        (b"rest a POST /reinitialize\n", RestCall::Reinitialize, b""),
-        (b"rest a POST /reinitialize #", RestCall::Reinitialize, b"#"),
-    ];
-    for (line, call, body) in cases {
-        let script = read(alloc, &with_body(alloc, line, 1)?).map_err(|_| "none")?;
-        let told = match script.get(0) {
-            Some(Line::Command(Command::Rest(member, call, body))) => Some((
-                *member,
-                *call,
-                body.as_slice(),
-            )),
-            _ => None,
-        };
-        assert_eq!(rt; told, Some((a, call, body)));
     }
     Ok(())
 }
@@ -741,7 +685,7 @@ fn whole_inputs_with_a_fault(rt: HostRuntime) -> Result<(), Fail> {
 }
 
 /// Checks that each of these behind the head has this fault at a line of this number.
-fn have_faults(
+pub(crate) fn have_faults(
     rt: &impl Abort,
     alloc: Global,
     number: u64,
@@ -782,11 +726,6 @@ fn configurations_with_a_fault(rt: HostRuntime) -> Result<(), Fail> {
 #[test]
 fn lines_of_servers_with_a_fault(rt: HostRuntime) -> Result<(), Fail> {
     have_faults(&rt, rt.alloc(), 4, &FAULTY_SERVER_LINES)
-}
-
-#[test]
-fn requests_with_a_fault(rt: HostRuntime) -> Result<(), Fail> {
-    have_faults(&rt, rt.alloc(), 4, &FAULTY_REQUESTS)
 }
 
 #[test]
