@@ -10,6 +10,7 @@ use Rattle.pat_base.specs.declared.name.Name.{Name}
 use Rattle.event_book.specs.NameLists.{names_of}
 use Rattle.lease_store.specs.Writes.{is_lease}
 use Rattle.event_book.specs.declared.agent_process.AgentProcess.{AgentProcess}
+use Rattle.event_book.specs.declared.event.AgentEvent.{AgentEvent}
 use Rattle.event_book.specs.declared.event.AgentEvent.TheVariants.{Woken, Operated}
 use Rattle.event_book.specs.declared.event.Event.{Event}
 use Rattle.event_book.specs.declared.event.EventKind.{EventKind}
@@ -27,6 +28,7 @@ use Rattle.event_book.specs.Flight.{InFlightFacts, in_flight}
 use Rattle.event_book.specs.declared.reason.Reason.{Reason}
 use Rattle.cluster_script.specs.declared.rest.RestCall.{RestCall}
 use Rattle.operator_keys.specs.declared.refusal.Refused.{Refused}
+use Rattle.ha_loop.specs.declared.heard.Heard.{Heard}
 use Rattle.ha_loop.specs.declared.heard.Heard.TheVariants.{Wake, Operated as HearsOperator}
 use Rattle.ha_loop.specs.declared.output.Output.{Output}
 use Rattle.ha_loop.specs.declared.output.Output.TheVariants as outputs
@@ -118,9 +120,13 @@ input_events cluster member heard outcome = each (output_events member heard) cl
 abbrev pub no_message : HeardMessage
 no_message = record { number = 0; run = 0; sent = record { 0 = 0 } }
 
+-- an input that no message brings to the agent of a member, as this event: it acts on what it hears by it
+abbrev pub own_input_events : Cluster → Member → AgentEvent → Heard → List Event
+own_input_events cluster member input heard = events_then cluster (event_of cluster (kinds.Agent input)) (λ later. input_events later member no_message (outcome_of cluster member heard))
+
 -- the agent of a member is woken, and acts
 abbrev pub wake_events_of : Cluster → Member → List Event
-wake_events_of cluster member = events_then cluster (event_of cluster (kinds.Agent (Woken member))) (λ later. input_events later member no_message (outcome_of cluster member Wake))
+wake_events_of cluster member = own_input_events cluster member (Woken member) Wake
 
 -- a script wakes the agent of a member, where it runs and isn't suspended: one with nothing else to do takes note of its server
 abbrev pub turn_events_if : Cluster → Member → AgentProcess → List Event
@@ -144,7 +150,7 @@ answer_message message body = record { from = link_ends.Store; to = message.from
 
 -- the agent of a member does what an operator asks
 abbrev pub operate_events : Cluster → Member → OperatorAction → List Event
-operate_events cluster member action = events_then cluster (event_of cluster (kinds.Agent (Operated member action))) (λ later. input_events later member no_message (outcome_of cluster member (HearsOperator action)))
+operate_events cluster member action = own_input_events cluster member (Operated member action) (HearsOperator action)
 
 -- it does so, or answers what refuses the request
 abbrev pub decided_events : Cluster → Member → Outcome → Result OperatorRequest Refused → List Event

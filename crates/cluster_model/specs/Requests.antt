@@ -1,13 +1,11 @@
 -- Requests to the REST interface of agents: what each is refused with, or what its agent is to do.
 use Rattle.std.specs.Prelude.{ℕ, ◌+◌, is_some, List, Option, Some, None, Result, Ok, Err, option_and_then, option_map}
 use Rattle.pat_base.specs.declared.ticks.Ticks.{Ticks}
-use Rattle.lease_store.specs.declared.action.FailoverKind.{FailoverKind}
 use Rattle.lease_store.specs.declared.action.FailoverKind.TheVariants as failover_kinds
 use Rattle.lease_store.specs.declared.action.OperatorAction.{OperatorAction}
 use Rattle.lease_store.specs.declared.action.OperatorRequest.{OperatorRequest}
 use Rattle.lease_store.specs.declared.action.OperatorRequest.TheVariants as requests
 use Rattle.lease_store.specs.declared.key.Key.TheVariants as keys
-use Rattle.lease_store.specs.declared.value.FailoverKey.{FailoverKey}
 use Rattle.lease_store.specs.declared.value.KeyEntry.{KeyEntry}
 use Rattle.lease_store.specs.declared.value.Value.{Value}
 use Rattle.lease_store.specs.declared.value.Value.TheVariants as values
@@ -19,9 +17,11 @@ use Rattle.cluster_config.specs.Snapshots.{SnapshotFacts, entry_in}
 use Rattle.cluster_script.specs.declared.rest.RestCall.{RestCall}
 use Rattle.cluster_script.specs.declared.rest.RestCall.TheVariants as calls
 use Rattle.operator_keys.specs.declared.answer_text.Text.TheVariants as texts
+use Rattle.operator_keys.specs.declared.config_checks.ConfigChange.TheVariants as changes
 use Rattle.operator_keys.specs.declared.refusal.Refused.{Refused}
 use Rattle.operator_keys.specs.AnswerTexts.{answer_text}
 use Rattle.operator_keys.specs.Checks.{switchover_on, failover_on}
+use Rattle.operator_keys.specs.ConfigChecks.{configuration_on}
 use Rattle.operator_keys.specs.ServerChecks.{restart_refusal, reinit_refusal}
 use Rattle.ha_loop.specs.declared.operating.Told.{Told}
 use Rattle.ha_loop.specs.declared.operating.Told.TheVariants as tolds
@@ -37,10 +37,10 @@ not_found = 404
 abbrev pub no_scheduled_switchover : Refused
 no_scheduled_switchover = record { status = not_found; text = texts.NoScheduledSwitchover }
 
--- an agent is to have this failover key written, unless that is refused
-abbrev pub failing_over : FailoverKind → Result FailoverKey Refused → Result OperatorRequest Refused
-failing_over kind (Ok failover) = Ok (requests.Failover kind failover)
-failing_over kind (Err refused) = Err refused
+-- an agent is to do what comes of a check that passed
+abbrev pub asking : {A : Type 0} → (A → OperatorRequest) → Result A Refused → Result OperatorRequest Refused
+asking request (Ok x) = Ok (request x)
+asking request (Err refused) = Err refused
 
 -- an agent is to do this, unless something refuses it
 abbrev pub unless_refused : Option Refused → OperatorRequest → Result OperatorRequest Refused
@@ -49,11 +49,13 @@ unless_refused (Some refused) asked = Err refused
 
 -- what an agent that stands so is to do on this call with this body, or what the call is refused with
 abbrev pub decision_on_call : Ticks → Outcome → RestCall → List ℕ → Result OperatorRequest Refused
-decision_on_call now o calls.Switchover body = failing_over failover_kinds.Switchover (switchover_on o.knows.seen (is_some o.knows.operating) body)
+decision_on_call now o calls.Switchover body = asking (requests.Failover failover_kinds.Switchover) (switchover_on o.knows.seen (is_some o.knows.operating) body)
 decision_on_call now o calls.DropSwitchover body = Err no_scheduled_switchover
-decision_on_call now o calls.Failover body = failing_over failover_kinds.Failover (failover_on o.knows.seen (is_some o.knows.operating) body)
+decision_on_call now o calls.Failover body = asking (requests.Failover failover_kinds.Failover) (failover_on o.knows.seen (is_some o.knows.operating) body)
 decision_on_call now o calls.Restart body = unless_refused (restart_refusal (shown now o)) requests.Restart
 decision_on_call now o calls.Reinitialize body = unless_refused (reinit_refusal (shown now o)) requests.Reinit
+decision_on_call now o calls.PatchConfiguration body = asking requests.Configuration (configuration_on o.knows.seen (is_some o.knows.operating) changes.Patch body)
+decision_on_call now o calls.ReplaceConfiguration body = asking requests.Configuration (configuration_on o.knows.seen (is_some o.knows.operating) changes.Replace body)
 
 -- what the agent is to do as an action, under the number that its next message has
 abbrev pub action_of : Outcome → OperatorRequest → OperatorAction

@@ -126,6 +126,8 @@ call-IsPlain calls.DropSwitchover = record { plain = refl; short = omega arith }
 call-IsPlain calls.Failover = record { plain = refl; short = omega arith }
 call-IsPlain calls.Restart = record { plain = refl; short = omega arith }
 call-IsPlain calls.Reinitialize = record { plain = refl; short = omega arith }
+call-IsPlain calls.PatchConfiguration = record { plain = refl; short = omega arith }
+call-IsPlain calls.ReplaceConfiguration = record { plain = refl; short = omega arith }
 
 empty-IsPlain : (members : List Name) (m : MemberId) (call : RestCall) → IsPlain (rest_text members m call []) (7 + ((32 + (18 + 1)) + 1))
 empty-IsPlain members m call =
@@ -164,6 +166,8 @@ method_in-again calls.DropSwitchover = refl
 method_in-again calls.Failover = refl
 method_in-again calls.Restart = refl
 method_in-again calls.Reinitialize = refl
+method_in-again calls.PatchConfiguration = refl
+method_in-again calls.ReplaceConfiguration = refl
 
 call_in-again : (call : RestCall) → call_in (request_words call).0 (request_words call).1 ≡ Ok call
 call_in-again calls.Switchover = refl
@@ -171,6 +175,8 @@ call_in-again calls.DropSwitchover = refl
 call_in-again calls.Failover = refl
 call_in-again calls.Restart = refl
 call_in-again calls.Reinitialize = refl
+call_in-again calls.PatchConfiguration = refl
+call_in-again calls.ReplaceConfiguration = refl
 
 first_at-call : (call : RestCall) → (first_at 32 (request_words call).0 ≡ None) × (first_at 32 (request_words call).1 ≡ None)
 first_at-call calls.Switchover = (refl, refl)
@@ -178,6 +184,8 @@ first_at-call calls.DropSwitchover = (refl, refl)
 first_at-call calls.Failover = (refl, refl)
 first_at-call calls.Restart = (refl, refl)
 first_at-call calls.Reinitialize = (refl, refl)
+first_at-call calls.PatchConfiguration = (refl, refl)
+first_at-call calls.ReplaceConfiguration = (refl, refl)
 
 -- a target has a byte
 some-bytes : (n : ℕ) → 1 ≤ n → (n == 0) ≡ false
@@ -193,6 +201,8 @@ length-target calls.DropSwitchover = omega arith
 length-target calls.Failover = omega arith
 length-target calls.Restart = omega arith
 length-target calls.Reinitialize = omega arith
+length-target calls.PatchConfiguration = omega arith
+length-target calls.ReplaceConfiguration = omega arith
 
 cut-again : (target : List ℕ) (behind : Option (List ℕ)) → first_at 32 target ≡ None → cut_word (with_behind target behind) ≡ (target, behind)
 cut-again target None plain = cut_word-alone target plain

@@ -4,7 +4,7 @@ use Rattle.std.specs.Char.{is_ascii_alphanumeric}
 use Rattle.std.specs.List.{find, list_all, list_any}
 use Rattle.std.specs.Str.{bytes_eq}
 use Rattle.cluster_script.specs.declared.rest.RestCall.{RestCall}
-use Rattle.cluster_script.specs.declared.rest.RestCall.TheVariants.{Switchover, DropSwitchover, Failover, Restart, Reinitialize}
+use Rattle.cluster_script.specs.declared.rest.RestCall.TheVariants.{Switchover, DropSwitchover, Failover, Restart, Reinitialize, PatchConfiguration, ReplaceConfiguration}
 
 -- the method and the target of each call (Patroni documentation, "Patroni REST API")
 abbrev pub request_words : RestCall → List ℕ × List ℕ
@@ -13,10 +13,12 @@ request_words DropSwitchover = (codes "DELETE", codes "/switchover")
 request_words Failover = (codes "POST", codes "/failover")
 request_words Restart = (codes "POST", codes "/restart")
 request_words Reinitialize = (codes "POST", codes "/reinitialize")
+request_words PatchConfiguration = (codes "PATCH", codes "/config")
+request_words ReplaceConfiguration = (codes "PUT", codes "/config")
 
 -- all calls
 abbrev pub rest_calls : List RestCall
-rest_calls = Switchover ∷ DropSwitchover ∷ Failover ∷ Restart ∷ Reinitialize ∷ []
+rest_calls = Switchover ∷ DropSwitchover ∷ Failover ∷ Restart ∷ Reinitialize ∷ PatchConfiguration ∷ ReplaceConfiguration ∷ []
 
 -- a call has this method and this target
 abbrev pub is_call : List ℕ → List ℕ → RestCall → Bool

@@ -20,14 +20,20 @@ pub enum RestCall {
     Restart,
     /// `POST /reinitialize`: the server is to be wiped and copied anew ("Reinitialize endpoint").
     Reinitialize,
+    /// `PATCH /config`: the configuration is to be changed where the body says so ("Config endpoint").
+    PatchConfiguration,
+    /// `PUT /config`: the body is to take the place of the configuration (there too).
+    ReplaceConfiguration,
 }
 
-const REST_CALLS: [RestCall; 5] = [
+const REST_CALLS: [RestCall; 7] = [
     RestCall::Switchover,
     RestCall::DropSwitchover,
     RestCall::Failover,
     RestCall::Restart,
     RestCall::Reinitialize,
+    RestCall::PatchConfiguration,
+    RestCall::ReplaceConfiguration,
 ];
 
 /// The method and the target of a call.
@@ -40,6 +46,8 @@ fn request_words(call: RestCall) -> (&'static [u8], &'static [u8])
         RestCall::Failover => (b"POST", b"/failover"),
         RestCall::Restart => (b"POST", b"/restart"),
         RestCall::Reinitialize => (b"POST", b"/reinitialize"),
+        RestCall::PatchConfiguration => (b"PATCH", b"/config"),
+        RestCall::ReplaceConfiguration => (b"PUT", b"/config"),
     }
 }
 

@@ -7,6 +7,8 @@ mod agents;
 #[cfg(test)]
 mod clusters;
 #[cfg(test)]
+mod config_changes;
+#[cfg(test)]
 mod configurations;
 #[cfg(test)]
 mod limits;

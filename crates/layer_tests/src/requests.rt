@@ -5,8 +5,13 @@ use pat_base::MemberId;
 use std::test::Fail;
 
 /// Lines behind the head of a script, and the first fault there.
-const FAULTY_REQUESTS: [(&[u8], Fault); 14] = [
+const FAULTY_REQUESTS: [(&[u8], Fault); 19] = [
     (b"rest A GET /", Fault::NotBuilt),
+    (b"rest a GET /config", Fault::NotBuilt),
+    (b"rest a POST /config {}", Fault::NotBuilt),
+    (b"rest a patch /config {}", Fault::NotBuilt),
+    (b"rest a PATCH /config/ {}", Fault::NotBuilt),
+    (b"rest a PUT config {}", Fault::NotBuilt),
     (b"rest zz POST /switchover/", Fault::NotBuilt),
     (b"rest a post /restart", Fault::NotBuilt),
     (b"rest a P@ST /restart", Fault::NotBuilt),
@@ -26,7 +31,7 @@ const FAULTY_REQUESTS: [(&[u8], Fault); 14] = [
 fn requests_say_what_they_say(rt: HostRuntime) -> Result<(), Fail> {
     let alloc = rt.alloc();
     let a = MemberId::new(0).ok_or("none")?;
-    let cases: [(&[u8], RestCall, &[u8]); 7] = [
+    let cases: [(&[u8], RestCall, &[u8]); 10] = [
         (
             b"rest a POST /switchover {\"leader\":\"a\"} ",
             RestCall::Switchover,
@@ -42,6 +47,17 @@ fn requests_say_what_they_say(rt: HostRuntime) -> Result<(), Fail> {
         (b"rest a POST /restart ", RestCall::Restart, b""),
         (b"rest a POST /reinitialize\n", RestCall::Reinitialize, b""),
         (b"rest a POST /reinitialize #", RestCall::Reinitialize, b"#"),
+        (
+            b"rest a PATCH /config {\"ttl\": 19}",
+            RestCall::PatchConfiguration,
+            b"{\"ttl\": 19}",
+        ),
+        (
+            b"rest a PUT /config {} {",
+            RestCall::ReplaceConfiguration,
+            b"{} {",
+        ),
+        (b"rest a PATCH /config", RestCall::PatchConfiguration, b""),
     ];
     for (line, call, body) in cases {
         let script = read(alloc, &with_body(alloc, line, 1)?).map_err(|_| "none")?;

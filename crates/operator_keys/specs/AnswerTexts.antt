@@ -1,8 +1,22 @@
 -- What an agent answers operators, in words.
 use Rattle.std.specs.Prelude.{ℕ, List, ◌++◌, codes}
 use Rattle.pat_base.specs.Name.{name_bytes}
+use Rattle.cluster_config.specs.declared.config_fault.ConfigFault.{ConfigFault}
+use Rattle.cluster_config.specs.declared.config_fault.ConfigFault.TheVariants as faults
+use Rattle.cluster_config.specs.SettingTable.{setting_name}
 use Rattle.operator_keys.specs.declared.answer_text.Text.{Text}
 use Rattle.operator_keys.specs.declared.answer_text.Text.TheVariants as texts
+
+-- what is at fault in a configuration
+abbrev pub fault_text : ConfigFault → List ℕ
+fault_text faults.NotJson = codes "NotJson"
+fault_text faults.NotObject = codes "NotObject"
+fault_text (faults.BadValue setting) = codes "BadValue(" ++ setting_name setting ++ codes ")"
+fault_text (faults.BelowMinimum setting) = codes "BelowMinimum(" ++ setting_name setting ++ codes ")"
+fault_text faults.TimesRule = codes "TimesRule"
+fault_text faults.Fraction = codes "Fraction"
+fault_text (faults.NotBuilt setting) = codes "NotBuilt(" ++ setting_name setting ++ codes ")"
+fault_text faults.Memory = codes "Memory"
 
 -- the words of a text
 abbrev pub answer_text : Text → List ℕ
@@ -32,3 +46,4 @@ answer_text texts.Restarted = codes "restarted"
 answer_text texts.IsLeader = codes "I am the leader"
 answer_text texts.ReinitializeStarted = codes "reinitialize started"
 answer_text texts.ConfigurationNotWritten = codes "Configuration was not written"
+answer_text (texts.BadConfiguration fault) = fault_text fault

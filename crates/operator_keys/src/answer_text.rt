@@ -1,4 +1,5 @@
 //! What an agent answers operators.
+use cluster_config::ConfigFault;
 use pat_base::Name;
 use std::fmt;
 
@@ -59,6 +60,8 @@ pub enum Text {
     ReinitializeStarted,
     /// `Configuration was not written`
     ConfigurationNotWritten,
+    /// What is at fault in a configuration, as `ConfigFault` is printed: `NotJson`, `BelowMinimum(ttl)`
+    BadConfiguration(ConfigFault),
 }
 
 impl fmt::Display for Text {
@@ -103,6 +106,31 @@ impl fmt::Display for Text {
             Text::IsLeader => f.write_str("I am the leader"),
             Text::ReinitializeStarted => f.write_str("reinitialize started"),
             Text::ConfigurationNotWritten => f.write_str("Configuration was not written"),
+            Text::BadConfiguration(fault) => write!(f, "{}", FaultName(*fault)),
+        }
+    }
+}
+
+/// What is at fault in a configuration, in the words of `ConfigFault`, which no contract has.
+#[derive(Drop)]
+struct FaultName(ConfigFault);
+
+impl fmt::Display for FaultName {
+    ghost use Rattle.std.specs.Prelude.{Some};
+    ghost use Rattle.operator_keys.specs.AnswerTexts.{fault_text};
+
+    ghost output = { λ name. Some (fault_text name.0) };
+
+    fn fmt<W: fmt::Write>(&self, f: &mut fmt::Formatter<W>) -> fmt::Result {
+        match self.0 {
+            ConfigFault::NotJson => f.write_str("NotJson"),
+            ConfigFault::NotObject => f.write_str("NotObject"),
+            ConfigFault::BadValue(setting) => write!(f, "BadValue({setting})"),
+            ConfigFault::BelowMinimum(setting) => write!(f, "BelowMinimum({setting})"),
+            ConfigFault::TimesRule => f.write_str("TimesRule"),
+            ConfigFault::Fraction => f.write_str("Fraction"),
+            ConfigFault::NotBuilt(setting) => write!(f, "NotBuilt({setting})"),
+            ConfigFault::Memory => f.write_str("Memory"),
         }
     }
 }

@@ -47,7 +47,7 @@ pub fn check_failover(
 }
 
 /// The snapshot by which a request is judged.
-fn seen_by<'a>(view: &AgentView<'a>) -> Result<&'a Snapshot, Refused>
+pub(crate) fn seen_by<'a>(view: &AgentView<'a>) -> Result<&'a Snapshot, Refused>
     ensures ok { IfOk result (λ seen. seen_by view.now ≡ Ok seen.now) }
     ensures err { IfErr result (λ e. seen_by view.now ≡ Err e) }
 {

@@ -1,4 +1,5 @@
-//! Checks of what operators ask of an agent, before it is done: a switchover, a failover, a restart, a reinitialization.
+//! Checks of what operators ask of an agent, before it is done: a switchover, a failover, a restart, a reinitialization,
+//! a change of the configuration.
 #![tactic(auto)]
 
 mod answer_text;
@@ -6,6 +7,7 @@ mod asked;
 mod body;
 mod candidates;
 mod checks;
+mod config_checks;
 mod failing_over;
 mod laws;
 mod refusal;
@@ -13,6 +15,7 @@ mod server_checks;
 
 pub use answer_text::Text;
 pub use checks::{check_failover, check_switchover};
+pub use config_checks::{ConfigChange, check_configuration};
 pub use laws::{keys_name_whom_bodies_name, what_a_failover_names, what_a_switchover_names};
 pub use refusal::{CheckFault, Refused};
 pub use server_checks::{check_reinit, check_restart};

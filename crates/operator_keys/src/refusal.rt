@@ -25,7 +25,7 @@ pub struct Refused {
     pub text: Text,
 }
 
-/// Why a body gave no failover key.
+/// Why a body gave no failover key and no configuration.
 #[derive(Clone, Copy, Debug, PartialEq, Eq, Error)]
 pub enum CheckFault {
     /// Want of memory: nothing is said of the body.

@@ -1,20 +1,20 @@
 -- Requests of operators: what they are decided to, and what they bring.
-use Rattle.std.proofs.Common.{◌≡◌, ℕ, ◌+◌, ◌<◌, List, [], Option, Some, None, Result, Ok, Err, arith, refl, ◌∙◌, ap, sym, subst}
-use Rattle.std.specs.Prelude.{option_and_then, option_copied, slice_get}
+use Rattle.std.proofs.Common.{◌≡◌, ℕ, ◌+◌, ◌<◌, Bool, List, [], Option, Some, None, Result, Ok, Err, arith, refl, ◌∙◌, ap, sym, subst}
+use Rattle.std.specs.Prelude.{is_some, option_and_then, option_copied, slice_get}
 use Rattle.pat_base.specs.declared.ticks.Ticks.{Ticks}
-use Rattle.lease_store.specs.declared.action.FailoverKind.{FailoverKind}
 use Rattle.lease_store.specs.declared.action.FailoverKind.TheVariants as failover_kinds
 use Rattle.lease_store.specs.declared.action.OperatorRequest.{OperatorRequest}
 use Rattle.lease_store.specs.declared.action.OperatorRequest.TheVariants as requests
-use Rattle.lease_store.specs.declared.value.FailoverKey.{FailoverKey}
 use Rattle.cluster_config.specs.declared.view.AgentView.{AgentView}
 use Rattle.cluster_config.specs.Snapshots.{SnapshotFacts}
 use Rattle.cluster_script.specs.declared.rest.RestCall.{RestCall}
 use Rattle.cluster_script.specs.declared.rest.RestCall.TheVariants as calls
+use Rattle.operator_keys.specs.declared.config_checks.ConfigChange.TheVariants as changes
 use Rattle.operator_keys.specs.declared.refusal.CheckFault.{CheckFault}
 use Rattle.operator_keys.specs.declared.refusal.CheckFault.TheVariants as faults
 use Rattle.operator_keys.specs.declared.refusal.Refused.{Refused}
 use Rattle.operator_keys.specs.Checks.{failover_on, switchover_on}
+use Rattle.operator_keys.specs.ConfigChecks.{configuration_on}
 use Rattle.operator_keys.specs.Refusals.{Answers, with_fault}
 use Rattle.operator_keys.specs.ServerChecks.{reinit_refusal, restart_refusal}
 use Rattle.event_book.specs.declared.event.Event.{Event}
@@ -27,7 +27,7 @@ use Rattle.cluster_model.specs.Inputs.{agent_at, moment_of, standing, standing_o
 use Rattle.cluster_model.specs.Machines.{machine_of}
 use Rattle.cluster_model.specs.Messages.{call_events_of, decided_events, operate_events}
 use Rattle.cluster_model.specs.Parts.{event_of, for_some}
-use Rattle.cluster_model.specs.Requests.{decision_on_call, failing_over, refusing, unless_refused}
+use Rattle.cluster_model.specs.Requests.{asking, decision_on_call, refusing, unless_refused}
 use Rattle.cluster_model.specs.State.{Cluster}
 use Rattle.pat_world.specs.Calls.{decision_by}
 use Rattle.pat_world.specs.Emits.{Emits}
@@ -50,33 +50,38 @@ no-err x y e = cc
 refused-memory : (refused : Refused) → faults.Refused refused ≡ faults.Memory → ⊥
 refused-memory refused e = cc
 
-keyed : (kind : FailoverKind) (key : FailoverKey) (answer : Result FailoverKey Refused) → Ok key ≡ with_fault answer → Ok (requests.Failover kind key) ≡ with_fault (failing_over kind answer)
-keyed kind key (Ok other) is = ap (λ (k : FailoverKey). Ok (requests.Failover kind k)) (same-ok key other is)
-keyed kind key (Err refused) is = absurd (no-err key (faults.Refused refused) is)
+given : {A : Type 0} (request : A → OperatorRequest) (x : A) (answer : Result A Refused) → Ok x ≡ with_fault answer → Ok (request x) ≡ with_fault (asking request answer)
+given request x (Ok other) is = ap (λ y. Ok (request y)) (same-ok x other is)
+given request x (Err refused) is = absurd (no-err x (faults.Refused refused) is)
 
-faulted : (kind : FailoverKind) (fault : CheckFault) (answer : Result FailoverKey Refused) → Err fault ≡ with_fault answer → Err fault ≡ with_fault (failing_over kind answer)
-faulted kind fault (Ok other) is = absurd (no-err other fault (sym is))
-faulted kind fault (Err refused) is = ap Err (same-err fault (faults.Refused refused) is)
+faulted : {A : Type 0} (request : A → OperatorRequest) (fault : CheckFault) (answer : Result A Refused) → Err fault ≡ with_fault answer → Err fault ≡ with_fault (asking request answer)
+faulted request fault (Ok other) is = absurd (no-err other fault (sym is))
+faulted request fault (Err refused) is = ap Err (same-err fault (faults.Refused refused) is)
 
--- a failover key that passed is written
-pub key-passes : (kind : FailoverKind) (key : FailoverKey) (answer : Result FailoverKey Refused) → Answers (Ok key) answer → Answers (Ok (requests.Failover kind key)) (failing_over kind answer)
-key-passes kind key answer answers no_want = keyed kind key answer (answers (no-err key faults.Memory))
+-- what a check gives is asked for
+pub check-passes : {A : Type 0} (request : A → OperatorRequest) (x : A) (answer : Result A Refused) → Answers (Ok x) answer → Answers (Ok (request x)) (asking request answer)
+check-passes request x answer answers no_want = given request x answer (answers (no-err x faults.Memory))
 
--- what refuses one refuses the request
-pub fault-passes : (kind : FailoverKind) (fault : CheckFault) (answer : Result FailoverKey Refused) → Answers (Err fault) answer → Answers {A = OperatorRequest} (Err fault) (failing_over kind answer)
-fault-passes kind fault answer answers no_want = faulted kind fault answer (answers (λ e. no_want (ap Err (same-err fault faults.Memory e))))
+-- what refuses it refuses the request
+pub fault-passes : {A : Type 0} (request : A → OperatorRequest) (fault : CheckFault) (answer : Result A Refused) → Answers (Err fault) answer → Answers {A = OperatorRequest} (Err fault) (asking request answer)
+fault-passes request fault answer answers no_want = faulted request fault answer (answers (λ e. no_want (ap Err (same-err fault faults.Memory e))))
+
+-- a check that is made by the snapshot that an agent shows, and by whether a request waits there
+checked-same : {A : Type 0} (view : AgentView) (now : Ticks) (o : Outcome) (check : Option SnapshotFacts → Bool → Result A Refused) (request : A → OperatorRequest) → record view { seen = None } ≡ shown now o → option_copied view.seen ≡ o.knows.seen
+    → asking request (check (option_copied view.seen) view.waits) ≡ asking request (check o.knows.seen (is_some o.knows.operating))
+checked-same view now o check request shows seen =
+    ap (λ (s : Option SnapshotFacts). asking request (check s view.waits)) seen
+    ∙ ap (λ (v : AgentView). asking request (check o.knows.seen v.waits)) shows
 
 -- an agent decides by what it shows
 decided-same : (view : AgentView) (now : Ticks) (o : Outcome) (call : RestCall) (body : List ℕ) → record view { seen = None } ≡ shown now o → option_copied view.seen ≡ o.knows.seen → decision_by view call body ≡ decision_on_call now o call body
-decided-same view now o calls.Switchover body shows seen =
-    ap (λ (s : Option SnapshotFacts). failing_over failover_kinds.Switchover (switchover_on s view.waits body)) seen
-    ∙ ap (λ (v : AgentView). failing_over failover_kinds.Switchover (switchover_on o.knows.seen v.waits body)) shows
+decided-same view now o calls.Switchover body shows seen = checked-same view now o (λ s waits. switchover_on s waits body) (requests.Failover failover_kinds.Switchover) shows seen
 decided-same view now o calls.DropSwitchover body shows seen = refl
-decided-same view now o calls.Failover body shows seen =
-    ap (λ (s : Option SnapshotFacts). failing_over failover_kinds.Failover (failover_on s view.waits body)) seen
-    ∙ ap (λ (v : AgentView). failing_over failover_kinds.Failover (failover_on o.knows.seen v.waits body)) shows
+decided-same view now o calls.Failover body shows seen = checked-same view now o (λ s waits. failover_on s waits body) (requests.Failover failover_kinds.Failover) shows seen
 decided-same view now o calls.Restart body shows seen = ap (λ (v : AgentView). unless_refused (restart_refusal v) requests.Restart) shows
 decided-same view now o calls.Reinitialize body shows seen = ap (λ (v : AgentView). unless_refused (reinit_refusal v) requests.Reinit) shows
+decided-same view now o calls.PatchConfiguration body shows seen = checked-same view now o (λ s waits. configuration_on s waits changes.Patch body) requests.Configuration shows seen
+decided-same view now o calls.ReplaceConfiguration body shows seen = checked-same view now o (λ s waits. configuration_on s waits changes.Replace body) requests.Configuration shows seen
 
 answered-ok : (answer : Result OperatorRequest Refused) (asked : OperatorRequest) → Ok asked ≡ with_fault answer → answer ≡ Ok asked
 answered-ok (Ok other) asked is = ap Ok (sym (same-ok asked other is))

@@ -1,5 +1,5 @@
 -- Agents that are woken, and act.
-use Rattle.std.proofs.Common.{◌≡◌, ◌≤◌, Bool, true, List, [], All, length, Option, Some, None, arith, sym, subst}
+use Rattle.std.proofs.Common.{◌≡◌, ℕ, ◌+◌, ◌≤◌, Bool, true, List, [], All, length, Option, Some, None, arith, sym, subst}
 use Rattle.std.specs.Prelude.{if◌then◌else◌, slice_get}
 use Rattle.std.proofs.lemmas.List.Elements.{All-nil}
 use Rattle.pat_base.specs.declared.ticks.Ticks.{Ticks}
@@ -8,6 +8,7 @@ use Rattle.lease_store.specs.declared.action.OperatorAction.{OperatorAction}
 use Rattle.event_book.specs.declared.agent_process.AgentProcess.{AgentProcess}
 use Rattle.event_book.specs.declared.event.Event.{Event}
 use Rattle.event_book.specs.declared.event.EventKind.TheVariants as kinds
+use Rattle.event_book.specs.declared.event.AgentEvent.{AgentEvent}
 use Rattle.event_book.specs.declared.event.AgentEvent.TheVariants.{Woken, Operated}
 use Rattle.event_book.specs.declared.member.Member.{Member}
 use Rattle.ha_loop.specs.declared.heard.Heard.{Heard}
@@ -18,7 +19,7 @@ use Rattle.ha_loop.specs.Agents.{AgentFacts, made}
 use Rattle.ha_loop.specs.Outputs.{most_outputs}
 use Rattle.cluster_model.specs.Inputs.{agent_at, is_to_wake, may_act, moment_of, outcome_at, outcome_of, outcome_of_heard, outputs_of, standing_of}
 use Rattle.cluster_model.specs.Machines.{machine_of, points_of}
-use Rattle.cluster_model.specs.Messages.{input_events, no_message, operate_events, output_events, turn_events, turn_events_if, wake_events, wake_events_if, wake_events_of}
+use Rattle.cluster_model.specs.Messages.{input_events, no_message, operate_events, output_events, own_input_events, turn_events, turn_events_if, wake_events, wake_events_if, wake_events_of}
 use Rattle.cluster_model.specs.Parts.{each, event_of}
 use Rattle.cluster_model.specs.State.{Cluster}
 use Rattle.pat_world.specs.Emits.{Emits}
@@ -46,21 +47,25 @@ pub input-few : (cluster : Cluster) (member : Member) (heard : Option Heard) →
 input-few cluster member None = no-outputs
 input-few cluster member (Some heard) = outcome-few (moment_of cluster) (points_of cluster member) heard (agent_at cluster.agents member.id.number) (machine_of cluster member)
 
+-- an agent acts on an input that no message brings
+own-input-took : (cluster acting after : Cluster) (member : Member) (input : AgentEvent) (heard : Heard) (cost : ℕ) (outputs : List Output) (had mid has : List Event) → 1 + outputs_cost ≤ cost
+    → Emits cluster acting had mid (event_of cluster (kinds.Agent input)) 1 → outputs ≡ outputs_of (outcome_of cluster member heard)
+    → Emits acting after mid has (each (output_events member no_message) acting outputs) outputs_cost → Emits cluster after had has (own_input_events cluster member input heard) cost
+own-input-took cluster acting after member input heard cost outputs had mid has fits one is rest =
+    Emits-then cluster acting after had mid has (event_of cluster (kinds.Agent input)) (λ later. input_events later member no_message (outcome_of cluster member heard)) 1 outputs_cost cost one
+    (subst (λ (os : List Output). Emits acting after mid has (each (output_events member no_message) acting os) outputs_cost) is rest) fits
+
 -- an agent is woken, and acts
 pub awaken-took : (cluster rousing after : Cluster) (member : Member) (outputs : List Output) (had mid has : List Event)
     → Emits cluster rousing had mid (event_of cluster (kinds.Agent (Woken member))) 1 → outputs ≡ outputs_of (outcome_of cluster member Wake)
     → Emits rousing after mid has (each (output_events member no_message) rousing outputs) outputs_cost → Emits cluster after had has (wake_events_of cluster member) input_cost
-awaken-took cluster rousing after member outputs had mid has one is rest =
-    Emits-then cluster rousing after had mid has (event_of cluster (kinds.Agent (Woken member))) (λ later. input_events later member no_message (outcome_of cluster member Wake)) 1 outputs_cost input_cost one
-    (subst (λ (os : List Output). Emits rousing after mid has (each (output_events member no_message) rousing os) outputs_cost) is rest) (omega arith)
+awaken-took cluster rousing after member outputs had mid has one is rest = own-input-took cluster rousing after member (Woken member) Wake input_cost outputs had mid has (omega arith) one is rest
 
 -- an agent does what an operator asks
 pub operate-took : (cluster obeying after : Cluster) (member : Member) (action : OperatorAction) (outputs : List Output) (had mid has : List Event)
     → Emits cluster obeying had mid (event_of cluster (kinds.Agent (Operated member action))) 1 → outputs ≡ outputs_of (outcome_of cluster member (HearsOperator action))
     → Emits obeying after mid has (each (output_events member no_message) obeying outputs) outputs_cost → Emits cluster after had has (operate_events cluster member action) call_cost
-operate-took cluster obeying after member action outputs had mid has one is rest =
-    Emits-then cluster obeying after had mid has (event_of cluster (kinds.Agent (Operated member action))) (λ later. input_events later member no_message (outcome_of cluster member (HearsOperator action))) 1 outputs_cost call_cost one
-    (subst (λ (os : List Output). Emits obeying after mid has (each (output_events member no_message) obeying os) outputs_cost) is rest) (omega arith)
+operate-took cluster obeying after member action outputs had mid has one is rest = own-input-took cluster obeying after member (Operated member action) (HearsOperator action) call_cost outputs had mid has (omega arith) one is rest
 
 -- an agent is woken that has something to do
 pub wake-took : (cluster after : Cluster) (member : Member) (process : AgentProcess) (had has : List Event) → slice_get cluster.book.agents member.id.number ≡ Some process

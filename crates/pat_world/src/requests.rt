@@ -1,11 +1,13 @@
 //! Requests to the REST interface of agents, and what those answer.
 ghost use Rattle.std.specs.Prelude.{◌≡◌, ◌≢◌, Result, Ok, Err, IfOk, IfSome, Some, option_copied, option_map, string_bytes};
 ghost use Rattle.cluster_config.specs.Snapshots.{SnapshotFacts};
+ghost use Rattle.lease_store.specs.declared.action.OperatorRequest.TheVariants as requests;
 ghost use Rattle.lease_store.specs.declared.value.FailoverKey.{FailoverKey};
+ghost use Rattle.lease_store.specs.Settings.{Settings};
 ghost use Rattle.operator_keys.specs.declared.refusal.Refused.{Refused};
 ghost use Rattle.operator_keys.specs.AnswerTexts.{answer_text};
 ghost use Rattle.operator_keys.specs.Refusals.{Answers};
-ghost use Rattle.cluster_model.specs.Requests.{answering, config_text_by, config_text_in, config_text_of, failing_over, refusing, told_kind};
+ghost use Rattle.cluster_model.specs.Requests.{answering, asking, config_text_by, config_text_in, config_text_of, refusing, told_kind};
 ghost use Rattle.cluster_model.specs.State.{Cluster};
 ghost use Rattle.pat_world.specs.Calls.{decision_by};
 ghost use Rattle.pat_world.specs.Comes.{MayCome};
@@ -14,9 +16,12 @@ use cluster_config::{AgentView, Snapshot};
 use cluster_script::RestCall;
 use event_book::{Bytes, EventKind, Member, Note};
 use ha_loop::{Agent, Told};
-use lease_store::{FailoverKey, FailoverKind, Key, OperatorAction, OperatorRequest, Value};
+use lease_store::{
+    ConfigValue, FailoverKey, FailoverKind, Key, OperatorAction, OperatorRequest, Value,
+};
 use operator_keys::{
-    CheckFault, Refused, Text, check_failover, check_reinit, check_restart, check_switchover,
+    CheckFault, ConfigChange, Refused, Text, check_configuration, check_failover, check_reinit,
+    check_restart, check_switchover,
 };
 use std::alloc::{AllocError, Global};
 
@@ -54,6 +59,12 @@ pub fn decision_on_call(
             check_reinit(view)?;
             Ok(OperatorRequest::Reinit)
         }
+        RestCall::PatchConfiguration => {
+            configuring(check_configuration(alloc, view, ConfigChange::Patch, body))
+        }
+        RestCall::ReplaceConfiguration => {
+            configuring(check_configuration(alloc, view, ConfigChange::Replace, body))
+        }
     }
 }
 
@@ -62,10 +73,20 @@ fn failing_over(
     kind: FailoverKind,
     checked: Result<FailoverKey, CheckFault>,
 ) -> Result<OperatorRequest, CheckFault>
-    ensures { (answer : Result FailoverKey Refused) → Answers checked answer → Answers result (failing_over kind answer) }
+    ensures { (answer : Result FailoverKey Refused) → Answers checked answer → Answers result (asking (requests.Failover kind) answer) }
 {
     match checked {
         Ok(failover) => Ok(OperatorRequest::Failover { kind, failover }),
+        Err(fault) => Err(fault),
+    }
+}
+
+/// An agent is to have the configuration written that passed these checks.
+fn configuring(checked: Result<ConfigValue, CheckFault>) -> Result<OperatorRequest, CheckFault>
+    ensures { (answer : Result Settings Refused) → Answers checked answer → Answers result (asking requests.Configuration answer) }
+{
+    match checked {
+        Ok(config) => Ok(OperatorRequest::Configuration(config)),
         Err(fault) => Err(fault),
     }
 }

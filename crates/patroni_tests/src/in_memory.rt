@@ -91,6 +91,25 @@ pub const FOLLOWED: Opening = Opening {
     lines: FOLLOWED_LINES,
 };
 
+/// At tick 150, a leads and b follows. The key store stands at revision 5, that of b's last word of itself; a's next turn is due
+/// at 201, b's at 202.
+pub const FOLLOWED_AT_150: Opening = Opening {
+    script: "cluster demo\nmember a\nmember b\nrun 150\n",
+    lines: FOLLOWED_LINES,
+};
+
+/// In synchronous mode, at tick 300, a leads, and b is published as its standby. a's next turn is due at 301, b's at 302.
+pub const PUBLISHED_AT_300: Opening = Opening {
+    script: "cluster demo\nconfig {\"synchronous_mode\":true}\nmember a\nmember b\nrun 300\n",
+    lines: "1 a takes the leader key\n\
+     1 a arms its watchdog until 251\n\
+     1 a claims the sync key\n\
+     1 a accepts writes on timeline 2\n\
+     2 b follows a\n\
+     101 a requires b\n\
+     201 a publishes sync standbys b\n",
+};
+
 /// The program over a script, with ample room.
 fn ran(
     alloc: Global,

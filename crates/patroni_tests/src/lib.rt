@@ -7,6 +7,8 @@ mod in_memory;
 #[cfg(test)]
 mod runs;
 #[cfg(test)]
+mod runs_of_changes;
+#[cfg(test)]
 mod runs_of_configurations;
 #[cfg(test)]
 mod runs_of_messages;

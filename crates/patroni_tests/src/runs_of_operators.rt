@@ -1,30 +1,14 @@
 //! Runs with requests of operators: switchovers, failovers, restarts and reinitializations, and what these are answered.
-use crate::in_memory::{Closing, FOLLOWED_LINES, OWN_MEMBERS, Opening, QUIET, Run, prints};
+use crate::in_memory::{
+    Closing, FOLLOWED_AT_150, FOLLOWED_LINES, OWN_MEMBERS, Opening, PUBLISHED_AT_300, QUIET, Run,
+    prints,
+};
 use std::test::Fail;
 
 /// At tick 50, a leads and b follows. The key store stands at revision 3; a's next turn is due at 101, b's at 102.
 const FOLLOWED_AT_50: Opening = Opening {
     script: "cluster demo\nmember a\nmember b\nrun 50\n",
     lines: FOLLOWED_LINES,
-};
-
-/// At tick 150, a leads and b follows. The key store stands at revision 5, that of b's last word of itself; a's next turn is due
-/// at 201, b's at 202.
-const FOLLOWED_AT_150: Opening = Opening {
-    script: "cluster demo\nmember a\nmember b\nrun 150\n",
-    lines: FOLLOWED_LINES,
-};
-
-/// In synchronous mode, at tick 300, a leads, and b is published as its standby. a's next turn is due at 301, b's at 302.
-const PUBLISHED_AT_300: Opening = Opening {
-    script: "cluster demo\nconfig {\"synchronous_mode\":true}\nmember a\nmember b\nrun 300\n",
-    lines: "1 a takes the leader key\n\
-     1 a arms its watchdog until 251\n\
-     1 a claims the sync key\n\
-     1 a accepts writes on timeline 2\n\
-     2 b follows a\n\
-     101 a requires b\n\
-     201 a publishes sync standbys b\n",
 };
 
 /// The cluster of an hour of use; its members are its own.
