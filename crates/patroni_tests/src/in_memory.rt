@@ -98,7 +98,8 @@ pub const FOLLOWED_AT_150: Opening = Opening {
     lines: FOLLOWED_LINES,
 };
 
-/// In synchronous mode, at tick 300, a leads, and b is published as its standby. a's next turn is due at 301, b's at 302.
+/// Synchronous mode was on from the beginning. At tick 300, a leads, and b is published as its standby, by a write in a's turn at
+/// 201. Messages 1 to 30 are those of six turns; a's next turn is due at 301, b's at 302.
 pub const PUBLISHED_AT_300: Opening = Opening {
     script: "cluster demo\nconfig {\"synchronous_mode\":true}\nmember a\nmember b\nrun 300\n",
     lines: "1 a takes the leader key\n\

@@ -1,5 +1,5 @@
 //! Runs in synchronous mode: standbys are required, published and withdrawn, and who the sync key doesn't name doesn't lead.
-use crate::in_memory::{Closing, OWN_MEMBERS, Opening, QUIET, Run, prints};
+use crate::in_memory::{Closing, OWN_MEMBERS, Opening, PUBLISHED_AT_300, QUIET, Run, prints};
 use std::test::Fail;
 
 /// Synchronous mode was on from the beginning.
@@ -24,18 +24,6 @@ const REQUIRED: Opening = Opening {
      1 a accepts writes on timeline 2\n\
      2 b follows a\n\
      101 a requires b\n",
-};
-
-/// At tick 300, b is published too, by a write in a's turn at 201. The messages so far are 1 to 30; a's next turn is due at 301.
-const PUBLISHED: Opening = Opening {
-    script: "cluster demo\nconfig {\"synchronous_mode\":true}\nmember a\nmember b\nrun 300\n",
-    lines: "1 a takes the leader key\n\
-     1 a arms its watchdog until 251\n\
-     1 a claims the sync key\n\
-     1 a accepts writes on timeline 2\n\
-     2 b follows a\n\
-     101 a requires b\n\
-     201 a publishes sync standbys b\n",
 };
 
 /// b asks for the leader key by what it read long ago: since then a has claimed the sync key anew, for itself alone, and
@@ -370,7 +358,7 @@ const DEAD_PRIMARY: [Run; 2] = [
 
 #[test]
 fn stale_sync_snapshot(rt: HostRuntime) -> Result<(), Fail> {
-    prints(&rt, rt.alloc(), &PUBLISHED, &STALE_SYNC_SNAPSHOT)
+    prints(&rt, rt.alloc(), &PUBLISHED_AT_300, &STALE_SYNC_SNAPSHOT)
 }
 
 #[test]
@@ -388,12 +376,12 @@ fn lost_answers(rt: HostRuntime) -> Result<(), Fail> {
     let alloc = rt.alloc();
     prints(&rt, alloc, &ONE_MEMBER, &LOST_ANSWER_OF_A_CLAIM)?;
     prints(&rt, alloc, &REQUIRED, &LOST_ANSWER_OF_A_PUBLICATION)?;
-    prints(&rt, alloc, &PUBLISHED, &LOST_ANSWER_OF_A_WITHDRAWAL)
+    prints(&rt, alloc, &PUBLISHED_AT_300, &LOST_ANSWER_OF_A_WITHDRAWAL)
 }
 
 #[test]
 fn disconnected_standby(rt: HostRuntime) -> Result<(), Fail> {
-    prints(&rt, rt.alloc(), &PUBLISHED, &DISCONNECTED_STANDBY)
+    prints(&rt, rt.alloc(), &PUBLISHED_AT_300, &DISCONNECTED_STANDBY)
 }
 
 #[test]
