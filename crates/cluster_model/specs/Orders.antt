@@ -150,6 +150,8 @@ handing_over member candidate = kinds.Note (notes.HandsOver member candidate)
 abbrev pub told_of : Member → Output → Option EventKind
 told_of member outputs.Disarmed = Some (kinds.Watchdog (watchdogs.Disarmed member))
 told_of member outputs.CannotArm = Some (kinds.Note (notes.CannotArm member))
+told_of member outputs.DisablesWatchdog = Some (kinds.Note (notes.DisablesWatchdog member))
+told_of member outputs.RunsWithoutKey = Some (kinds.Note (notes.RunsWithoutKey member))
 told_of member outputs.PostponesPromotion = Some (kinds.Note (notes.PostponesPromotion member))
 told_of member _ = None
 

@@ -263,6 +263,8 @@ module _ (member : Member) (message : HeardMessage) where
   output-covers past cluster none (outputs.Fed until) covered table = record { own = (tt, (tt, tt)); leaves = (tt, (tt, tt)); aside = (tt, (tt, tt)); ordered = (tt, (tt, tt)); flight = λ i. refl; live = refl; told = refl; held = refl; later = omega arith }
   output-covers past cluster none outputs.Disarmed covered table = record { own = (tt, tt); leaves = (tt, tt); aside = (tt, tt); ordered = (tt, tt); flight = λ i. refl; live = refl; told = refl; held = refl; later = omega arith }
   output-covers past cluster none outputs.CannotArm covered table = record { own = (tt, tt); leaves = (tt, tt); aside = (tt, tt); ordered = (tt, tt); flight = λ i. refl; live = refl; told = refl; held = refl; later = omega arith }
+  output-covers past cluster none outputs.DisablesWatchdog covered table = record { own = (tt, tt); leaves = (tt, tt); aside = (tt, tt); ordered = (tt, tt); flight = λ i. refl; live = refl; told = refl; held = refl; later = omega arith }
+  output-covers past cluster none outputs.RunsWithoutKey covered table = record { own = (tt, tt); leaves = (tt, tt); aside = (tt, tt); ordered = (tt, tt); flight = λ i. refl; live = refl; told = refl; held = refl; later = omega arith }
   output-covers past cluster none outputs.PostponesPromotion covered table = record { own = (tt, tt); leaves = (tt, tt); aside = (tt, tt); ordered = (tt, tt); flight = λ i. refl; live = refl; told = refl; held = refl; later = omega arith }
   output-covers past cluster none (outputs.DoesNotRace bar) covered table = record { own = (tt, tt); leaves = (tt, tt); aside = (tt, tt); ordered = (tt, tt); flight = λ i. refl; live = refl; told = refl; held = refl; later = omega arith }
   output-covers past cluster none (outputs.HandsOver candidate) covered table = said-covers past cluster (λ next. notes.HandsOver member next) (slice_get cluster.book.members candidate.number)

@@ -53,7 +53,7 @@ use Rattle.commit_bridge_law.specs.Keys.{sync_key_of, sync_value}
 use Rattle.commit_bridge_law.proofs.Hearing.{heard-lease, heard-snapshot, heard-write}
 use Rattle.run_law.specs.Declaring.{member_count}
 use Rattle.run_law.specs.Waiting.{IsAddressed, IsAnswer, IsPeerBody}
-use Rattle.run_law.proofs.InputHears.{message-is}
+use Rattle.run_law.proofs.InputHears.{message-is, unpaused-told}
 use Rattle.commit_step_law.specs.Agents.{}
 use Rattle.sync_order_law.specs.Order.{NamesMembers}
 use Rattle.commit_step_law.specs.Bridged.{CommitsBridged}
@@ -225,13 +225,15 @@ module _ (head : HeadText) (book : List Event) (cluster : Cluster) (good : Commi
       (λ body. snapshot-heard input by body) (λ request leased grant body given. granted-heard input by request leased grant body given) (λ key expected. tt) (λ from. tt) (λ answer. tt)
       carried.message.body refl heard is
 
-  -- synchronous mode is on in the snapshot that comes with it
+  -- synchronous mode is on in the snapshot that comes with it, and no pause
   pub hears-on : (heard : Heard) → heard_from cluster carried ≡ Some heard → HearsOn heard
   hears-on heard is =
       let told = good.fits.mode.flight number carried there in
       let found : Option KeyEntry = find key_cmp keys.Config carried.snapshot in
+      let calm = unpaused-told cluster number carried good.lease.matched.unpaused there in
       heard-all cluster carried HearsOn
-      (λ body. on-is found (subst (λ (b : Body). IsOnTold b carried.snapshot) body told)) (λ request leased grant body given. on-is found (subst (λ (b : Body). IsOnTold b carried.snapshot) body told))
+      (λ body. record { synchronous = on-is found (subst (λ (b : Body). IsOnTold b carried.snapshot) body told); unpaused = calm })
+      (λ request leased grant body given. record { synchronous = on-is found (subst (λ (b : Body). IsOnTold b carried.snapshot) body told); unpaused = calm })
       (λ key expected. tt) (λ from. tt) (λ answer. tt) carried.message.body refl heard is
 
   -- and its sync key names members

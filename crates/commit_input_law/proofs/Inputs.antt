@@ -14,12 +14,15 @@ use Rattle.event_book.specs.declared.member.Member.{Member}
 use Rattle.event_book.specs.Functions.{put_at}
 use Rattle.cluster_script.specs.Script.{HeadText}
 use Rattle.ha_loop.specs.declared.heard.Heard.{Heard}
+use Rattle.ha_loop.specs.declared.heard.Heard.TheVariants as heards
 use Rattle.ha_loop.specs.declared.machine.Machine.{Machine}
 use Rattle.ha_loop.specs.declared.machine.Replication.{Replication}
 use Rattle.ha_loop.specs.declared.output.Output.{Output}
 use Rattle.ha_loop.specs.Agents.{AgentFacts, Outcome, made}
 use Rattle.ha_loop.specs.Committing.{AsksOn, CommitsFrom, DoesAs, GrowsByConnected, HearsBelow, HearsOn, HearsToCommit, IsCovered, IsLawfulAs, IsSent, NeedsOne, StandsToCommit, StaysOn, committer_seen, is_begin, live_shown, requests_of}
 use Rattle.ha_loop.specs.Lawful.{Hears}
+use Rattle.ha_loop.specs.Pausing.{is_paused}
+use Rattle.ha_loop.proofs.Knowing.{tells_pause, told_by}
 use Rattle.ha_loop.specs.Orders.{IsCarriedOut, IsOfTable}
 use Rattle.ha_loop.specs.Outputs.{has_one}
 use Rattle.ha_loop.specs.Table.{step}
@@ -155,6 +158,15 @@ pub record Acting (head : HeadText) (book : List Event) (cluster : Cluster) : Ty
   pub numbered : (n : ℕ) → number ≡ Some n → (message.number ≡ n) × (n ≤ cluster.book.sent)
   pub low : message.number ≤ cluster.book.sent
 
+calm-on : (heard : Heard) → HearsOn heard → tells_pause (told_by heard) ≡ false
+calm-on (heards.Got sequence snapshot) on = on.unpaused
+calm-on (heards.Granted sequence grant snapshot) on = on.unpaused
+calm-on heards.Wake on = refl
+calm-on (heards.Mismatch sequence key found) on = refl
+calm-on (heards.Asked from run sequence) on = refl
+calm-on (heards.Answered sequence answer) on = refl
+calm-on (heards.Operated action) on = refl
+
 module _ (head : HeadText) (book : List Event) (cluster : Cluster) (good : CommitsBridged head book cluster) (a : Acting head book cluster) where
   abbrev pub M : ℕ
   M = a.member.id.number
@@ -208,8 +220,15 @@ module _ (head : HeadText) (book : List Event) (cluster : Cluster) (good : Commi
   asks-on : AsksOn a.agent.knows
   asks-on = (good.fits.agents.each M a.agent a.here).on
 
+  unpaused : is_paused a.agent.knows ≡ false
+  unpaused = (good.lease.matched.agents M a.agent a.here).unpaused
+
   pub stays-on : StaysOn a.heard Before After
-  stays-on = commits.stays asks-on a.on
+  stays-on = commits.stays unpaused asks-on a.on
+
+  -- what it hears tells of no pause
+  pub calm : tells_pause (told_by a.heard) ≡ false
+  calm = calm-on a.heard a.on
 
   pub table : All IsOfTable After.outputs
   table = carried-out.kinds
@@ -219,7 +238,7 @@ module _ (head : HeadText) (book : List Event) (cluster : Cluster) (good : Commi
   Theirs sends = record { heard = a.number; agent = Seen; live = live_shown Before After; required = need_in After.machine.replication.required; sends = sends; holder_was_live = S.holder_was_live }
 
   pub lawful-as : (sends : Option Sending) → IsSent (requests_of M a.agent.knows.run After.outputs) sends → IsLawfulAs Now a.heard Before S M (Theirs sends)
-  lawful-as sends sent = commits.lawful asks-on a.on S M (Theirs sends) good.sound stands (a.hears (Theirs sends) refl) (record { agent = refl; live = refl; required = refl; sends = sent; holder_was_live = refl })
+  lawful-as sends sent = commits.lawful unpaused asks-on a.on S M (Theirs sends) good.sound stands (a.hears (Theirs sends) refl) (record { agent = refl; live = refl; required = refl; sends = sent; holder_was_live = refl })
 
   -- the events that it covers
   pub record PageOf (events : List Event) (sends : Option Sending) : Type 0 where

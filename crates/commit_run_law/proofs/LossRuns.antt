@@ -90,6 +90,8 @@ order-none cluster member heard (outputs.Told request told) none = told-holds Lo
 order-none cluster member heard (outputs.DoesNotRace bar) none = tt
 order-none cluster member heard outputs.Disarmed none = tt
 order-none cluster member heard outputs.CannotArm none = tt
+order-none cluster member heard outputs.DisablesWatchdog none = tt
+order-none cluster member heard outputs.RunsWithoutKey none = tt
 order-none cluster member heard outputs.PostponesPromotion none = tt
 order-none cluster member heard _ none = tt
 

@@ -1,5 +1,5 @@
 -- What an input asks is what its agent waits for after it.
-use Rattle.std.proofs.Common.{◌≡◌, ◌⊎◌, ℕ, ◌+◌, ◌≤◌, ◌<◌, true, false, List, [], Some, None, All, Contains, refl, sym, subst, ap, ◌∙◌, arith, inl, inr}
+use Rattle.std.proofs.Common.{Bool, ◌≡◌, ◌⊎◌, ℕ, ◌+◌, ◌≤◌, ◌<◌, true, false, List, [], Some, None, All, Contains, refl, sym, subst, ap, ◌∙◌, arith, inl, inr}
 use Rattle.std.proofs.lemmas.List.Elements.{All-push, All-weaker, All-nil}
 use Rattle.pat_base.specs.declared.member_id.MemberId.{MemberId}
 use Rattle.pat_base.specs.declared.peer_answer.PeerAnswer.{PeerAnswer}
@@ -29,7 +29,7 @@ use Rattle.ha_loop.specs.Decisions.{asks_lease, leader_renewed, takes_over, stra
 use Rattle.ha_loop.specs.Planning.{writing_sync, noting}
 use Rattle.ha_loop.specs.Outputs.{listed}
 use Rattle.ha_loop.specs.Repairs.{repair_of}
-use Rattle.ha_loop.specs.Snapshots.{renewing, follow_row, follows, leader_loses_key, stray_loses_key, read_noted, got}
+use Rattle.ha_loop.specs.Snapshots.{renewing, follow_row, follows, leader_loses_key, stray_loses_key, read_noted, got, asks_as_stray, led_by_another}
 use Rattle.ha_loop.specs.Racing.{creating, barred, finds_free, judged, asking_others, unheard}
 use Rattle.ha_loop.specs.Peers.{asked, keeping, answered}
 use Rattle.ha_loop.specs.HandingOver.{checking, hands_over}
@@ -41,10 +41,11 @@ use Rattle.ha_loop.proofs.Granting.{Told}
 use Rattle.ha_loop.proofs.Knowing.{IsAlone, alone-of, before-onward, given-up-onward}
 use Rattle.ha_loop.proofs.LawfulSteps.{before-waits}
 use Rattle.ha_loop.proofs.Living.{no-way}
-use Rattle.ha_loop.proofs.Rows.{led_on, if-cases, renewed-by, begins-or-claims-by, overdue-by, turn-by, wake-by, got-by, refused-by, follow-by, repaired-by, free-by, granted-by, judged-by, answered-by, HandoverRows, ReplyRows, dropping, granted-any-by, refused-any-by, given-up-by, looked-by, operated-by}
-use Rattle.ha_loop.proofs.Sending.{IsSilent, MayPut, AllMay, Fronts, before-fronts, got-none, wake-may, got-may, refused-may, granted-may, overdue-none, answered-none, answered-may, asked-may, operated-may, given-up-fronts, looked-fronts, looked-later}
+use Rattle.ha_loop.proofs.Rows.{led_on, if-cases, renewed-by, begins-or-claims-by, overdue-by, turn-by, wake-by, got-by, refused-by, follow-by, repaired-by, free-by, granted-by, judged-by, answered-by, HandoverRows, ReplyRows, dropping, granted-any-by, refused-any-by, given-up-by, looked-by, operated-by, DutyRows, duties-of, rested_on, takes-in-pause-by}
+use Rattle.ha_loop.proofs.Sending.{IsSilent, silently, MayPut, AllMay, Fronts, before-fronts, got-none, wake-may, got-may, refused-may, granted-may, overdue-none, answered-none, answered-may, asked-may, operated-may, given-up-fronts, looked-fronts, looked-later}
 use Rattle.ha_loop.proofs.Sending.Fronts.{Silent, Released}
 use Rattle.ha_loop.proofs.Fitting.{before-fits}
+use Rattle.ha_loop.specs.Pausing.{may_start_behind, resting, running_without_key}
 
 -- the create or the renewal that is waited for was waited for before, or is asked
 abbrev Holds : Ticks → Outcome → Outcome → Type 0
@@ -148,6 +149,7 @@ free-holds : (now : Ticks) (o b : Outcome) → o.knows.sequence ≤ b.knows.sequ
 free-holds now o b later none silent = let x : Outcome = record b { role = Follower } in
     free-by (Holds now o) now x (record {
       starts = nothing now o (touching (starting_replica now None x)) none;
+      touches = nothing now o (touching x) none;
       bars = λ bar. nothing now o (barred bar x) none;
       judges = judged-holds now o (unheard x) later silent;
       asks = only-reads now o (asking_others now (unheard x)) _ refl refl;
@@ -157,9 +159,10 @@ abbrev WaitsNot : Outcome → Type 0
 WaitsNot o = o.knows.waited ≡ None
 
 follow-waits : (now : Ticks) (leader : MemberId) (o : Outcome) → WaitsNot o → WaitsNot (follows now leader o)
-follow-waits now leader o none = let x : Outcome = record o { role = Follower } in
-    let row : WaitsNot (follow_row now leader o.machine.server.state x) = follow-by WaitsNot now leader o.machine.server.state x none none none none in
-    repaired-by WaitsNot leader (repair_of o.knows.settings leader o.machine.server) (touching (follow_row now leader o.machine.server.state x)) row (λ r. row)
+follow-waits now leader o none = let x : Outcome = led_by_another o in
+    let may : Bool = may_start_behind o.knows in
+    let row : WaitsNot (follow_row may now leader o.machine.server.state x) = follow-by WaitsNot may now leader o.machine.server.state x none none none none in
+    repaired-by WaitsNot leader (repair_of o.knows.settings leader o.machine.server) (touching (follow_row may now leader o.machine.server.state x)) row (λ r. row)
 
 follow-holds : (now : Ticks) (leader : MemberId) (o b : Outcome) → b.knows.waited ≡ None → Holds now o (follows now leader b)
 follow-holds now leader o b none = nothing now o (follows now leader b) (follow-waits now leader b none)
@@ -176,6 +179,8 @@ got-silent now points sequence snapshot o b later same silent = let read : Outco
       touches = nothing now o (touching read) refl;
       follows = λ leader _ _. follow-holds now leader.holder o read refl;
       free = λ _ _. free-holds now o read later refl silent;
+      runs_on = λ _. nothing now o (running_without_key read) refl;
+      asks_on = λ _. asked-now now o (asks_as_stray now read) (listed outputs.RunsWithoutKey b.outputs) _ _ (silently b.outputs outputs.RunsWithoutKey silent tt) refl refl refl refl (more-than o.knows.sequence b.knows.sequence later);
     })
 
 got-fronts : (now : Ticks) (points : List HistoryPoint) (sequence : ℕ) (snapshot : SnapshotFacts) (o b : Outcome) → o.knows.sequence ≤ b.knows.sequence → b.knows.waited ≡ o.knows.waited → Fronts o b → Holds now o (got now points sequence snapshot b)
@@ -196,21 +201,26 @@ refused-holds now sequence o b same = refused-by (Holds now o) now sequence b (r
   stray = λ _. nothing now o (stray_loses_key now (waiting_no_more b)) refl;
   follower = λ held _. nothing now o (record (waiting_no_more b) { role = Follower }) refl;
   ready = λ held _. nothing now o (postpones held (waiting_no_more b)) refl;
+  runs_on = λ _. nothing now o (running_without_key (waiting_no_more b)) refl;
 })
+
+-- what a leader owes its cluster
+duty-holds : (now : Ticks) (revision : ℕ) (o led : Outcome) → led.knows.waited ≡ None → DutyRows (Holds now o) now revision led
+duty-holds now revision o led none = record {
+  plan = record {
+    kept = nothing now o led none;
+    writes = λ settling txn _. only-reads now o (writing_sync now settling txn led) _ refl refl;
+    adds = λ required. nothing now o (requiring required (noting led)) none;
+    drops = λ required. nothing now o (requiring required led) none;
+  };
+  clears = λ compared. nothing now o (dropping compared led) none;
+  asks = λ candidate. only-reads now o (checking now candidate (unheard led)) _ refl refl;
+  judges = handover-holds now revision o (unheard led);
+}
 
 renewed-holds : (now ttl : Ticks) (revision : ℕ) (o b : Outcome) → b.knows.waited ≡ None → Holds now o (leader_renewed now ttl revision b)
 renewed-holds now ttl revision o b none = let led : Outcome = led_on now ttl revision b in
-    renewed-by (Holds now o) now ttl revision b (nothing now o (record (ending_server now StartTooLong led) { role = Ending revision HandOver }) none) (record {
-      plan = record {
-        kept = nothing now o led none;
-        writes = λ settling txn _. only-reads now o (writing_sync now settling txn led) _ refl refl;
-        adds = λ required. nothing now o (requiring required (noting led)) none;
-        drops = λ required. nothing now o (requiring required led) none;
-      };
-      clears = λ compared. nothing now o (dropping compared led) none;
-      asks = λ candidate. only-reads now o (checking now candidate (unheard led)) _ refl refl;
-      judges = handover-holds now revision o (unheard led);
-    })
+    renewed-by (Holds now o) now ttl revision b (nothing now o (record (ending_server now StartTooLong led) { role = Ending revision HandOver }) none) (duty-holds now revision o led none)
 
 stray-holds : (now ttl : Ticks) (revision : ℕ) (o b : Outcome) → b.knows.waited ≡ None → Holds now o (stray_renewed now ttl revision b)
 stray-holds now ttl revision o b none = let ended : Outcome = ending_server now WatchdogNotArmed b in let over : Outcome = takes_over now revision (arming now ttl b) in
@@ -230,6 +240,10 @@ granted-holds now sequence grant snapshot o b same = granted-by (Holds now o) no
       leader = λ held _. renewed-holds now waited.ttl grant.revision o (Told snapshot b) refl;
       stray = λ _. stray-holds now waited.ttl grant.revision o (Told snapshot b) refl;
       takes = λ _. takes-holds now waited.ttl grant.revision o (Told snapshot b) refl;
+      rests = λ renews _ held _. let led : Outcome = rested_on renews grant.revision (Told snapshot b) in duties-of (Holds now o) now grant.revision led (duty-holds now grant.revision o led refl);
+      stray_rests = λ renews _ _. nothing now o (takes_over now grant.revision (resting renews (Told snapshot b))) refl;
+      takes_resting = λ renews _ _. let rest : Outcome = resting renews (Told snapshot b) in
+          takes-in-pause-by (Holds now o) now renews grant.revision (Told snapshot b) (nothing now o (gives_back grant.revision (Told snapshot b)) refl) (nothing now o (begins now grant.revision rest) refl) (only-reads now o (claims now grant.revision rest) _ refl refl);
     })
     (record {
       other = nothing now o (Told snapshot b) refl;

@@ -1,5 +1,5 @@
 -- Who hears the grant of the leader key that it waits for begins, where it may; and an input asks where it is to.
-use Rattle.std.proofs.Common.{◌≡◌, ℕ, ◌&&◌, ◌==◌, not, Bool, true, false, cond, List, Option, Some, None, refl, ◌∙◌, ap, sym, subst}
+use Rattle.std.proofs.Common.{◌||◌, ◌≡◌, ℕ, ◌&&◌, ◌==◌, not, Bool, true, false, cond, List, Option, Some, None, refl, ◌∙◌, ap, sym, subst}
 use Rattle.std.proofs.lemmas.List.Elements.{Contains-push}
 use Rattle.pat_base.specs.declared.ticks.Ticks.{Ticks}
 use Rattle.lease_store.specs.declared.granted.Granted.{Granted}
@@ -16,7 +16,7 @@ use Rattle.ha_loop.specs.Acting.{arming, is_refusing, waiting_no_more}
 use Rattle.ha_loop.specs.Agents.{RoleFacts, Follower, Holder, Ready, Leader, Ending, Stray, Outcome, is_ready}
 use Rattle.ha_loop.specs.Before.{before}
 use Rattle.ha_loop.specs.Claiming.{begins, begins_or_claims, can_begin_on_claim, claims, postpones}
-use Rattle.ha_loop.specs.Decisions.{accepted_grant, accepted_sync, arms, asks_lease, asks_sync, belongs, gives_back, granted, granted_for, granted_write, is_decision, is_lease_of, is_sync_decision, is_write_of, lease_granted, may_create, may_take, sync_granted, takes_key}
+use Rattle.ha_loop.specs.Decisions.{accepted_grant, accepted_sync, arms, asks_lease, asks_sync, belongs, gives_back, granted, granted_for, granted_write, is_decision, is_lease_of, is_sync_decision, is_write_of, lease_granted, may_create, may_take, sync_granted, takes_key, asks_in_pause, asks_renewal, granted_in_pause, lease_used}
 use Rattle.ha_loop.specs.FreeKey.{AsksWhereFree, AsksWhereWon, BeginsOn, ClaimsOn, IsAwaitedClaim, BeginsWhereGranted}
 use Rattle.ha_loop.specs.Outputs.{listed}
 use Rattle.ha_loop.specs.Powers.{IsAwaitedLease}
@@ -26,6 +26,7 @@ use Rattle.ha_loop.specs.Table.{prepared, step, granted_any}
 use Rattle.lease_law.proofs.Tools.{none-some, some-is}
 use Rattle.ha_loop.proofs.Judging.{if-false}
 use Rattle.ha_loop.proofs.FreeKey.{free-alone, free-asks, last-won, late-won}
+use Rattle.ha_loop.specs.Pausing.{is_paused, is_wanted_by}
 
 no-way : false ≡ true → ⊥
 no-way e = cc
@@ -53,6 +54,10 @@ may-use Renewing (Leader held) asks may = refl
 may-use Renewing (Ending held why) asks may = absurd (no-way may)
 may-use Renewing Stray asks may = refl
 
+either-true : (a b : Bool) → a ≡ true → a || b ≡ true
+either-true true b e = refl
+either-true false b e = absurd (no-way e)
+
 takes-it : (now ttl : Ticks) (revision : ℕ) (role : RoleFacts) (o : Outcome) → may_create role ≡ true → lease_granted now ttl revision role o ≡ takes_key now ttl revision o
 takes-it now ttl revision Follower o may = refl
 takes-it now ttl revision (Holder held) o may = refl
@@ -64,14 +69,15 @@ takes-it now ttl revision Stray o may = absurd (no-way may)
 abbrev Told : SnapshotFacts → Outcome → Outcome
 Told snapshot o = record o { knows = informed snapshot o.knows }
 
-takes-then : (now : Ticks) (sequence : ℕ) (grant : Granted) (snapshot : SnapshotFacts) (o : Outcome) → (awaited : IsAwaitedLease sequence grant o.knows) → may_create o.role ≡ true → may_take now (informed snapshot o.knows) o.machine ≡ true
+takes-then : (now : Ticks) (sequence : ℕ) (grant : Granted) (snapshot : SnapshotFacts) (o : Outcome) → is_paused (informed snapshot o.knows) ≡ false → (awaited : IsAwaitedLease sequence grant o.knows) → may_create o.role ≡ true → may_take now (informed snapshot o.knows) o.machine ≡ true
     → is_refusing o.machine.watchdog.mode o.machine.watchdog.works ≡ false → granted now sequence grant snapshot o ≡ begins_or_claims now grant.revision (arming now awaited.waited.ttl (Told snapshot o))
-takes-then now sequence grant snapshot o awaited may take armed =
+takes-then now sequence grant snapshot o unpaused awaited may take armed =
     let waited = awaited.waited in
     let told : Outcome = Told snapshot o in
     ap (λ (w : Option Waited). granted_for now sequence grant snapshot w o) awaited.is
     ∙ ap (λ (b : Bool). cond b (accepted_grant now waited grant.revision snapshot o) (granted_write now sequence grant snapshot waited o)) (both-true (is_decision waited sequence) (is_lease_of o.knows.who.me grant) awaited.decision awaited.mine)
-    ∙ ap (λ (b : Bool). cond b (lease_granted now waited.ttl grant.revision o.role told) (waiting_no_more o)) (may-use waited.question o.role (first-true (asks_lease waited.question) _ awaited.decision) may)
+    ∙ ap (λ (b : Bool). cond b (lease_used now waited grant.revision told) (waiting_no_more o)) (either-true (belongs waited.question o.role) (is_paused told.knows && asks_in_pause waited.question o.role) (may-use waited.question o.role (first-true (asks_lease waited.question) _ awaited.decision) may))
+    ∙ ap (λ (b : Bool). cond b (granted_in_pause now (asks_renewal waited.question) grant.revision o.role told) (lease_granted now waited.ttl grant.revision o.role told)) unpaused
     ∙ takes-it now waited.ttl grant.revision o.role told may
     ∙ ap (λ (b : Bool). cond b (arms now waited.ttl grant.revision told) (gives_back grant.revision told)) take
     ∙ ap (λ (b : Bool). cond b (gives_back grant.revision (let barred : Outcome = record told { outputs = listed outputs.CannotArm told.outputs } in barred)) (begins_or_claims now grant.revision (arming now waited.ttl told))) armed
@@ -88,9 +94,9 @@ first-false : (a b : Bool) → a ≡ false → a && b ≡ false
 first-false true b e = absurd (no-way (sym e))
 first-false false b e = refl
 
-claim-then : (now : Ticks) (sequence : ℕ) (grant : Granted) (snapshot : SnapshotFacts) (o : Outcome) (revision : ℕ) → IsAwaitedClaim sequence grant o.knows → o.role ≡ Ready revision → can_begin_on_claim o.machine.server.was_primary o.machine.server.state ≡ true
+claim-then : (now : Ticks) (sequence : ℕ) (grant : Granted) (snapshot : SnapshotFacts) (o : Outcome) (revision : ℕ) → is_paused (informed snapshot o.knows) ≡ false → IsAwaitedClaim sequence grant o.knows → o.role ≡ Ready revision → can_begin_on_claim o.machine.server.was_primary o.machine.server.state ≡ true
     → granted now sequence grant snapshot o ≡ begins now revision (Told snapshot o)
-claim-then now sequence grant snapshot o revision awaited role can =
+claim-then now sequence grant snapshot o revision unpaused awaited role can =
     let waited = awaited.waited in
     let told : Outcome = Told snapshot o in
     let unleased : is_decision waited sequence ≡ false = first-false (asks_lease waited.question) _ (ap asks_lease awaited.asks) in
@@ -100,12 +106,13 @@ claim-then now sequence grant snapshot o revision awaited role can =
     ∙ ap (λ (b : Bool). cond b (sync_granted now waited.question o.role told) (waiting_no_more o)) (ap (λ (q : Question). belongs q o.role) awaited.asks ∙ ap is_ready role)
     ∙ ap (λ (q : Question). sync_granted now q o.role told) awaited.asks
     ∙ ap (λ (r : RoleFacts). sync_granted now Claiming r told) role
-    ∙ ap (λ (b : Bool). cond b (begins now revision told) (postpones revision told)) can
+    ∙ ap (λ (b : Bool). cond b (begins now revision told) (postpones revision told))
+    (ap (λ (b : Bool). cond b (is_wanted_by o.knows.who.me (Some snapshot) o.machine.server.state) (can_begin_on_claim o.machine.server.was_primary o.machine.server.state)) unpaused ∙ can)
 
 granted-begins : (now : Ticks) (sequence : ℕ) (grant : Granted) (snapshot : SnapshotFacts) (o : Outcome) → BeginsWhereGranted now (HeardGranted sequence grant snapshot) o (granted now sequence grant snapshot o)
 granted-begins now sequence grant snapshot o = (
-  (λ awaited may take armed. lease-begins now sequence grant snapshot o awaited (takes-then now sequence grant snapshot o awaited may take armed)),
-  (λ revision awaited role can. subst (BeginsOn now revision o) (sym (claim-then now sequence grant snapshot o revision awaited role can)) (record { role = refl; server = refl; begins = Contains-push _ outputs.Begin })),
+  (λ unpaused awaited may take armed. lease-begins now sequence grant snapshot o awaited (takes-then now sequence grant snapshot o unpaused awaited may take armed)),
+  (λ revision unpaused awaited role can. subst (BeginsOn now revision o) (sym (claim-then now sequence grant snapshot o revision unpaused awaited role can)) (record { role = refl; server = refl; begins = Contains-push _ outputs.Begin })),
 )
 
 -- ---- a grant is the agent's own
@@ -131,14 +138,14 @@ granted-own now sequence grant snapshot o own = if-false (grants_operator sequen
 
 any-begins : (now : Ticks) (sequence : ℕ) (grant : Granted) (snapshot : SnapshotFacts) (o : Outcome) → BeginsWhereGranted now (HeardGranted sequence grant snapshot) o (granted_any now sequence grant snapshot o)
 any-begins now sequence grant snapshot o = let begin = granted-begins now sequence grant snapshot o in (
-  (λ awaited may take armed.
+  (λ unpaused awaited may take armed.
       let own = granted-own now sequence grant snapshot o (own-grant sequence grant o.knows awaited.waited awaited.is (second-true (asks_lease awaited.waited.question) _ awaited.decision)) in (
-        (λ off. subst (BeginsOn now grant.revision o) (sym own) ((begin.0 awaited may take armed).0 off)),
-        (λ on. subst (ClaimsOn grant.revision o) (sym own) ((begin.0 awaited may take armed).1 on)),
+        (λ off. subst (BeginsOn now grant.revision o) (sym own) ((begin.0 unpaused awaited may take armed).0 off)),
+        (λ on. subst (ClaimsOn grant.revision o) (sym own) ((begin.0 unpaused awaited may take armed).1 on)),
       )),
-  (λ revision awaited role can.
+  (λ revision unpaused awaited role can.
       let own = granted-own now sequence grant snapshot o (own-grant sequence grant o.knows awaited.waited awaited.is awaited.number) in
-      subst (BeginsOn now revision o) (sym own) (begin.1 revision awaited role can)),
+      subst (BeginsOn now revision o) (sym own) (begin.1 revision unpaused awaited role can)),
 )
 
 -- ---- of every input

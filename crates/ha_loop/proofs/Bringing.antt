@@ -1,5 +1,5 @@
 -- An input without a grant brings an agent nothing of the leader key, and its server no power to write.
-use Rattle.std.proofs.Common.{◌≡◌, ℕ, true, false, Option, Some, None, List, refl, sym, subst, ◌∙◌}
+use Rattle.std.proofs.Common.{Bool, ◌≡◌, ℕ, true, false, Option, Some, None, List, refl, sym, subst, ◌∙◌}
 use Rattle.pat_base.specs.declared.member_id.MemberId.{MemberId}
 use Rattle.pat_base.specs.declared.peer_answer.PeerAnswer.{PeerAnswer}
 use Rattle.pat_base.specs.declared.ticks.Ticks.{Ticks}
@@ -17,7 +17,7 @@ use Rattle.ha_loop.specs.Decisions.{refused}
 use Rattle.pg_model.specs.declared.status.ServerStatus.{ServerStatus}
 use Rattle.ha_loop.specs.Powers.{BringsNothing, lease_of, leads}
 use Rattle.ha_loop.specs.Repairs.{repair_of}
-use Rattle.ha_loop.specs.Snapshots.{leader_loses_key, stray_loses_key, renewing, follow_row, follows, read_noted, got}
+use Rattle.ha_loop.specs.Snapshots.{leader_loses_key, stray_loses_key, renewing, follow_row, follows, read_noted, got, asks_as_stray, led_by_another}
 use Rattle.ha_loop.specs.Racing.{creating, barred, finds_free, judged, asking_others, unheard}
 use Rattle.ha_loop.specs.Wake.{leader_out_of_reach, stray_out_of_reach, reading, turn_noted, overdue, turned, woken}
 use Rattle.ha_loop.specs.HandingOver.{hands_over}
@@ -28,6 +28,7 @@ use Rattle.event_book.specs.declared.message.Body.TheVariants as bodies
 use Rattle.ha_loop.proofs.Living.{no-way, stop-live, start-live, follow-live, restart-live, wipe-live}
 use Rattle.ha_loop.proofs.Rows.{HandoverRows, ReplyRows, ActRows, dropping, looked-by, given-up-by, refused-any-by, operated-by, before-by, overdue-by, turn-by, wake-by, got-by, refused-by, follow-by, repaired-by, free-by, judged-by, answered-by}
 use Rattle.ha_loop.specs.Peers.{asked, keeping, answered}
+use Rattle.ha_loop.specs.Pausing.{may_start_behind, running_without_key}
 
 none-some : {revision : ℕ} → ◌≡◌ {A = Option ℕ} None (Some revision) → ⊥
 none-some e = cc
@@ -156,19 +157,21 @@ wake-brings now o = let b : Outcome = given_up now (before now o) in
 
 -- a follower tells of itself, after what its server does
 follow-brings : (now : Ticks) (leader : MemberId) (o : Outcome) → BringsNothing o (follows now leader o)
-follow-brings now leader o = let x : Outcome = record o { role = Follower } in
-    let row = follow-by (λ (y : Outcome). BringsNothing o y) now leader o.machine.server.state x
+follow-brings now leader o = let x : Outcome = led_by_another o in
+    let may : Bool = may_start_behind o.knows in
+    let row = follow-by (λ (y : Outcome). BringsNothing o y) may now leader o.machine.server.state x
     (no-lease o x refl refl (λ e. e))
     (no-lease o (starting_replica now (Some leader) x) refl refl (start-live now (upstream_of (Some leader)) o.machine.server))
     (no-lease o (following_server leader x) refl refl (follow-live (server_id_of leader) o.machine.server))
     (no-lease o (shutting_down now x) refl refl (stop-live now o.machine.server)) in
-    let told : BringsNothing o (touching (follow_row now leader o.machine.server.state x)) = record { live = row.live; leads = row.leads; ready = row.ready; lease = row.lease } in
-    repaired-by (BringsNothing o) leader (repair_of o.knows.settings leader o.machine.server) (touching (follow_row now leader o.machine.server.state x)) told
+    let told : BringsNothing o (touching (follow_row may now leader o.machine.server.state x)) = record { live = row.live; leads = row.leads; ready = row.ready; lease = row.lease } in
+    repaired-by (BringsNothing o) leader (repair_of o.knows.settings leader o.machine.server) (touching (follow_row may now leader o.machine.server.state x)) told
     (λ r. record { live = told.live; leads = told.leads; ready = told.ready; lease = told.lease })
 
 free-brings : (now : Ticks) (o : Outcome) → BringsNothing o (finds_free now o)
 free-brings now o = let x : Outcome = record o { role = Follower } in free-by (BringsNothing o) now x (record {
   starts = no-lease o (touching (starting_replica now None x)) refl refl (start-live now None o.machine.server);
+  touches = no-lease o (touching x) refl refl (λ e. e);
   bars = λ bar. no-lease o (barred bar x) refl refl (λ e. e);
   judges = brings-then o (unheard x) (judged now (unheard x)) (no-lease o (unheard x) refl refl (λ e. e)) (judged-brings now (unheard x));
   asks = no-lease o (asking_others now (unheard x)) refl refl (λ e. e);
@@ -189,6 +192,8 @@ got-brings now points sequence snapshot o = let read : Outcome = record o { know
       touches = same-role o (touching read) refl (λ e. e);
       follows = λ leader _ _. read-then now snapshot o (follows now leader.holder read) (follow-brings now leader.holder read);
       free = λ _ _. read-then now snapshot o (finds_free now read) (free-brings now read);
+      runs_on = λ _. no-lease o (running_without_key read) refl refl (λ e. e);
+      asks_on = λ _. no-lease o (asks_as_stray now read) refl refl (λ e. e);
     })
 
 pub refused-brings : (now : Ticks) (sequence : ℕ) (o : Outcome) → BringsNothing o (refused now sequence o)
@@ -199,6 +204,7 @@ refused-brings now sequence o = refused-by (BringsNothing o) now sequence o (rec
   stray = λ _. same-role o (stray_loses_key now (waiting_no_more o)) refl (stop-live now o.machine.server);
   follower = λ held _. no-lease o (record (waiting_no_more o) { role = Follower }) refl refl (λ e. e);
   ready = λ held is. postpones-brings o held (waiting_no_more o) is refl;
+  runs_on = λ _. no-lease o (running_without_key (waiting_no_more o)) refl refl (λ e. e);
 })
 
 -- what the key store held when it answered a read

@@ -35,12 +35,13 @@ use Rattle.ha_loop.specs.Peers.{is_asking, awaits_answer, awaits_check, judged_i
 use Rattle.ha_loop.specs.Powers.{IsAwaitedLease}
 use Rattle.ha_loop.specs.Racing.{judged, finds_free, unheard}
 use Rattle.ha_loop.specs.Repairs.{repair_of, repairing}
-use Rattle.ha_loop.specs.Snapshots.{follow_row, follows, read_noted, got}
+use Rattle.ha_loop.specs.Snapshots.{follow_row, follows, read_noted, got, led_by_another}
 use Rattle.ha_loop.specs.Table.{refused_any}
-use Rattle.ha_loop.specs.Wake.{out_of_reach_as, unanswered, overdue_for, overdue, turned, woken}
+use Rattle.ha_loop.specs.Wake.{out_of_reach_as, unanswered, overdue_for, overdue, turned, woken, out_of_reach}
 use Rattle.ha_loop.proofs.Granting.{both-true}
 use Rattle.ha_loop.proofs.Living.{no-way}
 use Rattle.ha_loop.proofs.Rows.{ReplyRows, if-cases, before-by, turn-by, wake-by, got-by, refused-by, follow-by, repaired-by, free-by, judged-by, handover-by, looked-by, given-up-by, operator-granted-by, refused-any-by, operated-by}
+use Rattle.ha_loop.specs.Pausing.{is_paused, may_start_behind}
 
 -- nothing is waited for
 asks-nothing : (knows : Knowledge) → knows.waited ≡ None → AsksOn knows
@@ -77,6 +78,9 @@ reach-asks now (Holder held) o = (λ waited is-it. absurd (none-some waited is-i
 reach-asks now (Ready held) o = (λ waited is-it. absurd (none-some waited is-it))
 reach-asks now (Ending held why) o = (λ waited is-it. absurd (none-some waited is-it))
 
+unreached-asks : (now : Ticks) (o : Outcome) → AsksOn (out_of_reach now o).knows
+unreached-asks now o = if-cases (λ (x : Outcome). AsksOn x.knows) (is_paused o.knows) (waiting_no_more o) (out_of_reach_as now o.role (waiting_no_more o)) (λ _. (λ waited is-it. absurd (none-some waited is-it))) (λ _. reach-asks now o.role o)
+
 claim-asks : (role : RoleFacts) (o : Outcome) → AsksOn (claim_fails_as role (waiting_no_more o)).knows
 claim-asks (Ready held) o = (λ waited is-it. absurd (none-some waited is-it))
 claim-asks Follower o = (λ waited is-it. absurd (none-some waited is-it))
@@ -99,8 +103,8 @@ leading-asks now (Ending held why) o = (λ waited is-it. absurd (none-some waite
 leading-asks now Stray o = (λ waited is-it. absurd (none-some waited is-it))
 
 unanswered-asks : (now : Ticks) (question : Question) (o : Outcome) → FollowsOn o.knows.turn_settings.synchronous_mode question → AsksOn (unanswered now question o).knows
-unanswered-asks now Reading o on = reach-asks now o.role o
-unanswered-asks now Renewing o on = reach-asks now o.role o
+unanswered-asks now Reading o on = unreached-asks now o
+unanswered-asks now Renewing o on = unreached-asks now o
 unanswered-asks now Creating o on = (λ waited is-it. absurd (none-some waited is-it))
 unanswered-asks now Claiming o on = claim-asks o.role o
 unanswered-asks now (Syncing settling) o on = (λ waited is-it. absurd (none-some waited is-it))
@@ -150,16 +154,17 @@ entry-on settings None on = absurd (no-way on)
 entry-on settings (Some found) on = value-on settings found.value on
 
 settings-on : (settings : Config) (snapshot : SnapshotFacts) → IsOn snapshot → (settings_in settings snapshot).synchronous_mode ≡ true
-settings-on settings snapshot on = entry-on settings (entry_in keys.Config snapshot) on
+settings-on settings snapshot on = entry-on settings (entry_in keys.Config snapshot) on.synchronous
 
 follow-asks : (now : Ticks) (leader : MemberId) (o : Outcome) → o.knows.waited ≡ None → AsksOn (follows now leader o).knows
-follow-asks now leader o none = let x : Outcome = record o { role = Follower } in let row : Outcome = touching (follow_row now leader o.machine.server.state x) in
-    let waits : row.knows.waited ≡ None = follow-by (λ (y : Outcome). (touching y).knows.waited ≡ None) now leader o.machine.server.state x none none none none in
+follow-asks now leader o none = let x : Outcome = led_by_another o in let may : Bool = may_start_behind o.knows in let row : Outcome = touching (follow_row may now leader o.machine.server.state x) in
+    let waits : row.knows.waited ≡ None = follow-by (λ (y : Outcome). (touching y).knows.waited ≡ None) may now leader o.machine.server.state x none none none none in
     repaired-by (λ (y : Outcome). AsksOn y.knows) leader (repair_of o.knows.settings leader o.machine.server) row (asks-nothing row.knows waits) (λ r. asks-nothing (repairing leader r row).knows waits)
 
 free-asks : (now : Ticks) (o : Outcome) → o.knows.waited ≡ None → o.knows.turn_settings.synchronous_mode ≡ true → AsksOn (finds_free now o).knows
 free-asks now o none on = let x : Outcome = record o { role = Follower } in free-by (λ (y : Outcome). AsksOn y.knows) now x (record {
   starts = (λ waited is-it. absurd (none-some waited (sym none ∙ is-it)));
+  touches = (λ waited is-it. absurd (none-some waited (sym none ∙ is-it)));
   bars = λ bar. (λ waited is-it. absurd (none-some waited (sym none ∙ is-it)));
   judges = judged-asks now (unheard x) on;
   asks = asks-it o.knows.turn_settings.synchronous_mode _ on;
@@ -178,6 +183,8 @@ got-asks now points sequence snapshot o is on = let read : Outcome = record o { 
       touches = (λ waited is-it. absurd (none-some waited is-it));
       follows = λ leader _ _. follow-asks now leader.holder read refl;
       free = λ _ _. free-asks now read refl mode;
+      runs_on = λ _. (λ waited is-it. absurd (none-some waited is-it));
+      asks_on = λ _. asks-it read.knows.turn_settings.synchronous_mode _ mode;
     })
 
 refused-asks : (now : Ticks) (sequence : ℕ) (o : Outcome) → AsksOn o.knows → AsksOn (refused now sequence o).knows
@@ -188,6 +195,7 @@ refused-asks now sequence o on = refused-by (λ (x : Outcome). AsksOn x.knows) n
   stray = λ _. (λ waited is-it. absurd (none-some waited is-it));
   follower = λ held _. (λ waited is-it. absurd (none-some waited is-it));
   ready = λ held _. (λ waited is-it. absurd (none-some waited is-it));
+  runs_on = λ _. (λ waited is-it. absurd (none-some waited is-it));
 })
 
 pub any-refused-asks : (now : Ticks) (sequence : ℕ) (o : Outcome) → AsksOn o.knows → AsksOn (refused_any now sequence o).knows

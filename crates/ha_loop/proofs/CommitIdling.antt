@@ -1,5 +1,5 @@
 -- Inputs that leave all that kept commits depend on.
-use Rattle.std.proofs.Common.{◌≡◌, ◌⊎◌, ℕ, ◌+◌, ◌≤◌, ◌<◌, true, false, List, Option, Some, None, All, refl, sym, subst, ◌∙◌, arith, inl, inr}
+use Rattle.std.proofs.Common.{Bool, ◌≡◌, ◌⊎◌, ℕ, ◌+◌, ◌≤◌, ◌<◌, true, false, List, Option, Some, None, All, refl, sym, subst, ◌∙◌, arith, inl, inr}
 use Rattle.pat_base.specs.declared.member_id.MemberId.{MemberId}
 use Rattle.pat_base.specs.declared.peer_answer.PeerAnswer.{PeerAnswer}
 use Rattle.pat_base.specs.declared.ticks.Ticks.{Ticks}
@@ -32,7 +32,7 @@ use Rattle.ha_loop.specs.Outputs.{listed}
 use Rattle.ha_loop.specs.Peers.{asked, keeping, answered}
 use Rattle.ha_loop.specs.Racing.{creating, barred, finds_free, judged, asking_others, unheard}
 use Rattle.ha_loop.specs.Repairs.{repair_of}
-use Rattle.ha_loop.specs.Snapshots.{renewing, follow_row, follows, leader_loses_key, stray_loses_key, read_noted, got}
+use Rattle.ha_loop.specs.Snapshots.{renewing, follow_row, follows, leader_loses_key, stray_loses_key, read_noted, got, asks_as_stray, led_by_another}
 use Rattle.ha_loop.specs.Synchronous.{sync_read_in}
 use Rattle.ha_loop.specs.Table.{refused_any}
 use Rattle.ha_loop.specs.Wake.{reading, turn_noted, leader_out_of_reach, stray_out_of_reach, overdue, turned, woken}
@@ -40,6 +40,7 @@ use Rattle.ha_loop.proofs.CommitQuiet.{IsQuiet, quietly, quiet-disarmed, asks-qu
 use Rattle.ha_loop.proofs.Knowing.{before-onward, given-up-onward, overdue-onward}
 use Rattle.ha_loop.proofs.Living.{no-way}
 use Rattle.ha_loop.proofs.Rows.{HandoverRows, FailoverRows, ReplyRows, IsOperatorTxn, dropping, before-by, overdue-by, turn-by, wake-by, got-by, refused-by, follow-by, repaired-by, free-by, judged-by, answered-by, looked-by, given-up-by, operator-granted-by, refused-any-by, operated-by}
+use Rattle.ha_loop.specs.Pausing.{may_start_behind, running_without_key}
 
 -- what is waited for was waited for before, or has a new number
 abbrev pub WaitsOn : Outcome → Outcome → Type 0
@@ -248,14 +249,15 @@ wake-idle told now o = let b : Outcome = before now o in let x : Outcome = given
     (idle-then told o due (turned now due) second (turn-idle told now due) (omega (arith, last, (overdue-onward None now x).last)))
 
 follow-idle : (told : Option SnapshotFacts) (now : Ticks) (leader : MemberId) (o : Outcome) → Idle told o (follows now leader o)
-follow-idle told now leader o = let x : Outcome = record o { role = Follower } in
-    let row : Outcome = follow_row now leader o.machine.server.state x in
-    let moved : Idle told o row = follow-by (Idle told o) now leader o.machine.server.state x
+follow-idle told now leader o = let x : Outcome = led_by_another o in
+    let may : Bool = may_start_behind o.knows in
+    let row : Outcome = follow_row may now leader o.machine.server.state x in
+    let moved : Idle told o row = follow-by (Idle told o) may now leader o.machine.server.state x
     (falls told o x refl refl refl refl refl (waits-same o x refl) (λ q. q))
     (falls told o (starting_replica now (Some leader) x) refl refl refl refl refl (waits-same o (starting_replica now (Some leader) x) refl) (λ q. quietly o.outputs (outputs.StartReplica (Some leader)) q tt))
     (falls told o (following_server leader x) refl refl refl refl refl (waits-same o (following_server leader x) refl) (λ q. quietly o.outputs (outputs.Follow leader) q tt))
     (falls told o (shutting_down now x) refl refl refl refl refl (waits-same o (shutting_down now x) refl) (λ q. quietly o.outputs outputs.ShutDown q tt)) in
-    let counted : o.knows.sequence ≤ row.knows.sequence = follow-by (λ (y : Outcome). o.knows.sequence ≤ y.knows.sequence) now leader o.machine.server.state x (omega arith) (omega arith) (omega arith) (omega arith) in
+    let counted : o.knows.sequence ≤ row.knows.sequence = follow-by (λ (y : Outcome). o.knows.sequence ≤ y.knows.sequence) may now leader o.machine.server.state x (omega arith) (omega arith) (omega arith) (omega arith) in
     let told-it : Idle told o (touching row) = idle-then told o row (touching row) moved (touching-idle told row) counted in
     repaired-by (Idle told o) leader (repair_of o.knows.settings leader o.machine.server) (touching row) told-it
     (λ r. record {
@@ -273,6 +275,7 @@ free-idle told now o = let x : Outcome = record o { role = Follower } in let sta
     let fell : Idle told o x = falls told o x refl refl refl refl refl (waits-same o x refl) (λ q. q) in
     free-by (Idle told o) now x (record {
       starts = idle-then told o starts (touching starts) (falls told o starts refl refl refl refl refl (waits-same o starts refl) (λ q. quietly o.outputs (outputs.StartReplica None) q tt)) (touching-idle told starts) (omega arith);
+      touches = idle-then told o x (touching x) fell (touching-idle told x) (omega arith);
       bars = λ bar. idle-then told o x (barred bar x) fell (barred-idle told x bar) (omega arith);
       judges = idle-then told o (unheard x) (judged now (unheard x)) (falls told o (unheard x) refl refl refl refl refl (waits-same o (unheard x) refl) (λ q. q)) (judged-idle told now (unheard x)) (omega arith);
       asks = falls told o (asking_others now (unheard x)) refl refl refl refl refl (waits-new o (asking_others now (unheard x)) _ refl (omega arith)) (λ q. asks-quiet o.knows.who (o.knows.sequence + 1) most_answers o.outputs q);
@@ -292,6 +295,10 @@ read-idle now snapshot o = record {
 renewing-idle : (told : Option SnapshotFacts) (now : Ticks) (points : List HistoryPoint) (revision : ℕ) (o : Outcome) → Idle told o (renewing now points revision o)
 renewing-idle told now points revision o = stays told o (renewing now points revision o) refl refl refl refl (waits-new o (renewing now points revision o) _ refl (omega arith)) (λ q. quietly o.outputs _ q refl)
 
+-- a primary runs on without the leader key
+runs-idle : (told : Option SnapshotFacts) (o : Outcome) → Idle told o (running_without_key o)
+runs-idle told o = falls told o (running_without_key o) refl refl refl refl refl (waits-same o (running_without_key o) refl) (λ q. quietly o.outputs outputs.RunsWithoutKey q tt)
+
 pub got-idle : (now : Ticks) (points : List HistoryPoint) (sequence : ℕ) (snapshot : SnapshotFacts) (o : Outcome) → Idle (Some snapshot) o (got now points sequence snapshot o)
 got-idle now points sequence snapshot o = let read : Outcome = record o { knows = read_noted now snapshot o.knows } in
     let told : Option SnapshotFacts = Some snapshot in
@@ -307,6 +314,9 @@ got-idle now points sequence snapshot o = let read : Outcome = record o { knows 
       touches = behind (touching read) (touching-idle told read);
       follows = λ leader _ _. behind (follows now leader.holder read) (follow-idle told now leader.holder read);
       free = λ _ _. behind (finds_free now read) (free-idle told now read);
+      runs_on = λ _. behind (running_without_key read) (runs-idle told read);
+      asks_on = λ _. let asks : Outcome = asks_as_stray now read in
+          behind asks (falls told read asks refl refl refl refl refl (waits-new read asks _ refl (omega arith)) (λ q. quietly (listed outputs.RunsWithoutKey o.outputs) _ (quietly o.outputs outputs.RunsWithoutKey q tt) refl));
     })
 
 refused-idle : (told : Option SnapshotFacts) (now : Ticks) (sequence : ℕ) (o : Outcome) → Idle told o (refused now sequence o)
@@ -317,6 +327,7 @@ refused-idle told now sequence o = let w : Outcome = waiting_no_more o in refuse
   stray = λ _. idle-then told o w (stray_loses_key now w) (quiet-idle told o) (stop-idle told now LeaderKeyLost w) (omega arith);
   follower = λ held _. falls told o (record w { role = Follower }) refl refl refl refl refl (waits-nothing o (record w { role = Follower }) refl) (λ q. q);
   ready = λ held _. idle-then told o w (postpones held w) (quiet-idle told o) (postpones-idle told held w) (omega arith);
+  runs_on = λ _. idle-then told o w (running_without_key w) (quiet-idle told o) (runs-idle told w) (omega arith);
 })
 
 pub any-refused-idle : (told : Option SnapshotFacts) (now : Ticks) (sequence : ℕ) (o : Outcome) → Idle told o (refused_any now sequence o)

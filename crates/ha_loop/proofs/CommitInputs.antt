@@ -51,7 +51,7 @@ use Rattle.ha_loop.specs.Outputs.{has_one, listed}
 use Rattle.ha_loop.specs.Peers.{asked, answered}
 use Rattle.ha_loop.specs.Planning.{leader_view, naming, noting}
 use Rattle.ha_loop.specs.Racing.{unheard}
-use Rattle.ha_loop.specs.Snapshots.{got}
+use Rattle.ha_loop.specs.Snapshots.{got, informed}
 use Rattle.ha_loop.specs.Synchronous.{expected_of, sync_read_in, unnamed, waiting_for}
 use Rattle.ha_loop.specs.Table.{granted_any, refused_any, step}
 use Rattle.ha_loop.specs.Wake.{woken}
@@ -66,6 +66,8 @@ use Rattle.ha_loop.proofs.CommitSteps.{confirmed_at, wanted_at, required_at, Pla
 use Rattle.ha_loop.proofs.Granting.{Told}
 use Rattle.ha_loop.proofs.Knowing.{Onward, before-onward, wake-onward, looked-onward, got-onward, any-granted-onward, any-refused-onward, operated-onward, answered-onward, asked-onward, onward-then}
 use Rattle.ha_loop.proofs.Rows.{FailoverRows, dropping, before-by, if-cases, led_on}
+use Rattle.ha_loop.specs.Pausing.{is_paused}
+use Rattle.ha_loop.proofs.LawfulSteps.{stays-unpaused}
 
 -- what comes before an input is covered by it
 pub before-covered : (now : Ticks) (o : Outcome) → All IsCovered o.outputs → All IsCovered (before now o).outputs
@@ -228,10 +230,11 @@ module _ (now : Ticks) (sequence : ℕ) (grant : Granted) (snapshot : SnapshotFa
         empties = λ _. requires-stays Hears o told requireds.Nobody refl all;
       }
 
-  grant-stays : AsksOn b.knows → IsOn snapshot → Stays (granted now sequence grant snapshot b)
-  grant-stays asks on = granted-steps Stays now sequence grant snapshot b on (record {
+  grant-stays : is_paused (informed snapshot b.knows) ≡ false → AsksOn b.knows → IsOn snapshot → Stays (granted now sequence grant snapshot b)
+  grant-stays unpaused asks on = granted-steps Stays now sequence grant snapshot b on (record {
     kept = quiet-stays Hears o b asks quiet;
     quiet = quiet-stays Hears o (waiting_no_more b) (rest (waiting_no_more b).knows refl) quiet;
+    unpaused = unpaused;
     mode = λ awaited. leases-on sequence grant b.knows asks awaited;
     leases = λ awaited. lease-stays awaited.waited.ttl;
     writes = λ awaited. write-stays awaited.waited.question;
@@ -241,8 +244,8 @@ module _ (now : Ticks) (sequence : ℕ) (grant : Granted) (snapshot : SnapshotFa
 rests : (now : Ticks) (heard : Heard) (told onto : Option SnapshotFacts) (o x : Outcome) → All IsQuiet o.outputs → Onward onto o x → Idle told o x → (AsksOn o.knows → HearsOn heard → AsksOn x.knows)
     → ((s : State) (m : ℕ) (input : AgentInput) → HearsToCommit s m input heard o → (snapshot : SnapshotFacts) → told ≡ Some snapshot → HearsSnapshot s input (sync_seen (sync_read_in snapshot))) → CommitsFrom now heard o x
 rests now heard told onto o x quiet onward idle asks hears = record {
-  stays = λ on hears-on. quiet-stays heard o x (asks on hears-on) (idle.quiet quiet);
-  lawful = λ on hears-on s m input sound stands heard-it is. idle-lawful now heard told onto s m input o x stands is onward idle quiet (hears s m input heard-it);
+  stays = λ _ on hears-on. quiet-stays heard o x (asks on hears-on) (idle.quiet quiet);
+  lawful = λ _ on hears-on s m input sound stands heard-it is. idle-lawful now heard told onto s m input o x stands is onward idle quiet (hears s m input heard-it);
 }
 
 none-told : (snapshot : SnapshotFacts) → ◌≡◌ {A = Option SnapshotFacts} None (Some snapshot) → ⊥
@@ -274,8 +277,8 @@ step-commits now points (HeardGranted sequence grant snapshot) o all = let told 
     (idle-then None o b x (before-idle None now o) (operator-granted-idle None snapshot b.knows.operating b) (before-onward None now o).last)
     (λ on _. operator-granted-asks snapshot b.knows.operating b (before-asks now o on)) (λ s m input _ other e. absurd (none-told other e)))
     (λ _ _. record {
-      stays = λ on is. grant-stays now sequence grant snapshot o b (before-behind now o) (before-covered now o all) (before-asks now o on) is;
-      lawful = λ on is s m input sound stands hears input-is. grant-commits now sequence grant snapshot s m input o sound stands (covered o.outputs all) on is hears input-is;
+      stays = λ was on is. grant-stays now sequence grant snapshot o b (before-behind now o) (before-covered now o all) (stays-unpaused now snapshot o was is.unpaused) (before-asks now o on) is;
+      lawful = λ was on is s m input sound stands hears input-is. grant-commits now sequence grant snapshot s m input o sound stands (covered o.outputs all) was on is hears input-is;
     })
     (onward-then told o b (granted_any now sequence grant snapshot b) (before-onward told now o) (any-granted-onward now sequence grant snapshot b))
 step-commits now points (Mismatch sequence key found) o all = let b : Outcome = before now o in

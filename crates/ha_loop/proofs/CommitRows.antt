@@ -63,6 +63,8 @@ use Rattle.ha_loop.proofs.Granting.{Told, both-true}
 use Rattle.ha_loop.proofs.Knowing.{before-onward, granted-onward, onward-then}
 use Rattle.ha_loop.proofs.Living.{no-way}
 use Rattle.ha_loop.proofs.Rows.{FailoverRows, dropping, led_on}
+use Rattle.ha_loop.specs.Pausing.{is_paused}
+use Rattle.ha_loop.proofs.LawfulSteps.{stays-unpaused}
 
 chosen : (on named : Bool) → on ≡ true → (if on then named else true) ≡ true → named ≡ true
 chosen true named is e = e
@@ -288,9 +290,9 @@ write-lawful now sequence grant snapshot s m input o b ground awaited hears foll
     }
 
 -- a granted request
-pub grant-commits : (now : Ticks) (sequence : ℕ) (grant : Granted) (snapshot : SnapshotFacts) (s : State) (m : ℕ) (input : AgentInput) (o : Outcome) → IsSound s → StandsToCommit s m o → All IsQuiet o.outputs → AsksOn o.knows → IsOn snapshot → HearsGranted s m input.heard sequence grant snapshot o.knows
+pub grant-commits : (now : Ticks) (sequence : ℕ) (grant : Granted) (snapshot : SnapshotFacts) (s : State) (m : ℕ) (input : AgentInput) (o : Outcome) → IsSound s → StandsToCommit s m o → All IsQuiet o.outputs → is_paused o.knows ≡ false → AsksOn o.knows → IsOn snapshot → HearsGranted s m input.heard sequence grant snapshot o.knows
     → IsCommitInputOf s m o (granted now sequence grant snapshot (before now o)) input → IsLawfulAs now (HeardGranted sequence grant snapshot) o s m input
-grant-commits now sequence grant snapshot s m input o sound stands quiet asks on hears is =
+grant-commits now sequence grant snapshot s m input o sound stands quiet was asks on hears is =
     let b : Outcome = before now o in
     let behind : IsBehind o b = before-behind now o in
     let ground : Ground s m o b = record { sound = sound; stands = stands; behind = behind; quiet = quiet } in
@@ -298,6 +300,7 @@ grant-commits now sequence grant snapshot s m input o sound stands quiet asks on
     granted-steps (Lawful now sequence grant snapshot s m input o) now sequence grant snapshot b on (record {
       kept = rests now sequence grant snapshot s m input o b b ground (same-idle None b);
       quiet = rests now sequence grant snapshot s m input o b (waiting_no_more b) ground (quiet-idle None b);
+      unpaused = stays-unpaused now snapshot o was on.unpaused;
       mode = mode;
       leases = λ awaited. let before-it : IsAwaitedLease sequence grant o.knows = lease-before sequence grant o b behind awaited in
           lease-lawful now awaited.waited.ttl sequence grant snapshot s m input o b ground (record { awaited = before-it; hears = hears.lease before-it }) (mode awaited) (before-unready now o);

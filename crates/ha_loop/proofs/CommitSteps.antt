@@ -26,9 +26,9 @@ use Rattle.ha_loop.specs.declared.output.Output.TheVariants as outputs
 use Rattle.ha_loop.specs.declared.role.Why.TheVariants.{HandOver}
 use Rattle.ha_loop.specs.Acting.{ending_server, arming, requiring, is_refusing, waiting_no_more}
 use Rattle.ha_loop.specs.Agents.{RoleFacts, Follower, Holder, Ready, Leader, Ending, Stray, Outcome, is_leader}
-use Rattle.ha_loop.specs.Claiming.{begins, claims, begins_or_claims, postpones, can_begin_on_claim}
+use Rattle.ha_loop.specs.Claiming.{begins, claims, begins_or_claims, postpones, can_begin_on_claim, may_begin_on_claim}
 use Rattle.ha_loop.specs.Committing.{IsAwaitedWrite, IsOn}
-use Rattle.ha_loop.specs.Decisions.{is_decision, is_sync_decision, is_lease_of, is_write_of, belongs, is_start_too_long, takes_over, stray_renewed, leader_renewed, may_create, may_take, gives_back, arms, takes_key, lease_granted, accepted_grant, sync_granted, accepted_sync, granted_write, granted_for, granted}
+use Rattle.ha_loop.specs.Decisions.{is_decision, is_sync_decision, is_lease_of, is_write_of, belongs, is_start_too_long, takes_over, stray_renewed, leader_renewed, may_create, may_take, gives_back, arms, takes_key, lease_granted, accepted_grant, sync_granted, accepted_sync, granted_write, granted_for, granted, asks_renewal, granted_in_pause, lease_used, uses_lease}
 use Rattle.ha_loop.specs.HandingOver.{duties}
 use Rattle.ha_loop.specs.Outputs.{listed}
 use Rattle.ha_loop.specs.Planning.{leader_view, naming, noting, planned_as, planned_on, settled}
@@ -37,6 +37,7 @@ use Rattle.ha_loop.specs.Synchronous.{waiting_for}
 use Rattle.ha_loop.proofs.Granting.{Told, both-true}
 use Rattle.ha_loop.proofs.Living.{no-way}
 use Rattle.ha_loop.proofs.Rows.{FailoverRows, led_on, if-cases, duties-by}
+use Rattle.ha_loop.specs.Pausing.{is_paused, is_wanted_by}
 
 -- the standbys that a leader wants by a snapshot, and those that have confirmed the noted position
 abbrev pub wanted_at : Ticks → SnapshotFacts → Outcome → MemberSet
@@ -95,7 +96,7 @@ plan-on-by P now revision snapshot o (Some sync) is rows =
 pub planned-on-by : (P : Outcome → Type 0) (now : Ticks) (revision : ℕ) (snapshot : SnapshotFacts) (o : Outcome) → IsOn snapshot → PlanSteps P now revision snapshot o → P (planned_on now revision (Some snapshot) o)
 planned-on-by P now revision snapshot o on rows = let view : LeaderView = leader_view now o.knows o.machine in
     if-cases (λ (plan : Plan). P (planned_as now revision plan o)) (config_in snapshot).synchronous_mode (plan_on view snapshot (sync_in snapshot)) (plan_off (sync_in snapshot))
-    (λ _. plan-on-by P now revision snapshot o (sync_in snapshot) refl rows) (λ off. absurd (no-way (sym off ∙ on)))
+    (λ _. plan-on-by P now revision snapshot o (sync_in snapshot) refl rows) (λ off. absurd (no-way (sym off ∙ on.synchronous)))
 
 -- what each role does with a lease
 pub record LeaseSteps (P : Outcome → Type 0) (now ttl : Ticks) (revision : ℕ) (snapshot : SnapshotFacts) (o : Outcome) : Type 0 where
@@ -148,25 +149,32 @@ settled-steps P now question snapshot o Stays is leads rows = rows.other
 settled-steps P now question snapshot o (Lists set) is leads rows = rows.lists set is leads
 settled-steps P now question snapshot o Empties is leads rows = rows.empties is
 
-write-steps : (P : Outcome → Type 0) (now : Ticks) (question asked : Question) (snapshot : SnapshotFacts) (role : RoleFacts) (o : Outcome) → question ≡ asked → o.role ≡ role → belongs asked role ≡ true → WriteSteps P now question snapshot o → P (sync_granted now asked role (Told snapshot o))
-write-steps P now question Claiming snapshot (Ready revision) o is role fits rows =
-    if-cases P (can_begin_on_claim o.machine.server.was_primary o.machine.server.state) (begins now revision (Told snapshot o)) (postpones revision (Told snapshot o)) (λ can. rows.begins revision is role can) (λ _. rows.postpones revision)
-write-steps P now question Claiming snapshot Follower o is role fits rows = rows.other
-write-steps P now question Claiming snapshot (Holder held) o is role fits rows = rows.other
-write-steps P now question Claiming snapshot (Leader held) o is role fits rows = rows.other
-write-steps P now question Claiming snapshot (Ending held why) o is role fits rows = rows.other
-write-steps P now question Claiming snapshot Stray o is role fits rows = rows.other
-write-steps P now question (Syncing settling) snapshot role o is same fits rows = settled-steps P now question snapshot o settling is (ap is_leader same ∙ fits) rows
-write-steps P now question Reading snapshot role o is same fits rows = rows.other
-write-steps P now question Asking snapshot role o is same fits rows = rows.other
-write-steps P now question Creating snapshot role o is same fits rows = rows.other
-write-steps P now question Renewing snapshot role o is same fits rows = rows.other
-write-steps P now question Checking snapshot role o is same fits rows = rows.other
+-- outside a pause who begins on its claim still can
+begins-unpaused : (paused wanted can : Bool) → paused ≡ false → (if paused then wanted else can) ≡ true → can ≡ true
+begins-unpaused true wanted can unpaused e = absurd (no-way (sym unpaused))
+begins-unpaused false wanted can unpaused e = e
+
+write-steps : (P : Outcome → Type 0) (now : Ticks) (question asked : Question) (snapshot : SnapshotFacts) (role : RoleFacts) (o : Outcome) → is_paused (Told snapshot o).knows ≡ false → question ≡ asked → o.role ≡ role → belongs asked role ≡ true → WriteSteps P now question snapshot o → P (sync_granted now asked role (Told snapshot o))
+write-steps P now question Claiming snapshot (Ready revision) o unpaused is role fits rows =
+    if-cases P (may_begin_on_claim (Told snapshot o).knows o.machine.server) (begins now revision (Told snapshot o)) (postpones revision (Told snapshot o))
+    (λ may. rows.begins revision is role (begins-unpaused (is_paused (Told snapshot o).knows) (is_wanted_by o.knows.who.me (Some snapshot) o.machine.server.state) (can_begin_on_claim o.machine.server.was_primary o.machine.server.state) unpaused may)) (λ _. rows.postpones revision)
+write-steps P now question Claiming snapshot Follower o unpaused is role fits rows = rows.other
+write-steps P now question Claiming snapshot (Holder held) o unpaused is role fits rows = rows.other
+write-steps P now question Claiming snapshot (Leader held) o unpaused is role fits rows = rows.other
+write-steps P now question Claiming snapshot (Ending held why) o unpaused is role fits rows = rows.other
+write-steps P now question Claiming snapshot Stray o unpaused is role fits rows = rows.other
+write-steps P now question (Syncing settling) snapshot role o unpaused is same fits rows = settled-steps P now question snapshot o settling is (ap is_leader same ∙ fits) rows
+write-steps P now question Reading snapshot role o unpaused is same fits rows = rows.other
+write-steps P now question Asking snapshot role o unpaused is same fits rows = rows.other
+write-steps P now question Creating snapshot role o unpaused is same fits rows = rows.other
+write-steps P now question Renewing snapshot role o unpaused is same fits rows = rows.other
+write-steps P now question Checking snapshot role o unpaused is same fits rows = rows.other
 
 -- a granted request
 pub record GrantSteps (P : Outcome → Type 0) (now : Ticks) (sequence : ℕ) (grant : Granted) (snapshot : SnapshotFacts) (o : Outcome) : Type 0 where
   pub kept : P o
   pub quiet : P (waiting_no_more o)
+  pub unpaused : is_paused (Told snapshot o).knows ≡ false
   pub mode : IsAwaitedLease sequence grant o.knows → o.knows.turn_settings.synchronous_mode ≡ true
   pub leases : (awaited : IsAwaitedLease sequence grant o.knows) → LeaseSteps P now awaited.waited.ttl grant.revision snapshot o
   pub writes : (awaited : IsAwaitedWrite sequence grant o.knows) → WriteSteps P now awaited.waited.question snapshot o
@@ -177,13 +185,15 @@ granted-for-steps P now sequence grant snapshot (Some waited) o is on rows =
     if-cases P (is_decision waited sequence && is_lease_of o.knows.who.me grant) (accepted_grant now waited grant.revision snapshot o) (granted_write now sequence grant snapshot waited o)
     (λ decides. let parts : (is_decision waited sequence ≡ true) × (is_lease_of o.knows.who.me grant ≡ true) = both-true (is_decision waited sequence) (is_lease_of o.knows.who.me grant) decides in
     let awaited : IsAwaitedLease sequence grant o.knows = record { waited = waited; is = is; decision = parts.0; mine = parts.1 } in
-    if-cases P (belongs waited.question o.role) (lease_granted now waited.ttl grant.revision o.role (Told snapshot o)) (waiting_no_more o)
-    (λ _. lease-steps P now waited.ttl grant.revision snapshot o.role o refl on (rows.mode awaited) (rows.leases awaited)) (λ _. rows.quiet))
+    if-cases P (uses_lease (is_paused (Told snapshot o).knows) waited.question o.role) (lease_used now waited grant.revision (Told snapshot o)) (waiting_no_more o)
+    (λ _. if-cases P (is_paused (Told snapshot o).knows) (granted_in_pause now (asks_renewal waited.question) grant.revision o.role (Told snapshot o)) (lease_granted now waited.ttl grant.revision o.role (Told snapshot o))
+    (λ paused. absurd (no-way (sym rows.unpaused ∙ paused)))
+    (λ _. lease-steps P now waited.ttl grant.revision snapshot o.role o refl on (rows.mode awaited) (rows.leases awaited))) (λ _. rows.quiet))
     (λ _. if-cases P (is_sync_decision waited sequence && is_write_of o.knows.who.me grant) (accepted_sync now waited snapshot o) o
     (λ decides. let parts : (is_sync_decision waited sequence ≡ true) × (is_write_of o.knows.who.me grant ≡ true) = both-true (is_sync_decision waited sequence) (is_write_of o.knows.who.me grant) decides in
     let awaited : IsAwaitedWrite sequence grant o.knows = record { waited = waited; is = is; decision = parts.0; mine = parts.1 } in
     if-cases P (belongs waited.question o.role) (sync_granted now waited.question o.role (Told snapshot o)) (waiting_no_more o)
-    (λ fits. write-steps P now waited.question waited.question snapshot o.role o refl refl fits (rows.writes awaited)) (λ _. rows.quiet))
+    (λ fits. write-steps P now waited.question waited.question snapshot o.role o rows.unpaused refl refl fits (rows.writes awaited)) (λ _. rows.quiet))
     (λ _. rows.kept))
 
 pub granted-steps : (P : Outcome → Type 0) (now : Ticks) (sequence : ℕ) (grant : Granted) (snapshot : SnapshotFacts) (o : Outcome) → IsOn snapshot → GrantSteps P now sequence grant snapshot o → P (granted now sequence grant snapshot o)

@@ -38,7 +38,7 @@ use Rattle.ha_loop.specs.FreeKey.{HearsFree, StaysOut, AsksForKey, AsksOthers, H
 use Rattle.ha_loop.specs.Outputs.{listed}
 use Rattle.ha_loop.specs.HandingOver.{check_answered}
 use Rattle.ha_loop.specs.Peers.{is_asking, awaits_answer, awaits_check, judged_if_all, keeping, accepted_answer, answered_for, answered}
-use Rattle.ha_loop.specs.Racing.{can_start, bar_of, outcome_by, judged_as, judged, asking_others, unheard, races, races_unless, finds_free}
+use Rattle.ha_loop.specs.Racing.{can_start, bar_of, outcome_by, judged_as, judged, asking_others, unheard, races, races_unless, finds_free, starts_alone}
 use Rattle.ha_loop.specs.Snapshots.{no_key, led, is_active, awaits_read, read_noted, accepted, got}
 use Rattle.ha_loop.specs.Views.{shown}
 use Rattle.ha_loop.specs.Operators.{given_up}
@@ -70,7 +70,7 @@ got-free now points sequence snapshot o hears = let read : Outcome = record o { 
 free-raced : (now : Ticks) (snapshot : SnapshotFacts) (o : Outcome) (bar : Option Bar) → can_start o.machine.server ≡ false → eligibility_of (shown now o) snapshot ≡ bar
     → finds_free now (record o { knows = read_noted now snapshot o.knows }) ≡ races_unless now bar (record o { role = Follower; knows = read_noted now snapshot o.knows })
 free-raced now snapshot o bar down is = let x : Outcome = record o { role = Follower; knows = read_noted now snapshot o.knows } in
-    if-false (can_start o.machine.server) (touching (starting_replica now None x)) (races_unless now (bar_of now x.knows x.machine) x) down
+    if-false (can_start o.machine.server) (touching (starts_alone now x)) (races_unless now (bar_of now x.knows x.machine) x) down
     ∙ ap (λ (by : Option Bar). races_unless now by x) is
 
 -- a running replica can't start

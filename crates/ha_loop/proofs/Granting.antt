@@ -12,14 +12,14 @@ use Rattle.ha_loop.specs.declared.output.Output.TheVariants as outputs
 use Rattle.ha_loop.specs.declared.role.Why.TheVariants.{HandOver}
 use Rattle.ha_loop.specs.Acting.{armed, fed_until, arming, ending_server, requiring, is_hold_active, is_refusing, waiting_no_more}
 use Rattle.ha_loop.specs.Agents.{Ending, Outcome, is_ready}
-use Rattle.ha_loop.specs.Claiming.{begins_or_claims, postpones}
-use Rattle.ha_loop.specs.Decisions.{is_decision, is_lease_of, leader_renewed, takes_over, stray_renewed, can_begin, may_take, gives_back, arms, takes_key, granted}
+use Rattle.ha_loop.specs.Claiming.{begins_or_claims, postpones, begins}
+use Rattle.ha_loop.specs.Decisions.{is_decision, is_lease_of, leader_renewed, takes_over, stray_renewed, can_begin, may_take, gives_back, arms, takes_key, granted, takes_key_in_pause}
 use Rattle.ha_loop.specs.Fits.{Fits}
 use Rattle.ha_loop.specs.Outputs.{listed, is_feeding, has_one}
 use Rattle.ha_loop.specs.Planning.{writing_sync, noting}
 use Rattle.ha_loop.specs.Powers.{IsAwaitedLease, GrantMay, BringsNothing, Acts, lease_of}
 use Rattle.ha_loop.specs.Powers.DeadlineMay.{Kept}
-use Rattle.ha_loop.specs.Powers.GrantMay.{Nothing, Leads, Begins}
+use Rattle.ha_loop.specs.Powers.GrantMay.{Nothing, Leads, Rests, Begins}
 use Rattle.ha_loop.specs.Snapshots.{informed, known_with}
 use Rattle.ha_loop.specs.Synchronous.{may_lead_in_sync, unnamed}
 use Rattle.ha_loop.proofs.Bringing.{same-role, no-lease, postpones-brings}
@@ -36,7 +36,8 @@ use Rattle.pat_base.specs.MemberId.{member_of}
 use Rattle.pat_base.specs.declared.member_id.MemberId.{MemberId}
 use Rattle.event_book.specs.declared.message.Body.TheVariants as bodies
 use Rattle.ha_loop.specs.declared.output.Target.TheVariants as targets
-use Rattle.ha_loop.proofs.Rows.{dropping, granted-any-by, SyncRows, led_on, if-cases, granted-by, renewed-by, begins-or-claims-by}
+use Rattle.ha_loop.proofs.Rows.{dropping, granted-any-by, SyncRows, led_on, if-cases, granted-by, renewed-by, begins-or-claims-by, DutyRows, duties-of, rested_on}
+use Rattle.ha_loop.specs.Pausing.{is_paused, is_wanted, resting}
 
 pub take-free : (held can : Bool) → not held && can ≡ true → held ≡ false
 take-free true can e = sym e
@@ -145,6 +146,43 @@ takes-may now sequence grant snapshot o awaited ended = let back : Outcome = giv
     (λ may. arms-may now sequence grant snapshot o awaited ended (take-free (is_hold_active now o.machine.hold) (can_begin now o.knows o.machine.server o.machine.server.state && may_lead_in_sync o.knows) may))
     (λ _. Nothing (no-lease o back refl refl (λ e. e)) (Kept refl))
 
+pub both-true : (a b : Bool) → a && b ≡ true → (a ≡ true) × (b ≡ true)
+both-true true b e = (refl, e)
+both-true false b e = absurd (no-way e)
+
+-- the lease of the grant in a pause, with no deadline, over a server that was live before if it is after
+rests-live : (now : Ticks) (sequence : ℕ) (grant : Granted) (snapshot : SnapshotFacts) (o after : Outcome) → is_paused (informed snapshot o.knows) ≡ true → IsAwaitedLease sequence grant o.knows → after.machine.watchdog ≡ record o.machine.watchdog { deadline = None }
+    → lease_of after.role ≡ Some grant.revision → is_ready after.role ≡ false → (live after.machine.server.state ≡ true → live o.machine.server.state ≡ true) → GrantMay now sequence grant snapshot o after
+rests-live now sequence grant snapshot o after paused awaited rested lease unready lives = Rests paused awaited rested lease (acts-live after _ _ unready lives)
+
+rested-may : (now : Ticks) (sequence : ℕ) (grant : Granted) (snapshot : SnapshotFacts) (renews : Bool) (o : Outcome) → is_paused (informed snapshot o.knows) ≡ true → IsAwaitedLease sequence grant o.knows → DutyRows (GrantMay now sequence grant snapshot o) now grant.revision (rested_on renews grant.revision (Told snapshot o))
+rested-may now sequence grant snapshot renews o paused awaited = let led : Outcome = rested_on renews grant.revision (Told snapshot o) in
+    let leads : (after : Outcome) → after.machine.watchdog ≡ record o.machine.watchdog { deadline = None } → lease_of after.role ≡ Some grant.revision → is_ready after.role ≡ false → (live after.machine.server.state ≡ true → live o.machine.server.state ≡ true) → GrantMay now sequence grant snapshot o after
+    = λ after rested lease unready lives. rests-live now sequence grant snapshot o after paused awaited rested lease unready lives in record {
+      plan = record {
+        kept = leads led refl refl refl (λ e. e);
+        writes = λ settling txn _. leads (writing_sync now settling txn led) refl refl refl (λ e. e);
+        adds = λ required. leads (requiring required (noting led)) refl refl refl (λ e. e);
+        drops = λ required. leads (requiring required led) refl refl refl (λ e. e);
+      };
+      clears = λ compared. leads (dropping compared led) refl refl refl (λ e. e);
+      asks = λ candidate. leads (checking now candidate (unheard led)) refl refl refl (λ e. e);
+      judges = record {
+        kept = leads (waiting_no_more (unheard led)) refl refl refl (λ e. e);
+        clears = λ compared. leads (dropping compared (waiting_no_more (unheard led))) refl refl refl (λ e. e);
+        hands = λ candidate. leads (hands_over now grant.revision candidate (waiting_no_more (unheard led))) refl refl refl (stop-live now o.machine.server);
+      };
+    }
+
+-- in a pause who is wanted takes the key, with no deadline
+takes-resting-may : (now : Ticks) (sequence : ℕ) (grant : Granted) (snapshot : SnapshotFacts) (renews : Bool) (o : Outcome) → is_paused (informed snapshot o.knows) ≡ true → IsAwaitedLease sequence grant o.knows → GrantMay now sequence grant snapshot o (takes_key_in_pause now renews grant.revision (Told snapshot o))
+takes-resting-may now sequence grant snapshot renews o paused awaited = let rest : Outcome = resting renews (Told snapshot o) in
+    let taken : Bool = may_take now o.knows o.machine in
+    if-cases (GrantMay now sequence grant snapshot o) (is_wanted o.knows.who.me o.knows.turn_failover o.machine.server.state && taken) (begins_or_claims now grant.revision rest) (gives_back grant.revision (Told snapshot o))
+    (λ may. let free : is_hold_active now o.machine.hold ≡ false = take-free (is_hold_active now o.machine.hold) (can_begin now o.knows o.machine.server o.machine.server.state && may_lead_in_sync o.knows) (both-true (is_wanted o.knows.who.me o.knows.turn_failover o.machine.server.state) taken may).1 in
+    begins-or-claims-by (GrantMay now sequence grant snapshot o) now grant.revision rest (Rests paused awaited refl refl (λ _. inr free)) (Rests paused awaited refl refl (λ _. inr free)))
+    (λ _. Nothing (no-lease o (gives_back grant.revision (Told snapshot o)) refl refl (λ e. e)) (Kept refl))
+
 -- an agent that was about to begin begins, or keeps its lease
 sync-may : (now : Ticks) (sequence : ℕ) (grant : Granted) (snapshot : SnapshotFacts) (o : Outcome) → Fits o.role (live o.machine.server.state) → SyncRows (GrantMay now sequence grant snapshot o) now (Told snapshot o)
 sync-may now sequence grant snapshot o fits = record {
@@ -154,10 +192,6 @@ sync-may now sequence grant snapshot o fits = record {
       Nothing brings (behind-by o o (postpones revision (Told snapshot o)) (Kept refl) (postpones-stays o revision (Told snapshot o) is fits refl).watchdog brings);
   settles = λ required _. Nothing (same-role o (requiring required (Told snapshot o)) refl (λ e. e)) (Kept refl);
 }
-
-pub both-true : (a b : Bool) → a && b ≡ true → (a ≡ true) × (b ≡ true)
-both-true true b e = (refl, e)
-both-true false b e = absurd (no-way e)
 
 abbrev pub awaited-lease : (sequence : ℕ) (grant : Granted) (o : Outcome) (waited : Waited) → o.knows.waited ≡ Some waited → is_decision waited sequence && is_lease_of o.knows.who.me grant ≡ true → IsAwaitedLease sequence grant o.knows
 awaited-lease sequence grant o waited is both = let parts : (is_decision waited sequence ≡ true) × (is_lease_of o.knows.who.me grant ≡ true) = both-true (is_decision waited sequence) (is_lease_of o.knows.who.me grant) both in
@@ -172,6 +206,9 @@ granted-may now sequence grant snapshot o fits = granted-by (GrantMay now sequen
       leader = λ held _. renewed-may now sequence grant snapshot o awaited;
       stray = λ _. stray-may now sequence grant snapshot o awaited;
       takes = λ may. takes-may now sequence grant snapshot o awaited (ended-for o.role (live o.machine.server.state) may fits);
+      rests = λ renews paused held _. duties-of (GrantMay now sequence grant snapshot o) now grant.revision (rested_on renews grant.revision (Told snapshot o)) (rested-may now sequence grant snapshot renews o paused awaited);
+      stray_rests = λ renews paused _. rests-live now sequence grant snapshot o (takes_over now grant.revision (resting renews (Told snapshot o))) paused awaited refl refl refl (λ e. e);
+      takes_resting = λ renews paused _. takes-resting-may now sequence grant snapshot renews o paused awaited;
     })
     (sync-may now sequence grant snapshot o fits)
 

@@ -15,7 +15,7 @@ use Rattle.ha_loop.specs.Planning.{leader_view, planned_as, planned_on, planned}
 use Rattle.ha_loop.specs.Acting.{waiting_no_more, touching, starting_replica}
 use Rattle.ha_loop.specs.Agents.{Outcome, word_of}
 use Rattle.ha_loop.specs.Answers.{all_answered}
-use Rattle.ha_loop.specs.Racing.{can_start, bar_of, outcome_by, judged_as, judged, asking_others, unheard, races, races_unless, free_key}
+use Rattle.ha_loop.specs.Racing.{can_start, bar_of, outcome_by, judged_as, judged, asking_others, unheard, races, races_unless, free_key, starts_alone}
 use Rattle.ha_loop.specs.Views.{view_of}
 
 pub if-true : {A : Type 0} (test : Bool) (x y : A) → test ≡ true → (if test then x else y) ≡ x
@@ -47,7 +47,7 @@ unless-by now o after bar by same is = is ∙ ap (λ (b : Option Bar). races_unl
 -- a server that can't start is left to the race
 pub free-by : (now : Ticks) (o after : Outcome) (bar : Option Bar) → can_start o.machine.server ≡ false → bar ≡ bar_of now o.knows o.machine → after ≡ races_unless now bar o → after ≡ free_key now o
 free-by now o after bar down same is =
-    is ∙ ap (λ (b : Option Bar). races_unless now b o) same ∙ sym (if-false (can_start o.machine.server) (touching (starting_replica now None o)) (races_unless now (bar_of now o.knows o.machine) o) down)
+    is ∙ ap (λ (b : Option Bar). races_unless now b o) same ∙ sym (if-false (can_start o.machine.server) (touching (starts_alone now o)) (races_unless now (bar_of now o.knows o.machine) o) down)
 
 -- the plan doesn't read the snapshot that a view holds
 plan-shown : (view : LeaderView) (snapshot : SnapshotFacts) → plan_of view snapshot ≡ plan_of (record view { view = record view.view { seen = None } }) snapshot

@@ -13,7 +13,7 @@ use Rattle.lease_store.specs.declared.granted.Granted.{Granted}
 use Rattle.lease_store.specs.declared.key.Key.TheVariants as keys
 use Rattle.lease_store.specs.declared.value.KeyEntry.{KeyEntry}
 use Rattle.wal_model.specs.declared.entry.HistoryPoint.{HistoryPoint}
-use Rattle.cluster_config.specs.Snapshots.{SnapshotFacts, entry_in, failsafe_by, failsafe_of_entry, failsafe_in}
+use Rattle.cluster_config.specs.Snapshots.{SnapshotFacts, entry_in, failsafe_by, failsafe_of_entry, failsafe_in, settings_by, settings_of_entry}
 use Rattle.event_book.specs.declared.reason.Reason.TheVariants.{StartTooLong, WatchdogNotArmed}
 use Rattle.lease_law.specs.Leases.{LeaderSeen, FailsafeKey}
 use Rattle.lease_law.specs.Past.{set_members}
@@ -21,19 +21,20 @@ use Rattle.lease_law.proofs.Tools.{some-is, none-some}
 use Rattle.ha_loop.specs.declared.heard.Heard.{Heard}
 use Rattle.ha_loop.specs.declared.heard.Heard.TheVariants.{Wake, Got, Granted as HeardGranted, Mismatch, Asked, Answered, Operated as HearsOperator}
 use Rattle.ha_loop.specs.declared.knowledge.Waited.{Waited}
+use Rattle.ha_loop.specs.declared.output.Output.{Output}
 use Rattle.ha_loop.specs.declared.output.Output.TheVariants as outputs
 use Rattle.ha_loop.specs.declared.role.Why.{Why}
 use Rattle.ha_loop.specs.declared.role.Why.TheVariants.{HandOver, Lost}
 use Rattle.ha_loop.specs.Acting.{disarming, arming, ending_server, requiring, shutting_down, touching, starting_replica, following_server, is_refusing, waiting_no_more}
 use Rattle.ha_loop.specs.Agents.{EndsAlone, HasCounted, RoleFacts, Follower, Holder, Ready, Leader, Ending, Stray, Outcome}
 use Rattle.ha_loop.specs.Before.{leader_finds_ended, has_ended, finds_live, stray_finds_ended, before}
-use Rattle.ha_loop.specs.Decisions.{may_create, leader_renewed, takes_over, stray_renewed, may_take, gives_back, arms, takes_key, granted, refused}
+use Rattle.ha_loop.specs.Decisions.{may_create, leader_renewed, takes_over, stray_renewed, may_take, gives_back, arms, takes_key, granted, refused, takes_key_in_pause}
 use Rattle.ha_loop.specs.Claiming.{begins, claims, begins_or_claims, postpones}
 use Rattle.ha_loop.specs.Planning.{writing_sync, noting}
 use Rattle.ha_loop.specs.Outputs.{listed}
 use Rattle.ha_loop.specs.Seen.{lease_asked, leader_seen_if, failsafe_listed, failsafe_entry_seen, failsafe_seen_if}
 use Rattle.ha_loop.specs.Repairs.{repair_of, repairing}
-use Rattle.ha_loop.specs.Snapshots.{known_with, informed, is_active, renewing, follow_row, follows, leader_loses_key, stray_loses_key, read_noted, got}
+use Rattle.ha_loop.specs.Snapshots.{known_with, informed, is_active, renewing, follow_row, follows, leader_loses_key, stray_loses_key, read_noted, got, asks_as_stray, led_by_another}
 use Rattle.ha_loop.specs.Racing.{creating, barred, finds_free, judged, asking_others, unheard}
 use Rattle.ha_loop.specs.Peers.{asked, keeping, answered}
 use Rattle.ha_loop.specs.HandingOver.{checking, hands_over}
@@ -43,7 +44,14 @@ use Rattle.event_book.specs.declared.message.Body.TheVariants as bodies
 use Rattle.ha_loop.specs.Wake.{reading, turn_noted, leader_out_of_reach, stray_out_of_reach, overdue, turned, woken}
 use Rattle.ha_loop.proofs.Granting.{Told}
 use Rattle.ha_loop.proofs.Living.{no-way}
-use Rattle.ha_loop.proofs.Rows.{HandoverRows, ReplyRows, ActRows, dropping, looked-by, given-up-by, granted-any-by, refused-any-by, operated-by, led_on, if-cases, renewed-by, begins-or-claims-by, before-by, overdue-by, turn-by, wake-by, got-by, refused-by, follow-by, repaired-by, free-by, granted-by, judged-by, answered-by}
+use Rattle.ha_loop.proofs.Rows.{HandoverRows, ReplyRows, ActRows, dropping, looked-by, given-up-by, granted-any-by, refused-any-by, operated-by, led_on, if-cases, renewed-by, begins-or-claims-by, before-by, overdue-by, turn-by, wake-by, got-by, refused-by, follow-by, repaired-by, free-by, granted-by, judged-by, answered-by, DutyRows, duties-of, rested_on, takes-in-pause-by}
+use Rattle.ha_loop.specs.Pausing.{is_paused, may_start_behind, resting, running_without_key}
+use Rattle.lease_store.specs.Defaults.{default_config}
+use Rattle.lease_store.specs.declared.value.Value.{Value}
+use Rattle.lease_store.specs.declared.value.Value.TheVariants as values
+use Rattle.cluster_config.specs.KeyValues.{config_in}
+use Rattle.ha_loop.specs.declared.machine.Machine.{Machine}
+use Rattle.lease_store.specs.declared.config.Config.{Config}
 
 -- who ends its server waits for nothing
 abbrev pub IsAlone : Outcome → Type 0
@@ -68,6 +76,11 @@ alone-of o ends ending = alone-as o.role o.knows.waited ends ending
 pub ends-of : (o : Outcome) → IsAlone o → EndsAlone o.role o.knows.waited
 ends-of o alone = ends-as o.role o.knows.waited alone
 
+-- a snapshot tells of a pause
+abbrev pub tells_pause : Option SnapshotFacts → Bool
+tells_pause None = false
+tells_pause (Some snapshot) = (config_in snapshot).pause
+
 -- an agent goes on: what it knows after is of the same run, its questions are the same ones or new ones, and what it knows of keys it
 -- knew, or was told by this snapshot
 pub record Onward (told : Option SnapshotFacts) (o after : Outcome) : Type 0 where
@@ -79,6 +92,7 @@ pub record Onward (told : Option SnapshotFacts) (o after : Outcome) : Type 0 whe
   pub informed : after.knows.informed ≡ true → (o.knows.informed ≡ true) ⊎ ((key : FailsafeKey) × (failsafe_seen_if told ≡ Some key))
   pub failsafe : (key : FailsafeKey) → failsafe_seen_if after.knows.seen ≡ Some key → (failsafe_seen_if o.knows.seen ≡ Some key) ⊎ (failsafe_seen_if told ≡ Some key)
   pub leader : (seen : LeaderSeen) → leader_seen_if after.knows.seen ≡ Some seen → (leader_seen_if o.knows.seen ≡ Some seen) ⊎ (leader_seen_if told ≡ Some seen)
+  pub pauses : is_paused after.knows ≡ true → (is_paused o.knows ≡ true) ⊎ (tells_pause told ≡ true)
   pub hold : after.machine.hold ≡ o.machine.hold
   pub ends : IsAlone o → IsAlone after
   pub counts : HasCounted o.knows → HasCounted after.knows
@@ -99,6 +113,7 @@ onward-then told a b c first second = record {
   informed = λ e. elim (second.informed e) [ inl before-it ↦ first.informed before-it | inr new ↦ inr new ];
   failsafe = λ key e. elim (second.failsafe key e) [ inl before-it ↦ first.failsafe key before-it | inr new ↦ inr new ];
   leader = λ seen e. elim (second.leader seen e) [ inl before-it ↦ first.leader seen before-it | inr new ↦ inr new ];
+  pauses = λ e. elim (second.pauses e) [ inl before-it ↦ first.pauses before-it | inr new ↦ inr new ];
   hold = second.hold ∙ first.hold;
   ends = λ alone. second.ends (first.ends alone);
   counts = λ counted. second.counts (first.counts counted);
@@ -106,11 +121,11 @@ onward-then told a b c first second = record {
 
 -- what it knows of keys stays
 abbrev Keeps : (told : Option SnapshotFacts) (o after : Outcome) → Type 0
-Keeps told o after = after.knows.who ≡ o.knows.who → after.knows.run ≡ o.knows.run → after.knows.seen ≡ o.knows.seen → after.knows.known ≡ o.knows.known → after.knows.informed ≡ o.knows.informed → o.knows.sequence ≤ after.knows.sequence
+Keeps told o after = after.knows.who ≡ o.knows.who → after.knows.run ≡ o.knows.run → after.knows.seen ≡ o.knows.seen → after.knows.known ≡ o.knows.known → after.knows.informed ≡ o.knows.informed → after.knows.settings ≡ o.knows.settings → o.knows.sequence ≤ after.knows.sequence
     → ((n : ℕ) → lease_asked after.knows.waited ≡ Some n → (lease_asked o.knows.waited ≡ Some n) ⊎ (o.knows.sequence < n)) → after.machine.hold ≡ o.machine.hold → (IsAlone o → IsAlone after) → (HasCounted o.knows → HasCounted after.knows) → Onward told o after
 
 keeps : (told : Option SnapshotFacts) (o after : Outcome) → Keeps told o after
-keeps told o after who run seen known informed last waits hold ends counts = record {
+keeps told o after who run seen known informed settings last waits hold ends counts = record {
   who = who;
   run = run;
   last = last;
@@ -119,6 +134,7 @@ keeps told o after who run seen known informed last waits hold ends counts = rec
   informed = λ e. inl (sym informed ∙ e);
   failsafe = λ key e. inl (subst (λ (x : Option SnapshotFacts). failsafe_seen_if x ≡ Some key) seen e);
   leader = λ seen-now e. inl (subst (λ (x : Option SnapshotFacts). leader_seen_if x ≡ Some seen-now) seen e);
+  pauses = λ e. inl (subst (λ (x : Config). x.pause ≡ true) settings e);
   hold = hold;
   ends = ends;
   counts = counts;
@@ -126,19 +142,19 @@ keeps told o after who run seen known informed last waits hold ends counts = rec
 
 -- nothing of its questions changes
 same : (told : Option SnapshotFacts) (o : Outcome) → Onward told o o
-same told o = keeps told o o refl refl refl refl refl (omega arith) (λ n e. inl e) refl (λ alone. alone) (λ counted. counted)
+same told o = keeps told o o refl refl refl refl refl refl (omega arith) (λ n e. inl e) refl (λ alone. alone) (λ counted. counted)
 
 -- a step of a row that neither asks nor waits on: nothing is waited for after it
-rests : (told : Option SnapshotFacts) (o after : Outcome) → after.knows.who ≡ o.knows.who → after.knows.run ≡ o.knows.run → after.knows.seen ≡ o.knows.seen → after.knows.known ≡ o.knows.known → after.knows.informed ≡ o.knows.informed
+rests : (told : Option SnapshotFacts) (o after : Outcome) → after.knows.who ≡ o.knows.who → after.knows.run ≡ o.knows.run → after.knows.seen ≡ o.knows.seen → after.knows.known ≡ o.knows.known → after.knows.informed ≡ o.knows.informed → after.knows.settings ≡ o.knows.settings
     → o.knows.sequence ≤ after.knows.sequence → after.knows.waited ≡ None → after.machine.hold ≡ o.machine.hold → Onward told o after
-rests told o after who run seen known informed last waited hold =
-    keeps told o after who run seen known informed last (λ n e. absurd (none-some _ (sym (ap (λ (w : Option Waited). lease_asked w) waited) ∙ e))) hold (λ _ _. waited) (λ _ one is. absurd (none-some one (sym waited ∙ is)))
+rests told o after who run seen known informed settings last waited hold =
+    keeps told o after who run seen known informed settings last (λ n e. absurd (none-some _ (sym (ap (λ (w : Option Waited). lease_asked w) waited) ∙ e))) hold (λ _ _. waited) (λ _ one is. absurd (none-some one (sym waited ∙ is)))
 
 -- a step that leaves alone what is waited for, in a role that doesn't end its server
-waits-on : (told : Option SnapshotFacts) (o after : Outcome) → after.knows.who ≡ o.knows.who → after.knows.run ≡ o.knows.run → after.knows.seen ≡ o.knows.seen → after.knows.known ≡ o.knows.known → after.knows.informed ≡ o.knows.informed
+waits-on : (told : Option SnapshotFacts) (o after : Outcome) → after.knows.who ≡ o.knows.who → after.knows.run ≡ o.knows.run → after.knows.seen ≡ o.knows.seen → after.knows.known ≡ o.knows.known → after.knows.informed ≡ o.knows.informed → after.knows.settings ≡ o.knows.settings
     → o.knows.sequence ≤ after.knows.sequence → after.knows.waited ≡ o.knows.waited → after.machine.hold ≡ o.machine.hold → is_active after.role ≡ true → Onward told o after
-waits-on told o after who run seen known informed last waited hold active =
-    keeps told o after who run seen known informed last (λ n e. inl (subst (λ (w : Option Waited). lease_asked w ≡ Some n) waited e)) hold (λ _ ending. absurd (no-way (sym ending ∙ active))) (λ counted one is. at-most (counted one (sym waited ∙ is)) last)
+waits-on told o after who run seen known informed settings last waited hold active =
+    keeps told o after who run seen known informed settings last (λ n e. inl (subst (λ (w : Option Waited). lease_asked w ≡ Some n) waited e)) hold (λ _ ending. absurd (no-way (sym ending ∙ active))) (λ counted one is. at-most (counted one (sym waited ∙ is)) last)
 
 -- a bit is 0 or 1
 bit-small : (n i : ℕ) → bit_at n i ≤ 1
@@ -172,6 +188,15 @@ told-entry was (Some found) e = told-listed was found.revision (failsafe_by foun
 told-entry true None e = inl refl
 told-entry false None e = absurd (no-way e)
 
+-- settings pause that paused before, or of which an entry tells that
+value-pause : (settings : Config) (value : Value) → (settings_by settings value).pause ≡ true → (settings.pause ≡ true) ⊎ ((settings_by default_config value).pause ≡ true)
+value-pause settings (values.Config config) e = inr e
+value-pause settings _ e = inl e
+
+pub told-pause : (settings : Config) (found : Option KeyEntry) → (settings_of_entry settings found).pause ≡ true → (settings.pause ≡ true) ⊎ ((settings_of_entry default_config found).pause ≡ true)
+told-pause settings None e = inl e
+told-pause settings (Some found) e = value-pause settings found.value e
+
 -- a snapshot is the newest
 pub tells : (snapshot : SnapshotFacts) (o : Outcome) → Onward (Some snapshot) o (record o { knows = informed snapshot o.knows })
 tells snapshot o = record {
@@ -183,6 +208,7 @@ tells snapshot o = record {
   informed = λ e. told-entry o.knows.informed (entry_in keys.Failsafe snapshot) e;
   failsafe = λ key e. inr e;
   leader = λ seen e. inr e;
+  pauses = λ e. told-pause o.knows.settings (entry_in keys.Config snapshot) e;
   hold = refl;
   ends = λ _ _. refl;
   counts = λ _ one is. absurd (none-some one is);
@@ -199,6 +225,7 @@ learns snapshot o = let told : Onward (Some snapshot) o (record o { knows = info
   informed = told.informed;
   failsafe = told.failsafe;
   leader = told.leader;
+  pauses = told.pauses;
   hold = refl;
   ends = λ alone. alone;
   counts = λ counted. counted;
@@ -212,24 +239,24 @@ counts-asked : (asked one : Waited) (sequence : ℕ) → asked ≡ one → asked
 counts-asked asked one sequence same number = let e : asked.sequence ≡ one.sequence = ap (λ (w : Waited). w.sequence) same in omega (arith, e, number)
 
 -- a step that asks for a lease, or reads
-pub asks-on : (told : Option SnapshotFacts) (o after : Outcome) → after.knows.who ≡ o.knows.who → after.knows.run ≡ o.knows.run → after.knows.seen ≡ o.knows.seen → after.knows.known ≡ o.knows.known → after.knows.informed ≡ o.knows.informed
+pub asks-on : (told : Option SnapshotFacts) (o after : Outcome) → after.knows.who ≡ o.knows.who → after.knows.run ≡ o.knows.run → after.knows.seen ≡ o.knows.seen → after.knows.known ≡ o.knows.known → after.knows.informed ≡ o.knows.informed → after.knows.settings ≡ o.knows.settings
     → o.knows.sequence ≤ after.knows.sequence → ((n : ℕ) → lease_asked after.knows.waited ≡ Some n → o.knows.sequence < n) → after.machine.hold ≡ o.machine.hold → is_active after.role ≡ true → (asked : Waited) → after.knows.waited ≡ Some asked → asked.sequence ≡ after.knows.sequence → Onward told o after
-asks-on told o after who run seen known informed last new hold active asked is number =
-    keeps told o after who run seen known informed last (λ n e. inr (new n e)) hold (λ _ ending. absurd (no-way (sym ending ∙ active))) (λ _ one one-is. counts-asked asked one after.knows.sequence (some-is asked one (sym is ∙ one-is)) number)
+asks-on told o after who run seen known informed settings last new hold active asked is number =
+    keeps told o after who run seen known informed settings last (λ n e. inr (new n e)) hold (λ _ ending. absurd (no-way (sym ending ∙ active))) (λ _ one one-is. counts-asked asked one after.knows.sequence (some-is asked one (sym is ∙ one-is)) number)
 
 ended-onward : (told : Option SnapshotFacts) (why : Why) (held : ℕ) (o : Outcome) → Onward told o (has_ended why held o)
-ended-onward told HandOver held o = waits-on told o (has_ended HandOver held o) refl refl refl refl refl (omega arith) refl refl refl
-ended-onward told Lost held o = waits-on told o (has_ended Lost held o) refl refl refl refl refl (omega arith) refl refl refl
+ended-onward told HandOver held o = waits-on told o (has_ended HandOver held o) refl refl refl refl refl refl (omega arith) refl refl refl
+ended-onward told Lost held o = waits-on told o (has_ended Lost held o) refl refl refl refl refl refl (omega arith) refl refl refl
 
 pub before-onward : (told : Option SnapshotFacts) (now : Ticks) (o : Outcome) → Onward told o (before now o)
 before-onward told now o = before-by (Onward told o) now o (record {
   kept = λ _. same told o;
-  leader = λ held _ _. waits-on told o (leader_finds_ended now held o) refl refl refl refl refl (omega arith) refl refl refl;
+  leader = λ held _ _. waits-on told o (leader_finds_ended now held o) refl refl refl refl refl refl (omega arith) refl refl refl;
   ending = λ held why _ _. ended-onward told why held o;
-  follower = λ _ _. waits-on told o (finds_live o) refl refl refl refl refl (omega arith) refl refl refl;
-  holder = λ held _ _. waits-on told o (finds_live o) refl refl refl refl refl (omega arith) refl refl refl;
-  ready = λ held _ _. waits-on told o (finds_live (disarming o)) refl refl refl refl refl (omega arith) refl refl refl;
-  stray = λ _ _. waits-on told o (stray_finds_ended o) refl refl refl refl refl (omega arith) refl refl refl;
+  follower = λ _ _. waits-on told o (finds_live o) refl refl refl refl refl refl (omega arith) refl refl refl;
+  holder = λ held _ _. waits-on told o (finds_live o) refl refl refl refl refl refl (omega arith) refl refl refl;
+  ready = λ held _ _. waits-on told o (finds_live (disarming o)) refl refl refl refl refl refl (omega arith) refl refl refl;
+  stray = λ _ _. waits-on told o (stray_finds_ended o) refl refl refl refl refl refl (omega arith) refl refl refl;
 })
 
 pub creates-active : (role : RoleFacts) → may_create role ≡ true → is_active role ≡ true
@@ -242,48 +269,48 @@ creates-active Stray may = refl
 
 judged-onward : (told : Option SnapshotFacts) (now : Ticks) (o : Outcome) → may_create o.role ≡ true → Onward told o (judged now o)
 judged-onward told now o may = judged-by (Onward told o) now o
-    (asks-on told o (creating now (waiting_no_more o)) refl refl refl refl refl (omega arith) (λ n e. asked-new o.knows.sequence n e) refl (creates-active o.role may) _ refl refl)
-    (λ bar. rests told o (barred bar (waiting_no_more o)) refl refl refl refl refl (omega arith) refl refl)
+    (asks-on told o (creating now (waiting_no_more o)) refl refl refl refl refl refl (omega arith) (λ n e. asked-new o.knows.sequence n e) refl (creates-active o.role may) _ refl refl)
+    (λ bar. rests told o (barred bar (waiting_no_more o)) refl refl refl refl refl refl (omega arith) refl refl)
 
 -- a handover is judged
 handover-onward : (told : Option SnapshotFacts) (now : Ticks) (held : ℕ) (o b : Outcome) → Onward told o b → HandoverRows (Onward told o) now held b
 handover-onward told now held o b first = record {
-  kept = onward-then told o b (waiting_no_more b) first (rests told b (waiting_no_more b) refl refl refl refl refl (omega arith) refl refl);
-  clears = λ compared. onward-then told o b (dropping compared (waiting_no_more b)) first (rests told b (dropping compared (waiting_no_more b)) refl refl refl refl refl (omega arith) refl refl);
-  hands = λ candidate. onward-then told o b (hands_over now held candidate (waiting_no_more b)) first (rests told b (hands_over now held candidate (waiting_no_more b)) refl refl refl refl refl (omega arith) refl refl);
+  kept = onward-then told o b (waiting_no_more b) first (rests told b (waiting_no_more b) refl refl refl refl refl refl (omega arith) refl refl);
+  clears = λ compared. onward-then told o b (dropping compared (waiting_no_more b)) first (rests told b (dropping compared (waiting_no_more b)) refl refl refl refl refl refl (omega arith) refl refl);
+  hands = λ candidate. onward-then told o b (hands_over now held candidate (waiting_no_more b)) first (rests told b (hands_over now held candidate (waiting_no_more b)) refl refl refl refl refl refl (omega arith) refl refl);
 }
 
 -- an operator is answered
 pub told-onward : (told : Option SnapshotFacts) (o b : Outcome) → Onward told o b → ReplyRows (Onward told o) b
 told-onward told o b first = record {
   kept = first;
-  answers = λ request said. onward-then told o b (answering request said b) first (keeps told b (answering request said b) refl refl refl refl refl (omega arith) (λ n e. inl e) refl (λ alone. alone) (λ counted. counted));
+  answers = λ request said. onward-then told o b (answering request said b) first (keeps told b (answering request said b) refl refl refl refl refl refl (omega arith) (λ n e. inl e) refl (λ alone. alone) (λ counted. counted));
 }
 
 -- what one asks is done
 acts-onward : (told : Option SnapshotFacts) (now : Ticks) (request : ℕ) (o : Outcome) → ActRows (Onward told o) now request o
 acts-onward told now request o = record {
-  asks = λ operation txn _. keeps told o (operating now request operation (bodies.Request txn) o) refl refl refl refl refl (omega arith) (λ n e. inl e) refl (λ alone. alone) (λ counted one is. at-most (counted one is) (omega arith));
-  restarts = λ said. keeps told o (telling request said (restarting now o)) refl refl refl refl refl (omega arith) (λ n e. inl e) refl (λ alone. alone) (λ counted. counted);
-  wipes = λ said. keeps told o (telling request said (wiping o)) refl refl refl refl refl (omega arith) (λ n e. inl e) refl (λ alone. alone) (λ counted. counted);
+  asks = λ operation txn _. keeps told o (operating now request operation (bodies.Request txn) o) refl refl refl refl refl refl (omega arith) (λ n e. inl e) refl (λ alone. alone) (λ counted one is. at-most (counted one is) (omega arith));
+  restarts = λ said. keeps told o (telling request said (restarting now o)) refl refl refl refl refl refl (omega arith) (λ n e. inl e) refl (λ alone. alone) (λ counted. counted);
+  wipes = λ said. keeps told o (telling request said (wiping o)) refl refl refl refl refl refl (omega arith) (λ n e. inl e) refl (λ alone. alone) (λ counted. counted);
 }
 
 pub overdue-onward : (told : Option SnapshotFacts) (now : Ticks) (o : Outcome) → Onward told o (overdue now o)
 overdue-onward told now o = overdue-by (Onward told o) now o (record {
   kept = same told o;
-  quiet = rests told o (waiting_no_more o) refl refl refl refl refl (omega arith) refl refl;
-  leader = λ held _. rests told o (leader_out_of_reach now held (waiting_no_more o)) refl refl refl refl refl (omega arith) refl refl;
-  stray = λ _. rests told o (stray_out_of_reach now (waiting_no_more o)) refl refl refl refl refl (omega arith) refl refl;
+  quiet = rests told o (waiting_no_more o) refl refl refl refl refl refl (omega arith) refl refl;
+  leader = λ held _. rests told o (leader_out_of_reach now held (waiting_no_more o)) refl refl refl refl refl refl (omega arith) refl refl;
+  stray = λ _. rests told o (stray_out_of_reach now (waiting_no_more o)) refl refl refl refl refl refl (omega arith) refl refl;
   judges = λ may. judged-onward told now o may;
-  ready = λ held _. rests told o (postpones held (waiting_no_more o)) refl refl refl refl refl (omega arith) refl refl;
+  ready = λ held _. rests told o (postpones held (waiting_no_more o)) refl refl refl refl refl refl (omega arith) refl refl;
   checks = λ held _. handover-onward told now held o o (same told o);
 })
 
 pub turn-onward : (told : Option SnapshotFacts) (now : Ticks) (o : Outcome) → Onward told o (turned now o)
 turn-onward told now o = turn-by (Onward told o) now o (record {
   kept = same told o;
-  quiet = keeps told o (record o { knows = turn_noted now o.knows }) refl refl refl refl refl (omega arith) (λ n e. inl e) refl (λ alone. alone) (λ counted. counted);
-  reads = λ active. asks-on told o (reading now (record o { knows = turn_noted now o.knows })) refl refl refl refl refl (omega arith) (λ n e. absurd (none-some _ e)) refl active _ refl refl;
+  quiet = keeps told o (record o { knows = turn_noted now o.knows }) refl refl refl refl refl refl (omega arith) (λ n e. inl e) refl (λ alone. alone) (λ counted. counted);
+  reads = λ active. asks-on told o (reading now (record o { knows = turn_noted now o.knows })) refl refl refl refl refl refl (omega arith) (λ n e. absurd (none-some _ e)) refl active _ refl refl;
 })
 
 pub given-up-onward : (told : Option SnapshotFacts) (now : Ticks) (o : Outcome) → Onward told o (given_up now (before now o))
@@ -295,134 +322,154 @@ wake-onward told now o = let b : Outcome = given_up now (before now o) in
     (onward-then told o (overdue now b) (turned now (overdue now b)) (onward-then told o b (overdue now b) (given-up-onward told now o) (overdue-onward told now b)) (turn-onward told now (overdue now b)))
 
 -- a row behind a snapshot that is the newest, which waits for nothing after it
-quiet-told : (snapshot : SnapshotFacts) (o after : Outcome) → after.knows.who ≡ o.knows.who → after.knows.run ≡ o.knows.run → after.knows.seen ≡ Some snapshot → after.knows.known ≡ (Told snapshot o).knows.known → after.knows.informed ≡ (Told snapshot o).knows.informed
+quiet-told : (snapshot : SnapshotFacts) (o after : Outcome) → after.knows.who ≡ o.knows.who → after.knows.run ≡ o.knows.run → after.knows.seen ≡ Some snapshot → after.knows.known ≡ (Told snapshot o).knows.known → after.knows.informed ≡ (Told snapshot o).knows.informed → after.knows.settings ≡ (Told snapshot o).knows.settings
     → o.knows.sequence ≤ after.knows.sequence → after.knows.waited ≡ None → after.machine.hold ≡ o.machine.hold → Onward (Some snapshot) o after
-quiet-told snapshot o after who run seen known inform last waited hold =
-    onward-then (Some snapshot) o (Told snapshot o) after (tells snapshot o) (rests (Some snapshot) (Told snapshot o) after who run seen known inform last waited hold)
+quiet-told snapshot o after who run seen known inform settings last waited hold =
+    onward-then (Some snapshot) o (Told snapshot o) after (tells snapshot o) (rests (Some snapshot) (Told snapshot o) after who run seen known inform settings last waited hold)
 
 -- a row behind it that asks for a lease
-asks-told : (snapshot : SnapshotFacts) (o after : Outcome) → after.knows.who ≡ o.knows.who → after.knows.run ≡ o.knows.run → after.knows.seen ≡ Some snapshot → after.knows.known ≡ (Told snapshot o).knows.known → after.knows.informed ≡ (Told snapshot o).knows.informed
+asks-told : (snapshot : SnapshotFacts) (o after : Outcome) → after.knows.who ≡ o.knows.who → after.knows.run ≡ o.knows.run → after.knows.seen ≡ Some snapshot → after.knows.known ≡ (Told snapshot o).knows.known → after.knows.informed ≡ (Told snapshot o).knows.informed → after.knows.settings ≡ (Told snapshot o).knows.settings
     → o.knows.sequence ≤ after.knows.sequence → lease_asked after.knows.waited ≡ Some (o.knows.sequence + 1) → after.machine.hold ≡ o.machine.hold → is_active after.role ≡ true → (asked : Waited) → after.knows.waited ≡ Some asked → asked.sequence ≡ after.knows.sequence → Onward (Some snapshot) o after
-asks-told snapshot o after who run seen known inform last waited hold active asked is number =
-    onward-then (Some snapshot) o (Told snapshot o) after (tells snapshot o) (asks-on (Some snapshot) (Told snapshot o) after who run seen known inform last (λ n e. asked-new o.knows.sequence n (sym waited ∙ e)) hold active asked is number)
+asks-told snapshot o after who run seen known inform settings last waited hold active asked is number =
+    onward-then (Some snapshot) o (Told snapshot o) after (tells snapshot o) (asks-on (Some snapshot) (Told snapshot o) after who run seen known inform settings last (λ n e. asked-new o.knows.sequence n (sym waited ∙ e)) hold active asked is number)
 
 follow-onward : (now : Ticks) (snapshot : SnapshotFacts) (leader : MemberId) (o : Outcome) → Onward (Some snapshot) o (follows now leader (record o { knows = read_noted now snapshot o.knows }))
-follow-onward now snapshot leader o = let x : Outcome = record o { role = Follower; knows = read_noted now snapshot o.knows } in
-    let row : Outcome = touching (follow_row now leader o.machine.server.state x) in
+follow-onward now snapshot leader o = let read : Outcome = record o { knows = read_noted now snapshot o.knows } in
+    let x : Outcome = led_by_another read in
+    let may : Bool = may_start_behind read.knows in
+    let row : Outcome = touching (follow_row may now leader o.machine.server.state x) in
     repaired-by (Onward (Some snapshot) o) leader (repair_of x.knows.settings leader o.machine.server) row
-    (follow-by (λ (y : Outcome). Onward (Some snapshot) o (touching y)) now leader o.machine.server.state x
-    (quiet-told snapshot o (touching x) refl refl refl refl refl (omega arith) refl refl)
-    (quiet-told snapshot o (touching (starting_replica now (Some leader) x)) refl refl refl refl refl (omega arith) refl refl)
-    (quiet-told snapshot o (touching (following_server leader x)) refl refl refl refl refl (omega arith) refl refl)
-    (quiet-told snapshot o (touching (shutting_down now x)) refl refl refl refl refl (omega arith) refl refl))
-    (λ r. follow-by (λ (y : Outcome). Onward (Some snapshot) o (repairing leader r (touching y))) now leader o.machine.server.state x
-    (quiet-told snapshot o (repairing leader r (touching x)) refl refl refl refl refl (omega arith) refl refl)
-    (quiet-told snapshot o (repairing leader r (touching (starting_replica now (Some leader) x))) refl refl refl refl refl (omega arith) refl refl)
-    (quiet-told snapshot o (repairing leader r (touching (following_server leader x))) refl refl refl refl refl (omega arith) refl refl)
-    (quiet-told snapshot o (repairing leader r (touching (shutting_down now x))) refl refl refl refl refl (omega arith) refl refl))
+    (follow-by (λ (y : Outcome). Onward (Some snapshot) o (touching y)) may now leader o.machine.server.state x
+    (quiet-told snapshot o (touching x) refl refl refl refl refl refl (omega arith) refl refl)
+    (quiet-told snapshot o (touching (starting_replica now (Some leader) x)) refl refl refl refl refl refl (omega arith) refl refl)
+    (quiet-told snapshot o (touching (following_server leader x)) refl refl refl refl refl refl (omega arith) refl refl)
+    (quiet-told snapshot o (touching (shutting_down now x)) refl refl refl refl refl refl (omega arith) refl refl))
+    (λ r. follow-by (λ (y : Outcome). Onward (Some snapshot) o (repairing leader r (touching y))) may now leader o.machine.server.state x
+    (quiet-told snapshot o (repairing leader r (touching x)) refl refl refl refl refl refl (omega arith) refl refl)
+    (quiet-told snapshot o (repairing leader r (touching (starting_replica now (Some leader) x))) refl refl refl refl refl refl (omega arith) refl refl)
+    (quiet-told snapshot o (repairing leader r (touching (following_server leader x))) refl refl refl refl refl refl (omega arith) refl refl)
+    (quiet-told snapshot o (repairing leader r (touching (shutting_down now x))) refl refl refl refl refl refl (omega arith) refl refl))
 
 free-onward : (now : Ticks) (snapshot : SnapshotFacts) (o : Outcome) → Onward (Some snapshot) o (finds_free now (record o { knows = read_noted now snapshot o.knows }))
 free-onward now snapshot o = let x : Outcome = record o { role = Follower; knows = read_noted now snapshot o.knows } in
     free-by (Onward (Some snapshot) o) now x (record {
-      starts = quiet-told snapshot o (touching (starting_replica now None x)) refl refl refl refl refl (omega arith) refl refl;
-      bars = λ bar. quiet-told snapshot o (barred bar x) refl refl refl refl refl (omega arith) refl refl;
-      judges = onward-then (Some snapshot) o (unheard x) (judged now (unheard x)) (quiet-told snapshot o (unheard x) refl refl refl refl refl (omega arith) refl refl) (judged-onward (Some snapshot) now (unheard x) refl);
+      starts = quiet-told snapshot o (touching (starting_replica now None x)) refl refl refl refl refl refl (omega arith) refl refl;
+      touches = quiet-told snapshot o (touching x) refl refl refl refl refl refl (omega arith) refl refl;
+      bars = λ bar. quiet-told snapshot o (barred bar x) refl refl refl refl refl refl (omega arith) refl refl;
+      judges = onward-then (Some snapshot) o (unheard x) (judged now (unheard x)) (quiet-told snapshot o (unheard x) refl refl refl refl refl refl (omega arith) refl refl) (judged-onward (Some snapshot) now (unheard x) refl);
       asks = onward-then (Some snapshot) o (Told snapshot o) (asking_others now (unheard x)) (tells snapshot o)
-          (asks-on (Some snapshot) (Told snapshot o) (asking_others now (unheard x)) refl refl refl refl refl (omega arith) (λ n e. absurd (none-some _ e)) refl refl _ refl refl);
+          (asks-on (Some snapshot) (Told snapshot o) (asking_others now (unheard x)) refl refl refl refl refl refl (omega arith) (λ n e. absurd (none-some _ e)) refl refl _ refl refl);
     })
 
 pub got-onward : (now : Ticks) (points : List HistoryPoint) (sequence : ℕ) (snapshot : SnapshotFacts) (o : Outcome) → Onward (Some snapshot) o (got now points sequence snapshot o)
 got-onward now points sequence snapshot o = let read : Outcome = record o { knows = read_noted now snapshot o.knows } in
     got-by (Onward (Some snapshot) o) now points sequence snapshot o (record {
       kept = same (Some snapshot) o;
-      quiet = rests (Some snapshot) o (waiting_no_more o) refl refl refl refl refl (omega arith) refl refl;
-      other = quiet-told snapshot o read refl refl refl refl refl (omega arith) refl refl;
-      leader = λ held _. quiet-told snapshot o (leader_loses_key now held read) refl refl refl refl refl (omega arith) refl refl;
-      stray = λ _. quiet-told snapshot o (stray_loses_key now read) refl refl refl refl refl (omega arith) refl refl;
-      renews = λ active leader _ _. asks-told snapshot o (renewing now points leader.revision read) refl refl refl refl refl (omega arith) refl refl active _ refl refl;
-      touches = quiet-told snapshot o (touching read) refl refl refl refl refl (omega arith) refl refl;
+      quiet = rests (Some snapshot) o (waiting_no_more o) refl refl refl refl refl refl (omega arith) refl refl;
+      other = quiet-told snapshot o read refl refl refl refl refl refl (omega arith) refl refl;
+      leader = λ held _. quiet-told snapshot o (leader_loses_key now held read) refl refl refl refl refl refl (omega arith) refl refl;
+      stray = λ _. quiet-told snapshot o (stray_loses_key now read) refl refl refl refl refl refl (omega arith) refl refl;
+      renews = λ active leader _ _. asks-told snapshot o (renewing now points leader.revision read) refl refl refl refl refl refl (omega arith) refl refl active _ refl refl;
+      touches = quiet-told snapshot o (touching read) refl refl refl refl refl refl (omega arith) refl refl;
       follows = λ leader _ _. follow-onward now snapshot leader.holder o;
       free = λ _ _. free-onward now snapshot o;
+      runs_on = λ _. quiet-told snapshot o (running_without_key read) refl refl refl refl refl refl (omega arith) refl refl;
+      asks_on = λ _. asks-told snapshot o (asks_as_stray now read) refl refl refl refl refl refl (omega arith) refl refl refl _ refl refl;
     })
 
 pub refused-onward : (told : Option SnapshotFacts) (now : Ticks) (sequence : ℕ) (o : Outcome) → Onward told o (refused now sequence o)
 refused-onward told now sequence o = refused-by (Onward told o) now sequence o (record {
   kept = same told o;
-  quiet = rests told o (waiting_no_more o) refl refl refl refl refl (omega arith) refl refl;
-  leader = λ held _. rests told o (leader_loses_key now held (waiting_no_more o)) refl refl refl refl refl (omega arith) refl refl;
-  stray = λ _. rests told o (stray_loses_key now (waiting_no_more o)) refl refl refl refl refl (omega arith) refl refl;
-  follower = λ held _. rests told o (record (waiting_no_more o) { role = Follower }) refl refl refl refl refl (omega arith) refl refl;
-  ready = λ held _. rests told o (postpones held (waiting_no_more o)) refl refl refl refl refl (omega arith) refl refl;
+  quiet = rests told o (waiting_no_more o) refl refl refl refl refl refl (omega arith) refl refl;
+  leader = λ held _. rests told o (leader_loses_key now held (waiting_no_more o)) refl refl refl refl refl refl (omega arith) refl refl;
+  stray = λ _. rests told o (stray_loses_key now (waiting_no_more o)) refl refl refl refl refl refl (omega arith) refl refl;
+  follower = λ held _. rests told o (record (waiting_no_more o) { role = Follower }) refl refl refl refl refl refl (omega arith) refl refl;
+  ready = λ held _. rests told o (postpones held (waiting_no_more o)) refl refl refl refl refl refl (omega arith) refl refl;
+  runs_on = λ _. rests told o (running_without_key (waiting_no_more o)) refl refl refl refl refl refl (omega arith) refl refl;
 })
 
 -- a row behind it that asks for another write
-writes-told : (snapshot : SnapshotFacts) (o after : Outcome) → after.knows.who ≡ o.knows.who → after.knows.run ≡ o.knows.run → after.knows.seen ≡ Some snapshot → after.knows.known ≡ (Told snapshot o).knows.known → after.knows.informed ≡ (Told snapshot o).knows.informed
+writes-told : (snapshot : SnapshotFacts) (o after : Outcome) → after.knows.who ≡ o.knows.who → after.knows.run ≡ o.knows.run → after.knows.seen ≡ Some snapshot → after.knows.known ≡ (Told snapshot o).knows.known → after.knows.informed ≡ (Told snapshot o).knows.informed → after.knows.settings ≡ (Told snapshot o).knows.settings
     → o.knows.sequence ≤ after.knows.sequence → lease_asked after.knows.waited ≡ None → after.machine.hold ≡ o.machine.hold → is_active after.role ≡ true → (asked : Waited) → after.knows.waited ≡ Some asked → asked.sequence ≡ after.knows.sequence → Onward (Some snapshot) o after
-writes-told snapshot o after who run seen known inform last none hold active asked is number =
-    onward-then (Some snapshot) o (Told snapshot o) after (tells snapshot o) (asks-on (Some snapshot) (Told snapshot o) after who run seen known inform last (λ n e. absurd (none-some _ (sym none ∙ e))) hold active asked is number)
+writes-told snapshot o after who run seen known inform settings last none hold active asked is number =
+    onward-then (Some snapshot) o (Told snapshot o) after (tells snapshot o) (asks-on (Some snapshot) (Told snapshot o) after who run seen known inform settings last (λ n e. absurd (none-some _ (sym none ∙ e))) hold active asked is number)
+
+-- what a leader owes its cluster, whatever became of its watchdog
+duty-onward : (now : Ticks) (revision : ℕ) (snapshot : SnapshotFacts) (o : Outcome) (machine : Machine) (outs : List Output) → machine.hold ≡ o.machine.hold → DutyRows (Onward (Some snapshot) o) now revision (record (Told snapshot o) { role = Leader revision; machine = machine; outputs = outs })
+duty-onward now revision snapshot o machine outs hold = let led : Outcome = record (Told snapshot o) { role = Leader revision; machine = machine; outputs = outs } in record {
+  plan = record {
+    kept = quiet-told snapshot o led refl refl refl refl refl refl (omega arith) refl hold;
+    writes = λ settling txn _. writes-told snapshot o (writing_sync now settling txn led) refl refl refl refl refl refl (omega arith) refl hold refl _ refl refl;
+    adds = λ required. quiet-told snapshot o (requiring required (noting led)) refl refl refl refl refl refl (omega arith) refl hold;
+    drops = λ required. quiet-told snapshot o (requiring required led) refl refl refl refl refl refl (omega arith) refl hold;
+  };
+  clears = λ compared. quiet-told snapshot o (dropping compared led) refl refl refl refl refl refl (omega arith) refl hold;
+  asks = λ candidate. writes-told snapshot o (checking now candidate (unheard led)) refl refl refl refl refl refl (omega arith) refl hold refl _ refl refl;
+  judges = handover-onward (Some snapshot) now revision o (unheard led) (quiet-told snapshot o (unheard led) refl refl refl refl refl refl (omega arith) refl hold);
+}
 
 renewed-onward : (now ttl : Ticks) (revision : ℕ) (snapshot : SnapshotFacts) (o : Outcome) → Onward (Some snapshot) o (leader_renewed now ttl revision (Told snapshot o))
 renewed-onward now ttl revision snapshot o = let led : Outcome = led_on now ttl revision (Told snapshot o) in
     let ended : Outcome = record (ending_server now StartTooLong led) { role = Ending revision HandOver } in
-    renewed-by (Onward (Some snapshot) o) now ttl revision (Told snapshot o) (quiet-told snapshot o ended refl refl refl refl refl (omega arith) refl refl) (record {
-      plan = record {
-        kept = quiet-told snapshot o led refl refl refl refl refl (omega arith) refl refl;
-        writes = λ settling txn _. writes-told snapshot o (writing_sync now settling txn led) refl refl refl refl refl (omega arith) refl refl refl _ refl refl;
-        adds = λ required. quiet-told snapshot o (requiring required (noting led)) refl refl refl refl refl (omega arith) refl refl;
-        drops = λ required. quiet-told snapshot o (requiring required led) refl refl refl refl refl (omega arith) refl refl;
-      };
-      clears = λ compared. quiet-told snapshot o (dropping compared led) refl refl refl refl refl (omega arith) refl refl;
-      asks = λ candidate. writes-told snapshot o (checking now candidate (unheard led)) refl refl refl refl refl (omega arith) refl refl refl _ refl refl;
-      judges = handover-onward (Some snapshot) now revision o (unheard led) (quiet-told snapshot o (unheard led) refl refl refl refl refl (omega arith) refl refl);
-    })
+    renewed-by (Onward (Some snapshot) o) now ttl revision (Told snapshot o) (quiet-told snapshot o ended refl refl refl refl refl refl (omega arith) refl refl) (duty-onward now revision snapshot o led.machine led.outputs refl)
 
 stray-onward : (now ttl : Ticks) (revision : ℕ) (snapshot : SnapshotFacts) (o : Outcome) → Onward (Some snapshot) o (stray_renewed now ttl revision (Told snapshot o))
 stray-onward now ttl revision snapshot o = let over : Outcome = takes_over now revision (arming now ttl (Told snapshot o)) in let ended : Outcome = ending_server now WatchdogNotArmed (Told snapshot o) in
     if-cases (Onward (Some snapshot) o) (is_refusing o.machine.watchdog.mode o.machine.watchdog.works) ended over
-    (λ _. quiet-told snapshot o ended refl refl refl refl refl (omega arith) refl refl) (λ _. quiet-told snapshot o over refl refl refl refl refl (omega arith) refl refl)
+    (λ _. quiet-told snapshot o ended refl refl refl refl refl refl (omega arith) refl refl) (λ _. quiet-told snapshot o over refl refl refl refl refl refl (omega arith) refl refl)
 
 arms-onward : (now ttl : Ticks) (revision : ℕ) (snapshot : SnapshotFacts) (o : Outcome) → Onward (Some snapshot) o (arms now ttl revision (Told snapshot o))
 arms-onward now ttl revision snapshot o = let back : Outcome = gives_back revision (record (Told snapshot o) { outputs = listed outputs.CannotArm o.outputs }) in let arm : Outcome = arming now ttl (Told snapshot o) in
     if-cases (Onward (Some snapshot) o) (is_refusing o.machine.watchdog.mode o.machine.watchdog.works) back (begins_or_claims now revision arm)
-    (λ _. quiet-told snapshot o back refl refl refl refl refl (omega arith) refl refl)
-    (λ _. begins-or-claims-by (Onward (Some snapshot) o) now revision arm (quiet-told snapshot o (begins now revision arm) refl refl refl refl refl (omega arith) refl refl)
-    (writes-told snapshot o (claims now revision arm) refl refl refl refl refl (omega arith) refl refl refl _ refl refl))
+    (λ _. quiet-told snapshot o back refl refl refl refl refl refl (omega arith) refl refl)
+    (λ _. begins-or-claims-by (Onward (Some snapshot) o) now revision arm (quiet-told snapshot o (begins now revision arm) refl refl refl refl refl refl (omega arith) refl refl)
+    (writes-told snapshot o (claims now revision arm) refl refl refl refl refl refl (omega arith) refl refl refl _ refl refl))
 
 takes-onward : (now ttl : Ticks) (revision : ℕ) (snapshot : SnapshotFacts) (o : Outcome) → Onward (Some snapshot) o (takes_key now ttl revision (Told snapshot o))
 takes-onward now ttl revision snapshot o = let back : Outcome = gives_back revision (Told snapshot o) in
     if-cases (Onward (Some snapshot) o) (may_take now (Told snapshot o).knows o.machine) (arms now ttl revision (Told snapshot o)) back
-    (λ _. arms-onward now ttl revision snapshot o) (λ _. quiet-told snapshot o back refl refl refl refl refl (omega arith) refl refl)
+    (λ _. arms-onward now ttl revision snapshot o) (λ _. quiet-told snapshot o back refl refl refl refl refl refl (omega arith) refl refl)
+
+rested-onward : (now : Ticks) (renews : Bool) (revision : ℕ) (snapshot : SnapshotFacts) (o : Outcome) → Onward (Some snapshot) o (takes_key_in_pause now renews revision (Told snapshot o))
+rested-onward now renews revision snapshot o = let rest : Outcome = resting renews (Told snapshot o) in
+    takes-in-pause-by (Onward (Some snapshot) o) now renews revision (Told snapshot o)
+    (quiet-told snapshot o (gives_back revision (Told snapshot o)) refl refl refl refl refl refl (omega arith) refl refl)
+    (quiet-told snapshot o (begins now revision rest) refl refl refl refl refl refl (omega arith) refl refl)
+    (writes-told snapshot o (claims now revision rest) refl refl refl refl refl refl (omega arith) refl refl refl _ refl refl)
 
 pub granted-onward : (now : Ticks) (sequence : ℕ) (grant : Granted) (snapshot : SnapshotFacts) (o : Outcome) → Onward (Some snapshot) o (granted now sequence grant snapshot o)
 granted-onward now sequence grant snapshot o = granted-by (Onward (Some snapshot) o) now sequence grant snapshot o
     (same (Some snapshot) o)
-    (rests (Some snapshot) o (waiting_no_more o) refl refl refl refl refl (omega arith) refl refl)
+    (rests (Some snapshot) o (waiting_no_more o) refl refl refl refl refl refl (omega arith) refl refl)
     (λ waited _ _. record {
       other = tells snapshot o;
       leader = λ held _. renewed-onward now waited.ttl grant.revision snapshot o;
       stray = λ _. stray-onward now waited.ttl grant.revision snapshot o;
       takes = λ _. takes-onward now waited.ttl grant.revision snapshot o;
+      rests = λ renews _ held _. let led : Outcome = rested_on renews grant.revision (Told snapshot o) in duties-of (Onward (Some snapshot) o) now grant.revision led (duty-onward now grant.revision snapshot o led.machine led.outputs refl);
+      stray_rests = λ renews _ _. quiet-told snapshot o (takes_over now grant.revision (resting renews (Told snapshot o))) refl refl refl refl refl refl (omega arith) refl refl;
+      takes_resting = λ renews _ _. rested-onward now renews grant.revision snapshot o;
     })
     (record {
       other = tells snapshot o;
-      begins = λ revision _. quiet-told snapshot o (begins now revision (Told snapshot o)) refl refl refl refl refl (omega arith) refl refl;
-      postpones = λ revision _. quiet-told snapshot o (postpones revision (Told snapshot o)) refl refl refl refl refl (omega arith) refl refl;
-      settles = λ required _. quiet-told snapshot o (requiring required (Told snapshot o)) refl refl refl refl refl (omega arith) refl refl;
+      begins = λ revision _. quiet-told snapshot o (begins now revision (Told snapshot o)) refl refl refl refl refl refl (omega arith) refl refl;
+      postpones = λ revision _. quiet-told snapshot o (postpones revision (Told snapshot o)) refl refl refl refl refl refl (omega arith) refl refl;
+      settles = λ required _. quiet-told snapshot o (requiring required (Told snapshot o)) refl refl refl refl refl refl (omega arith) refl refl;
     })
 
 pub answered-onward : (told : Option SnapshotFacts) (now : Ticks) (sequence : ℕ) (answer : PeerAnswer) (o : Outcome) → Onward told o (answered now sequence answer o)
 answered-onward told now sequence answer o =
-    let kept : Onward told o (keeping answer o) = keeps told o (keeping answer o) refl refl refl refl refl (omega arith) (λ n e. inl e) refl (λ alone. alone) (λ counted. counted) in
+    let kept : Onward told o (keeping answer o) = keeps told o (keeping answer o) refl refl refl refl refl refl (omega arith) (λ n e. inl e) refl (λ alone. alone) (λ counted. counted) in
     answered-by (Onward told o) now sequence answer o (record {
       kept = same told o;
-      quiet = rests told o (waiting_no_more o) refl refl refl refl refl (omega arith) refl refl;
+      quiet = rests told o (waiting_no_more o) refl refl refl refl refl refl (omega arith) refl refl;
       keeps = kept;
       judges = λ may. onward-then told o (keeping answer o) (judged now (keeping answer o)) kept (judged-onward told now (keeping answer o) may);
       checks = λ held _. handover-onward told now held o (keeping answer o) kept;
     })
 
 pub asked-onward : (told : Option SnapshotFacts) (from : MemberId) (run sequence : ℕ) (o : Outcome) → Onward told o (asked from run sequence o)
-asked-onward told from run sequence o = keeps told o (asked from run sequence o) refl refl refl refl refl (omega arith) (λ n e. inl e) refl (λ alone. alone) (λ counted. counted)
+asked-onward told from run sequence o = keeps told o (asked from run sequence o) refl refl refl refl refl refl (omega arith) (λ n e. inl e) refl (λ alone. alone) (λ counted. counted)
 
 -- the snapshot that comes with what is heard
 abbrev pub told_by : Heard → Option SnapshotFacts

@@ -136,7 +136,7 @@ watchdog-leaves s m runs input now o after stands is leaves brings = elim leaves
   | DeadlineUndone gone ready lives ↦ Undone (ap (λ (x : MachineSeen). law_ready x.agent) stands.member ∙ ready) (ap (λ (x : MachineSeen). x.live) stands.member ∙ lives)
 ]
 
-not-true : (b : Bool) → (b ≡ true → ⊥) → b ≡ false
+pub not-true : (b : Bool) → (b ≡ true → ⊥) → b ≡ false
 not-true true never = absurd (never refl)
 not-true false never = refl
 

@@ -10,7 +10,7 @@ use Rattle.pat_base.specs.ServerState.{live}
 use Rattle.lease_store.specs.declared.granted.Granted.{Granted}
 use Rattle.lease_store.specs.declared.key.Key.TheVariants as keys
 use Rattle.wal_model.specs.declared.entry.HistoryPoint.{HistoryPoint}
-use Rattle.cluster_config.specs.Snapshots.{SnapshotFacts, entry_in}
+use Rattle.cluster_config.specs.Snapshots.{SnapshotFacts, entry_in, settings_in}
 use Rattle.leader_key.specs.Watchdog.{IsLeaseSpan}
 use Rattle.lease_law.specs.Leases.{LeaderSeen, FailsafeKey}
 use Rattle.lease_law.specs.States.{Machine as MachineSeen, State}
@@ -31,10 +31,10 @@ use Rattle.ha_loop.specs.Before.{has_ended, before}
 use Rattle.ha_loop.specs.Decisions.{is_lease_of}
 use Rattle.ha_loop.specs.Lawful.{StandsIn, HearsAnswer, TellsLease, HearsGrant, IsInputOf, MayPromote, IsLawfulAnd, IsLawfulFrom}
 use Rattle.ha_loop.specs.Powers.{BringsNothing, LeavesMachine, IsAwaitedLease, GrantMay, leads, lease_of}
-use Rattle.ha_loop.specs.Powers.GrantMay.{Nothing, Leads, Begins}
+use Rattle.ha_loop.specs.Powers.GrantMay.{Nothing, Leads, Rests, Begins}
 use Rattle.ha_loop.specs.Seen.{leader_seen_if, failsafe_seen_if}
 use Rattle.ha_loop.specs.Peers.{asked, answered}
-use Rattle.ha_loop.specs.Snapshots.{got}
+use Rattle.ha_loop.specs.Snapshots.{got, informed}
 use Rattle.lease_store.specs.declared.action.OperatorAction.{OperatorAction}
 use Rattle.ha_loop.specs.Fits.{Fits}
 use Rattle.ha_loop.specs.Operators.{given_up, looked, operated}
@@ -43,14 +43,17 @@ use Rattle.ha_loop.specs.Wake.{overdue, turned, woken}
 use Rattle.ha_loop.proofs.Bringing.{acting-brings, any-refused-brings, operated-brings, ready-leads, brings-then, before-brings, overdue-brings, turn-brings, wake-brings, got-brings, answer-brings, read-brings, refusal-brings, asked-brings, answered-brings}
 use Rattle.ha_loop.proofs.Fitting.{before-fits, ready-same}
 use Rattle.ha_loop.proofs.Granting.{awaited-lease, any-granted-may as grant-may}
-use Rattle.ha_loop.proofs.Knowing.{any-granted-onward, any-refused-onward, looked-onward, operated-onward, IsAlone, alone-of, ends-of, Onward, before-onward, wake-onward, got-onward, answered-onward, asked-onward, onward-then, step-onward}
-use Rattle.ha_loop.proofs.Lawful.{was_of, acts-seen, seen-acts, watchdog-kept, watchdog-leaves, parted-by, lawful-of}
+use Rattle.ha_loop.proofs.Knowing.{any-granted-onward, any-refused-onward, looked-onward, operated-onward, IsAlone, alone-of, ends-of, Onward, before-onward, wake-onward, got-onward, answered-onward, asked-onward, onward-then, step-onward, told-pause}
+use Rattle.ha_loop.proofs.Lawful.{was_of, acts-seen, seen-acts, watchdog-kept, watchdog-leaves, parted-by, lawful-of, not-true}
 use Rattle.ha_loop.proofs.LawfulGrants.{heard-leader, heard-failsafe, hears-grant, fed-of, entry-known, armable-before, new-deadline, free-of}
 use Rattle.ha_loop.proofs.Leaving.{given-up-fits, told-fits, operated-leaves, leaves-then, before-leaves, wake-leaves, read-leaves, refusal-leaves, asked-leaves, answered-leaves}
 use Rattle.ha_loop.proofs.Living.{no-way}
 use Rattle.ha_loop.proofs.Rows.{before-by, wake-by, looked-by}
 use Rattle.ha_loop.proofs.Sending.BeginsOn.{WasReady, OnLease}
 use Rattle.ha_loop.proofs.Sending.{operated-may, IsSilent, AllMay, Decides, BeginsOn, wake-may, got-may, refused-may, granted-may as granted-sends, asked-may, answered-may, nobody-begins, grant-begins, begins-weaker}
+use Rattle.ha_loop.specs.Pausing.{is_paused}
+use Rattle.cluster_config.specs.KeyValues.{config_in}
+use Rattle.lease_store.specs.declared.config.Config.{Config}
 
 -- no revision is granted
 abbrev Nobody : ℕ → Type 0
@@ -126,6 +129,29 @@ gives-owns : (s : State) (m runs sequence : ℕ) (input : AgentInput) (now : Tic
 gives-owns s m runs sequence input now grant snapshot o stands hears awaited revision is =
     inr ((hears.lease awaited).told, hears-grant s m runs sequence input.heard now grant snapshot o stands hears awaited, (hears.lease awaited).revision ∙ is)
 
+-- an agent that reads of no pause behind what precedes an input isn't paused after it
+before-settings : (now : Ticks) (o : Outcome) → (before now o).knows.settings ≡ o.knows.settings
+before-settings now o = before-by (λ (x : Outcome). x.knows.settings ≡ o.knows.settings) now o (record {
+  kept = λ _. refl;
+  leader = λ _ _ _. refl;
+  ending = λ held why _ _. ended-settings why held o;
+  follower = λ _ _. refl;
+  holder = λ _ _ _. refl;
+  ready = λ _ _ _. refl;
+  stray = λ _ _. refl;
+})
+  where
+    ended-settings : (why : Why) (held : ℕ) (x : Outcome) → (has_ended why held x).knows.settings ≡ x.knows.settings
+    ended-settings HandOver held x = refl
+    ended-settings Lost held x = refl
+
+pub stays-unpaused : (now : Ticks) (snapshot : SnapshotFacts) (o : Outcome) → is_paused o.knows ≡ false → (config_in snapshot).pause ≡ false → is_paused (informed snapshot (before now o).knows) ≡ false
+stays-unpaused now snapshot o was told = let settings : Config = (before now o).knows.settings in
+    not-true (settings_in settings snapshot).pause (λ e. elim (told-pause settings (entry_in keys.Config snapshot) e) [
+      | inl before-it ↦ no-way (sym (ap (λ (c : Config). c.pause) (before-settings now o) ∙ was) ∙ before-it)
+      | inr new ↦ no-way (sym told ∙ new)
+    ])
+
 -- what an input that hears a grant brings of the leader key
 record Brought (s : State) (m : ℕ) (input : AgentInput) (o after : Outcome) : Type 0 where
   watchdog : WatchdogMay s m input (was_of o) (was_of after)
@@ -165,6 +191,8 @@ leads-brought s m runs sequence input now grant snapshot o after sound stands he
       leads_by = λ e. inr knows-it;
       lease = λ revision e. gives-owns s m runs sequence input now grant snapshot o stands hears awaited revision (some-is grant.revision revision (sym lease ∙ e));
     }
+leads-brought s m runs sequence input now grant snapshot o after sound stands hears is (Rests paused later rested lease free) hold =
+    absurd (no-way (sym (stays-unpaused now snapshot o stands.unpaused hears.answer.unpaused) ∙ paused))
 
 wake-lawful : (s : State) (m runs : ℕ) (input : AgentInput) (now : Ticks) (o : Outcome) → IsAlone o → All IsSilent o.outputs → StandsIn s m runs now o → IsInputOf s m runs o (woken now o) input → IsLawfulAnd s m (woken now o) input
 wake-lawful s m runs input now o alone silent stands is = without-grant s m runs input now None o (woken now o) stands is (wake-onward None now o) (wake-leaves now o) (wake-brings now o) (wake-parted now o)
@@ -243,7 +271,7 @@ grant-lawful s m runs input now sequence grant snapshot o sound alone silent sta
         leader = heard-leader s m sequence input.heard snapshot o.knows hears.answer;
       });
       begins = begins-weaker (BeginsOn now sequence grant b) (MayPromote s m input) (may-promote s m runs sequence input now grant snapshot o sound stands hears) [] after.outputs
-          (grant-begins now sequence grant snapshot o alone (λ decides. armable-before o b (before-leaves now o) (hears.lease (awaited-by sequence grant now o decides)).armable) silent);
+          (grant-begins now sequence grant snapshot o alone (stays-unpaused now snapshot o stands.unpaused hears.answer.unpaused) (λ decides. armable-before o b (before-leaves now o) (hears.lease (awaited-by sequence grant now o decides)).armable) silent);
     }
 
 step-lawful : (now : Ticks) (points : List HistoryPoint) (heard : Heard) (o : Outcome) → AsksLeases o.knows → IsAlone o → All IsSilent o.outputs → IsLawfulFrom now heard o (step now points heard o)

@@ -1,5 +1,5 @@
 -- What an input without a grant does to the watchdog and the hold.
-use Rattle.std.proofs.Common.{◌≡◌, ℕ, true, false, List, None, refl, sym, ap, ◌∙◌, inl, inr}
+use Rattle.std.proofs.Common.{Bool, ◌≡◌, ℕ, true, false, List, None, refl, sym, ap, ◌∙◌, inl, inr}
 use Rattle.pat_base.specs.declared.member_id.MemberId.{MemberId}
 use Rattle.pat_base.specs.declared.peer_answer.PeerAnswer.{PeerAnswer}
 use Rattle.pat_base.specs.declared.ticks.Ticks.{Ticks}
@@ -21,7 +21,7 @@ use Rattle.ha_loop.specs.Before.{leader_finds_ended, has_ended, stray_finds_ende
 use Rattle.ha_loop.specs.Decisions.{refused}
 use Rattle.ha_loop.specs.Powers.{BringsNothing, LeavesMachine, DeadlineMay, Acts}
 use Rattle.ha_loop.specs.Powers.DeadlineMay.{Kept, Removed, Undone}
-use Rattle.ha_loop.specs.Snapshots.{follows, read_noted, got, follow_row}
+use Rattle.ha_loop.specs.Snapshots.{follows, read_noted, got, follow_row, led_by_another}
 use Rattle.ha_loop.specs.Racing.{finds_free, judged, unheard}
 use Rattle.ha_loop.specs.Peers.{asked, keeping, answered}
 use Rattle.ha_loop.specs.Wake.{overdue, turned, woken}
@@ -31,6 +31,7 @@ use Rattle.lease_store.specs.declared.action.OperatorAction.{OperatorAction}
 use Rattle.ha_loop.proofs.Bringing.{acting-brings, same-role, overdue-brings, turn-brings, got-brings, refused-brings, answer-brings}
 use Rattle.ha_loop.proofs.Living.{no-way}
 use Rattle.ha_loop.proofs.Rows.{HandoverRows, ReplyRows, ActRows, looked-by, given-up-by, refused-any-by, operated-by, before-by, overdue-by, turn-by, wake-by, got-by, refused-by, follow-by, free-by, repaired-by, judged-by, answered-by}
+use Rattle.ha_loop.specs.Pausing.{may_start_behind}
 
 -- a watchdog stays, or loses its deadline where an agent in this role, over a server in this state, doesn't act
 pub data WatchdogStays (was after : WatchdogFacts) (state : State) (role : RoleFacts) : Type 0 where
@@ -158,14 +159,15 @@ wake-leaves now o = let b : Outcome = given_up now (before now o) in
     (behind o (overdue now b) (turned now (overdue now b)) (behind o b (overdue now b) (given-up-leaves now o) (overdue-stays now b (given-up-fits now o)) (overdue-brings now b)) (turn-stays now (overdue now b)) (turn-brings now (overdue now b)))
 
 follow-stays : (now : Ticks) (leader : MemberId) (o : Outcome) → Stays o (follows now leader o)
-follow-stays now leader o = let x : Outcome = record o { role = Follower } in
-    let row = follow-by (Stays o) now leader o.machine.server.state x (record { watchdog = Same refl; hold = refl }) (record { watchdog = Same refl; hold = refl }) (record { watchdog = Same refl; hold = refl }) (record { watchdog = Same refl; hold = refl }) in
-    let told : Stays o (touching (follow_row now leader o.machine.server.state x)) = record { watchdog = row.watchdog; hold = row.hold } in
-    repaired-by (Stays o) leader (repair_of o.knows.settings leader o.machine.server) (touching (follow_row now leader o.machine.server.state x)) told (λ r. record { watchdog = told.watchdog; hold = told.hold })
+follow-stays now leader o = let x : Outcome = led_by_another o in
+    let may : Bool = may_start_behind o.knows in
+    let row = follow-by (Stays o) may now leader o.machine.server.state x (record { watchdog = Same refl; hold = refl }) (record { watchdog = Same refl; hold = refl }) (record { watchdog = Same refl; hold = refl }) (record { watchdog = Same refl; hold = refl }) in
+    let told : Stays o (touching (follow_row may now leader o.machine.server.state x)) = record { watchdog = row.watchdog; hold = row.hold } in
+    repaired-by (Stays o) leader (repair_of o.knows.settings leader o.machine.server) (touching (follow_row may now leader o.machine.server.state x)) told (λ r. record { watchdog = told.watchdog; hold = told.hold })
 
 free-stays : (now : Ticks) (o : Outcome) → Stays o (finds_free now o)
 free-stays now o = let x : Outcome = record o { role = Follower } in let race : Stays (unheard x) (judged now (unheard x)) = judged-stays now (unheard x) in
-    free-by (Stays o) now x (record { starts = record { watchdog = Same refl; hold = refl }; bars = λ bar. record { watchdog = Same refl; hold = refl }; judges = record { watchdog = race.watchdog; hold = race.hold }; asks = record { watchdog = Same refl; hold = refl } })
+    free-by (Stays o) now x (record { starts = record { watchdog = Same refl; hold = refl }; touches = record { watchdog = Same refl; hold = refl }; bars = λ bar. record { watchdog = Same refl; hold = refl }; judges = record { watchdog = race.watchdog; hold = race.hold }; asks = record { watchdog = Same refl; hold = refl } })
 
 stays-read : (now : Ticks) (snapshot : SnapshotFacts) (o after : Outcome) → Stays (record o { knows = read_noted now snapshot o.knows }) after → Stays o after
 stays-read now snapshot o after stay = record { watchdog = stay.watchdog; hold = stay.hold }
@@ -182,6 +184,8 @@ got-stays now points sequence snapshot o = let read : Outcome = record o { knows
       touches = record { watchdog = Same refl; hold = refl };
       follows = λ leader _ _. stays-read now snapshot o (follows now leader.holder read) (follow-stays now leader.holder read);
       free = λ _ _. stays-read now snapshot o (finds_free now read) (free-stays now read);
+      runs_on = λ _. record { watchdog = Same refl; hold = refl };
+      asks_on = λ _. record { watchdog = Same refl; hold = refl };
     })
 
 refused-stays : (now : Ticks) (sequence : ℕ) (o : Outcome) → Fits o.role (live o.machine.server.state) → Stays o (refused now sequence o)
@@ -192,6 +196,7 @@ refused-stays now sequence o fits = refused-by (Stays o) now sequence o (record 
   leader = λ held _. record { watchdog = Same refl; hold = refl };
   stray = λ _. record { watchdog = Same refl; hold = refl };
   follower = λ held _. record { watchdog = Same refl; hold = refl };
+  runs_on = λ _. record { watchdog = Same refl; hold = refl };
 })
 
 pub read-leaves : (now : Ticks) (points : List HistoryPoint) (sequence : ℕ) (snapshot : SnapshotFacts) (o : Outcome) → LeavesMachine o (got now points sequence snapshot (looked sequence snapshot (before now o)))

@@ -29,23 +29,24 @@ use Rattle.ha_loop.specs.Acting.{arming, requiring, feeding, armed, fed_until, d
 use Rattle.ha_loop.specs.Agents.{RoleFacts, Follower, Outcome, made}
 use Rattle.ha_loop.specs.Before.{has_ended, before}
 use Rattle.ha_loop.specs.Claiming.{begins, begins_or_claims, postpones}
-use Rattle.ha_loop.specs.Decisions.{leader_renewed, takes_over, stray_renewed, may_take, gives_back, arms, takes_key, granted, refused}
+use Rattle.ha_loop.specs.Decisions.{leader_renewed, takes_over, stray_renewed, may_take, gives_back, arms, takes_key, granted, refused, takes_key_in_pause}
 use Rattle.ha_loop.specs.Planning.{noting}
 use Rattle.ha_loop.specs.Synchronous.{unnamed}
 use Rattle.pat_base.specs.declared.server_state.Required.{Required}
 use Rattle.ha_loop.specs.Orders.{IsAsk, machine_after_output, machine_after_outputs, IsOfTable, IsCarriedOut, EndsRepairing, RepairsLast}
 use Rattle.ha_loop.specs.Outputs.{listed}
-use Rattle.ha_loop.specs.Snapshots.{informed, follows, read_noted, got, follow_row, leader_loses_key, stray_loses_key, renewing}
+use Rattle.ha_loop.specs.Snapshots.{informed, follows, read_noted, got, follow_row, leader_loses_key, stray_loses_key, renewing, asks_as_stray, led_by_another}
 use Rattle.ha_loop.specs.Racing.{finds_free, judged, unheard}
 use Rattle.ha_loop.specs.HandingOver.{asking_whom}
 use Rattle.ha_loop.specs.Operators.{looked, given_up, learned, operated, restarting, wiping}
 use Rattle.ha_loop.specs.Table.{step, granted_any, refused_any}
 use Rattle.pg_model.specs.Running.{is_primary}
 use Rattle.ha_loop.specs.Wake.{overdue, turned, woken}
-use Rattle.ha_loop.proofs.Rows.{HandoverRows, ReplyRows, ActRows, looked-by, given-up-by, granted-any-by, refused-any-by, operated-by, led_on, if-cases, renewed-by, begins-or-claims-by, before-by, overdue-by, turn-by, wake-by, got-by, refused-by, follow-by, free-by, granted-by, repaired-by, judged-by, answered-by}
+use Rattle.ha_loop.proofs.Rows.{HandoverRows, ReplyRows, ActRows, looked-by, given-up-by, granted-any-by, refused-any-by, operated-by, led_on, if-cases, renewed-by, begins-or-claims-by, before-by, overdue-by, turn-by, wake-by, got-by, refused-by, follow-by, free-by, granted-by, repaired-by, judged-by, answered-by, DutyRows, duties-of, rested_on, takes-in-pause-by}
 use Rattle.ha_loop.specs.Answers.{is_other, most_answers, asking_one, asking_first}
 use Rattle.ha_loop.specs.Peers.{keeping, answered}
 use Rattle.ha_loop.specs.declared.who.Who.{Who}
+use Rattle.ha_loop.specs.Pausing.{may_start_behind, rest_told, resting, running_without_key}
 
 after-push : (now : Ticks) (machine : Machine) (outs : List Output) (output : Output) → machine_after_outputs now machine (outs ++ output ∷ []) ≡ machine_after_output now (machine_after_outputs now machine outs) output
 after-push now machine [] output = refl
@@ -214,16 +215,18 @@ wake-reaches now start o r = let first = before-reaches now start o r in
     wake-by (Reaches now start) now o first (turn-reaches now start (overdue now (given_up now (before now o))) (overdue-reaches now start (given_up now (before now o)) answers))
 
 follow-carries : (now : Ticks) (start : Machine) (leader : MemberId) (o : Outcome) → Reaches now start o → IsCarriedOut now start (follows now leader o)
-follow-carries now start leader o r = let x : Outcome = record o { role = Follower } in
-    let row : Outcome = follow_row now leader o.machine.server.state x in
+follow-carries now start leader o r = let x : Outcome = led_by_another o in
+    let may : Bool = may_start_behind o.knows in
+    let row : Outcome = follow_row may now leader o.machine.server.state x in
     let told : Reaches now start (touching row) = touch-reaches now start row
-    (follow-by (Reaches now start) now leader o.machine.server.state x r (start-reaches now start (Some leader) x r) (follow-one-reaches now start leader x r) (shut-reaches now start x r)) in
+    (follow-by (Reaches now start) may now leader o.machine.server.state x r (start-reaches now start (Some leader) x r) (follow-one-reaches now start leader x r) (shut-reaches now start x r)) in
     repaired-by (IsCarriedOut now start) leader (repair_of o.knows.settings leader o.machine.server) (touching row) (carried-out now start (touching row) told) (λ repair. repaired-out now start leader repair (touching row) told)
 
 free-reaches : (now : Ticks) (start : Machine) (o : Outcome) → Reaches now start o → Reaches now start (finds_free now o)
 free-reaches now start o r = let x : Outcome = record o { role = Follower } in
     free-by (Reaches now start) now x (record {
       starts = touch-reaches now start (starting_replica now None x) (start-reaches now start None x r);
+      touches = touch-reaches now start x r;
       bars = λ bar. touch-reaches now start (record x { outputs = listed (outputs.DoesNotRace bar) x.outputs }) (one-more now start o.machine o.outputs (outputs.DoesNotRace bar) tt r);
       judges = judged-reaches now start (unheard x) r;
       asks = asks-reach now start o.machine o.knows.who (o.knows.sequence + 1) most_answers o.outputs r;
@@ -238,6 +241,10 @@ answered-reaches now start sequence answer o r = answered-by (Reaches now start)
   checks = λ revision _. handover-rows now start revision (keeping answer o) r;
 })
 
+-- a primary runs on without the leader key
+run-reaches : (now : Ticks) (start : Machine) (o : Outcome) → Reaches now start o → Reaches now start (running_without_key o)
+run-reaches now start o r = one-more now start o.machine o.outputs outputs.RunsWithoutKey tt r
+
 got-carries : (now : Ticks) (points : List HistoryPoint) (start : Machine) (sequence : ℕ) (snapshot : SnapshotFacts) (o : Outcome) → Reaches now start o → IsCarriedOut now start (got now points sequence snapshot o)
 got-carries now points start sequence snapshot o r = let read : Outcome = record o { knows = read_noted now snapshot o.knows } in
     got-by (IsCarriedOut now start) now points sequence snapshot o (record {
@@ -250,6 +257,8 @@ got-carries now points start sequence snapshot o r = let read : Outcome = record
       touches = carried-out now start (touching read) (touch-reaches now start read r);
       follows = λ leader _ _. follow-carries now start leader.holder read r;
       free = λ _ _. carried-out now start (finds_free now read) (free-reaches now start read r);
+      runs_on = λ _. carried-out now start (running_without_key read) (run-reaches now start read r);
+      asks_on = λ _. carried-out now start (asks_as_stray now read) (one-more now start (running_without_key read).machine (running_without_key read).outputs _ tt (run-reaches now start read r));
     })
 
 refused-reaches : (now : Ticks) (start : Machine) (sequence : ℕ) (o : Outcome) → Reaches now start o → Reaches now start (refused now sequence o)
@@ -260,22 +269,36 @@ refused-reaches now start sequence o r = refused-by (Reaches now start) now sequ
   stray = λ _. end-reaches now start LeaderKeyLost o r;
   follower = λ held _. r;
   ready = λ held _. postpone-reaches now start held (waiting_no_more o) r;
+  runs_on = λ _. run-reaches now start (waiting_no_more o) r;
 })
+
+-- what a leader owes its cluster
+duty-reaches : (now : Ticks) (start : Machine) (revision : ℕ) (o : Outcome) → Reaches now start o → DutyRows (Reaches now start) now revision o
+duty-reaches now start revision o r = record {
+  plan = record {
+    kept = r;
+    writes = λ settling txn _. send-reaches now start _ o r;
+    adds = λ required. require-reaches now start required (noting o) r;
+    drops = λ required. require-reaches now start required o r;
+  };
+  clears = λ compared. send-reaches now start _ o r;
+  asks = λ candidate. whom-reach now start o.machine o.knows.who candidate (o.knows.sequence + 1) o.outputs r;
+  judges = handover-rows now start revision (unheard o) r;
+}
 
 renewed-reaches : (now ttl : Ticks) (start : Machine) (revision : ℕ) (o : Outcome) → Reaches now start o → Reaches now start (leader_renewed now ttl revision o)
 renewed-reaches now ttl start revision o r = let led : Outcome = led_on now ttl revision o in
     let fed : Reaches now start led = feed-reaches now ttl start o r in
-    renewed-by (Reaches now start) now ttl revision o (end-reaches now start StartTooLong led fed) (record {
-      plan = record {
-        kept = fed;
-        writes = λ settling txn _. send-reaches now start _ led fed;
-        adds = λ required. require-reaches now start required (noting led) fed;
-        drops = λ required. require-reaches now start required led fed;
-      };
-      clears = λ compared. send-reaches now start _ led fed;
-      asks = λ candidate. whom-reach now start led.machine led.knows.who candidate (led.knows.sequence + 1) led.outputs fed;
-      judges = handover-rows now start revision (unheard led) fed;
-    })
+    renewed-by (Reaches now start) now ttl revision o (end-reaches now start StartTooLong led fed) (duty-reaches now start revision led fed)
+
+-- a watchdog that rests
+rests : (now : Ticks) (start machine : Machine) (outs : List Output) (renews : Bool) (deadline : Option Ticks) → machine.watchdog.deadline ≡ deadline → Reached now start machine outs → Reached now start (without_deadline machine) (rest_told renews deadline outs)
+rests now start machine outs true (Some deadline) is r = one-more now start (without_deadline machine) (listed outputs.Disarmed outs) outputs.DisablesWatchdog tt (disarms now start machine outs (Some deadline) is r)
+rests now start machine outs false (Some deadline) is r = disarms now start machine outs (Some deadline) is r
+rests now start machine outs renews None is r = disarms now start machine outs None is r
+
+rest-reaches : (now : Ticks) (start : Machine) (renews : Bool) (o : Outcome) → Reaches now start o → Reaches now start (resting renews o)
+rest-reaches now start renews o r = rests now start o.machine o.outputs renews o.machine.watchdog.deadline refl r
 
 stray-reaches : (now ttl : Ticks) (start : Machine) (revision : ℕ) (o : Outcome) → Reaches now start o → Reaches now start (stray_renewed now ttl revision o)
 stray-reaches now ttl start revision o r =
@@ -297,6 +320,11 @@ takes-reaches now ttl start revision o r =
     if-cases (Reaches now start) (may_take now o.knows o.machine) (arms now ttl revision o) (gives_back revision o)
     (λ _. arms-reaches now ttl start revision o r) (λ _. one-more now start o.machine o.outputs _ tt r)
 
+-- in a pause who is wanted takes the key with a watchdog that rests
+rested-reaches : (now : Ticks) (start : Machine) (renews : Bool) (revision : ℕ) (o : Outcome) → Reaches now start o → Reaches now start (takes_key_in_pause now renews revision o)
+rested-reaches now start renews revision o r = let rest : Outcome = resting renews o in let rested : Reaches now start rest = rest-reaches now start renews o r in
+    takes-in-pause-by (Reaches now start) now renews revision o (one-more now start o.machine o.outputs _ tt r) (begin-reaches now start revision rest rested) (send-reaches now start _ rest rested)
+
 granted-reaches : (now : Ticks) (start : Machine) (sequence : ℕ) (grant : Granted) (snapshot : SnapshotFacts) (o : Outcome) → Reaches now start o → Reaches now start (granted now sequence grant snapshot o)
 granted-reaches now start sequence grant snapshot o r = let told : Outcome = record o { knows = informed snapshot o.knows } in
     granted-by (Reaches now start) now sequence grant snapshot o r r
@@ -305,6 +333,9 @@ granted-reaches now start sequence grant snapshot o r = let told : Outcome = rec
       leader = λ held _. renewed-reaches now waited.ttl start grant.revision told r;
       stray = λ _. stray-reaches now waited.ttl start grant.revision told r;
       takes = λ _. takes-reaches now waited.ttl start grant.revision told r;
+      rests = λ renews _ held _. duties-of (Reaches now start) now grant.revision (rested_on renews grant.revision told) (duty-reaches now start grant.revision (rested_on renews grant.revision told) (rest-reaches now start renews told r));
+      stray_rests = λ renews _ _. rest-reaches now start renews told r;
+      takes_resting = λ renews _ _. rested-reaches now start renews grant.revision told r;
     })
     (record {
       other = r;

@@ -1,5 +1,5 @@
 -- An input answers another member only where that one asks.
-use Rattle.std.proofs.Common.{ℕ, ◌+◌, List, [], Option, Some, None, All, refl, zero, suc}
+use Rattle.std.proofs.Common.{Bool, true, false, ℕ, ◌+◌, List, [], Option, Some, None, All, refl, zero, suc}
 use Rattle.std.proofs.lemmas.List.Elements.{All-push, All-nil, All-weaker}
 use Rattle.pat_base.specs.MemberId.{member_of}
 use Rattle.pat_base.specs.declared.member_id.MemberId.{MemberId}
@@ -33,10 +33,11 @@ use Rattle.ha_loop.specs.Operators.{looked, given_up, learned}
 use Rattle.ha_loop.specs.Racing.{judged, unheard, finds_free}
 use Rattle.ha_loop.specs.Repairs.{repair_of}
 use Rattle.ha_loop.specs.Replies.{RepliesTo}
-use Rattle.ha_loop.specs.Snapshots.{follow_row, follows, read_noted, got, informed}
+use Rattle.ha_loop.specs.Snapshots.{follow_row, follows, read_noted, got, informed, led_by_another}
 use Rattle.ha_loop.specs.Table.{step}
 use Rattle.ha_loop.specs.Wake.{overdue, turned, woken}
-use Rattle.ha_loop.proofs.Rows.{HandoverRows, ReplyRows, ActRows, looked-by, given-up-by, granted-any-by, refused-any-by, operated-by, led_on, if-cases, renewed-by, begins-or-claims-by, before-by, overdue-by, turn-by, wake-by, got-by, refused-by, follow-by, repaired-by, free-by, granted-by, judged-by, answered-by}
+use Rattle.ha_loop.proofs.Rows.{HandoverRows, ReplyRows, ActRows, looked-by, given-up-by, granted-any-by, refused-any-by, operated-by, led_on, if-cases, renewed-by, begins-or-claims-by, before-by, overdue-by, turn-by, wake-by, got-by, refused-by, follow-by, repaired-by, free-by, granted-by, judged-by, answered-by, DutyRows, duties-of, rested_on, takes-in-pause-by}
+use Rattle.ha_loop.specs.Pausing.{may_start_behind, rest_told, resting}
 
 -- an output that answers nobody
 abbrev NoReply : Output → Type 0
@@ -117,15 +118,17 @@ wake-quiet now o all = let first : Quiet (before now o) = before-quiet now o all
     wake-by Quiet now o first (turn-quiet now (overdue now (given_up now (before now o))) (overdue-quiet now (given_up now (before now o)) told))
 
 follow-quiet : (now : Ticks) (leader : MemberId) (o : Outcome) → Quiet o → Quiet (follows now leader o)
-follow-quiet now leader o all = let x : Outcome = record o { role = Follower } in
-    let row : Outcome = touching (follow_row now leader o.machine.server.state x) in
-    let told : Quiet row = follow-by (λ (y : Outcome). Quiet (touching y)) now leader o.machine.server.state x (said o.outputs _ tt all) (said _ _ tt (said o.outputs _ tt all)) (said _ _ tt (said o.outputs _ tt all))
+follow-quiet now leader o all = let x : Outcome = led_by_another o in
+    let may : Bool = may_start_behind o.knows in
+    let row : Outcome = touching (follow_row may now leader o.machine.server.state x) in
+    let told : Quiet row = follow-by (λ (y : Outcome). Quiet (touching y)) may now leader o.machine.server.state x (said o.outputs _ tt all) (said _ _ tt (said o.outputs _ tt all)) (said _ _ tt (said o.outputs _ tt all))
     (said _ _ tt (said o.outputs _ tt all)) in
     repaired-by Quiet leader (repair_of o.knows.settings leader o.machine.server) row told (λ r. said row.outputs (outputs.Repair leader r) tt told)
 
 free-quiet : (now : Ticks) (o : Outcome) → Quiet o → Quiet (finds_free now o)
 free-quiet now o all = let x : Outcome = record o { role = Follower } in free-by Quiet now x (record {
   starts = said _ _ tt (said o.outputs _ tt all);
+  touches = said o.outputs _ tt all;
   bars = λ bar. said _ _ tt (said o.outputs (outputs.DoesNotRace bar) tt all);
   judges = judged-quiet now (unheard x) all;
   asks = asks-quiet o.knows.who (o.knows.sequence + 1) most_answers o.outputs all;
@@ -143,24 +146,34 @@ got-quiet now points sequence snapshot o all = let read : Outcome = record o { k
       touches = said o.outputs _ tt all;
       follows = λ leader _ _. follow-quiet now leader.holder read all;
       free = λ _ _. free-quiet now read all;
+      runs_on = λ _. said o.outputs outputs.RunsWithoutKey tt all;
+      asks_on = λ _. said _ _ tt (said o.outputs outputs.RunsWithoutKey tt all);
     })
 
 refused-quiet : (now : Ticks) (sequence : ℕ) (o : Outcome) → Quiet o → Quiet (refused now sequence o)
-refused-quiet now sequence o all = refused-by Quiet now sequence o (record { kept = all; quiet = all; leader = λ _ _. said o.outputs _ tt all; stray = λ _. said o.outputs _ tt all; follower = λ _ _. all; ready = λ held _. postpones-quiet held (waiting_no_more o) all })
+refused-quiet now sequence o all = refused-by Quiet now sequence o (record { kept = all; quiet = all; leader = λ _ _. said o.outputs _ tt all; stray = λ _. said o.outputs _ tt all; follower = λ _ _. all; ready = λ held _. postpones-quiet held (waiting_no_more o) all; runs_on = λ _. said o.outputs outputs.RunsWithoutKey tt all })
+
+duty-quiet : (now : Ticks) (revision : ℕ) (led : Outcome) → Quiet led → DutyRows Quiet now revision led
+duty-quiet now revision led told = record {
+  plan = record {
+    kept = told;
+    writes = λ settling txn _. said led.outputs _ tt told;
+    adds = λ required. said led.outputs (outputs.Require required) tt told;
+    drops = λ required. said led.outputs (outputs.Require required) tt told;
+  };
+  clears = λ compared. said led.outputs _ tt told;
+  asks = λ candidate. whom-quiet led.knows.who candidate (led.knows.sequence + 1) led.outputs told;
+  judges = handover-quiet now revision (unheard led) told;
+}
 
 renewed-quiet : (now ttl : Ticks) (revision : ℕ) (o : Outcome) → Quiet o → Quiet (leader_renewed now ttl revision o)
 renewed-quiet now ttl revision o all = let led : Outcome = led_on now ttl revision o in let told : Quiet led = fed-quiet (deadline_after now ttl o.machine.watchdog) o.outputs all in
-    renewed-by Quiet now ttl revision o (said led.outputs _ tt told) (record {
-      plan = record {
-        kept = told;
-        writes = λ settling txn _. said led.outputs _ tt told;
-        adds = λ required. said led.outputs (outputs.Require required) tt told;
-        drops = λ required. said led.outputs (outputs.Require required) tt told;
-      };
-      clears = λ compared. said led.outputs _ tt told;
-      asks = λ candidate. whom-quiet led.knows.who candidate (led.knows.sequence + 1) led.outputs told;
-      judges = handover-quiet now revision (unheard led) told;
-    })
+    renewed-by Quiet now ttl revision o (said led.outputs _ tt told) (duty-quiet now revision led told)
+
+rest-quiet : (renews : Bool) (deadline : Option Ticks) (outs : List Output) → All NoReply outs → All NoReply (rest_told renews deadline outs)
+rest-quiet renews None outs all = all
+rest-quiet true (Some deadline) outs all = said _ outputs.DisablesWatchdog tt (said outs outputs.Disarmed tt all)
+rest-quiet false (Some deadline) outs all = said outs outputs.Disarmed tt all
 
 stray-quiet : (now ttl : Ticks) (revision : ℕ) (o : Outcome) → Quiet o → Quiet (stray_renewed now ttl revision o)
 stray-quiet now ttl revision o all = if-cases Quiet (is_refusing o.machine.watchdog.mode o.machine.watchdog.works) _ (takes_over now revision (arming now ttl o))
@@ -184,6 +197,10 @@ granted-quiet now sequence grant snapshot o all = let told : Outcome = record o 
       leader = λ _ _. renewed-quiet now waited.ttl grant.revision told all;
       stray = λ _. stray-quiet now waited.ttl grant.revision told all;
       takes = λ _. takes-quiet now waited.ttl grant.revision told all;
+      rests = λ renews _ _ _. let led : Outcome = rested_on renews grant.revision told in duties-of Quiet now grant.revision led (duty-quiet now grant.revision led (rest-quiet renews o.machine.watchdog.deadline o.outputs all));
+      stray_rests = λ renews _ _. rest-quiet renews o.machine.watchdog.deadline o.outputs all;
+      takes_resting = λ renews _ _. let rest : Outcome = resting renews told in let rested : Quiet rest = rest-quiet renews o.machine.watchdog.deadline o.outputs all in
+          takes-in-pause-by Quiet now renews grant.revision told (said o.outputs _ tt all) (begins-quiet now grant.revision rest rested) (said rest.outputs _ tt rested);
     })
     (record { other = all; begins = λ revision _. begins-quiet now revision told all; postpones = λ revision _. postpones-quiet revision told all; settles = λ required _. said o.outputs (outputs.Require required) tt all })
 

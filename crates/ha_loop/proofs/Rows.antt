@@ -1,5 +1,5 @@
 -- The rows of the decision table, one by one: what holds of each row that applies holds of the whole.
-use Rattle.std.proofs.Common.{◌≡◌, ℕ, ◌==◌, ◌&&◌, nat_le, Bool, true, false, if◌then◌else◌, Option, Some, None, List, refl, subst, ap, ◌∙◌, not, []}
+use Rattle.std.proofs.Common.{◌≡◌, ℕ, ◌==◌, ◌&&◌, nat_le, Bool, true, false, is_none, if◌then◌else◌, Option, Some, None, List, refl, subst, ap, ◌∙◌, not, []}
 use Rattle.lease_store.specs.declared.action.Bar.{Bar}
 use Rattle.lease_store.specs.declared.granted.Granted.{Granted}
 use Rattle.wal_model.specs.declared.entry.HistoryPoint.{HistoryPoint}
@@ -34,11 +34,12 @@ use Rattle.ha_loop.specs.declared.role.Why.{Why}
 use Rattle.ha_loop.specs.Acting.{sending, lease_span, disarming, feeding, ending_server, requiring, waiting_no_more, touching, starting_replica, following_server, is_hold_active, shutting_down}
 use Rattle.ha_loop.specs.Agents.{RoleFacts, Follower, Holder, Ready, Leader, Ending, Stray, Outcome, is_leader}
 use Rattle.ha_loop.specs.Before.{leader_finds_ended, has_ended, finds_live, stray_finds_ended, before_as, before}
-use Rattle.ha_loop.specs.Decisions.{may_create, leader_renewed, is_start_too_long, stray_renewed, takes_key, lease_granted, belongs, accepted_grant, is_lease_of, granted_write, granted_for, granted, is_decision, is_sync_decision, awaits_decision, is_write_of, sync_granted, accepted_sync, follower_for, renewal_refused, refused_as, refused_for, refused}
-use Rattle.ha_loop.specs.Claiming.{begins, claims, begins_or_claims, postpones, claim_fails_as, claim_fails, can_begin_on_claim}
+use Rattle.ha_loop.specs.Pausing.{is_paused, ends_forks, is_wanted, resting, running_without_key}
+use Rattle.ha_loop.specs.Decisions.{takes_over, may_take, gives_back, takes_key_in_pause, granted_in_pause, uses_lease, asks_renewal, lease_used, may_create, leader_renewed, is_start_too_long, stray_renewed, takes_key, lease_granted, belongs, accepted_grant, is_lease_of, granted_write, granted_for, granted, is_decision, is_sync_decision, awaits_decision, is_write_of, sync_granted, accepted_sync, follower_for, renewal_refused, refused_as, refused_for, refused}
+use Rattle.ha_loop.specs.Claiming.{begins, claims, begins_or_claims, postpones, claim_fails_as, claim_fails, may_begin_on_claim}
 use Rattle.ha_loop.specs.Planning.{leader_view, writing_sync, switching_off, noting, planned_as, planned_on, planned, settled}
 use Rattle.ha_loop.specs.Fits.{Fits}
-use Rattle.ha_loop.specs.HandingOver.{is_done, leader_revision, clearing_under, clearing, successor_by, hands_over, hands_over_to, handover_judged, judged_if_leading, whom_answered, checking, checks, failover_duty, duty_on, duties, check_answered}
+use Rattle.ha_loop.specs.HandingOver.{is_done, leader_revision, clearing_under, clearing, successor_by, hands_over, hands_over_to, handover_judged, judged_if_leading, whom_answered, checking, checks, checks_unless_paused, failover_duty, duty_on, duties, check_answered}
 use Rattle.ha_loop.specs.Operators.{ok, telling, answering, answering_if, operating, config_revision, restarting, wiping, operated, result_as, looked_by, uses_read, looked, operator_until, late_answer, given_up_by, given_up, learned, granted_as, operates, grants_operator, operator_granted, refusal_of, operator_refused}
 use Rattle.ha_loop.specs.declared.operating.Operating.{Operating}
 use Rattle.ha_loop.specs.declared.operating.Operation.{Operation}
@@ -51,12 +52,12 @@ use Rattle.lease_store.specs.declared.action.OperatorRequest.TheVariants as requ
 use Rattle.lease_store.specs.declared.value.FailoverKey.{FailoverKey}
 use Rattle.event_book.specs.declared.message.Body.TheVariants as bodies
 use Rattle.cluster_config.specs.Naming.{candidate_of}
-use Rattle.ha_loop.specs.Snapshots.{leader_loses_key, stray_loses_key, renewing, finds_own_key, own_key, starts_behind, follow_row, follows, others_key, no_key, led, is_active, awaits_read, read_noted, informed, accepted, got, ends_fork}
-use Rattle.ha_loop.specs.Racing.{can_start, bar_of, creating, barred, races_unless, free_key, finds_free, outcome_at, judged_as, judged, asking_others, unheard}
+use Rattle.ha_loop.specs.Snapshots.{leader_loses_key, stray_loses_key, renewing, finds_own_key, own_key, asks_as_stray, starts_behind, starts_if, follow_row, follows, others_key, no_key, led, is_active, awaits_read, read_noted, informed, accepted, got, ends_fork}
+use Rattle.ha_loop.specs.Racing.{can_start, starts_alone, bar_of, creating, barred, races_unless, free_key, finds_free, outcome_at, judged_as, judged, asking_others, unheard}
 use Rattle.ha_loop.specs.Answers.{all_answered}
 use Rattle.ha_loop.specs.Peers.{awaits_answer, awaits_check, judged_if_all, keeping, accepted_answer, answered_for, answered}
 use Rattle.ha_loop.specs.Table.{granted_any, refused_any}
-use Rattle.ha_loop.specs.Wake.{roused, is_due, has_turn, leader_out_of_reach, stray_out_of_reach, out_of_reach_as, unanswered, overdue_for, overdue, is_stopping, reading, turn_noted, turn_as, turn_begins, turned, woken}
+use Rattle.ha_loop.specs.Wake.{roused, is_due, has_turn, leader_out_of_reach, stray_out_of_reach, out_of_reach_as, out_of_reach, unanswered, overdue_for, overdue, is_stopping, reading, turn_noted, turn_as, turn_begins, turned, woken}
 
 pub if-cases : {A : Type 0} (P : A → Type 0) (test : Bool) (x y : A) → (test ≡ true → P x) → (test ≡ false → P y) → P (if test then x else y)
 if-cases P true x y yes-case no-case = yes-case refl
@@ -210,9 +211,12 @@ out-of-reach-as P now (Holder r) o is rows = rows.quiet
 out-of-reach-as P now (Ready r) o is rows = rows.quiet
 out-of-reach-as P now (Ending r why) o is rows = rows.quiet
 
+out-of-reach : (P : Outcome → Type 0) (now : Ticks) (o : Outcome) → OverdueRows P now o → P (out_of_reach now o)
+out-of-reach P now o rows = if-cases P (is_paused o.knows) (waiting_no_more o) (out_of_reach_as now o.role (waiting_no_more o)) (λ _. rows.quiet) (λ _. out-of-reach-as P now o.role o refl rows)
+
 unanswered-by : (P : Outcome → Type 0) (now : Ticks) (question : Question) (o : Outcome) → OverdueRows P now o → P (unanswered now question o)
-unanswered-by P now Reading o rows = out-of-reach-as P now o.role o refl rows
-unanswered-by P now Renewing o rows = out-of-reach-as P now o.role o refl rows
+unanswered-by P now Reading o rows = out-of-reach P now o rows
+unanswered-by P now Renewing o rows = out-of-reach P now o rows
 unanswered-by P now Creating o rows = rows.quiet
 unanswered-by P now Claiming o rows = claim-fails-by P (waiting_no_more o) rows.quiet rows.ready
 unanswered-by P now (Syncing settling) o rows = rows.quiet
@@ -258,25 +262,37 @@ pub record GotRows (P : Outcome → Type 0) (now : Ticks) (points : List History
   pub touches : P (touching (record o { knows = read_noted now snapshot o.knows }))
   pub follows : (leader : LeaderEntry) → leader_in snapshot ≡ Some leader → may_create o.role ≡ true → P (follows now leader.holder (record o { knows = read_noted now snapshot o.knows }))
   pub free : leader_in snapshot ≡ None → may_create o.role ≡ true → P (finds_free now (record o { knows = read_noted now snapshot o.knows }))
+  -- in a pause
+  pub runs_on : is_paused (read_noted now snapshot o.knows) ≡ true → P (running_without_key (record o { knows = read_noted now snapshot o.knows }))
+  pub asks_on : is_paused (read_noted now snapshot o.knows) ≡ true → P (asks_as_stray now (record o { knows = read_noted now snapshot o.knows }))
+
+-- a primary doesn't have the leader key, since another has it, or nobody
+without-key : (P : Outcome → Type 0) (now : Ticks) (points : List HistoryPoint) (snapshot : SnapshotFacts) (o lost : Outcome) → P lost → GotRows P now points snapshot o
+    → P (if is_paused (read_noted now snapshot o.knows) then running_without_key (record o { knows = read_noted now snapshot o.knows }) else lost)
+without-key P now points snapshot o lost ends rows = if-cases P (is_paused (read_noted now snapshot o.knows)) (running_without_key (record o { knows = read_noted now snapshot o.knows })) lost rows.runs_on (λ _. ends)
+
+without-leader : (P : Outcome → Type 0) (now : Ticks) (points : List HistoryPoint) (snapshot : SnapshotFacts) (o lost : Outcome) → P lost → GotRows P now points snapshot o
+    → P (if is_paused (read_noted now snapshot o.knows) then asks_as_stray now (record o { knows = read_noted now snapshot o.knows }) else lost)
+without-leader P now points snapshot o lost ends rows = if-cases P (is_paused (read_noted now snapshot o.knows)) (asks_as_stray now (record o { knows = read_noted now snapshot o.knows })) lost rows.asks_on (λ _. ends)
 
 got-none : (P : Outcome → Type 0) (now : Ticks) (points : List HistoryPoint) (snapshot : SnapshotFacts) (role : RoleFacts) (o : Outcome) → o.role ≡ role → leader_in snapshot ≡ None → GotRows P now points snapshot o → P (no_key now role (record o { knows = read_noted now snapshot o.knows }))
-got-none P now points snapshot (Leader held) o is none rows = rows.leader held is
-got-none P now points snapshot Stray o is none rows = rows.stray is
+got-none P now points snapshot (Leader held) o is none rows = without-leader P now points snapshot o (leader_loses_key now held (record o { knows = read_noted now snapshot o.knows })) (rows.leader held is) rows
+got-none P now points snapshot Stray o is none rows = without-leader P now points snapshot o (stray_loses_key now (record o { knows = read_noted now snapshot o.knows })) (rows.stray is) rows
 got-none P now points snapshot Follower o is none rows = rows.free none (rw is refl)
 got-none P now points snapshot (Holder held) o is none rows = rows.free none (rw is refl)
 got-none P now points snapshot (Ready held) o is none rows = rows.other
 got-none P now points snapshot (Ending held why) o is none rows = rows.other
 
 got-others : (P : Outcome → Type 0) (now : Ticks) (points : List HistoryPoint) (snapshot : SnapshotFacts) (leader : LeaderEntry) (role : RoleFacts) (o : Outcome) → o.role ≡ role → leader_in snapshot ≡ Some leader → GotRows P now points snapshot o → P (others_key now leader.holder role (record o { knows = read_noted now snapshot o.knows }))
-got-others P now points snapshot leader (Leader held) o is some rows = rows.leader held is
-got-others P now points snapshot leader Stray o is some rows = rows.stray is
+got-others P now points snapshot leader (Leader held) o is some rows = without-key P now points snapshot o (leader_loses_key now held (record o { knows = read_noted now snapshot o.knows })) (rows.leader held is) rows
+got-others P now points snapshot leader Stray o is some rows = without-key P now points snapshot o (stray_loses_key now (record o { knows = read_noted now snapshot o.knows })) (rows.stray is) rows
 got-others P now points snapshot leader Follower o is some rows = rows.follows leader some (rw is refl)
 got-others P now points snapshot leader (Holder held) o is some rows = rows.follows leader some (rw is refl)
 got-others P now points snapshot leader (Ready held) o is some rows = rows.other
 got-others P now points snapshot leader (Ending held why) o is some rows = rows.other
 
 own-found : (P : Outcome → Type 0) (now : Ticks) (points : List HistoryPoint) (snapshot : SnapshotFacts) (leader : LeaderEntry) (o : Outcome) → is_active o.role ≡ true → leader_in snapshot ≡ Some leader → leader.holder.number == o.knows.who.me.number ≡ true → GotRows P now points snapshot o → P (finds_own_key now points leader.revision (record o { knows = read_noted now snapshot o.knows }))
-own-found P now points snapshot leader o active some mine rows = if-cases P (is_hold_active now o.machine.hold) (touching (record o { knows = read_noted now snapshot o.knows })) (renewing now points leader.revision (record o { knows = read_noted now snapshot o.knows })) (λ _. rows.touches) (λ _. rows.renews active leader some mine)
+own-found P now points snapshot leader o active some mine rows = if-cases P (is_hold_active now o.machine.hold && not (is_paused (read_noted now snapshot o.knows))) (touching (record o { knows = read_noted now snapshot o.knows })) (renewing now points leader.revision (record o { knows = read_noted now snapshot o.knows })) (λ _. rows.touches) (λ _. rows.renews active leader some mine)
 
 got-own : (P : Outcome → Type 0) (now : Ticks) (points : List HistoryPoint) (snapshot : SnapshotFacts) (leader : LeaderEntry) (role : RoleFacts) (o : Outcome) → is_active o.role ≡ true → leader_in snapshot ≡ Some leader → leader.holder.number == o.knows.who.me.number ≡ true → GotRows P now points snapshot o → P (own_key now points leader.revision role (record o { knows = read_noted now snapshot o.knows }))
 got-own P now points snapshot leader (Leader held) o active some mine rows = rows.renews active leader some mine
@@ -306,10 +322,12 @@ pub record RefusedRows (P : Outcome → Type 0) (now : Ticks) (o : Outcome) : Ty
   pub stray : o.role ≡ Stray → P (stray_loses_key now (waiting_no_more o))
   pub follower : (held : ℕ) → o.role ≡ Holder held → P (record (waiting_no_more o) { role = Follower })
   pub ready : (held : ℕ) → o.role ≡ Ready held → P (postpones held (waiting_no_more o))
+  -- in a pause
+  pub runs_on : is_paused o.knows ≡ true → P (running_without_key (waiting_no_more o))
 
 renewal-refused : (P : Outcome → Type 0) (now : Ticks) (role : RoleFacts) (o : Outcome) → o.role ≡ role → RefusedRows P now o → P (renewal_refused now role (waiting_no_more o))
-renewal-refused P now (Leader held) o is rows = rows.leader held is
-renewal-refused P now Stray o is rows = rows.stray is
+renewal-refused P now (Leader held) o is rows = if-cases P (is_paused o.knows) (running_without_key (waiting_no_more o)) (leader_loses_key now held (waiting_no_more o)) rows.runs_on (λ _. rows.leader held is)
+renewal-refused P now Stray o is rows = if-cases P (is_paused o.knows) (running_without_key (waiting_no_more o)) (stray_loses_key now (waiting_no_more o)) rows.runs_on (λ _. rows.stray is)
 renewal-refused P now (Holder held) o is rows = rows.follower held is
 renewal-refused P now Follower o is rows = rows.quiet
 renewal-refused P now (Ready held) o is rows = rows.quiet
@@ -344,17 +362,21 @@ starts-by : (P : Outcome → Type 0) (now : Ticks) (leader : Option MemberId) (o
 starts-by P now leader o kept starts = if-cases P o.machine.server.diverged o (starting_replica now leader o) (λ _. kept) (λ _. starts)
 
 ends-by : (P : Outcome → Type 0) (now : Ticks) (o : Outcome) → P o → P (shutting_down now o) → P (ends_fork now o)
-ends-by P now o kept shuts = if-cases P (o.machine.server.diverged && not o.knows.settings.use_pg_rewind) (shutting_down now o) o (λ _. shuts) (λ _. kept)
+ends-by P now o kept shuts = if-cases P (o.machine.server.diverged && ends_forks o.knows.settings) (shutting_down now o) o (λ _. shuts) (λ _. kept)
 
-pub follow-by : (P : Outcome → Type 0) (now : Ticks) (leader : MemberId) (state : State) (o : Outcome) → P o → P (starting_replica now (Some leader) o) → P (following_server leader o) → P (shutting_down now o) → P (follow_row now leader state o)
-follow-by P now leader states.Stopped o kept starts follows-it shuts = starts-by P now (Some leader) o kept starts
-follow-by P now leader states.Crashed o kept starts follows-it shuts = starts-by P now (Some leader) o kept starts
-follow-by P now leader states.Replica o kept starts follows-it shuts =
+starts-if : (P : Outcome → Type 0) (may_start : Bool) (now : Ticks) (leader : MemberId) (o : Outcome) → P o → P (starting_replica now (Some leader) o) → P (starts_if may_start now leader o)
+starts-if P true now leader o kept starts = starts-by P now (Some leader) o kept starts
+starts-if P false now leader o kept starts = kept
+
+pub follow-by : (P : Outcome → Type 0) (may_start : Bool) (now : Ticks) (leader : MemberId) (state : State) (o : Outcome) → P o → P (starting_replica now (Some leader) o) → P (following_server leader o) → P (shutting_down now o) → P (follow_row may_start now leader state o)
+follow-by P may_start now leader states.Stopped o kept starts follows-it shuts = starts-if P may_start now leader o kept starts
+follow-by P may_start now leader states.Crashed o kept starts follows-it shuts = starts-if P may_start now leader o kept starts
+follow-by P may_start now leader states.Replica o kept starts follows-it shuts =
     if-cases P (is_upstream leader o.machine.server.upstream) (ends_fork now o) (following_server leader o) (λ _. ends-by P now o kept shuts) (λ _. follows-it)
-follow-by P now leader states.Creating o kept starts follows-it shuts = kept
-follow-by P now leader (states.Starting as_primary at) o kept starts follows-it shuts = kept
-follow-by P now leader states.Primary o kept starts follows-it shuts = kept
-follow-by P now leader (states.Stopping was_primary at) o kept starts follows-it shuts = kept
+follow-by P may_start now leader states.Creating o kept starts follows-it shuts = kept
+follow-by P may_start now leader (states.Starting as_primary at) o kept starts follows-it shuts = kept
+follow-by P may_start now leader states.Primary o kept starts follows-it shuts = kept
+follow-by P may_start now leader (states.Stopping was_primary at) o kept starts follows-it shuts = kept
 
 -- and behind it the log may be repaired
 pub repaired-by : (P : Outcome → Type 0) (leader : MemberId) (repair : Option Repair) (o : Outcome) → P o → ((r : Repair) → P (repairing leader r o)) → P (repaired_if leader repair o)
@@ -364,6 +386,7 @@ repaired-by P leader (Some r) o kept repaired = repaired r
 -- what it does about a free leader key
 pub record FreeRows (P : Outcome → Type 0) (now : Ticks) (o : Outcome) : Type 0 where
   pub starts : P (touching (starting_replica now None o))
+  pub touches : P (touching o)
   pub bars : (by : Bar) → P (barred by o)
   pub judges : P (judged now (unheard o))
   pub asks : P (asking_others now (unheard o))
@@ -374,8 +397,8 @@ races-by P now (Some by) o rows = rows.bars by
 
 pub free-by : (P : Outcome → Type 0) (now : Ticks) (o : Outcome) → FreeRows P now o → P (free_key now o)
 free-by P now o rows =
-    if-cases P (can_start o.machine.server) (touching (starting_replica now None o)) (races_unless now (bar_of now o.knows o.machine) o)
-    (λ _. rows.starts) (λ _. races-by P now (bar_of now o.knows o.machine) o rows)
+    if-cases P (can_start o.machine.server) (touching (starts_alone now o)) (races_unless now (bar_of now o.knows o.machine) o)
+    (λ _. if-cases (λ (x : Outcome). P (touching x)) (is_paused o.knows) o (starting_replica now None o) (λ _. rows.touches) (λ _. rows.starts)) (λ _. races-by P now (bar_of now o.knows o.machine) o rows)
 
 -- the answer of another member
 pub record AnsweredRows (P : Outcome → Type 0) (now : Ticks) (answer : PeerAnswer) (o : Outcome) : Type 0 where
@@ -408,12 +431,28 @@ answered-for P now sequence answer (Some waited) o rows =
 pub answered-by : (P : Outcome → Type 0) (now : Ticks) (sequence : ℕ) (answer : PeerAnswer) (o : Outcome) → AnsweredRows P now answer o → P (answered now sequence answer o)
 answered-by P now sequence answer o rows = answered-for P now sequence answer o.knows.waited o rows
 
+-- a leader whose watchdog rests on the grant of this revision
+abbrev pub rested_on : Bool → ℕ → Outcome → Outcome
+rested_on renews revision o = record (resting renews o) { role = Leader revision }
+
 -- the lease of a request that was granted
 pub record GrantRows (P : Outcome → Type 0) (now ttl : Ticks) (revision : ℕ) (o : Outcome) : Type 0 where
   pub other : P o
   pub leader : (held : ℕ) → o.role ≡ Leader held → P (leader_renewed now ttl revision o)
   pub stray : o.role ≡ Stray → P (stray_renewed now ttl revision o)
   pub takes : may_create o.role ≡ true → P (takes_key now ttl revision o)
+  -- in a pause
+  pub rests : (renews : Bool) → is_paused o.knows ≡ true → (held : ℕ) → o.role ≡ Leader held → P (duties now revision (rested_on renews revision o))
+  pub stray_rests : (renews : Bool) → is_paused o.knows ≡ true → o.role ≡ Stray → P (takes_over now revision (resting renews o))
+  pub takes_resting : (renews : Bool) → is_paused o.knows ≡ true → may_create o.role ≡ true → P (takes_key_in_pause now renews revision o)
+
+granted-in-pause : (P : Outcome → Type 0) (now ttl : Ticks) (renews : Bool) (revision : ℕ) (role : RoleFacts) (o : Outcome) → o.role ≡ role → is_paused o.knows ≡ true → GrantRows P now ttl revision o → P (granted_in_pause now renews revision role o)
+granted-in-pause P now ttl renews revision (Leader held) o is paused rows = rows.rests renews paused held is
+granted-in-pause P now ttl renews revision Stray o is paused rows = rows.stray_rests renews paused is
+granted-in-pause P now ttl renews revision Follower o is paused rows = rows.takes_resting renews paused (rw is refl)
+granted-in-pause P now ttl renews revision (Holder held) o is paused rows = rows.takes_resting renews paused (rw is refl)
+granted-in-pause P now ttl renews revision (Ready held) o is paused rows = rows.other
+granted-in-pause P now ttl renews revision (Ending held why) o is paused rows = rows.other
 
 lease-granted : (P : Outcome → Type 0) (now ttl : Ticks) (revision : ℕ) (role : RoleFacts) (o : Outcome) → o.role ≡ role → GrantRows P now ttl revision o → P (lease_granted now ttl revision role o)
 lease-granted P now ttl revision (Leader held) o is rows = rows.leader held is
@@ -469,11 +508,12 @@ pub record FailoverRows (P : Outcome → Type 0) (now : Ticks) (revision : ℕ) 
 
 failover-duty : (P : Outcome → Type 0) (now : Ticks) (revision : ℕ) (failover : FailoverKey) (o : Outcome) → FailoverRows P now revision o → P (failover_duty now revision failover o)
 failover-duty P now revision failover o rows =
-    if-cases P (is_done o.knows.who.me failover) (clearing o) (checks now revision failover.candidate (unheard o)) (λ _. clearing-by P o rows.kept rows.clears)
-    (λ _. if-cases P (whom_answered o.knows.who failover.candidate []) (handover_judged now revision (unheard o)) (checking now failover.candidate (unheard o)) (λ _. handover-by P now revision (unheard o) rows.judges) (λ _. rows.asks failover.candidate))
+    if-cases P (is_done o.knows.who.me failover) (clearing o) (checks_unless_paused now revision failover.candidate o) (λ _. clearing-by P o rows.kept rows.clears)
+    (λ _. if-cases P (is_paused o.knows && is_none failover.candidate) o (checks now revision failover.candidate (unheard o)) (λ _. rows.kept)
+    (λ _. if-cases P (whom_answered o.knows.who failover.candidate []) (handover_judged now revision (unheard o)) (checking now failover.candidate (unheard o)) (λ _. handover-by P now revision (unheard o) rows.judges) (λ _. rows.asks failover.candidate)))
 
 duty-on : (P : Outcome → Type 0) (now : Ticks) (revision : ℕ) (failover : Option FailoverKey) (o : Outcome) → P (planned now revision o) → FailoverRows P now revision o → P (duty_on now revision failover o)
-duty-on P now revision None o plans rows = plans
+duty-on P now revision None o plans rows = if-cases P (is_paused o.knows) o (planned now revision o) (λ _. rows.kept) (λ _. plans)
 duty-on P now revision (Some failover) o plans rows = failover-duty P now revision failover o rows
 
 -- what it owes its cluster with each renewal: a step with its synchronous standbys, or what a failover key asks
@@ -487,15 +527,24 @@ pub record DutyRows (P : Outcome → Type 0) (now : Ticks) (revision : ℕ) (o :
   pub asks : (candidate : Option MemberId) → P (checking now candidate (unheard o))
   pub judges : HandoverRows P now revision (unheard o)
 
+pub duties-of : (P : Outcome → Type 0) (now : Ticks) (revision : ℕ) (o : Outcome) → DutyRows P now revision o → P (duties now revision o)
+duties-of P now revision o rows = duties-by P now revision o (planned-by P now revision o rows.plan) (record { kept = rows.plan.kept; clears = rows.clears; asks = rows.asks; judges = rows.judges })
+
 -- a leader whose lease is renewed
 pub renewed-by : (P : Outcome → Type 0) (now ttl : Ticks) (revision : ℕ) (o : Outcome) → P (record (ending_server now StartTooLong (led_on now ttl revision o)) { role = Ending revision HandOver }) → DutyRows P now revision (led_on now ttl revision o) → P (leader_renewed now ttl revision o)
 renewed-by P now ttl revision o ends rows = let fed : Outcome = led_on now ttl revision o in
     if-cases P (is_start_too_long now fed.knows fed.machine.server.state) (record (ending_server now StartTooLong fed) { role = Ending revision HandOver }) (duties now revision fed)
-    (λ _. ends) (λ _. duties-by P now revision fed (planned-by P now revision fed rows.plan) (record { kept = rows.plan.kept; clears = rows.clears; asks = rows.asks; judges = rows.judges }))
+    (λ _. ends) (λ _. duties-of P now revision fed rows)
 
 -- a member that takes the leader key behind an armed watchdog
 pub begins-or-claims-by : (P : Outcome → Type 0) (now : Ticks) (revision : ℕ) (o : Outcome) → P (begins now revision o) → P (claims now revision o) → P (begins_or_claims now revision o)
 begins-or-claims-by P now revision o begin claim = if-cases P o.knows.turn_settings.synchronous_mode (claims now revision o) (begins now revision o) (λ _. claim) (λ _. begin)
+
+-- a member that takes the leader key in a pause, or gives it back
+pub takes-in-pause-by : (P : Outcome → Type 0) (now : Ticks) (renews : Bool) (revision : ℕ) (o : Outcome) → P (gives_back revision o) → P (begins now revision (resting renews o)) → P (claims now revision (resting renews o)) → P (takes_key_in_pause now renews revision o)
+takes-in-pause-by P now renews revision o gives begin claim =
+    if-cases P (is_wanted o.knows.who.me o.knows.turn_failover o.machine.server.state && may_take now o.knows o.machine) (begins_or_claims now revision (resting renews o)) (gives_back revision o)
+    (λ _. begins-or-claims-by P now revision (resting renews o) begin claim) (λ _. gives)
 
 -- a write of the sync key that was granted
 pub record SyncRows (P : Outcome → Type 0) (now : Ticks) (o : Outcome) : Type 0 where
@@ -511,7 +560,7 @@ settled-by P Empties o kept requires = requires Nobody
 
 sync-granted : (P : Outcome → Type 0) (now : Ticks) (question : Question) (role : RoleFacts) (o : Outcome) → o.role ≡ role → belongs question role ≡ true → SyncRows P now o → P (sync_granted now question role o)
 sync-granted P now Claiming (Ready revision) o is fits rows =
-    if-cases P (can_begin_on_claim o.machine.server.was_primary o.machine.server.state) (begins now revision o) (postpones revision o) (λ _. rows.begins revision is) (λ _. rows.postpones revision is)
+    if-cases P (may_begin_on_claim o.knows o.machine.server) (begins now revision o) (postpones revision o) (λ _. rows.begins revision is) (λ _. rows.postpones revision is)
 sync-granted P now Claiming Follower o is fits rows = rows.other
 sync-granted P now Claiming (Holder held) o is fits rows = rows.other
 sync-granted P now Claiming (Leader held) o is fits rows = rows.other
@@ -530,8 +579,10 @@ granted-for : (P : Outcome → Type 0) (now : Ticks) (sequence : ℕ) (grant : G
 granted-for P now sequence grant snapshot None o is kept quiet rows syncs = kept
 granted-for P now sequence grant snapshot (Some waited) o is kept quiet rows syncs = let told : Outcome = record o { knows = informed snapshot o.knows } in
     if-cases P (is_decision waited sequence && is_lease_of o.knows.who.me grant) (accepted_grant now waited grant.revision snapshot o) (granted_write now sequence grant snapshot waited o)
-    (λ decision. if-cases P (belongs waited.question o.role) (lease_granted now waited.ttl grant.revision o.role told) (waiting_no_more o)
-    (λ _. lease-granted P now waited.ttl grant.revision o.role told refl (rows waited is decision)) (λ _. quiet))
+    (λ decision. if-cases P (uses_lease (is_paused told.knows) waited.question o.role) (lease_used now waited grant.revision told) (waiting_no_more o)
+    (λ _. if-cases P (is_paused told.knows) (granted_in_pause now (asks_renewal waited.question) grant.revision o.role told) (lease_granted now waited.ttl grant.revision o.role told)
+    (λ paused. granted-in-pause P now waited.ttl (asks_renewal waited.question) grant.revision o.role told refl paused (rows waited is decision))
+    (λ _. lease-granted P now waited.ttl grant.revision o.role told refl (rows waited is decision))) (λ _. quiet))
     (λ _. if-cases P (is_sync_decision waited sequence && is_write_of o.knows.who.me grant) (accepted_sync now waited snapshot o) o
     (λ _. if-cases P (belongs waited.question o.role) (sync_granted now waited.question o.role told) (waiting_no_more o)
     (λ fits. sync-granted P now waited.question o.role told refl fits syncs) (λ _. quiet)) (λ _. kept))

@@ -40,7 +40,7 @@ use Rattle.ha_loop.specs.Planning.{writing_sync, noting}
 use Rattle.ha_loop.specs.Powers.{Acts, lease_of}
 use Rattle.ha_loop.specs.Synchronous.{unnamed, may_lead_in_sync}
 use Rattle.ha_loop.specs.Seen.{lease_asked, leader_entry_seen, leader_seen_if}
-use Rattle.ha_loop.specs.Snapshots.{renewing, follows, leader_loses_key, stray_loses_key, read_noted, got, follow_row}
+use Rattle.ha_loop.specs.Snapshots.{renewing, follows, leader_loses_key, stray_loses_key, read_noted, got, follow_row, asks_as_stray, informed, led_by_another}
 use Rattle.ha_loop.specs.HandingOver.{asking_whom, checking, hands_over}
 use Rattle.ha_loop.specs.Operators.{answering, given_up, learned, looked, operated, operating, restarting, telling, wiping}
 use Rattle.ha_loop.specs.Table.{granted_any, refused_any}
@@ -58,7 +58,8 @@ use Rattle.ha_loop.proofs.Knowing.{IsAlone, before-onward, given-up-onward, over
 use Rattle.ha_loop.proofs.Fitting.{ended-for}
 use Rattle.ha_loop.proofs.Leaving.{rests-by, ready-is}
 use Rattle.ha_loop.proofs.Living.{no-way, primary-live, restart-live, wipe-live}
-use Rattle.ha_loop.proofs.Rows.{HandoverRows, ReplyRows, ActRows, IsOperatorTxn, dropping, looked-by, given-up-by, granted-any-by, refused-any-by, operated-by, WritesSync, led_on, if-cases, renewed-by, begins-or-claims-by, before-by, overdue-by, turn-by, wake-by, got-by, refused-by, follow-by, repaired-by, free-by, granted-by, judged-by, answered-by}
+use Rattle.ha_loop.proofs.Rows.{HandoverRows, ReplyRows, ActRows, IsOperatorTxn, dropping, looked-by, given-up-by, granted-any-by, refused-any-by, operated-by, WritesSync, led_on, if-cases, renewed-by, begins-or-claims-by, before-by, overdue-by, turn-by, wake-by, got-by, refused-by, follow-by, repaired-by, free-by, granted-by, judged-by, answered-by, DutyRows, duties-of, rested_on, takes-in-pause-by}
+use Rattle.ha_loop.specs.Pausing.{is_paused, may_start_behind, rest_told, resting, running_without_key}
 
 -- an output that sends nothing, takes no hold, and by which no server comes to accept writes
 abbrev pub IsSilent : Output → Type 0
@@ -113,7 +114,7 @@ front G o after outs silent = All-weaker IsSilent (MayPut G o after) (silent-may
 push : (G : ℕ → Type 0) (o after : Outcome) (outs : List Output) (output : Output) → All (MayPut G o after) outs → MayPut G o after output → All (MayPut G o after) (listed output outs)
 push G o after outs output all may = All-push (MayPut G o after) outs output all may
 
-silently : (outs : List Output) (output : Output) → All IsSilent outs → IsSilent output → All IsSilent (listed output outs)
+pub silently : (outs : List Output) (output : Output) → All IsSilent outs → IsSilent output → All IsSilent (listed output outs)
 silently outs output all silent = All-push IsSilent outs output all silent
 
 silent-disarmed : (deadline : Option Ticks) (outs : List Output) → All IsSilent outs → All IsSilent (disarmed deadline outs)
@@ -127,6 +128,11 @@ silent-armed (Some deadline) outs all = silently outs (outputs.Armed deadline) a
 silent-fed : (deadline : Option Ticks) (outs : List Output) → All IsSilent outs → All IsSilent (fed_until deadline outs)
 silent-fed None outs all = all
 silent-fed (Some deadline) outs all = silently outs (outputs.Fed deadline) all tt
+
+silent-rest : (renews : Bool) (deadline : Option Ticks) (outs : List Output) → All IsSilent outs → All IsSilent (rest_told renews deadline outs)
+silent-rest renews None outs all = all
+silent-rest true (Some deadline) outs all = silently (listed outputs.Disarmed outs) outputs.DisablesWatchdog (silently outs outputs.Disarmed all tt) tt
+silent-rest false (Some deadline) outs all = silently outs outputs.Disarmed all tt
 
 -- the release of this revision under this number, or a silent output
 abbrev pub IsReleaseOr : ℕ → ℕ → Output → Type 0
@@ -374,15 +380,16 @@ touches-repairing G leader r o x later silent = let y : Outcome = repairing lead
     push G o y (touching x).outputs (outputs.Repair leader r) (push G o y x.outputs _ (front G o y x.outputs silent) (sends G o y x.knows.sequence _ later refl tt)) tt
 
 follow-may : (G : ℕ → Type 0) (now : Ticks) (leader : MemberId) (o b : Outcome) → o.knows.sequence ≤ b.knows.sequence → All IsSilent b.outputs → AllMay G o (follows now leader b)
-follow-may G now leader o b later silent = let x : Outcome = record b { role = Follower } in
-    let row : Outcome = touching (follow_row now leader b.machine.server.state x) in
+follow-may G now leader o b later silent = let x : Outcome = led_by_another b in
+    let may : Bool = may_start_behind b.knows in
+    let row : Outcome = touching (follow_row may now leader b.machine.server.state x) in
     repaired-by (AllMay G o) leader (repair_of b.knows.settings leader b.machine.server) row
-    (follow-by (λ (y : Outcome). AllMay G o (touching y)) now leader b.machine.server.state x
+    (follow-by (λ (y : Outcome). AllMay G o (touching y)) may now leader b.machine.server.state x
     (touches G o x x.outputs later silent)
     (touches G o (starting_replica now (Some leader) x) x.outputs later (silently b.outputs (outputs.StartReplica (Some leader)) silent tt))
     (touches G o (following_server leader x) x.outputs later (silently b.outputs (outputs.Follow leader) silent tt))
     (touches G o (shutting_down now x) x.outputs later (silently b.outputs outputs.ShutDown silent tt)))
-    (λ r. follow-by (λ (y : Outcome). AllMay G o (repairing leader r (touching y))) now leader b.machine.server.state x
+    (λ r. follow-by (λ (y : Outcome). AllMay G o (repairing leader r (touching y))) may now leader b.machine.server.state x
     (touches-repairing G leader r o x later silent)
     (touches-repairing G leader r o (starting_replica now (Some leader) x) later (silently b.outputs (outputs.StartReplica (Some leader)) silent tt))
     (touches-repairing G leader r o (following_server leader x) later (silently b.outputs (outputs.Follow leader) silent tt))
@@ -392,6 +399,7 @@ free-may : (G : ℕ → Type 0) (now : Ticks) (o b : Outcome) → o.knows.sequen
 free-may G now o b later silent = let x : Outcome = record b { role = Follower } in
     free-by (AllMay G o) now x (record {
       starts = touches G o (starting_replica now None x) x.outputs later (silently b.outputs (outputs.StartReplica None) silent tt);
+      touches = touches G o x x.outputs later silent;
       bars = λ bar. touches G o (record x { outputs = listed (outputs.DoesNotRace bar) x.outputs }) x.outputs later (silently b.outputs (outputs.DoesNotRace bar) silent tt);
       judges = mild-all G o (judged now (unheard x)) (judged-mild o.knows.sequence now (unheard x) later silent);
       asks = mild-all G o (asking_others now (unheard x)) (others-mild o.knows.sequence now (unheard x) later silent);
@@ -410,6 +418,9 @@ got-silent G now points sequence snapshot o b later silent = let read : Outcome 
       touches = touches G o read read.outputs later silent;
       follows = λ leader _ _. follow-may G now leader.holder o read later silent;
       free = λ _ _. free-may G now o read later silent;
+      runs_on = λ _. let runs : Outcome = running_without_key read in front G o runs runs.outputs (silently b.outputs outputs.RunsWithoutKey silent tt);
+      asks_on = λ _. let asks : Outcome = asks_as_stray now read in let runs : List Output = listed outputs.RunsWithoutKey b.outputs in
+          push G o asks runs _ (front G o asks runs (silently b.outputs outputs.RunsWithoutKey silent tt)) (sends G o asks b.knows.sequence _ later refl refl);
     })
 
 pub got-none : (now : Ticks) (points : List HistoryPoint) (sequence : ℕ) (snapshot : SnapshotFacts) (o : Outcome) → o.knows.waited ≡ None → got now points sequence snapshot o ≡ o
@@ -439,6 +450,7 @@ refused-silent now sequence o silent = refused-by (λ (x : Outcome). All IsSilen
   stray = λ _. silently o.outputs (outputs.Stop LeaderKeyLost) silent tt;
   follower = λ held _. silent;
   ready = λ held _. postpones-silent held (waiting_no_more o) silent;
+  runs_on = λ _. silently o.outputs outputs.RunsWithoutKey silent tt;
 })
 
 refused-none : (now : Ticks) (sequence : ℕ) (o : Outcome) → o.knows.waited ≡ None → refused now sequence o ≡ o
@@ -498,21 +510,25 @@ handover-may G now held o b later silent = let rows : HandoverRows (AllMild o.kn
   hands = λ candidate. mild-all G o (hands_over now held candidate (waiting_no_more b)) (rows.hands candidate);
 }
 
+-- what a leader owes its cluster, behind silent outputs
+duty-may : (G : ℕ → Type 0) (now : Ticks) (revision : ℕ) (o led : Outcome) → o.knows.sequence ≤ led.knows.sequence → All IsSilent led.outputs → DutyRows (AllMay G o) now revision led
+duty-may G now revision o led later rest = record {
+  plan = record {
+    kept = front G o led led.outputs rest;
+    writes = λ settling txn writes. writes-may G now settling txn o led writes later rest;
+    adds = λ required. front G o (requiring required (noting led)) _ (silently led.outputs (outputs.Require required) rest tt);
+    drops = λ required. front G o (requiring required led) _ (silently led.outputs (outputs.Require required) rest tt);
+  };
+  clears = λ compared. mild-all G o (dropping compared led) ((handover-mild o.knows.sequence now revision led later rest).clears compared);
+  asks = λ candidate. mild-all G o (checking now candidate (unheard led)) (checking-mild o.knows.sequence now candidate (unheard led) later rest);
+  judges = handover-may G now revision o (unheard led) later rest;
+}
+
 renewed-may : (G : ℕ → Type 0) (now ttl : Ticks) (revision : ℕ) (o b : Outcome) → o.knows.sequence ≤ b.knows.sequence → All IsSilent b.outputs → AllMay G o (leader_renewed now ttl revision b)
 renewed-may G now ttl revision o b later silent = let led : Outcome = led_on now ttl revision b in
     let ended : Outcome = record (ending_server now StartTooLong led) { role = Ending revision HandOver } in
     let rest : All IsSilent led.outputs = silent-fed (deadline_after now ttl b.machine.watchdog) b.outputs silent in
-    renewed-by (AllMay G o) now ttl revision b (front G o ended ended.outputs (silently led.outputs (outputs.Stop StartTooLong) rest tt)) (record {
-      plan = record {
-        kept = front G o led led.outputs rest;
-        writes = λ settling txn writes. writes-may G now settling txn o led writes later rest;
-        adds = λ required. front G o (requiring required (noting led)) _ (silently led.outputs (outputs.Require required) rest tt);
-        drops = λ required. front G o (requiring required led) _ (silently led.outputs (outputs.Require required) rest tt);
-      };
-      clears = λ compared. mild-all G o (dropping compared led) ((handover-mild o.knows.sequence now revision led later rest).clears compared);
-      asks = λ candidate. mild-all G o (checking now candidate (unheard led)) (checking-mild o.knows.sequence now candidate (unheard led) later rest);
-      judges = handover-may G now revision o (unheard led) later rest;
-    })
+    renewed-by (AllMay G o) now ttl revision b (front G o ended ended.outputs (silently led.outputs (outputs.Stop StartTooLong) rest tt)) (duty-may G now revision o led later rest)
 
 stray-may : (G : ℕ → Type 0) (now ttl : Ticks) (revision : ℕ) (o b : Outcome) → All IsSilent b.outputs → AllMay G o (stray_renewed now ttl revision b)
 stray-may G now ttl revision o b silent = let over : Outcome = takes_over now revision (arming now ttl b) in let ended : Outcome = ending_server now WatchdogNotArmed b in
@@ -561,6 +577,11 @@ granted-silent G now sequence grant snapshot o b later fits gives readies silent
       leader = λ held _. renewed-may G now waited.ttl grant.revision o (Told snapshot b) later silent;
       stray = λ _. stray-may G now waited.ttl grant.revision o (Told snapshot b) silent;
       takes = λ may. takes-may G now waited.ttl grant.revision o (Told snapshot b) later (ended-for b.role (live b.machine.server.state) may fits) (gives (waited, is, decision)) silent;
+      rests = λ renews _ held _. let led : Outcome = rested_on renews grant.revision (Told snapshot b) in duties-of (AllMay G o) now grant.revision led (duty-may G now grant.revision o led later (silent-rest renews b.machine.watchdog.deadline b.outputs silent));
+      stray_rests = λ renews _ _. let over : Outcome = takes_over now grant.revision (resting renews (Told snapshot b)) in front G o over over.outputs (silent-rest renews b.machine.watchdog.deadline b.outputs silent);
+      takes_resting = λ renews _ may. let told : Outcome = Told snapshot b in let rest : Outcome = resting renews told in let quiet : All IsSilent rest.outputs = silent-rest renews b.machine.watchdog.deadline b.outputs silent in
+          takes-in-pause-by (AllMay G o) now renews grant.revision told (gives-back-may G grant.revision o told later (ended-for b.role (live b.machine.server.state) may fits) (gives (waited, is, decision)) silent)
+          (begins-may G now grant.revision o rest (gives (waited, is, decision)) quiet) (claims-may G now grant.revision o rest later quiet);
     })
     (record {
       other = front G o (Told snapshot b) b.outputs silent;
@@ -717,9 +738,9 @@ takes-begins now ttl sequence grant revision o b decides hold armable silent =
     (λ may. arms-begins now ttl sequence grant revision o b decides (subst (λ (h : Option Ticks). is_hold_active now h ≡ false) hold (take-free (is_hold_active now b.machine.hold) (can_begin now b.knows b.machine.server b.machine.server.state && may_lead_in_sync b.knows) may)) armable silent)
     (λ _. gives-back-begins (BeginsOn now sequence grant o) revision b silent)
 
-granted-begins : (now : Ticks) (sequence : ℕ) (grant : Granted) (snapshot : SnapshotFacts) (b : Outcome) → (Decides sequence grant b → is_armable b.machine.watchdog.mode b.machine.watchdog.works ≡ true) → All IsSilent b.outputs
+granted-begins : (now : Ticks) (sequence : ℕ) (grant : Granted) (snapshot : SnapshotFacts) (b : Outcome) → is_paused (informed snapshot b.knows) ≡ false → (Decides sequence grant b → is_armable b.machine.watchdog.mode b.machine.watchdog.works ≡ true) → All IsSilent b.outputs
     → OutputsBeginBehind (BeginsOn now sequence grant b) [] (granted now sequence grant snapshot b).outputs
-granted-begins now sequence grant snapshot b armable silent =
+granted-begins now sequence grant snapshot b unpaused armable silent =
     let told : Outcome = Told snapshot b in
     let Mine : List Output → Type 0 = BeginsOn now sequence grant b in
     granted-by (λ (x : Outcome). OutputsBeginBehind Mine [] x.outputs) now sequence grant snapshot b
@@ -747,6 +768,9 @@ granted-begins now sequence grant snapshot b armable silent =
           (λ _. silent-begins Mine (listed (outputs.Stop WatchdogNotArmed) b.outputs) (silently b.outputs (outputs.Stop WatchdogNotArmed) silent tt))
           (λ _. silent-begins Mine over.outputs (silent-armed (deadline_after now waited.ttl b.machine.watchdog) b.outputs silent));
       takes = λ _. takes-begins now waited.ttl sequence grant grant.revision b told (waited, is, decision) refl (armable (waited, is, decision)) silent;
+      rests = λ _ paused _ _. absurd (no-way (sym unpaused ∙ paused));
+      stray_rests = λ _ paused _. absurd (no-way (sym unpaused ∙ paused));
+      takes_resting = λ _ paused _. absurd (no-way (sym unpaused ∙ paused));
     })
     (record {
       other = silent-begins Mine b.outputs silent;
@@ -759,10 +783,10 @@ release-never : (sequence revision : ℕ) (output : Output) → IsReleaseOr sequ
 release-never sequence revision output (inl silent) = silent-never output silent
 release-never sequence revision output (inr is) = subst (λ (y : Output). BeginsOnly ⊥ y) (sym is) tt
 
-begins-fronts : (now : Ticks) (sequence : ℕ) (grant : Granted) (snapshot : SnapshotFacts) (o b : Outcome) → (Decides sequence grant b → is_armable b.machine.watchdog.mode b.machine.watchdog.works ≡ true) → Fronts o b
+begins-fronts : (now : Ticks) (sequence : ℕ) (grant : Granted) (snapshot : SnapshotFacts) (o b : Outcome) → is_paused (informed snapshot b.knows) ≡ false → (Decides sequence grant b → is_armable b.machine.watchdog.mode b.machine.watchdog.works ≡ true) → Fronts o b
     → OutputsBeginBehind (BeginsOn now sequence grant b) [] (granted now sequence grant snapshot b).outputs
-begins-fronts now sequence grant snapshot o b armable (Silent all) = granted-begins now sequence grant snapshot b armable all
-begins-fronts now sequence grant snapshot o b armable (Released revision held alone role ended counted all) =
+begins-fronts now sequence grant snapshot o b unpaused armable (Silent all) = granted-begins now sequence grant snapshot b unpaused armable all
+begins-fronts now sequence grant snapshot o b unpaused armable (Released revision held alone role ended counted all) =
     subst (λ (z : Outcome). OutputsBeginBehind (BeginsOn now sequence grant b) [] z.outputs) (sym (granted-none now sequence grant snapshot b alone))
     (never (BeginsOn now sequence grant b) [] b.outputs (All-weaker (IsReleaseOr (o.knows.sequence + 1) revision) (BeginsOnly ⊥) (release-never (o.knows.sequence + 1) revision) b.outputs all))
 
@@ -774,13 +798,13 @@ fronts-begin P o b (Released revision held alone role ended counted all) = never
 told-begins : (P : List Output → Type 0) (o b : Outcome) → Fronts o b → ReplyRows (λ (x : Outcome). OutputsBeginBehind P [] x.outputs) b
 told-begins P o b fronts = let rows : ReplyRows (Fronts o) b = told-fronts o b fronts in record { kept = fronts-begin P o b fronts; answers = λ request told. fronts-begin P o (answering request told b) (rows.answers request told) }
 
-pub grant-begins : (now : Ticks) (sequence : ℕ) (grant : Granted) (snapshot : SnapshotFacts) (o : Outcome) → IsAlone o → (Decides sequence grant (before now o) → is_armable (before now o).machine.watchdog.mode (before now o).machine.watchdog.works ≡ true) → All IsSilent o.outputs
+pub grant-begins : (now : Ticks) (sequence : ℕ) (grant : Granted) (snapshot : SnapshotFacts) (o : Outcome) → IsAlone o → is_paused (informed snapshot (before now o).knows) ≡ false → (Decides sequence grant (before now o) → is_armable (before now o).machine.watchdog.mode (before now o).machine.watchdog.works ≡ true) → All IsSilent o.outputs
     → OutputsBeginBehind (BeginsOn now sequence grant (before now o)) [] (granted_any now sequence grant snapshot (before now o)).outputs
-grant-begins now sequence grant snapshot o alone armable silent = let b : Outcome = before now o in
+grant-begins now sequence grant snapshot o alone unpaused armable silent = let b : Outcome = before now o in
     let fronts : Fronts o b = before-fronts now o alone silent in
     let Mine : List Output → Type 0 = BeginsOn now sequence grant b in
     granted-any-by (λ (x : Outcome). OutputsBeginBehind Mine [] x.outputs) now sequence grant snapshot b (fronts-begin Mine o b fronts) (told-begins Mine o (learned snapshot b) (learned-fronts snapshot o b fronts))
-    (begins-fronts now sequence grant snapshot o b armable fronts)
+    (begins-fronts now sequence grant snapshot o b unpaused armable fronts)
 
 pub begins-weaker : (P Q : List Output → Type 0) → ((outs : List Output) → P outs → Q outs) → (before-it outs : List Output) → OutputsBeginBehind P before-it outs → OutputsBeginBehind Q before-it outs
 begins-weaker P Q more before-it [] begin = tt

@@ -115,6 +115,7 @@ fresh_knowledge who first run = record {
   crashed = None;
   known = record { bits = 0 };
   informed = false;
+  handed_over = false;
   answers = [];
   operating = None;
 }

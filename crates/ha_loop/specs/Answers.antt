@@ -30,9 +30,9 @@ has_answered member answers = list_any (is_from member) answers
 abbrev pub with_answer : PeerAnswer → List PeerAnswer → List PeerAnswer
 with_answer answer answers = if not (has_answered answer.member answers) && nat_lt (length answers) most_answers then answers ++ answer ∷ [] else answers
 
--- so many outputs a grant brings at most: the feeding of a watchdog, and a question to each other member
+-- so many outputs a grant brings at most: the feeding of a watchdog, or its rest with the note of that, and a question to each other member
 abbrev pub most_grant_outputs : ℕ
-most_grant_outputs = 17
+most_grant_outputs = 18
 
 -- a declared member other than the own one
 abbrev pub is_other : Who → MemberId → Bool

@@ -4,12 +4,15 @@ use Rattle.pat_base.specs.declared.server_state.State.{State}
 use Rattle.pat_base.specs.declared.server_state.State.TheVariants as states
 use Rattle.pat_base.specs.declared.ticks.Ticks.{Ticks}
 use Rattle.lease_store.specs.declared.txn.Txn.TheVariants as txns
+use Rattle.pg_model.specs.declared.status.ServerStatus.{ServerStatus}
 use Rattle.event_book.specs.declared.message.Body.TheVariants as bodies
+use Rattle.ha_loop.specs.declared.knowledge.Knowledge.{Knowledge}
 use Rattle.ha_loop.specs.declared.knowledge.Question.TheVariants.{Claiming}
 use Rattle.ha_loop.specs.declared.output.Output.TheVariants as outputs
 use Rattle.ha_loop.specs.Acting.{seconds_after, asking, disarming, beginning, requiring}
 use Rattle.ha_loop.specs.Agents.{RoleFacts, Holder, Ready, Leader, Outcome}
 use Rattle.ha_loop.specs.Outputs.{listed}
+use Rattle.ha_loop.specs.Pausing.{is_paused, is_wanted_by}
 use Rattle.ha_loop.specs.Synchronous.{expected_of, unnamed}
 
 -- the member begins: its commits wait for no named standby, and the server begins to accept writes
@@ -47,6 +50,10 @@ can_begin_on_claim was_primary states.Stopped = was_primary
 can_begin_on_claim was_primary states.Crashed = was_primary
 can_begin_on_claim was_primary _ = false
 
--- the claim is granted: the member begins, where its server still can
+-- a member may begin on a granted claim, where its server still can; in a pause where an operator wants it to lead
+abbrev pub may_begin_on_claim : Knowledge → ServerStatus → Bool
+may_begin_on_claim knows server = if is_paused knows then is_wanted_by knows.who.me knows.seen server.state else can_begin_on_claim server.was_primary server.state
+
+-- the claim is granted: the member begins, where it may
 abbrev pub claim_granted : Ticks → ℕ → Outcome → Outcome
-claim_granted now revision o = if can_begin_on_claim o.machine.server.was_primary o.machine.server.state then begins now revision o else postpones revision o
+claim_granted now revision o = if may_begin_on_claim o.knows o.machine.server then begins now revision o else postpones revision o

@@ -40,6 +40,7 @@ use Rattle.ha_loop.specs.Agents.{RoleFacts, Outcome, is_ready, is_leader}
 use Rattle.ha_loop.specs.Claiming.{can_begin_on_claim}
 use Rattle.ha_loop.specs.Decisions.{asks_lease, asks_sync, is_sync_decision, is_write_of}
 use Rattle.ha_loop.specs.Outputs.{has_one}
+use Rattle.ha_loop.specs.Pausing.{is_paused}
 use Rattle.ha_loop.specs.Powers.{IsAwaitedLease}
 use Rattle.ha_loop.specs.Synchronous.{sync_read_in}
 
@@ -134,9 +135,10 @@ HearsToCommit s m input (heards.Got sequence snapshot) o = HearsSnapshot s input
 HearsToCommit s m input (heards.Granted sequence grant snapshot) o = HearsGranted s m input.heard sequence grant snapshot o.knows
 HearsToCommit s m input _ o = Unit {0}
 
--- the synchronous mode is on in a snapshot
-abbrev pub IsOn : SnapshotFacts → Type 0
-IsOn snapshot = (config_in snapshot).synchronous_mode ≡ true
+-- the synchronous mode is on in a snapshot, and the cluster isn't paused by it
+pub record IsOn (snapshot : SnapshotFacts) : Type 0 where
+  pub synchronous : (config_in snapshot).synchronous_mode ≡ true
+  pub unpaused : (config_in snapshot).pause ≡ false
 
 -- so it is in the snapshot that comes with what is heard, if one does
 abbrev pub HearsOn : Heard → Type 0
@@ -243,6 +245,8 @@ IsCovered (outputs.Fed until) = Unit {0}
 IsCovered outputs.Disarmed = Unit {0}
 IsCovered outputs.CannotArm = Unit {0}
 IsCovered outputs.PostponesPromotion = Unit {0}
+IsCovered outputs.DisablesWatchdog = Unit {0}
+IsCovered outputs.RunsWithoutKey = Unit {0}
 IsCovered (outputs.DoesNotRace bar) = Unit {0}
 IsCovered (outputs.HandsOver candidate) = Unit {0}
 IsCovered (outputs.Told request told) = Unit {0}
@@ -327,7 +331,7 @@ pub record StaysOn (heard : Heard) (o after : Outcome) : Type 0 where
   pub order : InOrder after.outputs
   pub begins : has_one is_begin after.outputs ≡ true → can_begin_on_claim o.machine.server.was_primary o.machine.server.state ≡ true
 
--- while the synchronous mode is on, whatever input of the law stands for this one of the table is lawful
+-- while the synchronous mode is on, and no pause, whatever input of the law stands for this one of the table is lawful
 pub record CommitsFrom (now : Ticks) (heard : Heard) (o after : Outcome) : Type 0 where
-  pub stays : AsksOn o.knows → HearsOn heard → StaysOn heard o after
-  pub lawful : AsksOn o.knows → HearsOn heard → (s : State) (m : ℕ) (input : AgentInput) → IsSound s → StandsToCommit s m o → HearsToCommit s m input heard o → IsCommitInputOf s m o after input → IsLawfulAs now heard o s m input
+  pub stays : is_paused o.knows ≡ false → AsksOn o.knows → HearsOn heard → StaysOn heard o after
+  pub lawful : is_paused o.knows ≡ false → AsksOn o.knows → HearsOn heard → (s : State) (m : ℕ) (input : AgentInput) → IsSound s → StandsToCommit s m o → HearsToCommit s m input heard o → IsCommitInputOf s m o after input → IsLawfulAs now heard o s m input

@@ -22,7 +22,8 @@ use Rattle.ha_loop.specs.Outputs.{listed}
 use Rattle.ha_loop.specs.HandingOver.{duties}
 use Rattle.ha_loop.specs.Planning.{settled}
 use Rattle.ha_loop.specs.Synchronous.{may_lead_in_sync}
-use Rattle.ha_loop.specs.Snapshots.{informed, is_active, leader_loses_key, stray_loses_key}
+use Rattle.ha_loop.specs.Pausing.{is_paused, is_wanted, resting}
+use Rattle.ha_loop.specs.Snapshots.{informed, is_active, leader_without_key, stray_without_key}
 
 -- so many ticks have passed since this run began the server, or took it over
 abbrev pub has_lasted : Ticks → ℕ → Option Ticks → Bool
@@ -87,6 +88,19 @@ arms now ttl revision o =
 abbrev pub takes_key : Ticks → Ticks → ℕ → Outcome → Outcome
 takes_key now ttl revision o = if may_take now o.knows o.machine then arms now ttl revision o else gives_back revision o
 
+-- in a pause only whom an operator wants to lead takes the leader key, and its watchdog rests
+abbrev pub takes_key_in_pause : Ticks → Bool → ℕ → Outcome → Outcome
+takes_key_in_pause now renews revision o =
+    if is_wanted o.knows.who.me o.knows.turn_failover o.machine.server.state && may_take now o.knows o.machine then begins_or_claims now revision (resting renews o) else gives_back revision o
+
+-- what each role does in a pause with a lease that it was granted, by a renewal or as the key was free
+abbrev pub granted_in_pause : Ticks → Bool → ℕ → RoleFacts → Outcome → Outcome
+granted_in_pause now renews revision (Leader held) o = duties now revision (record (resting renews o) { role = Leader revision })
+granted_in_pause now renews revision Stray o = takes_over now revision (resting renews o)
+granted_in_pause now renews revision Follower o = takes_key_in_pause now renews revision o
+granted_in_pause now renews revision (Holder held) o = takes_key_in_pause now renews revision o
+granted_in_pause now renews revision _ o = o
+
 -- what each role does with a lease that it was granted
 abbrev pub lease_granted : Ticks → Ticks → ℕ → RoleFacts → Outcome → Outcome
 lease_granted now ttl revision (Leader held) o = leader_renewed now ttl revision o
@@ -110,10 +124,28 @@ belongs (Syncing settling) role = is_leader role
 belongs Checking role = is_leader role
 belongs _ role = is_active role
 
--- a grant that is waited for is used where its question belongs to the role; its snapshot is then the newest
+-- in a pause who runs on without the leader key asks for it too
+abbrev pub asks_in_pause : Question → RoleFacts → Bool
+asks_in_pause Creating Stray = true
+asks_in_pause _ _ = false
+
+-- a grant of the leader key is used in this role
+abbrev pub uses_lease : Bool → Question → RoleFacts → Bool
+uses_lease paused question role = belongs question role || (paused && asks_in_pause question role)
+
+-- this question asks for a renewal
+abbrev pub asks_renewal : Question → Bool
+asks_renewal Renewing = true
+asks_renewal _ = false
+
+-- a lease is granted that was asked for so
+abbrev pub lease_used : Ticks → Waited → ℕ → Outcome → Outcome
+lease_used now waited revision o = if is_paused o.knows then granted_in_pause now (asks_renewal waited.question) revision o.role o else lease_granted now waited.ttl revision o.role o
+
+-- a grant that is waited for is used where its question belongs to the role; its snapshot is then the newest, also for whether there is a pause
 abbrev pub accepted_grant : Ticks → Waited → ℕ → SnapshotFacts → Outcome → Outcome
 accepted_grant now waited revision snapshot o =
-    if belongs waited.question o.role then lease_granted now waited.ttl revision o.role (record o { knows = informed snapshot o.knows }) else waiting_no_more o
+    if uses_lease (is_paused (informed snapshot o.knows)) waited.question o.role then lease_used now waited revision (record o { knows = informed snapshot o.knows }) else waiting_no_more o
 
 -- a question that asks for a lease of the leader key
 abbrev pub asks_lease : Question → Bool
@@ -178,8 +210,8 @@ create_refused o = record o { role = follower_for o.role }
 
 -- the leader key isn't as it was read: a lease is lost
 abbrev pub renewal_refused : Ticks → RoleFacts → Outcome → Outcome
-renewal_refused now (Leader held) o = leader_loses_key now held o
-renewal_refused now Stray o = stray_loses_key now o
+renewal_refused now (Leader held) o = leader_without_key now held o
+renewal_refused now Stray o = stray_without_key now o
 renewal_refused now (Holder held) o = record o { role = Follower }
 renewal_refused now _ o = o
 

@@ -24,6 +24,7 @@ use Rattle.ha_loop.specs.Claiming.{can_begin_on_claim}
 use Rattle.ha_loop.specs.Decisions.{may_create, may_take, is_write_of}
 use Rattle.ha_loop.specs.Info.{info_of}
 use Rattle.ha_loop.specs.Outputs.{listed}
+use Rattle.ha_loop.specs.Pausing.{is_paused}
 use Rattle.ha_loop.specs.Peers.{is_asking, awaits_answer}
 use Rattle.ha_loop.specs.Powers.{IsAwaitedLease}
 use Rattle.ha_loop.specs.Racing.{answers_until}
@@ -130,12 +131,12 @@ pub record IsAwaitedClaim (sequence : ℕ) (grant : Granted) (knows : Knowledge)
   pub number : waited.sequence == sequence ≡ true
   pub mine : is_write_of knows.who.me grant ≡ true
 
--- an input that hears the grant of the leader key that it waits for: who may take it, and whose watchdog can be armed or isn't needed,
+-- an input that hears, outside a pause, the grant of the leader key that it waits for: who may take it, and whose watchdog can be armed or isn't needed,
 -- begins, or in synchronous mode claims the sync key. One that hears the grant of that claim: who is about to begin begins, where its
 -- server still can
 abbrev pub BeginsWhereGranted : Ticks → Heard → Outcome → Outcome → Type 0
 BeginsWhereGranted now (HeardGranted sequence grant snapshot) o after =
-    (IsAwaitedLease sequence grant o.knows → may_create o.role ≡ true → may_take now (informed snapshot o.knows) o.machine ≡ true → is_refusing o.machine.watchdog.mode o.machine.watchdog.works ≡ false
+    (is_paused (informed snapshot o.knows) ≡ false → IsAwaitedLease sequence grant o.knows → may_create o.role ≡ true → may_take now (informed snapshot o.knows) o.machine ≡ true → is_refusing o.machine.watchdog.mode o.machine.watchdog.works ≡ false
     → (o.knows.turn_settings.synchronous_mode ≡ false → BeginsOn now grant.revision o after) × (o.knows.turn_settings.synchronous_mode ≡ true → ClaimsOn grant.revision o after))
-    × ((revision : ℕ) → IsAwaitedClaim sequence grant o.knows → o.role ≡ Ready revision → can_begin_on_claim o.machine.server.was_primary o.machine.server.state ≡ true → BeginsOn now revision o after)
+    × ((revision : ℕ) → is_paused (informed snapshot o.knows) ≡ false → IsAwaitedClaim sequence grant o.knows → o.role ≡ Ready revision → can_begin_on_claim o.machine.server.was_primary o.machine.server.state ≡ true → BeginsOn now revision o after)
 BeginsWhereGranted now _ o after = Unit {0}

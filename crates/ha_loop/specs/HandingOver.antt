@@ -1,6 +1,6 @@
 -- How a leader hands over to another member where a failover key asks for that (Patroni's documentation of the REST API, "Switchover and
 -- failover endpoints").
-use Rattle.std.specs.Prelude.{ℕ, ◌+◌, ◌-◌, ◌==◌, ◌&&◌, ◌||◌, nat_le, if◌then◌else◌, not, Bool, true, false, is_some, List, Option, Some, None, option_map}
+use Rattle.std.specs.Prelude.{ℕ, ◌+◌, ◌-◌, ◌==◌, ◌&&◌, ◌||◌, nat_le, if◌then◌else◌, not, Bool, true, false, is_some, is_none, List, Option, Some, None, option_map}
 use Rattle.pat_base.specs.declared.lsn.Lsn.{Lsn}
 use Rattle.pat_base.specs.declared.member_id.MemberId.{MemberId}
 use Rattle.pat_base.specs.declared.peer_answer.PeerAnswer.{PeerAnswer}
@@ -25,6 +25,7 @@ use Rattle.ha_loop.specs.Acting.{counted, waiting, sending, shutting_down, waiti
 use Rattle.ha_loop.specs.Agents.{RoleFacts, Leader, Ending, Outcome}
 use Rattle.ha_loop.specs.Answers.{asking_one, asking_all, is_settled, all_answered, with_answer}
 use Rattle.ha_loop.specs.Outputs.{listed}
+use Rattle.ha_loop.specs.Pausing.{is_paused}
 use Rattle.ha_loop.specs.Planning.{planned}
 use Rattle.ha_loop.specs.Racing.{answers_until, unheard}
 
@@ -82,7 +83,7 @@ successor_by (Some failover) knows server = first_of (is_successor knows server 
 
 -- the member notes that it hands over to this one, and ends its server; it gives up the leader key when that has ended
 abbrev pub hands_over : Ticks → ℕ → MemberId → Outcome → Outcome
-hands_over now revision candidate o = record (shutting_down now (record o { outputs = listed (outputs.HandsOver candidate) o.outputs })) { role = Ending revision HandOver }
+hands_over now revision candidate o = record (shutting_down now (record o { outputs = listed (outputs.HandsOver candidate) o.outputs })) { role = Ending revision HandOver; knows = record o.knows { handed_over = true } }
 
 -- a leader hands over, or asks that the failover key be removed where nobody may lead next
 abbrev pub hands_over_to : Ticks → ℕ → Option MemberId → Outcome → Outcome
@@ -116,13 +117,21 @@ checking now candidate o = record o { knows = waiting now Checking (answers_unti
 abbrev pub checks : Ticks → ℕ → Option MemberId → Outcome → Outcome
 checks now revision candidate o = if whom_answered o.knows.who candidate o.knows.answers then handover_judged now revision o else checking now candidate o
 
+-- a leader looks for who may lead next; in a pause only where the failover key names a candidate
+abbrev pub checks_unless_paused : Ticks → ℕ → Option MemberId → Outcome → Outcome
+checks_unless_paused now revision candidate o = if is_paused o.knows && is_none candidate then o else checks now revision candidate (unheard o)
+
 -- what a leader owes its cluster under a failover key: one that asks no more of it is removed, and else it looks for who may lead next
 abbrev pub failover_duty : Ticks → ℕ → FailoverKey → Outcome → Outcome
-failover_duty now revision failover o = if is_done o.knows.who.me failover then clearing o else checks now revision failover.candidate (unheard o)
+failover_duty now revision failover o = if is_done o.knows.who.me failover then clearing o else checks_unless_paused now revision failover.candidate o
+
+-- a step with its synchronous standbys; in a pause they stay as they are
+abbrev pub plans_unless_paused : Ticks → ℕ → Outcome → Outcome
+plans_unless_paused now revision o = if is_paused o.knows then o else planned now revision o
 
 -- what it owes by the failover key that its turn read; without one it takes a step with its synchronous standbys
 abbrev pub duty_on : Ticks → ℕ → Option FailoverKey → Outcome → Outcome
-duty_on now revision None o = planned now revision o
+duty_on now revision None o = plans_unless_paused now revision o
 duty_on now revision (Some failover) o = failover_duty now revision failover o
 
 -- what a leader owes its cluster with each renewal

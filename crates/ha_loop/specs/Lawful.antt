@@ -2,6 +2,7 @@
 use Rattle.std.specs.Prelude.{ℕ, ◌≡◌, ◌⊎◌, ◌+◌, ◌/◌, ◌≤◌, true, false, List, [], Option, Some, None, Contains}
 use Rattle.pat_base.specs.declared.ticks.Ticks.{Ticks}
 use Rattle.lease_store.specs.declared.granted.Granted.{Granted}
+use Rattle.cluster_config.specs.KeyValues.{config_in}
 use Rattle.cluster_config.specs.Snapshots.{SnapshotFacts}
 use Rattle.event_book.specs.declared.message.Body.{Body}
 use Rattle.event_book.specs.declared.message.Body.TheVariants as bodies
@@ -20,18 +21,22 @@ use Rattle.ha_loop.specs.declared.output.Output.TheVariants as outputs
 use Rattle.ha_loop.specs.declared.output.Target.TheVariants as targets
 use Rattle.ha_loop.specs.Agents.{Outcome}
 use Rattle.ha_loop.specs.Outputs.{is_arming, is_feeding, has_one, OutputsBeginBehind}
+use Rattle.ha_loop.specs.Pausing.{is_paused}
 use Rattle.ha_loop.specs.Powers.{IsAwaitedLease}
 use Rattle.ha_loop.specs.Seen.{leader_seen, failsafe_seen, moment_seen, machine_seen}
 
--- the state of the law in which this agent stands at this moment: its deadline was set by a grant, and failsafe mode is off
+-- the state of the law in which this agent stands at this moment: its deadline was set by a grant, failsafe mode is off, and the cluster isn't
+-- paused by what it read
 pub record StandsIn (s : State) (m runs : ℕ) (now : Ticks) (o : Outcome) : Type 0 where
   pub member : s.members m ≡ machine_seen o.role o.knows o.machine false runs
   pub me : o.knows.who.me.number ≡ m
   pub clock : s.clock ≡ now.0
   pub margin : s.declared.margin m ≡ moment_seen o.machine.watchdog.margin
   pub failsafe : s.declared.failsafe ≡ false
+  pub unpaused : is_paused o.knows ≡ false
 
--- the message that this member hears is the key store's answer to the question of this number, with this snapshot
+-- the message that this member hears is the key store's answer to the question of this number, with this snapshot, which doesn't pause the
+-- cluster
 pub record HearsAnswer (s : State) (m : ℕ) (heard : Option ℕ) (sequence : ℕ) (snapshot : SnapshotFacts) (knows : Knowledge) : Type 0 where
   pub number : ℕ
   pub answer : Answer
@@ -42,6 +47,7 @@ pub record HearsAnswer (s : State) (m : ℕ) (heard : Option ℕ) (sequence : �
   pub sequence_is : answer.sequence ≡ sequence
   pub leader : answer.leader ≡ leader_seen snapshot
   pub failsafe : answer.failsafe ≡ failsafe_seen snapshot
+  pub unpaused : (config_in snapshot).pause ≡ false
 
 -- a watchdog without a margin is fed only while half of the lease's span hasn't passed since it was asked for
 abbrev pub IsYoung : Option Ticks → Ticks → Waited → Type 0

@@ -14,6 +14,7 @@ pub mod Lawful
 pub mod Operators
 pub mod Orders
 pub mod Outputs
+pub mod Pausing
 pub mod Peers
 pub mod Planning
 pub mod Powers

@@ -11,7 +11,8 @@ use Rattle.ha_loop.specs.Acting.{is_hold_active, is_refusing}
 use Rattle.ha_loop.specs.Agents.{RoleFacts, Holder, Ready, Leader, Ending, Outcome, is_ready}
 use Rattle.ha_loop.specs.Decisions.{is_decision, is_lease_of}
 use Rattle.ha_loop.specs.Outputs.{is_feeding, has_one}
-use Rattle.ha_loop.specs.Snapshots.{known_with}
+use Rattle.ha_loop.specs.Pausing.{is_paused}
+use Rattle.ha_loop.specs.Snapshots.{informed, known_with}
 
 -- the revision of the lease that an agent has
 abbrev pub lease_of : RoleFacts → Option ℕ
@@ -60,7 +61,8 @@ pub record IsAwaitedLease (sequence : ℕ) (grant : Granted) (knows : Knowledge)
 
 -- what a granted request may bring an agent: nothing; or the lease of its revision, where it is waited for: the watchdog is fed on
 -- it for the span that was asked for and an output tells that, if this member needs one then with a device that works, and the
--- members of the snapshot's failsafe key are known. Who comes to act has no active hold. Or an agent that was about to begin does so
+-- members of the snapshot's failsafe key are known. Who comes to act has no active hold. In a pause the lease comes with no deadline. Or an
+-- agent that was about to begin does so
 pub data GrantMay (now : Ticks) (sequence : ℕ) (grant : Granted) (snapshot : SnapshotFacts) (o after : Outcome) : Type 0 where
   Nothing : (brings : BringsNothing o after) → (deadline : DeadlineMay o after) → GrantMay now sequence grant snapshot o after
   Leads : (awaited : IsAwaitedLease sequence grant o.knows) → (fed : after.machine.watchdog ≡ fed now.0 awaited.waited.ttl.0 o.machine.watchdog) → (lease : lease_of after.role ≡ Some grant.revision) → (parted : is_ready after.role ≡ true → live after.machine.server.state ≡ false)
@@ -69,4 +71,6 @@ pub data GrantMay (now : Ticks) (sequence : ℕ) (grant : Granted) (snapshot : S
       → (free : Acts after → (live o.machine.server.state ≡ true) ⊎ (is_hold_active now o.machine.hold ≡ false))
       → (armed : Acts after → (live o.machine.server.state ≡ true) ⊎ (is_refusing o.machine.watchdog.mode o.machine.watchdog.works ≡ false))
       → GrantMay now sequence grant snapshot o after
+  Rests : (paused : is_paused (informed snapshot o.knows) ≡ true) → (awaited : IsAwaitedLease sequence grant o.knows) → (rested : after.machine.watchdog ≡ record o.machine.watchdog { deadline = None }) → (lease : lease_of after.role ≡ Some grant.revision)
+      → (free : Acts after → (live o.machine.server.state ≡ true) ⊎ (is_hold_active now o.machine.hold ≡ false)) → GrantMay now sequence grant snapshot o after
   Begins : (was_ready : is_ready o.role ≡ true) → (ready : is_ready after.role ≡ false) → (same : after.machine.watchdog ≡ o.machine.watchdog) → (lease : lease_of after.role ≡ lease_of o.role) → GrantMay now sequence grant snapshot o after

@@ -22,6 +22,7 @@ use Rattle.ha_loop.specs.Agents.{Follower, Outcome}
 use Rattle.ha_loop.specs.Answers.{asking_all, all_answered}
 use Rattle.ha_loop.specs.Info.{info_of}
 use Rattle.ha_loop.specs.Outputs.{listed}
+use Rattle.ha_loop.specs.Pausing.{is_paused}
 use Rattle.ha_loop.specs.Views.{view_of, shown}
 
 -- a server can start as a replica: it is down, and its log didn't diverge
@@ -92,10 +93,14 @@ abbrev pub races_unless : Ticks → Option Bar → Outcome → Outcome
 races_unless now None o = races now o
 races_unless now (Some bar) o = barred bar o
 
+-- a server starts as a replica of none, but in a pause
+abbrev pub starts_alone : Ticks → Outcome → Outcome
+starts_alone now o = if is_paused o.knows then o else starting_replica now None o
+
 -- what a member without a lease does while nobody leads: a server that can start does so as a replica of none, and its agent tells
 -- of itself; else the member races, unless something bars it
 abbrev pub free_key : Ticks → Outcome → Outcome
-free_key now o = if can_start o.machine.server then touching (starting_replica now None o) else races_unless now (bar_of now o.knows o.machine) o
+free_key now o = if can_start o.machine.server then touching (starts_alone now o) else races_unless now (bar_of now o.knows o.machine) o
 
 -- a follower, or a holder, whose lease is lost, finds that nobody leads
 abbrev pub finds_free : Ticks → Outcome → Outcome

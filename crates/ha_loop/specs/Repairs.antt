@@ -11,6 +11,7 @@ use Rattle.ha_loop.specs.declared.output.Repair.{Repair}
 use Rattle.ha_loop.specs.declared.output.Repair.TheVariants.{Rewind, Clone}
 use Rattle.ha_loop.specs.Agents.{Outcome}
 use Rattle.ha_loop.specs.Outputs.{listed}
+use Rattle.ha_loop.specs.Pausing.{lets_rewind}
 
 -- the server follows this member's already
 abbrev pub is_upstream : MemberId → Option ServerId → Bool
@@ -31,7 +32,7 @@ repair_in lets follows diverged _ = None
 
 -- how the log of a server is repaired by this leader's, if it has to be and may be
 abbrev pub repair_of : Config → MemberId → ServerStatus → Option Repair
-repair_of settings leader s = repair_in settings.use_pg_rewind (is_upstream leader s.upstream) s.diverged s.state
+repair_of settings leader s = repair_in (lets_rewind settings) (is_upstream leader s.upstream) s.diverged s.state
 
 -- the agent has the log of its server repaired by this leader's. Whether that can be done shows where it is done, so the agent reckons with
 -- its server as it was

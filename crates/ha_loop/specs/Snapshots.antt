@@ -28,7 +28,8 @@ use Rattle.ha_loop.specs.Acting.{seconds_after, lease_span, asking, touching, wa
 use Rattle.ha_loop.specs.Agents.{RoleFacts, Follower, Holder, Leader, Ending, Stray, Outcome}
 use Rattle.ha_loop.specs.Info.{info_of}
 use Rattle.ha_loop.specs.Repairs.{is_upstream, repair_of, repaired_if}
-use Rattle.ha_loop.specs.Racing.{finds_free}
+use Rattle.ha_loop.specs.Pausing.{is_paused, may_start_behind, ends_forks, running_without_key}
+use Rattle.ha_loop.specs.Racing.{creating, finds_free}
 use Rattle.ha_loop.specs.Synchronous.{sync_read_in}
 
 -- the members that are known, with those that a failsafe key lists
@@ -53,6 +54,26 @@ leader_loses_key now revision o = record (ending_server now LeaderKeyLost o) { r
 -- so does one that has no lease while its server is live
 abbrev pub stray_loses_key : Ticks → Outcome → Outcome
 stray_loses_key now o = ending_server now LeaderKeyLost o
+
+-- a leader doesn't have the leader key: in a pause its server runs on
+abbrev pub leader_without_key : Ticks → ℕ → Outcome → Outcome
+leader_without_key now revision o = if is_paused o.knows then running_without_key o else leader_loses_key now revision o
+
+-- so does that of one that has no lease
+abbrev pub stray_without_key : Ticks → Outcome → Outcome
+stray_without_key now o = if is_paused o.knows then running_without_key o else stray_loses_key now o
+
+-- a server runs on while nobody leads, and its agent asks for the leader key
+abbrev pub asks_as_stray : Ticks → Outcome → Outcome
+asks_as_stray now o = creating now (running_without_key o)
+
+-- a leader finds that nobody leads
+abbrev pub leader_finds_free : Ticks → ℕ → Outcome → Outcome
+leader_finds_free now revision o = if is_paused o.knows then asks_as_stray now o else leader_loses_key now revision o
+
+-- so does one that has no lease
+abbrev pub stray_finds_free : Ticks → Outcome → Outcome
+stray_finds_free now o = if is_paused o.knows then asks_as_stray now o else stray_loses_key now o
 
 -- a primary tells where its log ends
 abbrev pub status_told : ServerStatus → Option Lsn
@@ -88,9 +109,9 @@ turn_start now (Some moment) = moment
 abbrev pub renewing : Ticks → List HistoryPoint → ℕ → Outcome → Outcome
 renewing now points revision o = asking now Renewing (seconds_after (turn_start now o.knows.last_turn) o.knows.settings.retry_timeout) (bodies.Request (renewal now points revision o.knows o.machine.server)) o
 
--- an agent that isn't leading finds the leader key its own: it asks for the renewal, unless its hold is active
+-- an agent that isn't leading finds the leader key its own: it asks for the renewal, unless its hold is active; in a pause it asks in any case
 abbrev pub finds_own_key : Ticks → List HistoryPoint → ℕ → Outcome → Outcome
-finds_own_key now points revision o = if is_hold_active now o.machine.hold then touching o else renewing now points revision o
+finds_own_key now points revision o = if is_hold_active now o.machine.hold && not (is_paused o.knows) then touching o else renewing now points revision o
 
 -- the leader key is its own
 abbrev pub own_key : Ticks → List HistoryPoint → ℕ → RoleFacts → Outcome → Outcome
@@ -104,38 +125,47 @@ own_key now points revision _ o = o
 abbrev pub starts_behind : Ticks → Option MemberId → Outcome → Outcome
 starts_behind now leader o = if o.machine.server.diverged then o else starting_replica now leader o
 
+-- so it does where its agent may start it
+abbrev pub starts_if : Bool → Ticks → MemberId → Outcome → Outcome
+starts_if true now leader o = starts_behind now (Some leader) o
+starts_if false now leader o = o
+
 -- a replica whose log diverged shuts down, where it may not be rewound
 abbrev pub ends_fork : Ticks → Outcome → Outcome
-ends_fork now o = if o.machine.server.diverged && not o.knows.settings.use_pg_rewind then shutting_down now o else o
+ends_fork now o = if o.machine.server.diverged && ends_forks o.knows.settings then shutting_down now o else o
 
 -- a replica of another server, or of none, follows this member's
 abbrev pub follows_anew : Ticks → MemberId → Outcome → Outcome
 follows_anew now leader o = if is_upstream leader o.machine.server.upstream then ends_fork now o else following_server leader o
 
--- what a server does under another leader
-abbrev pub follow_row : Ticks → MemberId → State → Outcome → Outcome
-follow_row now leader states.Stopped o = starts_behind now (Some leader) o
-follow_row now leader states.Crashed o = starts_behind now (Some leader) o
-follow_row now leader states.Replica o = follows_anew now leader o
-follow_row now leader _ o = o
+-- what a server does under another leader, by whether its agent may start it
+abbrev pub follow_row : Bool → Ticks → MemberId → State → Outcome → Outcome
+follow_row may_start now leader states.Stopped o = starts_if may_start now leader o
+follow_row may_start now leader states.Crashed o = starts_if may_start now leader o
+follow_row may_start now leader states.Replica o = follows_anew now leader o
+follow_row may_start now leader _ o = o
+
+-- an agent without a lease, under another leader: a handover of its own is over
+abbrev pub led_by_another : Outcome → Outcome
+led_by_another o = record o { role = Follower; knows = record o.knows { handed_over = false } }
 
 -- another member leads: the server follows that one's, and the agent tells of itself; a log that has to be is repaired behind that
 abbrev pub follows : Ticks → MemberId → Outcome → Outcome
 follows now leader o =
-    repaired_if leader (repair_of o.knows.settings leader o.machine.server) (touching (follow_row now leader o.machine.server.state (record o { role = Follower })))
+    repaired_if leader (repair_of o.knows.settings leader o.machine.server) (touching (follow_row (may_start_behind o.knows) now leader o.machine.server.state (led_by_another o)))
 
 -- the leader key is another's
 abbrev pub others_key : Ticks → MemberId → RoleFacts → Outcome → Outcome
-others_key now leader (Leader held) o = leader_loses_key now held o
-others_key now leader Stray o = stray_loses_key now o
+others_key now leader (Leader held) o = leader_without_key now held o
+others_key now leader Stray o = stray_without_key now o
 others_key now leader Follower o = follows now leader o
 others_key now leader (Holder held) o = follows now leader o
 others_key now leader _ o = o
 
 -- the leader key is absent
 abbrev pub no_key : Ticks → RoleFacts → Outcome → Outcome
-no_key now (Leader held) o = leader_loses_key now held o
-no_key now Stray o = stray_loses_key now o
+no_key now (Leader held) o = leader_finds_free now held o
+no_key now Stray o = stray_finds_free now o
 no_key now Follower o = finds_free now o
 no_key now (Holder held) o = finds_free now o
 no_key now _ o = o

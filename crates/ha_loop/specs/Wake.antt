@@ -13,6 +13,7 @@ use Rattle.ha_loop.specs.declared.knowledge.Waited.{Waited}
 use Rattle.ha_loop.specs.declared.machine.Machine.{Machine}
 use Rattle.ha_loop.specs.declared.role.Why.TheVariants.{Lost}
 use Rattle.ha_loop.specs.Acting.{seconds_after, asking, waiting_no_more, ending_server}
+use Rattle.ha_loop.specs.Pausing.{is_paused}
 use Rattle.ha_loop.specs.Agents.{RoleFacts, Leader, Ending, Stray, Outcome}
 use Rattle.ha_loop.specs.Before.{before}
 use Rattle.ha_loop.specs.Claiming.{claim_fails}
@@ -61,9 +62,9 @@ out_of_reach_as now (Leader revision) o = leader_out_of_reach now revision o
 out_of_reach_as now Stray o = stray_out_of_reach now o
 out_of_reach_as now _ o = o
 
--- the key store is out of reach: nothing is waited for any more
+-- the key store is out of reach: nothing is waited for any more, and in a pause that is all
 abbrev pub out_of_reach : Ticks → Outcome → Outcome
-out_of_reach now o = out_of_reach_as now o.role (waiting_no_more o)
+out_of_reach now o = if is_paused o.knows then waiting_no_more o else out_of_reach_as now o.role (waiting_no_more o)
 
 -- a question isn't answered in time
 abbrev pub unanswered : Ticks → Question → Outcome → Outcome

@@ -211,6 +211,7 @@ fn fresh_knowledge(who: Who, first: Ticks, run: u64) -> Knowledge
         crashed: None,
         known: MemberSet::empty(),
         informed: false,
+        handed_over: false,
         operating: None,
     }
 }

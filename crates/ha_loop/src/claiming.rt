@@ -11,9 +11,10 @@ ghost use Rattle.ha_loop.specs.Acting.{seconds_after, waiting, counted, without_
 ghost use Rattle.ha_loop.specs.Agents.{IsSound, IsWithin, Follower, Holder, Ready, role_of, made, latest};
 ghost use Rattle.ha_loop.specs.Outputs.{listed};
 ghost use Rattle.ha_loop.specs.Synchronous.{expected_of};
-ghost use Rattle.ha_loop.specs.Claiming.{begins, begins_or_claims, claim_fails, can_begin_on_claim, claim_granted};
+ghost use Rattle.ha_loop.specs.Claiming.{begins, begins_or_claims, claim_fails, can_begin_on_claim, may_begin_on_claim, claim_granted};
 
 use crate::acting::{ask, require, undo};
+use crate::pausing::{is_paused, is_wanted_by};
 use crate::role::Role;
 use crate::synchronous::{expected_of, unnamed};
 use crate::{Knowledge, Machine, Output, Outputs, Question};
@@ -21,6 +22,7 @@ use event_book::Body;
 use leader_key::{Armed, Writer};
 use lease_store::Txn;
 use pat_base::{State, Ticks};
+use pg_model::ServerStatus;
 
 /// An agent with an armed watchdog begins; in synchronous mode it claims the sync key first.
 pub(crate) fn begin_or_claim(
@@ -102,7 +104,7 @@ fn begin(
     Role::Leader(Writer::begin(armed))
 }
 
-/// The claim is granted: the member begins, where its server still can.
+/// The claim is granted: the member begins, where it may.
 pub(crate) fn claim_granted(
     armed: Armed,
     knows: &mut Knowledge,
@@ -119,10 +121,21 @@ pub(crate) fn claim_granted(
     ensures numbers { knows.new.sequence ≡ knows.old.sequence }
     ensures room { out.old.spare ≤ out.new.spare + 2 }
 {
-    if can_begin_on_claim(machine.server.was_primary, machine.server.state) {
+    if may_begin_on_claim(knows, &machine.server) {
         begin(armed, knows, machine, out, now)
     } else {
         postpone(armed, machine, out)
+    }
+}
+
+/// A member may begin on a granted claim, where its server still can; in a pause where an operator wants it to lead.
+fn may_begin_on_claim(knows: &Knowledge, server: &ServerStatus) -> bool
+    ensures { result ≡ may_begin_on_claim knows.now server.now }
+{
+    if is_paused(knows) {
+        is_wanted_by(knows.who.me, knows.seen.as_ref(), server.state)
+    } else {
+        can_begin_on_claim(server.was_primary, server.state)
     }
 }
 

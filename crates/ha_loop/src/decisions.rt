@@ -6,20 +6,21 @@ ghost use Rattle.ha_loop.specs.declared.knowledge.Knowledge.{Knowledge};
 ghost use Rattle.ha_loop.specs.Answers.{most_grant_outputs};
 ghost use Rattle.ha_loop.specs.Acting.{is_refusing, is_hold_active, waiting_no_more};
 ghost use Rattle.ha_loop.specs.Agents.{IsSound, IsWithin, Follower, Leader, Stray, role_of, made, latest};
-ghost use Rattle.ha_loop.specs.Decisions.{has_lasted, is_start_too_long, judges_start, leader_renewed, takes_over, stray_renewed, may_take, gives_back, arms, takes_key, lease_granted, may_create, belongs, accepted_grant, asks_lease, is_decision, is_lease_of, is_sync_decision, asks_sync, is_write_of, accepted_sync, awaits_decision, granted_for, granted, follower_for, create_refused, renewal_refused, refused_as, refused_for, refused};
+ghost use Rattle.ha_loop.specs.Decisions.{has_lasted, is_start_too_long, judges_start, leader_renewed, takes_over, stray_renewed, may_take, gives_back, arms, takes_key, takes_key_in_pause, granted_in_pause, lease_granted, may_create, belongs, asks_in_pause, uses_lease, asks_renewal, lease_used, accepted_grant, asks_lease, is_decision, is_lease_of, is_sync_decision, asks_sync, is_write_of, accepted_sync, awaits_decision, granted_for, granted, follower_for, create_refused, renewal_refused, refused_as, refused_for, refused};
 
 mod leading;
 
-use crate::acting::{end_server, lose};
 use crate::claiming::{claim_fails, claim_granted};
+use crate::pausing::is_paused;
 use crate::planning::settle;
 use crate::role::Role;
-use crate::snapshots::{inform, is_active};
+use crate::snapshots::{inform, is_active, leader_without_key, stray_without_key};
 use crate::{Knowledge, Machine, Outputs, Question, Waited};
 use cluster_config::Snapshot;
-use event_book::Reason;
 use leader_key::Lease;
-use leading::{leader_renewed, stray_renewed, take_key};
+use leading::{
+    leader_renewed, leader_rested, stray_renewed, stray_rested, take_key, take_key_in_pause,
+};
 use lease_store::Granted;
 use pat_base::{MemberId, Ticks};
 
@@ -79,12 +80,71 @@ fn accept_grant(
     ensures numbers { knows.new.sequence ≤ knows.old.sequence + 1 }
     ensures room { out.old.spare ≤ out.new.spare + most_grant_outputs }
 {
-    if !belongs(waited.question, &role) {
+    let paused = snapshot.settings_or(knows.settings).pause;
+    if !uses_lease(paused, waited.question, &role) {
         knows.waited = None;
         return role;
     }
     inform(knows, snapshot);
-    lease_granted(role, knows, machine, out, now, waited.ttl, grant)
+    if is_paused(knows) {
+        granted_in_pause(role, knows, machine, out, now, waited.question, grant)
+    } else {
+        lease_granted(role, knows, machine, out, now, waited.ttl, grant)
+    }
+}
+
+/// A grant of the leader key is used in this role: its question belongs to it, or in a pause who runs on without the key asks for
+/// it too.
+fn uses_lease(paused: bool, question: Question, role: &Role) -> bool
+    ensures { result ≡ uses_lease paused question (role_of role.now) }
+{
+    belongs(question, role) || (paused && asks_in_pause(question, role))
+}
+
+fn asks_in_pause(question: Question, role: &Role) -> bool
+    ensures { result ≡ asks_in_pause question (role_of role.now) }
+{
+    matches!((question, role), (Question::Creating, Role::Stray))
+}
+
+fn asks_renewal(question: Question) -> bool
+    ensures { result ≡ asks_renewal question }
+{
+    matches!(question, Question::Renewing)
+}
+
+/// An agent gets a lease in a pause, to this question.
+fn granted_in_pause(
+    role: Role,
+    knows: &mut Knowledge,
+    machine: &mut Machine,
+    out: &mut Outputs,
+    now: Ticks,
+    question: Question,
+    grant: Granted,
+) -> Role
+    requires moment { now.0 ≤ latest }
+    requires leased { grant.leased ≡ true }
+    requires sound { IsSound knows.old }
+    requires server { IsWithin machine.old.server }
+    requires numbers { knows.old.sequence < 2 ^ 60 }
+    requires room { most_grant_outputs ≤ out.old.spare }
+    ensures outcome { made (role_of result) knows.new machine.new out.new.outputs ≡ granted_in_pause now (asks_renewal question) grant.revision (role_of role) (made (role_of role) knows.old machine.old out.old.outputs) }
+    ensures sound { IsSound knows.new }
+    ensures numbers { knows.new.sequence ≤ knows.old.sequence + 1 }
+    ensures room { out.old.spare ≤ out.new.spare + most_grant_outputs }
+{
+    let renews = asks_renewal(question);
+    match role {
+        Role::Leader(writer) => leader_rested(writer, knows, machine, out, now, renews, grant),
+        Role::Stray => stray_rested(Lease::of(grant), knows, machine, out, now, renews),
+        Role::Follower => take_key_in_pause(Lease::of(grant), knows, machine, out, now, renews),
+        Role::Holder(lease) => {
+            lease.lost();
+            take_key_in_pause(Lease::of(grant), knows, machine, out, now, renews)
+        }
+        role => role,
+    }
 }
 
 /// So is the grant of a write of the sync key.
@@ -262,7 +322,7 @@ fn refused_as(
     knows.waited = None;
     match question {
         Question::Creating => create_refused(role),
-        Question::Renewing => renewal_refused(role, machine, out, now),
+        Question::Renewing => renewal_refused(role, knows, machine, out, now),
         Question::Claiming => claim_fails(role, knows, machine, out),
         Question::Reading | Question::Asking | Question::Syncing(_) | Question::Checking => role,
     }
@@ -282,19 +342,22 @@ fn create_refused(role: Role) -> Role
 }
 
 /// The leader key isn't as it was read: a lease is lost.
-fn renewal_refused(role: Role, machine: &mut Machine, out: &mut Outputs, now: Ticks) -> Role
+fn renewal_refused(
+    role: Role,
+    knows: &Knowledge,
+    machine: &mut Machine,
+    out: &mut Outputs,
+    now: Ticks,
+) -> Role
     requires moment { now.0 ≤ latest }
     requires server { IsWithin machine.old.server }
     requires room { 1 ≤ out.old.spare }
-    ensures outcome { (knows : Knowledge) → made (role_of result) knows machine.new out.new.outputs ≡ renewal_refused now (role_of role) (made (role_of role) knows machine.old out.old.outputs) }
+    ensures outcome { made (role_of result) knows.now machine.new out.new.outputs ≡ renewal_refused now (role_of role) (made (role_of role) knows.now machine.old out.old.outputs) }
     ensures room { out.old.spare ≤ out.new.spare + 1 }
 {
     match role {
-        Role::Leader(writer) => lose(writer, machine, out, now, Reason::LeaderKeyLost),
-        Role::Stray => {
-            end_server(machine, out, now, Reason::LeaderKeyLost);
-            Role::Stray
-        }
+        Role::Leader(writer) => leader_without_key(writer, knows, machine, out, now),
+        Role::Stray => stray_without_key(knows, machine, out, now),
         Role::Holder(lease) => {
             lease.lost();
             Role::Follower

@@ -11,11 +11,12 @@ ghost use Rattle.ha_loop.specs.declared.role.Why.TheVariants as whys;
 ghost use Rattle.ha_loop.specs.Acting.{counted, waiting};
 ghost use Rattle.ha_loop.specs.Agents.{IsSound, IsWithin, Leader, Ending, RoleFacts, made, role_of, latest};
 ghost use Rattle.ha_loop.specs.Answers.{most_answers};
-ghost use Rattle.ha_loop.specs.HandingOver.{names_another, is_done, leader_revision, clearing_under, clearing, position_of, is_near, is_standby_in, may_follow_in_sync, is_successor, successor_by, hands_over, hands_over_to, handover_judged, judged_if_leading, asking_whom, whom_answered, checking, checks, failover_duty, duty_on, duties, judged_if_whom, check_answered};
+ghost use Rattle.ha_loop.specs.HandingOver.{names_another, is_done, leader_revision, clearing_under, clearing, position_of, is_near, is_standby_in, may_follow_in_sync, is_successor, successor_by, hands_over, hands_over_to, handover_judged, judged_if_leading, asking_whom, whom_answered, checking, checks, checks_unless_paused, failover_duty, plans_unless_paused, duty_on, duties, judged_if_whom, check_answered};
 ghost use Rattle.ha_loop.specs.Outputs.{listed};
 ghost use Rattle.ha_loop.specs.Racing.{answers_until, unheard};
 
 use crate::acting::send;
+use crate::pausing::is_paused;
 use crate::peers::{all_answered, answers_until, ask_all, ask_one, is_settled};
 use crate::planning::take_step;
 use crate::role::Role;
@@ -29,7 +30,7 @@ use pat_base::{Lsn, MemberId, PeerAnswer, Ticks};
 use pg_model::ServerStatus;
 
 /// What a leader owes its cluster with each renewal: what the failover key asks that its turn read, or without one a step with
-/// its synchronous standbys.
+/// its synchronous standbys. In a pause these stay as they are.
 pub(crate) fn do_duties(
     writer: Writer,
     knows: &mut Knowledge,
@@ -49,14 +50,17 @@ pub(crate) fn do_duties(
 {
     match knows.turn_failover {
         None => {
-            take_step(writer.revision(), knows, machine, out, now);
+            if !is_paused(knows) {
+                take_step(writer.revision(), knows, machine, out, now);
+            }
             Role::Leader(writer)
         }
         Some(failover) => do_failover_duty(failover, writer, knows, machine, out, now),
     }
 }
 
-/// A failover key that asks no more of this leader is removed, and else it looks for who may lead next.
+/// A failover key that asks no more of this leader is removed, and else it looks for who may lead next; in a pause only where the
+/// key names a candidate.
 fn do_failover_duty(
     failover: FailoverKey,
     writer: Writer,
@@ -77,6 +81,9 @@ fn do_failover_duty(
 {
     if is_done(knows.who.me, failover) {
         clear(knows, out);
+        return Role::Leader(writer);
+    }
+    if is_paused(knows) && failover.candidate.is_none() {
         return Role::Leader(writer);
     }
     knows.answers.forget();
@@ -281,7 +288,10 @@ fn judge_handover(
             clear(knows, out);
             Role::Leader(writer)
         }
-        Some(candidate) => hand_over(candidate, writer, machine, out, now),
+        Some(candidate) => {
+            knows.handed_over = true;
+            hand_over(candidate, writer, machine, out, now)
+        }
     }
 }
 

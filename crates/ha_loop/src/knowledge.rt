@@ -84,6 +84,8 @@ pub struct Knowledge {
     /// The members that a failsafe key of a snapshot listed which this run accepted, and whether there was such a key.
     pub known: MemberSet,
     pub informed: bool,
+    /// Whether this run ended its server to hand over, and read of no other leader since.
+    pub handed_over: bool,
     /// What other members answered since this one asked them last.
     pub answers: Answers,
     /// The request of an operator that waits for its result.

@@ -17,6 +17,7 @@ mod operating;
 mod operators;
 mod output;
 mod outputs;
+mod pausing;
 mod peers;
 mod planning;
 mod role;

@@ -82,6 +82,10 @@ pub enum Output {
     CannotArm,
     /// The member keeps the leader key without beginning: its claim of the sync key failed.
     PostponesPromotion,
+    /// In a pause: the deadline was removed on a renewal of the leader key.
+    DisablesWatchdog,
+    /// In a pause: the server runs on as a primary without the leader key.
+    RunsWithoutKey,
     /// The member doesn't race for the free leader key, since this bars it.
     DoesNotRace {
         bar: Bar,

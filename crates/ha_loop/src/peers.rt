@@ -227,7 +227,7 @@ pub(crate) fn stay_out(bar: Bar, knows: &mut Knowledge, machine: &Machine, out: 
 }
 
 /// Asks for the leader key.
-fn create(knows: &mut Knowledge, machine: &Machine, out: &mut Outputs, now: Ticks)
+pub(crate) fn create(knows: &mut Knowledge, machine: &Machine, out: &mut Outputs, now: Ticks)
     requires moment { now.0 ≤ latest }
     requires sound { IsSound knows.old }
     requires numbers { knows.old.sequence < 2 ^ 60 }

@@ -1,17 +1,19 @@
 //! What an agent does once it has read what the key store holds.
 ghost use Rattle.std.specs.Prelude.{◌≡◌, ◌≤◌, ◌<◌, ◌+◌, ◌*◌, ◌^◌, Some, None, false, true};
 ghost use Rattle.lease_store.specs.declared.txn.Txn.TheVariants as txns;
+ghost use Rattle.leader_key.specs.Lease.{writer_revision};
 ghost use Rattle.event_book.specs.declared.message.Body.TheVariants as bodies;
 ghost use Rattle.pg_model.specs.Status.{status_replica_started, status_following};
 ghost use Rattle.ha_loop.specs.declared.knowledge.Question.TheVariants as questions;
 ghost use Rattle.ha_loop.specs.declared.output.Output.TheVariants as outputs;
 ghost use Rattle.ha_loop.specs.declared.output.Target.TheVariants as targets;
 ghost use Rattle.ha_loop.specs.Acting.{seconds_after, lease_span, counted, waiting, upstream_of, is_hold_active};
-ghost use Rattle.ha_loop.specs.Agents.{IsSound, IsWithin, Follower, role_of, made, latest};
+ghost use Rattle.ha_loop.specs.Agents.{IsSound, IsWithin, Follower, Leader, Stray, role_of, made, latest};
 ghost use Rattle.ha_loop.specs.Answers.{most_answers};
 ghost use Rattle.ha_loop.specs.Info.{info_of};
 ghost use Rattle.ha_loop.specs.Outputs.{listed};
-ghost use Rattle.ha_loop.specs.Snapshots.{known_with, informed, status_told, row_at, missing_point, missing_row, row_told, renewal, turn_start, renewing, finds_own_key, own_key, starts_behind, ends_fork, follows_anew, follow_row, follows, others_key, no_key, led_by, led, is_active, is_read, awaits_read, read_noted, accepted, got};
+ghost use Rattle.ha_loop.specs.Snapshots.{known_with, informed, status_told, row_at, missing_point, missing_row, row_told, renewal, turn_start, renewing, finds_own_key, own_key, leader_without_key, stray_without_key, asks_as_stray, leader_finds_free, stray_finds_free, starts_behind, ends_fork, follows_anew, follow_row, led_by_another, follows, others_key, no_key, led_by, led, is_active, is_read, awaits_read, read_noted, accepted, got};
+ghost use Rattle.ha_loop.specs.Pausing.{is_paused, may_start_behind, running_without_key};
 ghost use Rattle.ha_loop.specs.Racing.{finds_free};
 
 mod following;
@@ -20,12 +22,15 @@ mod renewing;
 mod repairing;
 
 use crate::acting::{end_server, is_hold_active, lose, touch};
+use crate::pausing::{is_paused, may_start_behind, run_without_key};
+use crate::peers::create;
 use crate::role::Role;
 use crate::synchronous::sync_read_in;
 use crate::{Knowledge, Machine, Outputs, Question, Waited};
 use cluster_config::{LeaderEntry, Snapshot};
 use event_book::Reason;
 use following::follow_row;
+use leader_key::Writer;
 use pat_base::{MemberId, MemberSet, Ticks};
 use racing::finds_free;
 use renewing::renew;
@@ -176,7 +181,8 @@ fn own_key(
     }
 }
 
-/// An agent that isn't leading finds the leader key its own: it asks for the renewal, unless its hold is active.
+/// An agent that isn't leading finds the leader key its own: it asks for the renewal, unless its hold is active; in a pause it asks
+/// in any case.
 fn finds_own_key(
     knows: &mut Knowledge,
     machine: &Machine,
@@ -194,11 +200,120 @@ fn finds_own_key(
     ensures numbers { knows.new.sequence ≤ knows.old.sequence + 1 }
     ensures room { out.old.spare ≤ out.new.spare + 1 }
 {
-    if is_hold_active(now, machine.hold) {
+    if is_hold_active(now, machine.hold) && !is_paused(knows) {
         touch(knows, machine, out);
     } else {
         renew(knows, machine, out, now, history, revision);
     }
+}
+
+/// A leader doesn't have the leader key: it ends its server, but in a pause that runs on.
+pub(crate) fn leader_without_key(
+    writer: Writer,
+    knows: &Knowledge,
+    machine: &mut Machine,
+    out: &mut Outputs,
+    now: Ticks,
+) -> Role
+    requires moment { now.0 ≤ latest }
+    requires server { IsWithin machine.old.server }
+    requires room { 1 ≤ out.old.spare }
+    ensures outcome { made (role_of result) knows.now machine.new out.new.outputs ≡ leader_without_key now (writer_revision writer) (made (Leader (writer_revision writer)) knows.now machine.old out.old.outputs) }
+    ensures room { out.old.spare ≤ out.new.spare + 1 }
+{
+    if is_paused(knows) {
+        writer.wreck();
+        run_without_key(out)
+    } else {
+        lose(writer, machine, out, now, Reason::LeaderKeyLost)
+    }
+}
+
+/// So does one that has no lease while its server is live.
+pub(crate) fn stray_without_key(
+    knows: &Knowledge,
+    machine: &mut Machine,
+    out: &mut Outputs,
+    now: Ticks,
+) -> Role
+    requires moment { now.0 ≤ latest }
+    requires server { IsWithin machine.old.server }
+    requires room { 1 ≤ out.old.spare }
+    ensures outcome { made (role_of result) knows.now machine.new out.new.outputs ≡ stray_without_key now (made Stray knows.now machine.old out.old.outputs) }
+    ensures room { out.old.spare ≤ out.new.spare + 1 }
+{
+    if is_paused(knows) {
+        return run_without_key(out);
+    }
+    end_server(machine, out, now, Reason::LeaderKeyLost);
+    Role::Stray
+}
+
+/// In a pause a server runs on while nobody leads, and its agent asks for the leader key.
+fn ask_as_stray(knows: &mut Knowledge, machine: &Machine, out: &mut Outputs, now: Ticks) -> Role
+    requires moment { now.0 ≤ latest }
+    requires sound { IsSound knows.old }
+    requires numbers { knows.old.sequence < 2 ^ 60 }
+    requires room { 2 ≤ out.old.spare }
+    ensures role { role_of result ≡ Stray }
+    ensures knows { knows.new ≡ waiting now questions.Creating (seconds_after now knows.old.settings.retry_timeout) (counted knows.old) }
+    ensures out { out.new.outputs ≡ listed (outputs.Send targets.Store (knows.old.sequence + 1) (bodies.Request (txns.Create (info_of knows.old.who machine.now.server) (lease_span knows.old.settings) None None))) (listed outputs.RunsWithoutKey out.old.outputs) }
+    ensures sound { IsSound knows.new }
+    ensures room { out.old.spare ≤ out.new.spare + 2 }
+{
+    let role = run_without_key(out);
+    create(knows, machine, out, now);
+    role
+}
+
+/// A leader finds that nobody leads.
+fn leader_finds_free(
+    writer: Writer,
+    knows: &mut Knowledge,
+    machine: &mut Machine,
+    out: &mut Outputs,
+    now: Ticks,
+) -> Role
+    requires moment { now.0 ≤ latest }
+    requires sound { IsSound knows.old }
+    requires server { IsWithin machine.old.server }
+    requires numbers { knows.old.sequence < 2 ^ 60 }
+    requires room { 2 ≤ out.old.spare }
+    ensures outcome { made (role_of result) knows.new machine.new out.new.outputs ≡ leader_finds_free now (writer_revision writer) (made (Leader (writer_revision writer)) knows.old machine.old out.old.outputs) }
+    ensures sound { IsSound knows.new }
+    ensures numbers { knows.new.sequence ≤ knows.old.sequence + 1 }
+    ensures room { out.old.spare ≤ out.new.spare + 2 }
+{
+    if is_paused(knows) {
+        writer.wreck();
+        ask_as_stray(knows, machine, out, now)
+    } else {
+        lose(writer, machine, out, now, Reason::LeaderKeyLost)
+    }
+}
+
+/// So does one that has no lease while its server is live.
+fn stray_finds_free(
+    knows: &mut Knowledge,
+    machine: &mut Machine,
+    out: &mut Outputs,
+    now: Ticks,
+) -> Role
+    requires moment { now.0 ≤ latest }
+    requires sound { IsSound knows.old }
+    requires server { IsWithin machine.old.server }
+    requires numbers { knows.old.sequence < 2 ^ 60 }
+    requires room { 2 ≤ out.old.spare }
+    ensures outcome { made (role_of result) knows.new machine.new out.new.outputs ≡ stray_finds_free now (made Stray knows.old machine.old out.old.outputs) }
+    ensures sound { IsSound knows.new }
+    ensures numbers { knows.new.sequence ≤ knows.old.sequence + 1 }
+    ensures room { out.old.spare ≤ out.new.spare + 2 }
+{
+    if is_paused(knows) {
+        return ask_as_stray(knows, machine, out, now);
+    }
+    end_server(machine, out, now, Reason::LeaderKeyLost);
+    Role::Stray
 }
 
 /// The leader key is another's.
@@ -221,11 +336,8 @@ fn others_key(
     ensures room { out.old.spare ≤ out.new.spare + 3 }
 {
     match role {
-        Role::Leader(writer) => lose(writer, machine, out, now, Reason::LeaderKeyLost),
-        Role::Stray => {
-            end_server(machine, out, now, Reason::LeaderKeyLost);
-            Role::Stray
-        }
+        Role::Leader(writer) => leader_without_key(writer, knows, machine, out, now),
+        Role::Stray => stray_without_key(knows, machine, out, now),
         Role::Follower => follows(knows, machine, out, now, leader),
         Role::Holder(lease) => {
             lease.lost();
@@ -254,7 +366,9 @@ fn follows(
     ensures room { out.old.spare ≤ out.new.spare + 3 }
 {
     let repair = repair_of(&knows.settings, leader, &machine.server);
-    follow_row(knows, machine, out, now, leader);
+    let may_start = may_start_behind(knows);
+    knows.handed_over = false;
+    follow_row(may_start, knows, machine, out, now, leader);
     touch(knows, machine, out);
     put_repair(out, leader, repair);
     Role::Follower
@@ -279,11 +393,8 @@ fn no_key(
     ensures room { out.old.spare ≤ out.new.spare + most_answers }
 {
     match role {
-        Role::Leader(writer) => lose(writer, machine, out, now, Reason::LeaderKeyLost),
-        Role::Stray => {
-            end_server(machine, out, now, Reason::LeaderKeyLost);
-            Role::Stray
-        }
+        Role::Leader(writer) => leader_finds_free(writer, knows, machine, out, now),
+        Role::Stray => stray_finds_free(knows, machine, out, now),
         Role::Follower => finds_free(knows, machine, out, now),
         Role::Holder(lease) => {
             lease.lost();

@@ -18,6 +18,7 @@ use crate::before::before;
 use crate::claiming::claim_fails;
 use crate::handing_over::judge_if_leading;
 use crate::operators::give_up;
+use crate::pausing::is_paused;
 use crate::peers::judge_if_racing;
 use crate::role::Role;
 use crate::{Knowledge, Machine, Outputs, Question, Waited};
@@ -169,7 +170,7 @@ fn unanswered(
 }
 
 /// A leader whose read or renewal isn't answered in time ends its server, since another may have its key soon. So does one that
-/// has no lease while its server is live.
+/// has no lease while its server is live. In a pause their servers run on.
 fn out_of_reach(
     role: Role,
     knows: &mut Knowledge,
@@ -187,6 +188,9 @@ fn out_of_reach(
     ensures room { out.old.spare ≤ out.new.spare + 1 }
 {
     knows.waited = None;
+    if is_paused(knows) {
+        return role;
+    }
     match role {
         Role::Leader(writer) => lose(writer, machine, out, now, Reason::StoreOutOfReach),
         Role::Stray => {

@@ -26,19 +26,20 @@ use Rattle.ha_loop.specs.Acting.{arming, armed, deadline_after, disarmed, fed_un
 use Rattle.ha_loop.specs.Agents.{Follower, Outcome}
 use Rattle.ha_loop.specs.Before.{before, has_ended}
 use Rattle.ha_loop.specs.Claiming.{begins, begins_or_claims, claims, postpones}
-use Rattle.ha_loop.specs.Decisions.{arms, gives_back, granted, leader_renewed, may_take, refused, stray_renewed, takes_key, takes_over}
+use Rattle.ha_loop.specs.Decisions.{arms, gives_back, granted, leader_renewed, may_take, refused, stray_renewed, takes_key, takes_over, takes_key_in_pause}
 use Rattle.ha_loop.specs.HandingOver.{asking_whom, hands_over}
 use Rattle.ha_loop.specs.Operators.{given_up, looked, operated}
 use Rattle.ha_loop.specs.Outputs.{listed, most_outputs}
 use Rattle.ha_loop.specs.Racing.{finds_free, judged, unheard}
 use Rattle.ha_loop.specs.Repairs.{repair_of}
-use Rattle.ha_loop.specs.Snapshots.{follow_row, follows, got, informed, read_noted}
+use Rattle.ha_loop.specs.Snapshots.{follow_row, follows, got, informed, read_noted, led_by_another}
 use Rattle.ha_loop.specs.Table.{granted_any, refused_any, step}
 use Rattle.ha_loop.specs.Wake.{overdue, turned, woken}
-use Rattle.ha_loop.proofs.Rows.{HandoverRows, ReplyRows, WritesSync, led_on, if-cases, begins-or-claims-by, renewed-by, before-by, overdue-by, turn-by, wake-by, got-by, refused-by, granted-by, follow-by, repaired-by, free-by, judged-by, answered-by, given-up-by, looked-by, granted-any-by, refused-any-by}
+use Rattle.ha_loop.proofs.Rows.{HandoverRows, ReplyRows, WritesSync, led_on, if-cases, begins-or-claims-by, renewed-by, before-by, overdue-by, turn-by, wake-by, got-by, refused-by, granted-by, follow-by, repaired-by, free-by, judged-by, answered-by, given-up-by, looked-by, granted-any-by, refused-any-by, DutyRows, duties-of, rested_on, takes-in-pause-by}
 use Rattle.ha_loop.specs.Answers.{is_other, most_answers, asking_one, asking_first}
 use Rattle.ha_loop.specs.Peers.{keeping, answered}
 use Rattle.pat_world.specs.Short.{AsksShortly}
+use Rattle.ha_loop.specs.Pausing.{may_start_behind, rest_told, resting}
 
 -- from this number of messages and these outputs on there are so many more at most, and each asks shortly if each did before
 record Grows (most sequence later : ℕ) (before after : List Output) : Type 0 where
@@ -193,8 +194,8 @@ overdue-row now o = overdue-by (Row o) now o (record {
 turn-row : (now : Ticks) (o : Outcome) → Row o (turned now o)
 turn-row now o = turn-by (Row o) now o (record { kept = kept; quiet = kept; reads = λ _. said o.knows.sequence (o.knows.sequence + 1) o.outputs _ (omega arith) tt })
 
-follow-told : (now : Ticks) (leader : MemberId) (o : Outcome) → Brings 2 o (touching (follow_row now leader o.machine.server.state (record o { role = Follower })))
-follow-told now leader o = follow-by (λ (y : Outcome). Brings 2 o (touching y)) now leader o.machine.server.state (record o { role = Follower })
+follow-told : (now : Ticks) (leader : MemberId) (o : Outcome) → Brings 2 o (touching (follow_row (may_start_behind o.knows) now leader o.machine.server.state (led_by_another o)))
+follow-told now leader o = follow-by (λ (y : Outcome). Brings 2 o (touching y)) (may_start_behind o.knows) now leader o.machine.server.state (led_by_another o)
     (weaker 1 2 _ _ _ _ (omega arith) (one o.knows.sequence (o.knows.sequence + 1) o.outputs _ (omega arith) (omega (arith, o.knows.settings.ttl_range))))
     (both o.knows.sequence o.outputs _ _ tt (omega (arith, o.knows.settings.ttl_range)))
     (both o.knows.sequence o.outputs _ _ tt (omega (arith, o.knows.settings.ttl_range)))
@@ -202,7 +203,7 @@ follow-told now leader o = follow-by (λ (y : Outcome). Brings 2 o (touching y))
 
 follow-row : (now : Ticks) (leader : MemberId) (o : Outcome) → Row o (follows now leader o)
 follow-row now leader o =
-    let row : Outcome = touching (follow_row now leader o.machine.server.state (record o { role = Follower })) in
+    let row : Outcome = touching (follow_row (may_start_behind o.knows) now leader o.machine.server.state (led_by_another o)) in
     let told = follow-told now leader o in
     repaired-by (Row o) leader (repair_of o.knows.settings leader o.machine.server) row (weaker 2 9 _ _ _ _ (omega arith) told)
     (λ r. grows-then 2 1 9 _ _ _ _ _ _ (omega arith) told (one row.knows.sequence row.knows.sequence row.outputs (outputs.Repair leader r) (omega arith) tt))
@@ -241,6 +242,7 @@ whom-row who (Some candidate) sequence outs = record {
 free-row : (now : Ticks) (o : Outcome) → Brings 16 o (finds_free now o)
 free-row now o = free-by (Brings 16 o) now (record o { role = Follower }) (record {
   starts = more _ _ _ _ (said-both o.knows.sequence o.outputs _ _ tt (omega (arith, o.knows.settings.ttl_range)));
+  touches = more _ _ _ _ (said o.knows.sequence (o.knows.sequence + 1) o.outputs _ (omega arith) (omega (arith, o.knows.settings.ttl_range)));
   bars = λ bar. more _ _ _ _ (said-both o.knows.sequence o.outputs _ _ tt (omega (arith, o.knows.settings.ttl_range)));
   judges = more _ _ _ _ (judged-row now (unheard (record o { role = Follower })));
   asks = asks-row o.knows.who o.knows.sequence most_answers o.outputs (omega arith);
@@ -260,6 +262,8 @@ got-row now points sequence snapshot o =
       touches = more _ _ _ _ (said o.knows.sequence (o.knows.sequence + 1) o.outputs _ (omega arith) (omega (arith, read.knows.settings.ttl_range)));
       follows = λ leader _ _. more _ _ _ _ (follow-row now leader.holder read);
       free = λ _ _. free-row now read;
+      runs_on = λ _. more _ _ _ _ (said o.knows.sequence o.knows.sequence o.outputs outputs.RunsWithoutKey (omega arith) tt);
+      asks_on = λ _. more _ _ _ _ (said-both o.knows.sequence o.outputs _ _ tt (omega (arith, read.knows.settings.ttl_range)));
     })
 
 answered-row : (now : Ticks) (sequence : ℕ) (answer : PeerAnswer) (o : Outcome) → Row o (answered now sequence answer o)
@@ -279,6 +283,7 @@ refused-row now sequence o = refused-by (Row o) now sequence o (record {
   stray = λ _. said o.knows.sequence o.knows.sequence o.outputs _ (omega arith) tt;
   follower = λ held _. kept;
   ready = λ held _. postponed-row held (waiting_no_more o);
+  runs_on = λ _. said o.knows.sequence o.knows.sequence o.outputs outputs.RunsWithoutKey (omega arith) tt;
 })
 
 back-row : (held : ℕ) (o : Outcome) → Brings 1 o (gives_back held o)
@@ -312,54 +317,78 @@ sync-short (txns.SetSync revision sync standbys) writes = omega arith
 sync-short (txns.DropSync revision sync) writes = omega arith
 sync-short _ writes = absurd writes
 
+-- what a leader owes its cluster, behind what became of its watchdog
+duties-row : (most whole : ℕ) (now : Ticks) (held : ℕ) (start led : Outcome) → most + 16 ≤ whole → Brings most start led → DutyRows (Brings whole start) now held led
+duties-row most whole now held start led h before =
+    let and-one : (later : ℕ) (output : Output) → later ≤ led.knows.sequence + 1 → AsksShortly output → Grows whole start.knows.sequence later start.outputs (listed output led.outputs) =
+    λ later output next asks. grows-then most 1 whole _ _ _ _ _ _ (omega (arith, h)) before (one led.knows.sequence later led.outputs output next asks) in
+    record {
+      plan = record {
+        kept = weaker most whole _ _ _ _ (omega (arith, h)) before;
+        writes = λ settling txn writes. and-one (led.knows.sequence + 1) _ (omega arith) (sync-short txn writes);
+        adds = λ required. and-one led.knows.sequence (outputs.Require required) (omega arith) tt;
+        drops = λ required. and-one led.knows.sequence (outputs.Require required) (omega arith) tt;
+      };
+      clears = λ compared. and-one (led.knows.sequence + 1) _ (omega arith) (omega arith);
+      asks = λ candidate. grows-then most 16 whole _ _ _ _ _ _ h before (whom-row led.knows.who candidate led.knows.sequence led.outputs);
+      judges = handed-on most whole now held start (unheard led) (omega (arith, h)) before;
+    }
+
+-- a watchdog that rests
+rested-one : (sequence : ℕ) (renews : Bool) (deadline : Option Ticks) (before : List Output) → Grows 2 sequence sequence before (rest_told renews deadline before)
+rested-one sequence renews None before = weaker 1 2 _ _ _ _ (omega arith) (none sequence before)
+rested-one sequence true (Some deadline) before =
+    grows-then 1 1 2 sequence sequence sequence before (listed outputs.Disarmed before) _ (omega arith) (one sequence sequence before outputs.Disarmed (omega arith) tt) (one sequence sequence (listed outputs.Disarmed before) outputs.DisablesWatchdog (omega arith) tt)
+rested-one sequence false (Some deadline) before = weaker 1 2 _ _ _ _ (omega arith) (one sequence sequence before outputs.Disarmed (omega arith) tt)
+
+resting-row : (renews : Bool) (o : Outcome) → Brings 2 o (resting renews o)
+resting-row renews o = rested-one o.knows.sequence renews o.machine.watchdog.deadline o.outputs
+
+takes-resting-row : (now : Ticks) (renews : Bool) (held : ℕ) (o : Outcome) → Row o (takes_key_in_pause now renews held o)
+takes-resting-row now renews held o =
+    let rest : Outcome = resting renews o in
+    takes-in-pause-by (Row o) now renews held o (weaker 1 9 _ _ _ _ (omega arith) (back-row held o))
+    (grows-then 2 2 9 _ _ _ _ _ _ (omega arith) (resting-row renews o) (begins-row now held rest)) (grows-then 2 2 9 _ _ _ _ _ _ (omega arith) (resting-row renews o) (claims-row now held rest))
+
 renewed-row : (now ttl : Ticks) (held : ℕ) (o : Outcome) → Brings 17 o (leader_renewed now ttl held o)
 renewed-row now ttl held o =
     let led : Outcome = led_on now ttl held o in
     let fed : Brings 1 o led = fed-one o.knows.sequence (deadline_after now ttl o.machine.watchdog) o.outputs in
-    let and-one : (later : ℕ) (output : Output) → later ≤ o.knows.sequence + 1 → AsksShortly output → Grows 17 o.knows.sequence later o.outputs (listed output led.outputs) =
-    λ later output h asks. grows-then 1 1 17 o.knows.sequence o.knows.sequence later o.outputs led.outputs (listed output led.outputs) (omega arith) fed (one o.knows.sequence later led.outputs output h asks) in
-    renewed-by (Brings 17 o) now ttl held o (and-one o.knows.sequence _ (omega arith) tt) (record {
-      plan = record {
-        kept = weaker 1 17 o.knows.sequence o.knows.sequence o.outputs led.outputs (omega arith) fed;
-        writes = λ settling txn writes. and-one (o.knows.sequence + 1) _ (omega arith) (sync-short txn writes);
-        adds = λ required. and-one o.knows.sequence (outputs.Require required) (omega arith) tt;
-        drops = λ required. and-one o.knows.sequence (outputs.Require required) (omega arith) tt;
-      };
-      clears = λ compared. and-one (o.knows.sequence + 1) _ (omega arith) (omega arith);
-      asks = λ candidate. grows-then 1 16 17 o.knows.sequence o.knows.sequence (o.knows.sequence + 1) o.outputs led.outputs _ (omega arith) fed (whom-row led.knows.who candidate o.knows.sequence led.outputs);
-      judges = handed-on 1 17 now held o (unheard led) (omega arith) fed;
-    })
+    renewed-by (Brings 17 o) now ttl held o (grows-then 1 1 17 _ _ _ _ _ _ (omega arith) fed (one o.knows.sequence o.knows.sequence led.outputs _ (omega arith) tt)) (duties-row 1 17 now held o led (omega arith) fed)
 
 stray-row : (now ttl : Ticks) (held : ℕ) (o : Outcome) → Row o (stray_renewed now ttl held o)
 stray-row now ttl held o = if-cases (Row o) (is_refusing o.machine.watchdog.mode o.machine.watchdog.works) _ (takes_over now held (arming now ttl o))
     (λ _. said o.knows.sequence o.knows.sequence o.outputs _ (omega arith) tt)
     (λ _. weaker 1 9 o.knows.sequence o.knows.sequence o.outputs _ (omega arith) (armed-one o.knows.sequence (deadline_after now ttl o.machine.watchdog) o.outputs))
 
-granted-row : (now : Ticks) (sequence : ℕ) (grant : Granted) (snapshot : SnapshotFacts) (o : Outcome) → Brings 17 o (granted now sequence grant snapshot o)
+granted-row : (now : Ticks) (sequence : ℕ) (grant : Granted) (snapshot : SnapshotFacts) (o : Outcome) → Brings 18 o (granted now sequence grant snapshot o)
 granted-row now sequence grant snapshot o =
     let told : Outcome = record o { knows = informed snapshot o.knows } in
-    let still : Grows 17 o.knows.sequence o.knows.sequence o.outputs o.outputs = as-much _ _ _ _ kept in
-    granted-by (Brings 17 o) now sequence grant snapshot o still still (λ asked _ _. record {
+    let still : Grows 18 o.knows.sequence o.knows.sequence o.outputs o.outputs = as-much _ _ _ _ kept in
+    granted-by (Brings 18 o) now sequence grant snapshot o still still (λ asked _ _. record {
       other = still;
-      leader = λ held _. renewed-row now asked.ttl grant.revision told;
+      leader = λ held _. weaker 17 18 _ _ _ _ (omega arith) (renewed-row now asked.ttl grant.revision told);
       stray = λ _. as-much _ _ _ _ (stray-row now asked.ttl grant.revision told);
       takes = λ _. as-much _ _ _ _ (takes-row now asked.ttl grant.revision told);
+      rests = λ renews _ held _. let led : Outcome = rested_on renews grant.revision told in duties-of (Brings 18 o) now grant.revision led (duties-row 2 18 now grant.revision o led (omega arith) (resting-row renews told));
+      stray_rests = λ renews _ _. weaker 2 18 _ _ _ _ (omega arith) (resting-row renews told);
+      takes_resting = λ renews _ _. as-much _ _ _ _ (takes-resting-row now renews grant.revision told);
     })
     (record {
       other = still;
-      begins = λ held _. weaker 2 17 _ _ _ _ (omega arith) (begins-row now held told);
+      begins = λ held _. weaker 2 18 _ _ _ _ (omega arith) (begins-row now held told);
       postpones = λ held _. as-much _ _ _ _ (postponed-row held told);
       settles = λ required _. as-much _ _ _ _ (said o.knows.sequence o.knows.sequence o.outputs (outputs.Require required) (omega arith) tt);
     })
   where
-    as-much : (sequence later : ℕ) (before after : List Output) → Grows 9 sequence later before after → Grows 17 sequence later before after
-    as-much sequence later before after row = weaker 9 17 sequence later before after (omega arith) row
+    as-much : (sequence later : ℕ) (before after : List Output) → Grows 9 sequence later before after → Grows 18 sequence later before after
+    as-much sequence later before after row = weaker 9 18 sequence later before after (omega arith) row
 
 -- a grant or a refusal, of what an operator wants or the agent by itself
-granted-any-row : (now : Ticks) (sequence : ℕ) (grant : Granted) (snapshot : SnapshotFacts) (o : Outcome) → Brings 17 o (granted_any now sequence grant snapshot o)
+granted-any-row : (now : Ticks) (sequence : ℕ) (grant : Granted) (snapshot : SnapshotFacts) (o : Outcome) → Brings 18 o (granted_any now sequence grant snapshot o)
 granted-any-row now sequence grant snapshot o =
-    let replies = reply-rows 17 o (omega arith) in
-    granted-any-by (Brings 17 o) now sequence grant snapshot o replies.kept (record { kept = replies.kept; answers = replies.answers }) (granted-row now sequence grant snapshot o)
+    let replies = reply-rows 18 o (omega arith) in
+    granted-any-by (Brings 18 o) now sequence grant snapshot o replies.kept (record { kept = replies.kept; answers = replies.answers }) (granted-row now sequence grant snapshot o)
 
 refused-any-row : (now : Ticks) (sequence : ℕ) (o : Outcome) → Row o (refused_any now sequence o)
 refused-any-row now sequence o = refused-any-by (Row o) now sequence o (reply-rows 9 o (omega arith)) (refused-row now sequence o)
@@ -394,7 +423,7 @@ step-small now points (heards.Got sequence snapshot) o =
     small o found _ (before-row now o)
     (grows-then 1 16 19 _ _ _ _ _ _ (omega arith) (looked-row sequence snapshot found) (got-row now points sequence snapshot (looked sequence snapshot found)))
 step-small now points (heards.Granted sequence grant snapshot) o =
-    small o (before now o) _ (before-row now o) (weaker 17 19 _ _ _ _ (omega arith) (granted-any-row now sequence grant snapshot (before now o)))
+    small o (before now o) _ (before-row now o) (weaker 18 19 _ _ _ _ (omega arith) (granted-any-row now sequence grant snapshot (before now o)))
 step-small now points (heards.Mismatch sequence key found) o = one-more o (before now o) _ (before-row now o) (refused-any-row now sequence (before now o))
 step-small now points (heards.Asked from run sequence) o = one-more o (before now o) _ (before-row now o) (said (before now o).knows.sequence (before now o).knows.sequence (before now o).outputs _ (omega arith) tt)
 step-small now points (heards.Answered sequence answer) o = one-more o (before now o) _ (before-row now o) (answered-row now sequence answer (before now o))

@@ -210,6 +210,8 @@ pub fn told_of(member: Member, output: &Output) -> Option<EventKind>
     match output {
         Output::Disarmed => Some(EventKind::Watchdog(WatchdogEvent::Disarmed { member })),
         Output::CannotArm => Some(EventKind::Note(Note::CannotArm { member })),
+        Output::DisablesWatchdog => Some(EventKind::Note(Note::DisablesWatchdog { member })),
+        Output::RunsWithoutKey => Some(EventKind::Note(Note::RunsWithoutKey { member })),
         Output::PostponesPromotion => Some(EventKind::Note(Note::PostponesPromotion { member })),
         _ => None,
     }

@@ -35,6 +35,7 @@ use Rattle.run_law.specs.Machines.{run_in}
 use Rattle.run_law.proofs.Machines.{machines-by, sized-by}
 use Rattle.run_law.proofs.Places.{get-changed, length-changed, there}
 use Rattle.run_law.proofs.Waiting.{aside-within, waiting-aside, waiting-started}
+use Rattle.ha_loop.specs.Pausing.{is_paused}
 
 -- what such an event is beside
 aside-spanned : (May : ℕ → Type 0) (kind : EventKind) → IsAsideIn May kind → IsSpanned kind
@@ -106,6 +107,7 @@ suspended-knows m to true process agent old = record {
   running = old.running;
   run = old.run;
   me = old.me;
+  unpaused = old.unpaused;
 }
 suspended-knows m to false process agent old = old
 
@@ -179,6 +181,7 @@ started-knows count cluster member run sized is old =
       running = refl;
       run = ap (λ (a : AgentFacts). a.knows.run) (sym one);
       me = ap (λ (a : AgentFacts). a.knows.who.me.number) (sym one) ∙ sym here;
+      unpaused = ap (λ (a : AgentFacts). is_paused a.knows) (sym one);
     }) old
 
 -- in a run above that of its process

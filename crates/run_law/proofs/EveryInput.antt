@@ -50,7 +50,8 @@ use Rattle.run_law.specs.Kept.{IsKept, one_writer}
 use Rattle.run_law.specs.Volatile.{agent_now, volatile_of}
 use Rattle.run_law.specs.Waiting.{IsAddressed, IsAnswer, IsPeerBody}
 use Rattle.run_law.proofs.Actions.{action-kept, machines-kept}
-use Rattle.run_law.proofs.InputHears.{hears-by, peers-hear}
+use Rattle.ha_loop.proofs.Knowing.{tells_pause, told_by}
+use Rattle.run_law.proofs.InputHears.{calm-from, unpaused-told, hears-by, peers-hear}
 use Rattle.run_law.proofs.InputKept.{IsBegun, begun-by, input-kept, opening-addressed}
 use Rattle.run_law.proofs.InputKinds.{IsOpening, opening-hands_off, opening-members}
 use Rattle.run_law.proofs.InputSeen.{found-of}
@@ -118,7 +119,7 @@ from-none n = omega arith
 -- what comes to it is no message, and the law needs nothing of that
 module _ (head : HeadText) (book : List Event) (cluster : Cluster) (member : Member) (good : Bridged head book cluster) (heard : Heard) (happening : AgentEvent) (opens : IsOpening None (kinds.Agent happening))
     (acts : (cluster_after cluster (kinds.Agent happening)).agents ≡ agent_facts_with cluster.agents member (outcome_of cluster member heard))
-    (hears : (s : State) (m : ℕ) (now : Ticks) (o : Outcome) → Hears s m None now heard o) where
+    (hears : (s : State) (m : ℕ) (now : Ticks) (o : Outcome) → Hears s m None now heard o) (calm : tells_pause (told_by heard) ≡ false) where
   unheard : outcome_of cluster member heard ≡ None → IsKept head book cluster (event_of cluster (kinds.Agent happening))
   unheard none = idle-called head book cluster member heard happening opens acts good none
 
@@ -129,16 +130,16 @@ module _ (head : HeadText) (book : List Event) (cluster : Cluster) (member : Mem
   called-by (Some agent) (Some machine) a m =
       input-kept head book cluster good member agent machine (found-of cluster member machine m) (agent-here cluster member agent a) heard None no_message (kinds.Agent happening) opens
       (λ n e. absurd (none-some n e)) (from-none cluster.book.sent)
-      (acts ∙ ap (λ (o : Option Outcome). agent_facts_with cluster.agents member o) (the-outcome cluster member heard (Some agent) (Some machine) a m)) (λ works. hears _ _ _ _)
+      (acts ∙ ap (λ (o : Option Outcome). agent_facts_with cluster.agents member o) (the-outcome cluster member heard (Some agent) (Some machine) a m)) calm (λ works. hears _ _ _ _)
 
   kept-called : IsKept head book cluster (event_of cluster (kinds.Agent happening) ++ input_events (cluster_after cluster (kinds.Agent happening)) member no_message (outcome_of cluster member heard))
   kept-called = called-by (agent_at cluster.agents member.id.number) (machine_of cluster member) refl refl
 
 pub kept-wake : (head : HeadText) (book : List Event) (cluster : Cluster) (member : Member) → Bridged head book cluster → IsKept head book cluster (wake_events_of cluster member)
-kept-wake head book cluster member good = kept-called head book cluster member good Wake (agents.Woken member) refl refl (λ s m now o. tt)
+kept-wake head book cluster member good = kept-called head book cluster member good Wake (agents.Woken member) refl refl (λ s m now o. tt) refl
 
 pub kept-operated : (head : HeadText) (book : List Event) (cluster : Cluster) (member : Member) (action : OperatorAction) → Bridged head book cluster → IsKept head book cluster (operate_events cluster member action)
-kept-operated head book cluster member action good = kept-called head book cluster member good (Operated action) (agents.Operated member action) refl refl (λ s m now o. tt)
+kept-operated head book cluster member action good = kept-called head book cluster member good (Operated action) (agents.Operated member action) refl refl (λ s m now o. tt) refl
 
 -- ---- what stands in the way of a message
 or-second : (a b : Bool) → (a || b) ≡ false → b ≡ false
@@ -230,6 +231,7 @@ module _ (head : HeadText) (book : List Event) (cluster : Cluster) (number : ℕ
       input-kept head book cluster good member agent machine machine_found here heard (Some number) (heard_message number message) Arrived refl
       (λ n e. let same : number ≡ n = some-is number n e in (same, subst (λ (k : ℕ). k ≤ cluster.book.sent) same flown)) flown
       (acted ∙ ap (λ (o : Option Outcome). agent_facts_with cluster.agents member o) (ap (outcome_of_heard cluster member) h ∙ the-outcome cluster member heard (Some agent) (Some machine) a m))
+      (calm-from cluster message (unpaused-told cluster number message good.matched.unpaused found) heard h)
       (λ works. elim sender [
         | inl store ↦ hears-by head (past_of book) cluster good.matched (declared_of head) (volatile_of cluster) member agent machine machine_found here (works member.id.number)
             number message found store.0 to (same-run store.1 agent here) (moment_of cluster) message.message.body refl store.1 heard h

@@ -31,6 +31,7 @@ use Rattle.run_law.specs.Volatile.{agent_now, volatile_of}
 use Rattle.run_law.proofs.Fresh.{fresh-seen}
 use Rattle.run_law.proofs.Members.{counted, numbered}
 use Rattle.run_law.proofs.Waiting.{waiting-first}
+use Rattle.ha_loop.specs.Pausing.{is_paused}
 
 -- at each place of a list of one thing stands that thing, or none
 module _ {A B : Type 0} (x : A) (see : Option A → B) (y : B) (none : see None ≡ y) (some : see (Some x) ≡ y) where
@@ -91,6 +92,7 @@ knows-first scope options members count m (Some member) agent is small number th
       running = refl;
       run = ap (λ (a : AgentFacts). a.knows.run) (sym same);
       me = ap (λ (a : AgentFacts). a.knows.who.me.number) (sym same) ∙ number member is;
+      unpaused = ap (λ (a : AgentFacts). is_paused a.knows) (sym same);
     }
 
 first-knows : (head : HeadText) → length (names_of head) ≤ 16 → KnowThemselves (first_agents (member_count head)) (cluster_of head).agents

@@ -1,6 +1,8 @@
 -- What an agent hears by a message that comes is what the law has of it.
-use Rattle.std.proofs.Common.{◌≡◌, ◌==◌, ◌&&◌, ℕ, Bool, true, false, [], Option, Some, None, slice_get, option_map, refl, sym, subst, ap, ◌∙◌, arith}
+use Rattle.std.proofs.Common.{◌≡◌, ◌==◌, ◌&&◌, ℕ, Bool, true, false, [], ◌∷◌, cond, Option, Some, None, slice_get, option_map, refl, sym, subst, ap, ◌∙◌, arith}
+use Rattle.std.specs.BTreeMap.{is_at}
 use Rattle.std.specs.FinMap.{find}
+use Rattle.std.specs.Ordering.{nat_cmp}
 use Rattle.std.proofs.lemmas.Bool.Decides.{nat_tests}
 use Rattle.pat_base.specs.declared.ticks.Ticks.{Ticks}
 use Rattle.lease_store.specs.declared.granted.Granted.{Granted}
@@ -8,15 +10,17 @@ use Rattle.lease_store.specs.declared.key.Key.TheVariants as keys
 use Rattle.lease_store.specs.declared.value.KeyEntry.{KeyEntry}
 use Rattle.lease_store.specs.declared.value.Value.{Value}
 use Rattle.lease_store.specs.declared.value.Value.TheVariants as values
+use Rattle.lease_store.specs.Defaults.{default_config}
 use Rattle.lease_store.specs.KeyOrder.{key_cmp}
-use Rattle.cluster_config.specs.Snapshots.{leader_of_entry}
+use Rattle.cluster_config.specs.KeyValues.{config_in}
+use Rattle.cluster_config.specs.Snapshots.{leader_of_entry, settings_by, settings_of_entry}
 use Rattle.event_book.specs.declared.link.LinkEnd.{LinkEnd}
 use Rattle.event_book.specs.declared.link.LinkEnd.TheVariants as ends
 use Rattle.event_book.specs.declared.member.Member.{Member}
 use Rattle.event_book.specs.declared.message.Body.{Body}
 use Rattle.event_book.specs.declared.message.Body.TheVariants as bodies
 use Rattle.event_book.specs.declared.message.Message.{Message}
-use Rattle.event_book.specs.Flight.{InFlightFacts, in_flight}
+use Rattle.event_book.specs.Flight.{Flight, InFlightFacts, in_flight}
 use Rattle.cluster_script.specs.Script.{HeadText}
 use Rattle.ha_loop.specs.declared.heard.Heard.{Heard}
 use Rattle.ha_loop.specs.declared.heard.Heard.TheVariants as heards
@@ -26,11 +30,13 @@ use Rattle.ha_loop.specs.Agents.{AgentFacts, Outcome, made}
 use Rattle.ha_loop.specs.Decisions.{asks_lease, is_decision, is_lease_of}
 use Rattle.ha_loop.specs.Lawful.{HearsAnswer, HearsGrant, Hears}
 use Rattle.ha_loop.specs.Seen.{leader_entry_seen, failsafe_entry_seen}
+use Rattle.ha_loop.proofs.Knowing.{tells_pause, told_by}
 use Rattle.pat_base.specs.declared.member_id.MemberId.{MemberId}
-use Rattle.cluster_model.specs.Hearing.{member_at_end, heard_in, snapshot_in}
+use Rattle.cluster_model.specs.Hearing.{member_at_end, heard_from, heard_in, snapshot_in}
 use Rattle.cluster_model.specs.State.{Cluster}
 use Rattle.lease_law.specs.Outcomes.{seen_of}
 use Rattle.lease_law.specs.Past.{Past, VolatileState, state_of, lease_span}
+use Rattle.lease_law.specs.Pauses.{AreUnpaused, IsUnpausedHeld, IsUnpausedIn, IsUnpausedValue, NobodyPauses}
 use Rattle.lease_law.specs.States.{Declared, State}
 use Rattle.lease_law.specs.Stores.{IsLeased, leader_key_of, failsafe_key_of}
 use Rattle.lease_law.proofs.Tools.{and-first, both, none-some, some-is}
@@ -81,6 +87,48 @@ message-is message from to body a b c =
     ∙ ap (λ (t : LinkEnd). let m : Message = record { from = from; to = t; run = message.run; sequence = message.sequence; body = message.body } in m) b
     ∙ ap (λ (x : Body). let m : Message = record { from = from; to = to; run = message.run; sequence = message.sequence; body = x } in m) c
 
+-- ---- no snapshot in flight pauses
+unpaused-at : (here : Bool) (first : InFlightFacts) (rest : Option InFlightFacts) (carried : InFlightFacts) → cond here (Some first) rest ≡ Some carried → IsUnpausedIn first.snapshot → (rest ≡ Some carried → IsUnpausedIn carried.snapshot) → IsUnpausedIn carried.snapshot
+unpaused-at true first rest carried is here there = subst (λ (c : InFlightFacts). IsUnpausedIn c.snapshot) (some-is first carried is) here
+unpaused-at false first rest carried is here there = there is
+
+unpaused-flight : (number : ℕ) (flight : Flight) (carried : InFlightFacts) → AreUnpaused flight → in_flight flight number ≡ Some carried → IsUnpausedIn carried.snapshot
+unpaused-flight number [] carried all is = absurd (none-some carried is)
+unpaused-flight number (entry ∷ flight) carried all is =
+    unpaused-at (is_at (nat_cmp number) entry.0) entry.1 (in_flight flight number) carried is all.0 (λ there. unpaused-flight number flight carried all.1 there)
+
+unpaused-value : (value : Value) → IsUnpausedValue value → (settings_by default_config value).pause ≡ false
+unpaused-value (values.Config config) is = is
+unpaused-value _ is = refl
+
+unpaused-entry : (found : Option KeyEntry) → IsUnpausedHeld found → (settings_of_entry default_config found).pause ≡ false
+unpaused-entry None is = refl
+unpaused-entry (Some found) is = unpaused-value found.value is
+
+pub unpaused-told : (cluster : Cluster) (number : ℕ) (carried : InFlightFacts) → NobodyPauses cluster.book → in_flight cluster.book.flight number ≡ Some carried → (config_in (snapshot_in cluster carried)).pause ≡ false
+unpaused-told cluster number carried calm there = unpaused-entry (find key_cmp keys.Config carried.snapshot) (unpaused-flight number cluster.book.flight carried calm.flight there)
+
+-- so nobody reads of a pause
+calm-granted : (cluster : Cluster) (carried : InFlightFacts) (given : Option Granted) → (config_in (snapshot_in cluster carried)).pause ≡ false → (heard : Heard)
+    → option_map (λ grant. heards.Granted carried.message.sequence grant (snapshot_in cluster carried)) given ≡ Some heard → tells_pause (told_by heard) ≡ false
+calm-granted cluster carried None calm heard e = absurd (none-some heard e)
+calm-granted cluster carried (Some grant) calm heard e = subst (λ (h : Heard). tells_pause (told_by h) ≡ false) (some-is _ heard e) calm
+
+calm-asked : (run sequence : ℕ) (from : Option MemberId) (heard : Heard) → option_map (λ by. heards.Asked by run sequence) from ≡ Some heard → tells_pause (told_by heard) ≡ false
+calm-asked run sequence None heard e = absurd (none-some heard e)
+calm-asked run sequence (Some by) heard e = subst (λ (h : Heard). tells_pause (told_by h) ≡ false) (some-is _ heard e) refl
+
+calm-in : (cluster : Cluster) (carried : InFlightFacts) (body : Body) → (config_in (snapshot_in cluster carried)).pause ≡ false → (heard : Heard) → heard_in cluster carried body ≡ Some heard → tells_pause (told_by heard) ≡ false
+calm-in cluster carried bodies.Snapshot calm heard e = subst (λ (h : Heard). tells_pause (told_by h) ≡ false) (some-is _ heard e) calm
+calm-in cluster carried (bodies.Granted request leased) calm heard e = calm-granted cluster carried carried.grant calm heard e
+calm-in cluster carried (bodies.Refused request key at) calm heard e = subst (λ (h : Heard). tells_pause (told_by h) ≡ false) (some-is _ heard e) refl
+calm-in cluster carried bodies.Ask calm heard e = calm-asked carried.message.run carried.message.sequence (member_at_end carried.message.from) heard e
+calm-in cluster carried (bodies.Answer answer) calm heard e = subst (λ (h : Heard). tells_pause (told_by h) ≡ false) (some-is _ heard e) refl
+calm-in cluster carried _ calm heard e = absurd (none-some heard e)
+
+pub calm-from : (cluster : Cluster) (carried : InFlightFacts) → (config_in (snapshot_in cluster carried)).pause ≡ false → (heard : Heard) → heard_from cluster carried ≡ Some heard → tells_pause (told_by heard) ≡ false
+calm-from cluster carried calm heard e = calm-in cluster carried carried.message.body calm heard e
+
 -- ---- what is heard
 module _ (head : HeadText) (past : Past) (cluster : Cluster) (matched : IsMatched head past cluster) (declared : Declared) (volatile_states : ℕ → VolatileState)
     (member : Member) (agent : AgentFacts) (machine : Machine) (found : IsFound cluster member machine) (here : slice_get cluster.agents member.id.number ≡ Some (Some agent)) (works : works_of head member.id.number ≡ true)
@@ -106,6 +154,7 @@ module _ (head : HeadText) (past : Past) (cluster : Cluster) (matched : IsMatche
     sequence_is = refl;
     leader = sym (leader-is (find key_cmp keys.Leader carried.snapshot) leased);
     failsafe = sym (failsafe-is (find key_cmp keys.Failsafe carried.snapshot));
+    unpaused = unpaused-told cluster number carried matched.unpaused there;
   }
 
   -- a grant
@@ -141,6 +190,7 @@ module _ (head : HeadText) (past : Past) (cluster : Cluster) (matched : IsMatche
           sequence_is = refl;
           leader = sym (leader-is (find key_cmp keys.Leader carried.snapshot) leased);
           failsafe = sym (failsafe-is (find key_cmp keys.Failsafe carried.snapshot));
+          unpaused = unpaused-told cluster number carried matched.unpaused there;
         };
         lease = λ awaited.
             let sound = matched.waiting.agents member.id.number agent here in

@@ -28,9 +28,12 @@ use Rattle.ha_loop.specs.declared.output.Target.TheVariants as targets
 use Rattle.ha_loop.specs.Agents.{AgentFacts, Outcome, made, EndsAlone}
 use Rattle.ha_loop.specs.Lawful.{StandsIn, Hears, IsSentBy, IsInputOf, MayPromote, IsLawfulAnd}
 use Rattle.ha_loop.specs.Orders.{IsOfTable}
+use Rattle.ha_loop.specs.Pausing.{is_paused}
 use Rattle.ha_loop.specs.Outputs.{is_arming, is_feeding, has_one}
 use Rattle.ha_loop.specs.Seen.{machine_seen}
 use Rattle.ha_loop.specs.Table.{step}
+use Rattle.ha_loop.proofs.Knowing.{step-onward, tells_pause, told_by}
+use Rattle.ha_loop.proofs.Lawful.{not-true}
 use Rattle.ha_loop.proofs.LawfulSteps.{input-lawful-from, input-ends}
 use Rattle.ha_loop.proofs.Orders.{step-carried-out}
 use Rattle.cluster_model.specs.declared.heard_message.HeardMessage.{HeardMessage}
@@ -256,23 +259,6 @@ module _ (head : HeadText) (book : List Event) (cluster : Cluster) (good : Bridg
     after-here : slice_get Later.agents M ≡ Some (Some (record { role = After.role; knows = After.knows }))
     after-here = ap (λ (l : List (Option AgentFacts)). slice_get l M) agents-are ∙ item-here cluster.agents M (agent_after (Some After)) (Some agent) here
 
-    matched-over : IsMatched head (past_over Told Events) Later
-    matched-over = matched-from head (past_over Told Events) Later fits
-        (ap (λ (l : List (Option AgentFacts)). length l) agents-are ∙ length-changed cluster.agents M (agent_after (Some After)) ∙ good.matched.agents_sized)
-        (subst (λ (p : List AgentProcess). KnowThemselves p Later.agents) (sym processes-are)
-        (subst (KnowThemselves cluster.book.agents) (sym agents-are)
-        (knows-after M agent After cluster.book.agents cluster.agents here anew.who anew.run good.matched.agents)))
-        (λ n. subst (λ (p : List AgentProcess). IsLastRun (past_over Told Events).asked n (run_in p n)) (sym processes-are)
-        (runs-after M Told.clock agent.knows.run After.outputs Told.asked (past_over Told Events).asked cluster.book.agents run-is questions good.matched.waiting.runs n))
-        (subst (AreAgentsSound (past_over Told Events).asked) (sym agents-are)
-        (agents-after M Told.clock Now agent After Told.asked (past_over Told Events).asked cluster.agents here questions anew clock-is ends-alone good.matched.waiting.agents))
-
-    behind : past_of (book ++ Events) ≡ past_over Told Events
-    behind = past-append first_past book Events
-
-    matched : IsMatched head (past_of (book ++ Events)) Later
-    matched = subst (λ (p : Past). IsMatched head p Later) (sym behind) matched-over
-
     -- ---- the machine
     mirrors-first : Mirrors First M machine
     mirrors-first = record {
@@ -291,11 +277,36 @@ module _ (head : HeadText) (book : List Event) (cluster : Cluster) (good : Bridg
         subst (λ (x : Machine). Resembles Later M x) (sym carried.machine_is)
         (each-resembles member agent.knows.run message Now First machine After.outputs runs table carried.last begun.clock mirrors-first)
 
+  -- ---- where it reads of no pause
+  module _ (acts : agent_facts_after cluster opening ≡ with_changed cluster.agents M (agent_after (Some After))) (calm : tells_pause (told_by heard) ≡ false) where
+    unpaused : is_paused After.knows ≡ false
+    unpaused = not-true (is_paused After.knows) (λ e. elim ((step-onward Now (points_of cluster member) heard Before).pauses e) [
+      | inl was ↦ not-false (is_paused agent.knows) knows-it.unpaused was
+      | inr told ↦ not-false (tells_pause (told_by heard)) calm told
+    ])
+
+    matched-over : IsMatched head (past_over Told Events) Later
+    matched-over = matched-from head (past_over Told Events) Later fits
+        (ap (λ (l : List (Option AgentFacts)). length l) (agents-are acts) ∙ length-changed cluster.agents M (agent_after (Some After)) ∙ good.matched.agents_sized)
+        (subst (λ (p : List AgentProcess). KnowThemselves p Later.agents) (sym (processes-are acts))
+        (subst (KnowThemselves cluster.book.agents) (sym (agents-are acts))
+        (knows-after M agent After cluster.book.agents cluster.agents here anew.who anew.run unpaused good.matched.agents)))
+        (λ n. subst (λ (p : List AgentProcess). IsLastRun (past_over Told Events).asked n (run_in p n)) (sym (processes-are acts))
+        (runs-after M Told.clock agent.knows.run After.outputs Told.asked (past_over Told Events).asked cluster.book.agents run-is questions good.matched.waiting.runs n))
+        (subst (AreAgentsSound (past_over Told Events).asked) (sym (agents-are acts))
+        (agents-after M Told.clock Now agent After Told.asked (past_over Told Events).asked cluster.agents here questions anew clock-is (ends-alone acts) good.matched.waiting.agents))
+
+    behind : past_of (book ++ Events) ≡ past_over Told Events
+    behind = past-append first_past book Events
+
+    matched : IsMatched head (past_of (book ++ Events)) Later
+    matched = subst (λ (p : Past). IsMatched head p Later) (sym behind) matched-over
+
     machine-later : machine_told (past_over Told Events) (volatile_of Later M) M ≡ machine_seen After.role After.knows After.machine false (run_in cluster.book.agents M)
     machine-later =
         machine-is head (past_over Told Events) Later matched-over M
-        ∙ seen-of Later M (record { role = After.role; knows = After.knows }) After.machine resembles-later after-here
-        ∙ ap (λ (p : List AgentProcess). machine_seen After.role After.knows After.machine false (run_in p M)) processes-are
+        ∙ seen-of Later M (record { role = After.role; knows = After.knows }) After.machine (resembles-later acts) (after-here acts)
+        ∙ ap (λ (p : List AgentProcess). machine_seen After.role After.knows After.machine false (run_in p M)) (processes-are acts)
 
     pub stands : StandsIn S M (run_in cluster.book.agents M) Now Before
     stands = record {
@@ -304,6 +315,7 @@ module _ (head : HeadText) (book : List Event) (cluster : Cluster) (good : Bridg
       clock = good.matched.store.clock;
       margin = margin-of head Told cluster member machine good.matched found;
       failsafe = refl;
+      unpaused = knows-it.unpaused;
     }
 
     gone-if : (o : Option ℕ) (kind : EventKind) → IsOpening o kind → (number : ℕ) → o ≡ Some number → kind ≡ kinds.Message (Delivered number)
@@ -362,7 +374,7 @@ module _ (head : HeadText) (book : List Event) (cluster : Cluster) (good : Bridg
     begins-all : IsLawfulAnd S M After Theirs → BeginsBehind (MayBeginBehind S (Input M Theirs)) [] Events
     begins-all lawful = (
       opening-begins (May []) hn opening opens,
-      each-begins member agent.knows.run message (MayPromote S M Theirs) May grow makes First machine [] (record { tick = record { 0 = First.book.clock }; kind = opening } ∷ []) After.outputs mirrors-first
+      each-begins member agent.knows.run message (MayPromote S M Theirs) May grow makes First machine [] (record { tick = record { 0 = First.book.clock }; kind = opening } ∷ []) After.outputs (mirrors-first acts)
           (λ alive. (refl, inl (inl (ap (λ (x : MachineSeen). x.live) stands.member ∙ alive)))) runs table (step-carried-out Now (points_of cluster member) heard agent.role agent.knows machine).last
           (opening-moments message.number hn opening opens, tt) kept (λ e. absurd (no-one e)) lawful.begins,
     )
@@ -399,7 +411,7 @@ module _ (head : HeadText) (book : List Event) (cluster : Cluster) (good : Bridg
         other-way : (n : ℕ) → n ≢ M → volatile_of Later n ≡ volatile_of cluster n
         other-way n other = volatile-same _ _ _ _
             (ap live_now (stays.servers n other ∙ ap (λ (l : List ServerFacts). slice_get l n) begun.servers))
-            (ap agent_now (ap (λ (l : List (Option AgentFacts)). slice_get l n) agents-are ∙ get-elsewhere cluster.agents M n (agent_after (Some After)) other))
+            (ap agent_now (ap (λ (l : List (Option AgentFacts)). slice_get l n) (agents-are acts) ∙ get-elsewhere cluster.agents M n (agent_after (Some After)) other))
 
         by : (n : ℕ) → volatile_of Later n ≡ put_at (volatile_of cluster) M (volatile_of Later M) n
         by n = elim (decide-eq n M) [

@@ -663,6 +663,8 @@ module _ (member : Member) where
     hold = old.hold;
   }
   output-here cluster message machine outputs.CannotArm table none old = unmoved cluster (cluster_after cluster (kinds.Note (notes.CannotArm member))) member.id.number machine refl refl refl old
+  output-here cluster message machine outputs.DisablesWatchdog table none old = unmoved cluster (cluster_after cluster (kinds.Note (notes.DisablesWatchdog member))) member.id.number machine refl refl refl old
+  output-here cluster message machine outputs.RunsWithoutKey table none old = unmoved cluster (cluster_after cluster (kinds.Note (notes.RunsWithoutKey member))) member.id.number machine refl refl refl old
   output-here cluster message machine outputs.PostponesPromotion table none old = unmoved cluster (cluster_after cluster (kinds.Note (notes.PostponesPromotion member))) member.id.number machine refl refl refl old
   output-here cluster message machine (outputs.DoesNotRace bar) table none old = unmoved cluster (cluster_after cluster (not_racing cluster.book.members member bar)) member.id.number machine refl refl refl old
   output-here cluster message machine (outputs.Restart as_primary) table none old = restart-here cluster machine old

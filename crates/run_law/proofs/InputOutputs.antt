@@ -183,6 +183,8 @@ module _ (member : Member) (run : ℕ) (message : HeardMessage) where
   output-numbered cluster (outputs.Fed until) runs table = other-numbered cluster (outputs.Fed until) runs table tt
   output-numbered cluster outputs.Disarmed runs table = other-numbered cluster outputs.Disarmed runs table tt
   output-numbered cluster outputs.CannotArm runs table = other-numbered cluster outputs.CannotArm runs table tt
+  output-numbered cluster outputs.DisablesWatchdog runs table = other-numbered cluster outputs.DisablesWatchdog runs table tt
+  output-numbered cluster outputs.RunsWithoutKey runs table = other-numbered cluster outputs.RunsWithoutKey runs table tt
   output-numbered cluster outputs.PostponesPromotion runs table = other-numbered cluster outputs.PostponesPromotion runs table tt
   output-numbered cluster (outputs.DoesNotRace bar) runs table = other-numbered cluster (outputs.DoesNotRace bar) runs table tt
   output-numbered cluster outputs.ShutDown runs table = other-numbered cluster outputs.ShutDown runs table tt

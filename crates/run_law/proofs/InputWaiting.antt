@@ -25,6 +25,7 @@ use Rattle.run_law.specs.Machines.{run_in}
 use Rattle.run_law.specs.Questions.{span_asked, SendsBetween, AsksFor, WaitsOn, Same, Nothing, New, AsksAnew}
 use Rattle.run_law.specs.Waiting.{IsAwaited, IsAgentSound, AreAgentsSound}
 use Rattle.run_law.proofs.Places.{get-changed}
+use Rattle.ha_loop.specs.Pausing.{is_paused}
 
 requested-is : (a b : Question) → ◌≡◌ {A = Flying} (Requested a) (Requested b) → a ≡ b
 requested-is a b e = cc
@@ -164,8 +165,8 @@ runs-after m clock run outs asked after processes in-run questions old n i q e m
 
 -- agents know themselves
 pub knows-after : (m : ℕ) (agent : AgentFacts) (outcome : Outcome) (processes : List AgentProcess) (agents : List (Option AgentFacts)) → slice_get agents m ≡ Some (Some agent)
-    → outcome.knows.who ≡ agent.knows.who → outcome.knows.run ≡ agent.knows.run → KnowThemselves processes agents → KnowThemselves processes (with_changed agents m (agent_after (Some outcome)))
-knows-after m agent outcome processes agents here who run old n one is =
+    → outcome.knows.who ≡ agent.knows.who → outcome.knows.run ≡ agent.knows.run → is_paused outcome.knows ≡ false → KnowThemselves processes agents → KnowThemselves processes (with_changed agents m (agent_after (Some outcome)))
+knows-after m agent outcome processes agents here who run unpaused old n one is =
     by (n == m) refl (sym (get-changed agents m n (agent_after (Some outcome))) ∙ is)
   where
     by : (same : Bool) → (n == m) ≡ same → cond same (option_map (agent_after (Some outcome)) (slice_get agents n)) (slice_get agents n) ≡ Some (Some one) → KnowsItself n (slice_get processes n) one
@@ -178,5 +179,6 @@ knows-after m agent outcome processes agents here who run old n one is =
           running = was.running;
           run = run ∙ was.run;
           me = ap (λ w. w.me.number) who ∙ was.me;
+          unpaused = unpaused;
         }))
     by false same e = old n one e

@@ -103,6 +103,8 @@ module _ (member : Member) (run : ℕ) (message : HeardMessage) where
   output-measured moments since cluster (outputs.Require required) runs table heard = silent moments since cluster (outputs.Require required) runs table tt
   output-measured moments since cluster outputs.Disarmed runs table heard = silent moments since cluster outputs.Disarmed runs table tt
   output-measured moments since cluster outputs.CannotArm runs table heard = silent moments since cluster outputs.CannotArm runs table tt
+  output-measured moments since cluster outputs.DisablesWatchdog runs table heard = silent moments since cluster outputs.DisablesWatchdog runs table tt
+  output-measured moments since cluster outputs.RunsWithoutKey runs table heard = silent moments since cluster outputs.RunsWithoutKey runs table tt
   output-measured moments since cluster outputs.PostponesPromotion runs table heard = silent moments since cluster outputs.PostponesPromotion runs table tt
   output-measured moments since cluster outputs.ShutDown runs table heard = silent moments since cluster outputs.ShutDown runs table tt
   output-measured moments since cluster (outputs.Repair leader repair) runs table heard = silent moments since cluster (outputs.Repair leader repair) runs table tt

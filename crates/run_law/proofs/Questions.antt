@@ -50,15 +50,16 @@ use Rattle.ha_loop.specs.Operators.{answering, given_up, learned, looked, operat
 use Rattle.ha_loop.specs.Outputs.{listed}
 use Rattle.ha_loop.specs.Racing.{finds_free, judged, answers_until, asking_others, unheard}
 use Rattle.ha_loop.specs.Repairs.{repair_of}
-use Rattle.ha_loop.specs.Snapshots.{informed, follows, read_noted, got, follow_row}
+use Rattle.ha_loop.specs.Snapshots.{informed, follows, read_noted, got, follow_row, led_by_another}
 use Rattle.ha_loop.specs.Table.{granted_any, refused_any, step}
 use Rattle.ha_loop.specs.Wake.{turn_noted, overdue, turned, woken}
-use Rattle.ha_loop.proofs.Rows.{HandoverRows, IsOperatorTxn, ReplyRows, dropping, led_on, if-cases, begins-or-claims-by, before-by, duties-by, given-up-by, granted-any-by, looked-by, operated-by, overdue-by, refused-any-by, turn-by, wake-by, got-by, refused-by, follow-by, repaired-by, free-by, granted-by, judged-by, answered-by}
+use Rattle.ha_loop.proofs.Rows.{HandoverRows, IsOperatorTxn, ReplyRows, dropping, led_on, if-cases, begins-or-claims-by, before-by, duties-by, given-up-by, granted-any-by, looked-by, operated-by, overdue-by, refused-any-by, turn-by, wake-by, got-by, refused-by, follow-by, repaired-by, free-by, granted-by, judged-by, answered-by, rested_on, takes-in-pause-by}
 use Rattle.ha_loop.specs.declared.who.Who.{Who}
 use Rattle.ha_loop.specs.Answers.{is_other, most_answers, asking_all, asking_one, asking_first}
 use Rattle.ha_loop.specs.Peers.{keeping, answered}
 use Rattle.lease_law.proofs.Tools.{both}
 use Rattle.run_law.specs.Questions.{IsQuestion, IsPutBy, IsPutByBody, span_asked, SendsBetween, AsksFor, WaitsOn, Same, Nothing, New, AsksAnew}
+use Rattle.ha_loop.specs.Pausing.{may_start_behind, rest_told, resting, running_without_key}
 
 all-of : {X : Type 0} (P Q : X → Type 0) (xs : List X) → ((x : X) → P x → Q x) → All P xs → All Q xs
 all-of P Q xs more all = λ k d h. more _ (all k d h)
@@ -313,13 +314,15 @@ touch-reaches : (now : Ticks) (known : Knowledge) (o : Outcome) → Reaches now 
 touch-reaches now known o r = send-reaches now known _ o tt r
 
 follow-reaches : (now : Ticks) (known : Knowledge) (leader : MemberId) (o : Outcome) → Reaches now known o → Reaches now known (follows now leader o)
-follow-reaches now known leader o r = let x : Outcome = record o { role = Follower } in
-    let row : Outcome = follow_row now leader o.machine.server.state x in
+follow-reaches now known leader o r = let x : Outcome = led_by_another o in
+    let may : Bool = may_start_behind o.knows in
+    let row : Outcome = follow_row may now leader o.machine.server.state x in
+    let led : Reaches now known x = goes-on now known o.knows x.knows o.outputs refl refl refl refl r in
     let told : Reaches now known (touching row) = touch-reaches now known row
-    (follow-by (Reaches now known) now leader o.machine.server.state x r
-    (one-more now known o.knows o.outputs (outputs.StartReplica (Some leader)) tt r)
-    (one-more now known o.knows o.outputs (outputs.Follow leader) tt r)
-    (one-more now known o.knows o.outputs outputs.ShutDown tt r)) in
+    (follow-by (Reaches now known) may now leader o.machine.server.state x led
+    (one-more now known x.knows o.outputs (outputs.StartReplica (Some leader)) tt led)
+    (one-more now known x.knows o.outputs (outputs.Follow leader) tt led)
+    (one-more now known x.knows o.outputs outputs.ShutDown tt led)) in
     repaired-by (Reaches now known) leader (repair_of o.knows.settings leader o.machine.server) (touching row) told
     (λ repair. one-more now known (touching row).knows (touching row).outputs (outputs.Repair leader repair) tt told)
 
@@ -328,6 +331,7 @@ free-reaches now known o r = let x : Outcome = record o { role = Follower } in
     let alone : Reaches now known (unheard x) = goes-on now known o.knows (unheard x).knows o.outputs refl refl refl refl r in
     free-by (Reaches now known) now x (record {
       starts = touch-reaches now known (starting_replica now None x) (one-more now known o.knows o.outputs (outputs.StartReplica None) tt r);
+      touches = touch-reaches now known x r;
       bars = λ bar. touch-reaches now known (record x { outputs = listed (outputs.DoesNotRace bar) x.outputs }) (one-more now known o.knows o.outputs (outputs.DoesNotRace bar) tt r);
       judges = judged-reaches now known (unheard x) alone;
       asks = others-reach now known (unheard x) alone;
@@ -358,6 +362,8 @@ got-reaches now points known sequence snapshot o r =
       touches = touch-reaches now known read told;
       follows = λ leader _ _. follow-reaches now known leader.holder read told;
       free = λ _ _. free-reaches now known read told;
+      runs_on = λ _. one-more now known read.knows o.outputs outputs.RunsWithoutKey tt told;
+      asks_on = λ _. ask-reaches now known Creating (seconds_after now read.knows.settings.retry_timeout) _ (running_without_key read) (is-spanned read.knows.settings) (λ _. refl) (λ e. absurd (both e)) (one-more now known read.knows o.outputs outputs.RunsWithoutKey tt told);
     })
 
 refused-reaches : (now : Ticks) (known : Knowledge) (sequence : ℕ) (o : Outcome) → Reaches now known o → Reaches now known (refused now sequence o)
@@ -370,6 +376,7 @@ refused-reaches now known sequence o r =
       stray = λ _. one-more now known _ o.outputs _ tt quiet;
       follower = λ held _. quiet;
       ready = λ held _. postpone-reaches now known held (waiting_no_more o) quiet;
+      runs_on = λ _. one-more now known _ o.outputs outputs.RunsWithoutKey tt quiet;
     })
 
 feed-reaches : (now ttl : Ticks) (known : Knowledge) (o : Outcome) → Reaches now known o → Reaches now known (feeding now ttl o)
@@ -449,6 +456,15 @@ takes-reaches now ttl known revision o r =
     if-cases (Reaches now known) (may_take now o.knows o.machine) (arms now ttl revision o) (gives_back revision o)
     (λ _. arms-reaches now ttl known revision o r) (λ _. send-reaches now known (bodies.Request (txns.Release revision)) o tt r)
 
+-- a watchdog that rests
+rests-told : (now : Ticks) (known after : Knowledge) (renews : Bool) (deadline : Option Ticks) (outs : List Output) → AsksAnew now known after outs → AsksAnew now known after (rest_told renews deadline outs)
+rests-told now known after renews None outs r = r
+rests-told now known after true (Some deadline) outs r = one-more now known after (listed outputs.Disarmed outs) outputs.DisablesWatchdog tt (one-more now known after outs outputs.Disarmed tt r)
+rests-told now known after false (Some deadline) outs r = one-more now known after outs outputs.Disarmed tt r
+
+rest-reaches : (now : Ticks) (known : Knowledge) (renews : Bool) (o : Outcome) → Reaches now known o → Reaches now known (resting renews o)
+rest-reaches now known renews o r = rests-told now known o.knows renews o.machine.watchdog.deadline o.outputs r
+
 granted-reaches : (now : Ticks) (known : Knowledge) (sequence : ℕ) (grant : Granted) (snapshot : SnapshotFacts) (o : Outcome) → Reaches now known o → Reaches now known (granted now sequence grant snapshot o)
 granted-reaches now known sequence grant snapshot o r =
     let told : Outcome = record o { knows = informed snapshot o.knows } in
@@ -459,6 +475,10 @@ granted-reaches now known sequence grant snapshot o r =
       leader = λ held _. renewed-reaches now waited.ttl known grant.revision told next;
       stray = λ _. stray-reaches now waited.ttl known grant.revision told next;
       takes = λ _. takes-reaches now waited.ttl known grant.revision told next;
+      rests = λ renews _ held _. duties-reach now known grant.revision (rested_on renews grant.revision told) (rest-reaches now known renews told next);
+      stray_rests = λ renews _ _. goes-on now known told.knows _ (resting renews told).outputs refl refl refl refl (rest-reaches now known renews told next);
+      takes_resting = λ renews _ _. let rest : Outcome = resting renews told in let rested : Reaches now known rest = rest-reaches now known renews told next in
+          takes-in-pause-by (Reaches now known) now renews grant.revision told (send-reaches now known (bodies.Request (txns.Release grant.revision)) told tt next) (begin-reaches now known grant.revision rest rested) (claim-reaches now known grant.revision rest rested);
     })
     (record {
       other = next;

@@ -26,6 +26,7 @@ use Rattle.ha_loop.specs.Operators.{given_up}
 use Rattle.ha_loop.specs.Racing.{judged}
 use Rattle.ha_loop.specs.Table.{step}
 use Rattle.ha_loop.specs.Wake.{has_turn, is_due, is_overdue, is_stopping, out_of_reach_as, overdue, overdue_for, roused, turn_as, turn_begins, turn_noted, turned, unanswered, woken}
+use Rattle.ha_loop.specs.Pausing.{is_paused}
 
 -- an output that feeds no watchdog
 abbrev pub FeedsNone : Output → Type 0
@@ -83,8 +84,8 @@ none-given : (now : Ticks) (o : Outcome) → NoneFed o → NoneFed (given_up now
 none-given now o all = given-up-by NoneFed now o (record { kept = all; answers = λ request told. All-push FeedsNone _ _ all tt })
 
 none-unanswered : (now : Ticks) (question : Question) (o : Outcome) → NoneFed o → NoneFed (unanswered now question o)
-none-unanswered now Reading o all = none-reach now o.role (waiting_no_more o) all
-none-unanswered now Renewing o all = none-reach now o.role (waiting_no_more o) all
+none-unanswered now Reading o all = none-if (is_paused o.knows) (waiting_no_more o) (out_of_reach_as now o.role (waiting_no_more o)) all (none-reach now o.role (waiting_no_more o) all)
+none-unanswered now Renewing o all = none-if (is_paused o.knows) (waiting_no_more o) (out_of_reach_as now o.role (waiting_no_more o)) all (none-reach now o.role (waiting_no_more o) all)
 none-unanswered now Creating o all = all
 none-unanswered now Claiming o all = none-failed o.role (waiting_no_more o) all
 none-unanswered now (Syncing settling) o all = all

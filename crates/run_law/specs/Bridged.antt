@@ -5,6 +5,7 @@ use Rattle.bridge_law.specs.Flights.{IsSameFlight}
 use Rattle.event_book.specs.declared.agent_process.AgentProcess.{AgentProcess}
 use Rattle.event_book.specs.declared.event.Event.{Event}
 use Rattle.ha_loop.specs.Agents.{AgentFacts}
+use Rattle.ha_loop.specs.Pausing.{is_paused}
 use Rattle.cluster_model.specs.Starting.{options_of}
 use Rattle.cluster_model.specs.State.{Cluster}
 use Rattle.lease_law.specs.Carried.{IsCarried}
@@ -16,13 +17,14 @@ use Rattle.run_law.specs.Machines.{IsSameEverywhere, IsSized}
 use Rattle.run_law.specs.Volatile.{volatile_of}
 use Rattle.run_law.specs.Waiting.{AgentsAreSound}
 
--- the agent of the member of this number knows that number, and the run of its process, which runs
+-- the agent of the member of this number knows that number, and the run of its process, which runs; and it read of no pause
 pub record KnowsItself (m : ℕ) (process : Option AgentProcess) (agent : AgentFacts) : Type 0 where
   pub found : AgentProcess
   pub is : process ≡ Some found
   pub running : found.running ≡ true
   pub run : agent.knows.run ≡ found.run
   pub me : agent.knows.who.me.number ≡ m
+  pub unpaused : is_paused agent.knows ≡ false
 
 -- each agent that is there does
 abbrev pub KnowThemselves : List AgentProcess → List (Option AgentFacts) → Type 0

@@ -5,11 +5,12 @@ ghost use Rattle.leader_key.specs.Watchdog.{IsLeaseSpan};
 ghost use Rattle.ha_loop.specs.Acting.{is_refusing, is_hold_active, arming, feeding};
 ghost use Rattle.ha_loop.specs.Answers.{most_answers, most_grant_outputs};
 ghost use Rattle.ha_loop.specs.Agents.{IsSound, IsWithin, Follower, Leader, Stray, role_of, made, latest};
-ghost use Rattle.ha_loop.specs.Decisions.{has_lasted, is_start_too_long, judges_start, leader_renewed, takes_over, stray_renewed, since_crash, may_start_again, can_begin, may_take, gives_back, arms, takes_key};
+ghost use Rattle.ha_loop.specs.Decisions.{has_lasted, is_start_too_long, judges_start, leader_renewed, takes_over, stray_renewed, since_crash, may_start_again, can_begin, may_take, gives_back, arms, takes_key, takes_key_in_pause, granted_in_pause};
 
 use crate::acting::{arm, end_server, feed, is_hold_active, release};
 use crate::claiming::begin_or_claim;
 use crate::handing_over::do_duties;
+use crate::pausing::{is_wanted, rest, rest_writer};
 use crate::role::Role;
 use crate::synchronous::may_lead_in_sync;
 use crate::{Knowledge, Machine, Output, Outputs, Why};
@@ -160,6 +161,81 @@ pub(super) fn take_key(
             Role::Follower
         }
     }
+}
+
+/// The lease of a leader is renewed in a pause: its watchdog rests, and its start may last as long as it does.
+pub(super) fn leader_rested(
+    writer: Writer,
+    knows: &mut Knowledge,
+    machine: &mut Machine,
+    out: &mut Outputs,
+    now: Ticks,
+    renews: bool,
+    grant: Granted,
+) -> Role
+    requires moment { now.0 ≤ latest }
+    requires leased { grant.leased ≡ true }
+    requires sound { IsSound knows.old }
+    requires server { IsWithin machine.old.server }
+    requires numbers { knows.old.sequence < 2 ^ 60 }
+    requires room { most_grant_outputs ≤ out.old.spare }
+    ensures outcome { made (role_of result) knows.new machine.new out.new.outputs ≡ granted_in_pause now renews grant.revision (Leader (writer_revision writer)) (made (Leader (writer_revision writer)) knows.old machine.old out.old.outputs) }
+    ensures sound { IsSound knows.new }
+    ensures numbers { knows.new.sequence ≤ knows.old.sequence + 1 }
+    ensures room { out.old.spare ≤ out.new.spare + most_grant_outputs }
+{
+    let writer = rest_writer(writer, machine, out, renews, grant);
+    do_duties(writer, knows, machine, out, now)
+}
+
+/// An agent whose server is live without a lease gets one in a pause: it leads without a watchdog.
+pub(super) fn stray_rested(
+    lease: Lease,
+    knows: &mut Knowledge,
+    machine: &mut Machine,
+    out: &mut Outputs,
+    now: Ticks,
+    renews: bool,
+) -> Role
+    requires sound { IsSound knows.old }
+    requires room { 2 ≤ out.old.spare }
+    ensures outcome { made (role_of result) knows.new machine.new out.new.outputs ≡ granted_in_pause now renews (lease_revision lease) Stray (made Stray knows.old machine.old out.old.outputs) }
+    ensures sound { IsSound knows.new }
+    ensures numbers { knows.new.sequence ≡ knows.old.sequence }
+    ensures room { out.old.spare ≤ out.new.spare + 2 }
+{
+    let armed = rest(lease, machine, out, renews);
+    knows.begun = Some(now);
+    knows.noted = machine.server.end;
+    Role::Leader(Writer::begin(armed))
+}
+
+/// An agent that isn't leading gets a lease in a pause: only whom an operator wants to lead uses it.
+pub(super) fn take_key_in_pause(
+    lease: Lease,
+    knows: &mut Knowledge,
+    machine: &mut Machine,
+    out: &mut Outputs,
+    now: Ticks,
+    renews: bool,
+) -> Role
+    requires moment { now.0 ≤ latest }
+    requires sound { IsSound knows.old }
+    requires server { IsWithin machine.old.server }
+    requires numbers { knows.old.sequence < 2 ^ 60 }
+    requires room { 4 ≤ out.old.spare }
+    ensures outcome { made (role_of result) knows.new machine.new out.new.outputs ≡ takes_key_in_pause now renews (lease_revision lease) (made Follower knows.old machine.old out.old.outputs) }
+    ensures sound { IsSound knows.new }
+    ensures numbers { knows.new.sequence ≤ knows.old.sequence + 1 }
+    ensures room { out.old.spare ≤ out.new.spare + 4 }
+{
+    let wanted = is_wanted(knows.who.me, knows.turn_failover, machine.server.state);
+    if !(wanted && may_take(now, knows, machine)) {
+        release(lease, knows, out);
+        return Role::Follower;
+    }
+    let armed = rest(lease, machine, out, renews);
+    begin_or_claim(armed, knows, machine, out, now)
 }
 
 /// A member may take the leader key: no hold is active, its server can begin, and in synchronous mode the sync key names it.

@@ -7,14 +7,16 @@ ghost use Rattle.ha_loop.specs.declared.output.Output.TheVariants as outputs;
 ghost use Rattle.ha_loop.specs.Acting.{upstream_of};
 ghost use Rattle.ha_loop.specs.Agents.{IsWithin, Follower, made, latest};
 ghost use Rattle.ha_loop.specs.Outputs.{listed};
-ghost use Rattle.ha_loop.specs.Snapshots.{starts_behind, ends_fork, follows_anew, follow_row};
+ghost use Rattle.ha_loop.specs.Snapshots.{starts_behind, starts_if, ends_fork, follows_anew, follow_row};
 
 use super::repairing::is_upstream;
+use crate::pausing::ends_forks;
 use crate::{Knowledge, Machine, Output, Outputs};
 use pat_base::{MemberId, ServerId, State, Ticks};
 
-/// What a server does under another leader.
+/// What a server does under another leader, by whether its agent may start it.
 pub(super) fn follow_row(
+    may_start: bool,
     knows: &Knowledge,
     machine: &mut Machine,
     out: &mut Outputs,
@@ -24,11 +26,13 @@ pub(super) fn follow_row(
     requires moment { now.0 ≤ latest }
     requires server { IsWithin machine.old.server }
     requires room { 1 ≤ out.old.spare }
-    ensures outcome { made Follower knows.now machine.new out.new.outputs ≡ follow_row now leader machine.old.server.state (made Follower knows.now machine.old out.old.outputs) }
+    ensures outcome { made Follower knows.now machine.new out.new.outputs ≡ follow_row may_start now leader machine.old.server.state (made Follower knows.now machine.old out.old.outputs) }
     ensures room { out.old.spare ≤ out.new.spare + 1 }
 {
     match machine.server.state {
-        State::Stopped | State::Crashed => start_behind(machine, out, now, Some(leader)),
+        State::Stopped | State::Crashed if may_start => {
+            start_behind(machine, out, now, Some(leader));
+        }
         State::Replica => follow_anew(knows, machine, out, now, leader),
         _ => {}
     }
@@ -115,7 +119,7 @@ fn end_fork(knows: &Knowledge, machine: &mut Machine, out: &mut Outputs, now: Ti
     ensures outcome { made Follower knows.now machine.new out.new.outputs ≡ ends_fork now (made Follower knows.now machine.old out.old.outputs) }
     ensures room { out.old.spare ≤ out.new.spare + 1 }
 {
-    if machine.server.diverged && !knows.settings.use_pg_rewind {
+    if machine.server.diverged && ends_forks(&knows.settings) {
         machine.server.stop(now);
         out.put(Output::ShutDown);
     }

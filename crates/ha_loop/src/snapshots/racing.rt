@@ -5,11 +5,12 @@ ghost use Rattle.pg_model.specs.Status.{status_replica_started};
 ghost use Rattle.leader_race.specs.Eligibility.{eligibility_of};
 ghost use Rattle.ha_loop.specs.Agents.{IsSound, IsWithin, Follower, role_of, made, latest};
 ghost use Rattle.ha_loop.specs.Answers.{most_answers};
-ghost use Rattle.ha_loop.specs.Racing.{can_start, bar_by, bar_of, unheard, asks_or_judged, races, races_unless, free_key, finds_free};
+ghost use Rattle.ha_loop.specs.Racing.{can_start, bar_by, bar_of, unheard, asks_or_judged, races, races_unless, starts_alone, free_key, finds_free};
 ghost use Rattle.ha_loop.specs.Views.{view_of};
 
 use super::following::start_replica;
 use crate::acting::touch;
+use crate::pausing::is_paused;
 use crate::peers::{all_answered, ask_others, judge, stay_out};
 use crate::role::Role;
 use crate::view::view_of;
@@ -39,12 +40,25 @@ pub(super) fn finds_free(
     ensures room { out.old.spare ≤ out.new.spare + most_answers }
 {
     if can_start(&machine.server) {
-        start_replica(machine, out, now, None);
+        start_alone(knows, machine, out, now);
         touch(knows, machine, out);
     } else {
         race_unless(bar_of(now, knows, machine), knows, machine, out, now);
     }
     Role::Follower
+}
+
+/// A server starts as a replica of none, but in a pause.
+fn start_alone(knows: &Knowledge, machine: &mut Machine, out: &mut Outputs, now: Ticks)
+    requires moment { now.0 ≤ latest }
+    requires server { IsWithin machine.old.server }
+    requires room { 1 ≤ out.old.spare }
+    ensures outcome { made Follower knows.now machine.new out.new.outputs ≡ starts_alone now (made Follower knows.now machine.old out.old.outputs) }
+    ensures room { out.old.spare ≤ out.new.spare + 1 }
+{
+    if !is_paused(knows) {
+        start_replica(machine, out, now, None);
+    }
 }
 
 /// Whether a server can start as a replica: it is down, and its log didn't diverge.

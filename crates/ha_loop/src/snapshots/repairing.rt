@@ -4,6 +4,7 @@ ghost use Rattle.ha_loop.specs.declared.knowledge.Knowledge.{Knowledge};
 ghost use Rattle.ha_loop.specs.Agents.{RoleFacts, made};
 ghost use Rattle.ha_loop.specs.Repairs.{is_upstream, rewind_if, repair_in, repair_of, repaired_if};
 
+use crate::pausing::lets_rewind;
 use crate::{Machine, Output, Outputs, Repair};
 use lease_store::Config;
 use pat_base::{MemberId, ServerId, State};
@@ -18,7 +19,7 @@ pub(super) fn repair_of(
     ensures { result ≡ repair_of settings.now leader server.now }
 {
     repair_in(
-        settings.use_pg_rewind,
+        lets_rewind(settings),
         is_upstream(leader, server.upstream),
         server.diverged,
         server.state,
