@@ -91,6 +91,12 @@ pub const FOLLOWED: Opening = Opening {
     lines: FOLLOWED_LINES,
 };
 
+/// At tick 50, a leads and b follows. The key store stands at revision 3; a's next turn is due at 101, b's at 102.
+pub const FOLLOWED_AT_50: Opening = Opening {
+    script: "cluster demo\nmember a\nmember b\nrun 50\n",
+    lines: FOLLOWED_LINES,
+};
+
 /// At tick 150, a leads and b follows. The key store stands at revision 5, that of b's last word of itself; a's next turn is due
 /// at 201, b's at 202.
 pub const FOLLOWED_AT_150: Opening = Opening {

@@ -15,6 +15,8 @@ mod runs_of_messages;
 #[cfg(test)]
 mod runs_of_operators;
 #[cfg(test)]
+mod runs_of_pauses;
+#[cfg(test)]
 mod runs_of_races;
 #[cfg(test)]
 mod runs_of_servers;

@@ -1,15 +1,9 @@
 //! Runs with requests of operators: switchovers, failovers, restarts and reinitializations, and what these are answered.
 use crate::in_memory::{
-    Closing, FOLLOWED_AT_150, FOLLOWED_LINES, OWN_MEMBERS, Opening, PUBLISHED_AT_300, QUIET, Run,
+    Closing, FOLLOWED_AT_50, FOLLOWED_AT_150, OWN_MEMBERS, Opening, PUBLISHED_AT_300, QUIET, Run,
     prints,
 };
 use std::test::Fail;
-
-/// At tick 50, a leads and b follows. The key store stands at revision 3; a's next turn is due at 101, b's at 102.
-const FOLLOWED_AT_50: Opening = Opening {
-    script: "cluster demo\nmember a\nmember b\nrun 50\n",
-    lines: FOLLOWED_LINES,
-};
 
 /// The cluster of an hour of use; its members are its own.
 const OWN_MAIN: Opening = Opening {
