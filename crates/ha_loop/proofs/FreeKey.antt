@@ -29,7 +29,7 @@ use Rattle.ha_loop.specs.declared.output.Output.TheVariants as outputs
 use Rattle.ha_loop.specs.declared.output.Target.TheVariants as targets
 use Rattle.ha_loop.specs.declared.heard.Heard.TheVariants.{Wake}
 use Rattle.ha_loop.specs.declared.who.Who.{Who}
-use Rattle.ha_loop.specs.Acting.{touching, starting_replica, waiting_no_more}
+use Rattle.ha_loop.specs.Acting.{touching, waiting_no_more}
 use Rattle.ha_loop.specs.Agents.{RoleFacts, Follower, Holder, Ready, Leader, Ending, Stray, Outcome}
 use Rattle.ha_loop.specs.Answers.{is_other, with_answer, most_answers, asking_one, asking_first, all_answered}
 use Rattle.ha_loop.specs.Before.{before}

@@ -12,7 +12,7 @@ use Rattle.sync_state.specs.declared.steps.Plan.{Plan}
 use Rattle.sync_state.specs.Candidates.{candidates_in}
 use Rattle.sync_state.specs.Plans.{plan_of}
 use Rattle.ha_loop.specs.Planning.{leader_view, planned_as, planned_on, planned}
-use Rattle.ha_loop.specs.Acting.{waiting_no_more, touching, starting_replica}
+use Rattle.ha_loop.specs.Acting.{waiting_no_more, touching}
 use Rattle.ha_loop.specs.Agents.{Outcome, word_of}
 use Rattle.ha_loop.specs.Answers.{all_answered}
 use Rattle.ha_loop.specs.Racing.{can_start, bar_of, outcome_by, judged_as, judged, asking_others, unheard, races, races_unless, free_key, starts_alone}

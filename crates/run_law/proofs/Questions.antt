@@ -1,5 +1,5 @@
 -- Each input of the decision table asks under new numbers, and waits on as it should.
-use Rattle.std.proofs.Common.{◌≡◌, ◌+◌, ◌++◌, ◌≤◌, ◌<◌, ℕ, true, false, List, [], ◌∷◌, Option, Some, None, All, refl, sym, ◌∙◌, arith, zero, suc}
+use Rattle.std.proofs.Common.{◌≡◌, ◌+◌, ◌++◌, ◌≤◌, ◌<◌, ℕ, Bool, true, false, List, [], ◌∷◌, Option, Some, None, All, refl, sym, ◌∙◌, arith, zero, suc}
 use Rattle.std.proofs.lemmas.List.Elements.{All-push, All-nil}
 use Rattle.pat_base.specs.MemberId.{member_of}
 use Rattle.pat_base.specs.declared.member_id.MemberId.{MemberId}
@@ -45,7 +45,7 @@ use Rattle.ha_loop.specs.Planning.{writing_sync, switching_off, planned_as, plan
 use Rattle.ha_loop.specs.Synchronous.{expected_of, sync_read_if, unnamed, waiting_for}
 use Rattle.pat_base.specs.declared.server_state.Required.{Required}
 use Rattle.pat_base.specs.declared.server_state.Required.TheVariants as needs
-use Rattle.ha_loop.specs.HandingOver.{asking_whom, checking, duties}
+use Rattle.ha_loop.specs.HandingOver.{asking_whom, checking, duties, hands_over}
 use Rattle.ha_loop.specs.Operators.{answering, given_up, learned, looked, operated, operating, restarting, wiping}
 use Rattle.ha_loop.specs.Outputs.{listed}
 use Rattle.ha_loop.specs.Racing.{finds_free, judged, answers_until, asking_others, unheard}
@@ -271,7 +271,8 @@ handover-reaches now known revision o r =
     record {
       kept = quiet;
       clears = λ compared. drop-reaches now known compared (waiting_no_more o) quiet;
-      hands = λ candidate. one-more now known (waiting_no_more o).knows (listed (outputs.HandsOver candidate) o.outputs) outputs.ShutDown tt (one-more now known (waiting_no_more o).knows o.outputs (outputs.HandsOver candidate) tt quiet);
+      hands = λ candidate. goes-on now known (waiting_no_more o).knows (hands_over now revision candidate (waiting_no_more o)).knows (listed outputs.ShutDown (listed (outputs.HandsOver candidate) o.outputs)) refl refl refl refl
+          (one-more now known (waiting_no_more o).knows (listed (outputs.HandsOver candidate) o.outputs) outputs.ShutDown tt (one-more now known (waiting_no_more o).knows o.outputs (outputs.HandsOver candidate) tt quiet));
     }
 
 -- operators are answered

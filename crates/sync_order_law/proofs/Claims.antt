@@ -1,5 +1,5 @@
 -- A claim that the key store grants names its sender.
-use Rattle.std.proofs.Common.{ℕ, ◌≡◌, ◌&&◌, Bool, true, false, Option, Some, None, refl, ap, subst}
+use Rattle.std.proofs.Common.{ℕ, ◌≡◌, ◌&&◌, Bool, true, false, Option, Some, None, ap, subst}
 use Rattle.lease_law.proofs.Tools.{and-first, both, eq-from}
 use Rattle.commit_law.specs.Actions.{at_revision, is_as_read, is_granted, is_leader_as_read}
 use Rattle.commit_law.specs.Carried.{IsAsRead, IsSound, NamesMember}

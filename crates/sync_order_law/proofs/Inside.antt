@@ -1,5 +1,5 @@
 -- Required lists and sync key are in order between two actions, and at each moment inside one.
-use Rattle.std.proofs.Common.{arith, ◌≡◌, ◌⊎◌, ℕ, ◌<◌, ◌≤◌, Bool, true, false, List, [], ◌∷◌, ◌++◌, Option, Some, None, slice_get, refl, ◌∙◌, ap, sym, subst, inl, inr}
+use Rattle.std.proofs.Common.{arith, ◌≡◌, ◌⊎◌, ℕ, ◌<◌, ◌≤◌, Bool, true, List, [], ◌∷◌, ◌++◌, Option, Some, None, slice_get, refl, ◌∙◌, ap, sym, subst, inl, inr}
 use Rattle.pat_base.specs.declared.server_state.Required.{Required}
 use Rattle.pat_base.specs.declared.server_state.Required.TheVariants as requireds
 use Rattle.event_book.specs.declared.event.Event.{Event}
@@ -15,12 +15,11 @@ use Rattle.lease_law.proofs.Runs.{head-is, no-cons, tail-is}
 use Rattle.lease_law.proofs.Tools.{both}
 use Rattle.commit_law.specs.Actions.{IsAllowed}
 use Rattle.commit_law.specs.Books.{IsShown, Transition}
-use Rattle.commit_law.specs.Carried.{IsLed, IsSound}
-use Rattle.commit_law.specs.Keys.{Need, Nobody, All, Overlaps, SyncKey, count}
+use Rattle.commit_law.specs.Carried.{IsSound}
+use Rattle.commit_law.specs.Keys.{Nobody, All, Overlaps, SyncKey, count}
 use Rattle.commit_law.specs.Past.{Past, Setup, VolatileState, need_in, need_of, past_after, past_over, state_of, sync_after}
 use Rattle.commit_law.proofs.Counting.{none-of}
 use Rattle.commit_law.proofs.Fronts.{kept-after}
-use Rattle.ha_loop.specs.Committing.{IsStrict}
 use Rattle.sync_order_law.specs.Changes.{AllLeaveOrder, ChangeOrderOnce, LeavesOrder}
 use Rattle.sync_order_law.specs.Order.{AreInOrder, Awaits, IsInOrder, NamesMembers}
 

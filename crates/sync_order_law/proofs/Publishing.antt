@@ -8,9 +8,8 @@ use Rattle.commit_law.specs.Flights.{Aim, ClaimSync, CreateLeader, PublishStandb
 use Rattle.commit_law.specs.Inputs.{AgentInput, Does, HasConfirmed, IsLawful, Publishes, Sending, Idling, Racing, HearingAnswer, WinningRace, CreatingLeader, Arming, TakingOver, ChangingRequired, Publishing, Promoting, SettlingRequired}
 use Rattle.commit_law.specs.Keys.{Need, MayPublish, Added, Counted, Confirmed, Meets, Overlaps, SyncKey, count}
 use Rattle.commit_law.specs.Past.{Past, Setup, VolatileState, need_in, need_of, position_of, state_of}
-use Rattle.commit_law.specs.States.{Agent, Machine, Reaches, State}
+use Rattle.commit_law.specs.States.{Reaches, State}
 use Rattle.commit_law.proofs.Counting.{none-of}
-use Rattle.ha_loop.specs.Committing.{IsStrict}
 use Rattle.sync_order_law.specs.Order.{Awaits, NamesMembers}
 use Rattle.sync_order_law.specs.Requests.{PublishesInOrder}
 use Rattle.sync_order_law.proofs.Inside.{awaits}
