@@ -17,6 +17,7 @@ pub mod Waiting
 pub mod FreeKey
 pub mod Beginning
 pub mod Replying
+pub mod OperatorAnswers
 pub mod CommitTools
 pub mod CommitGrowing
 pub mod CommitQuiet

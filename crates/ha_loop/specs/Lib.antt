@@ -11,6 +11,7 @@ pub mod FreeKey
 pub mod HandingOver
 pub mod Info
 pub mod Lawful
+pub mod OperatorAnswers
 pub mod Operators
 pub mod Orders
 pub mod Outputs

@@ -24,6 +24,7 @@ ghost use Rattle.ha_loop.specs.Asking.{AsksAsWaited};
 ghost use Rattle.ha_loop.specs.Before.{before};
 ghost use Rattle.ha_loop.specs.Fits.{Fits};
 ghost use Rattle.ha_loop.specs.FreeKey.{HearsFree, StaysOut, AsksForKey, AsksOthers, HearsLast, RunsLate, LosesRace, LosesAndTurns};
+ghost use Rattle.ha_loop.specs.OperatorAnswers.{told_in, AnswersOneAtMost, WaitsAsAsked};
 ghost use Rattle.ha_loop.specs.Orders.{IsCarriedOut};
 ghost use Rattle.ha_loop.specs.Powers.{BringsNothing, GrantMay, LeavesMachine};
 ghost use Rattle.ha_loop.specs.Racing.{can_start};
@@ -77,6 +78,15 @@ pub fn outputs_make_the_machine()
 pub fn what_is_asked_is_waited_for()
     ensures step { (now : Ticks) (points : List HistoryPoint) (heard : Heard) (role : RoleFacts) (knows : Knowledge) (machine : Machine) → IsSoundAgent role knows → AsksAsWaited now (made role knows machine []) (step now points heard (made role knows machine [])) }
     ensures answers { (now : Ticks) (points : List HistoryPoint) (heard : Heard) (role : RoleFacts) (knows : Knowledge) (machine : Machine) → All (RepliesTo heard) (step now points heard (made role knows machine [])).outputs }
+{}
+
+/// An operator is answered at most once. An input answers at most one request: the one that waited before, for its reason, and
+/// then none waits any more; or the one that is heard, where that is done at once, as a restart is. What waits after an input
+/// waited before, or is the request that is heard, for which the key store is asked at this moment. So where each request has a
+/// number of its own, one that was answered doesn't wait again, and one that neither waits nor is heard is never answered.
+pub fn an_operator_is_answered_once()
+    ensures answers { (now : Ticks) (points : List HistoryPoint) (heard : Heard) (role : RoleFacts) (knows : Knowledge) (machine : Machine) → AnswersOneAtMost now heard (made role knows machine []) (step now points heard (made role knows machine [])) (told_in (step now points heard (made role knows machine [])).outputs) }
+    ensures waits { (now : Ticks) (points : List HistoryPoint) (heard : Heard) (role : RoleFacts) (knows : Knowledge) (machine : Machine) → WaitsAsAsked now heard (made role knows machine []) (step now points heard (made role knows machine [])) }
 {}
 
 /// Who is barred doesn't ask for a free leader key: where the answer to its read tells that nobody leads, an agent without a
