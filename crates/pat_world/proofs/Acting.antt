@@ -1,5 +1,5 @@
 -- What an input of an agent brings at most: messages of its run, and outputs.
-use Rattle.std.proofs.Common.{ℕ, ◌+◌, ◌≤◌, ◌^◌, List, [], ◌∷◌, All, length, length-append, Option, Some, None, arith, zero, suc}
+use Rattle.std.proofs.Common.{ℕ, ◌+◌, ◌≤◌, ◌^◌, Bool, true, false, List, [], ◌∷◌, All, length, length-append, Option, Some, None, arith, zero, suc}
 use Rattle.std.proofs.lemmas.List.Elements.{All-push}
 use Rattle.pat_base.specs.MemberId.{member_of}
 use Rattle.pat_base.specs.declared.member_id.MemberId.{MemberId}
