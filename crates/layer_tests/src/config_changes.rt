@@ -305,12 +305,24 @@ fn names_of_faults(rt: HostRuntime) -> Result<(), Fail> {
 /// Holds what each change is answered against its row.
 fn have_answers(rt: &impl Abort, alloc: Global, rows: &[Row]) -> Result<(), Fail> {
     for (place, (present, change, body, wanted)) in rows.iter().enumerate() {
-        let store = Store::new(alloc, ConfigValue::read(alloc, present)?)?;
-        let seen = snapshot_of(rt, alloc, &store, &[])?;
-        let told = answer(alloc, &replica(rt, Some(&seen)), *change, body)?;
+        let told = answer_over(rt, alloc, present, *change, body)?;
         assert_eq!(rt; told.as_str(), *wanted, "case {place}: {change:?}");
     }
     Ok(())
+}
+
+/// The answer of an agent that has read this configuration last.
+fn answer_over(
+    rt: &impl Abort,
+    alloc: Global,
+    present: &[u8],
+    change: ConfigChange,
+    body: &[u8],
+) -> Result<String, Fail> {
+    let store = Store::new(alloc, ConfigValue::read(alloc, present)?)?;
+    let seen = snapshot_of(rt, alloc, &store, &[])?;
+    let view = replica(rt, Some(&seen));
+    answer(alloc, &view, change, body)
 }
 
 fn answer(

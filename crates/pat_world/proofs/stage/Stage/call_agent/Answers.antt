@@ -1,24 +1,20 @@
-use Rattle.std.proofs.Common.{◌∙◌, arith, List, [], Option, Result, Err, ap, sym, subst}
+use Rattle.std.proofs.Common.{◌∙◌, arith, Result, Err, ap, subst}
 use Rattle.std.specs.Prelude.{option_copied}
 use Rattle.std.proofs.lemmas.Result.{on_ok_weaker}
 use Rattle.lease_store.specs.declared.action.OperatorRequest.{OperatorRequest}
 use Rattle.operator_keys.specs.declared.refusal.CheckFault.{CheckFault}
 use Rattle.operator_keys.specs.Refusals.{Answers}
-use Rattle.ha_loop.specs.Agents.{AgentFacts, made}
-use Rattle.ha_loop.specs.Views.{shown}
-use Rattle.cluster_model.specs.Inputs.{agent_at, moment_of}
-use Rattle.cluster_model.specs.State.{Cluster}
 use Rattle.pat_world.specs.Calls.{decision_by}
 use Rattle.pat_world.specs.Room.{call_cost}
-use Rattle.pat_world.proofs.Calling.{IsAsked, numbers-left, operates-took, refuses-took}
+use Rattle.pat_world.proofs.Calling.{IsAsked, found-asked, found-there, numbers-left, operates-took, refuses-took}
 use Rattle.pat_world.proofs.Rooms.{HasRoom-fewer}
 use Rattle.pat_world.proofs.stage.Stage.call_agent.Goals as goal
 
 pub next_number-request-requires : goal.next_number-request-requires
 next_number-request-requires c =
-    let place = c.args.member.id.number in
-    let there = ap (λ (b : Cluster). agent_at b.agents place) (sym c.self.view_is) ∙ ap (λ (known : List (Option AgentFacts)). agent_at known place) (sym c.deref.ensures.value) ∙ sym c.agent_at.ensures ∙ ap option_copied c.in-Some-agent_at.is in
-    numbers-left c.args.self.now c.args.member c.in-Some-agent_at.agent.now c.requires there
+    let agent = c.in-Some-agent_at.agent.now in
+    let there = found-there c.args.self.now _ _ _ c.args.member.id.number agent c.self.view_is c.deref.ensures.value c.agent_at.ensures (ap option_copied c.in-Some-agent_at.is) in
+    numbers-left c.args.self.now c.args.member agent c.requires there
 
 pub happen-requires-clause-room : goal.happen-requires-clause-room
 happen-requires-clause-room c = HasRoom-fewer c.args.self.now call_cost 1 (omega arith) c.requires
@@ -27,42 +23,30 @@ pub returns-in-Ok : goal.returns-in-Ok
 returns-in-Ok c =
     let cluster = c.args.self.now in
     let member = c.args.member in
-    let place = member.id.number in
     let agent = c.in-Some-agent_at.agent.now in
     let machine = c.in-Some.machine in
     let view = c.view-view.result in
-    let there = ap (λ (b : Cluster). agent_at b.agents place) (sym c.self.view_is) ∙ ap (λ (known : List (Option AgentFacts)). agent_at known place) (sym c.deref.ensures.value) ∙ sym c.agent_at.ensures ∙ ap option_copied c.in-Some-agent_at.is in
-    let asks : IsAsked cluster member agent machine view c.next_number-request.result = record {
-      agent_is = there;
-      machine_is = sym c.machine.ensures.machine ∙ c.in-Some.is;
-      shows = c.view-view.ensures.shown ∙ ap (λ (b : Cluster). shown (moment_of b) (made agent.role agent.knows machine [])) c.self.view_is;
-      seen = c.view-view.ensures.seen;
-      next = c.next_number-request.ensures;
-    } in
+    let request = c.next_number-request.result in
+    let asks : IsAsked cluster member agent machine view request =
+    found-asked c.self.view_is c.deref.ensures.value c.agent_at.ensures (ap option_copied c.in-Some-agent_at.is) c.machine.ensures.machine c.in-Some.is c.view-view.ensures.shown c.view-view.ensures.seen c.next_number-request.ensures in
     let answers = subst (λ (r : Result OperatorRequest CheckFault). Answers r (decision_by view c.args.call c.args.body.now)) c.in-Ok.is c.decision_on_call.ensures in
     on_ok_weaker c.operate.result
-    (λ took. operates-took cluster member agent machine view c.next_number-request.result asks c.operate.new.self c.args.call c.args.body.now c.in-Ok.asked c.args.events.now.items c.operate.new.events.items answers took)
+    (λ took. operates-took cluster member agent machine view request asks c.operate.new.self c.args.call c.args.body.now c.in-Ok.asked c.args.events.now.items c.operate.new.events.items answers took)
     c.operate.ensures
 
 pub returns-in_ok-refusing-in-Err-Refused : goal.returns-in_ok-refusing-in-Err-Refused
 returns-in_ok-refusing-in-Err-Refused c =
     let cluster = c.args.self.now in
     let member = c.args.member in
-    let place = member.id.number in
     let agent = c.in-Some-agent_at.agent.now in
     let machine = c.in-Some.machine in
     let view = c.view-view.result in
-    let there = ap (λ (b : Cluster). agent_at b.agents place) (sym c.self.view_is) ∙ ap (λ (known : List (Option AgentFacts)). agent_at known place) (sym c.deref.ensures.value) ∙ sym c.agent_at.ensures ∙ ap option_copied c.in-Some-agent_at.is in
-    let asks : IsAsked cluster member agent machine view c.next_number-request.result = record {
-      agent_is = there;
-      machine_is = sym c.machine.ensures.machine ∙ c.in-Some.is;
-      shows = c.view-view.ensures.shown ∙ ap (λ (b : Cluster). shown (moment_of b) (made agent.role agent.knows machine [])) c.self.view_is;
-      seen = c.view-view.ensures.seen;
-      next = c.next_number-request.ensures;
-    } in
+    let request = c.next_number-request.result in
+    let asks : IsAsked cluster member agent machine view request =
+    found-asked c.self.view_is c.deref.ensures.value c.agent_at.ensures (ap option_copied c.in-Some-agent_at.is) c.machine.ensures.machine c.in-Some.is c.view-view.ensures.shown c.view-view.ensures.seen c.next_number-request.ensures in
     let refused = c.in-Err-Refused.refused in
     let answers = subst (λ (r : Result OperatorRequest CheckFault). Answers r (decision_by view c.args.call c.args.body.now)) (c.in-Err-Refused.is ∙ ap Err c.in-Err-Refused.field-0-is) c.decision_on_call.ensures in
     on_ok_weaker c.happen.result
-    (λ took. refuses-took cluster member agent machine view c.next_number-request.result asks c.happen.new.self c.args.call c.args.body.now refused c.in_ok-refusing-in-Err-Refused.field-0 c.args.events.now.items c.happen.new.events.items answers
+    (λ took. refuses-took cluster member agent machine view request asks c.happen.new.self c.args.call c.args.body.now refused c.in_ok-refusing-in-Err-Refused.field-0 c.args.events.now.items c.happen.new.events.items answers
     c.in_ok-refusing-in-Err-Refused.ensures.kind took)
     c.happen.ensures
