@@ -43,7 +43,7 @@ abbrev pub unless_faulty : Result Settings ConfigFault → Result Settings Refus
 unless_faulty (Ok next) = Ok next
 unless_faulty (Err fault) = Err (record { status = bad_request; text = texts.BadConfiguration fault })
 
--- the configuration that a change gives of the present one; of one that sets nothing where there is none, which no snapshot lacks
+-- the configuration that a change gives of the present one, or of one that sets nothing where a snapshot has none (no snapshot is without one)
 abbrev pub configuration_from : ConfigChange → Option Settings → List ℕ → Result Settings Refused
 configuration_from change None bytes = unless_faulty (changed change default_settings bytes)
 configuration_from change (Some present) bytes = unless_faulty (changed change present bytes)
