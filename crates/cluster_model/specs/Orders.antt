@@ -13,6 +13,7 @@ use Rattle.pg_model.specs.declared.answers.Rewound.{Rewound}
 use Rattle.pg_model.specs.Rewinding.{may_clone_at, rewind_at}
 use Rattle.pg_model.specs.Facts.{ServerFacts, is_creating, is_down, is_replica, is_up}
 use Rattle.pg_model.specs.Running.{is_primary}
+use Rattle.event_book.specs.declared.event.AgentEvent.TheVariants as agents
 use Rattle.event_book.specs.declared.event.EventKind.{EventKind}
 use Rattle.event_book.specs.declared.event.EventKind.TheVariants as kinds
 use Rattle.event_book.specs.declared.event.LogEvent.TheVariants as logs
@@ -146,13 +147,14 @@ not_racing members member bar = kinds.Note (notes.DoesNotRace member bar (declar
 abbrev pub handing_over : Member → Member → EventKind
 handing_over member candidate = kinds.Note (notes.HandsOver member candidate)
 
--- what an agent tells of its watchdog, but for its feeds, and of its promotion
+-- what an agent tells of its watchdog, but for its feeds, and of its promotion, and that it leads past the sync key
 abbrev pub told_of : Member → Output → Option EventKind
 told_of member outputs.Disarmed = Some (kinds.Watchdog (watchdogs.Disarmed member))
 told_of member outputs.CannotArm = Some (kinds.Note (notes.CannotArm member))
 told_of member outputs.DisablesWatchdog = Some (kinds.Note (notes.DisablesWatchdog member))
 told_of member outputs.RunsWithoutKey = Some (kinds.Note (notes.RunsWithoutKey member))
 told_of member outputs.PostponesPromotion = Some (kinds.Note (notes.PostponesPromotion member))
+told_of member outputs.Passes = Some (kinds.Agent (agents.Passed member))
 told_of member _ = None
 
 -- what an order comes to that brings one event at most, at the member's server, on the message that was heard

@@ -180,6 +180,7 @@ module _ (setup : Setup) (member : Member) where
     output-moves past cluster outputs.CannotArm fits table alone answers = free-moves past cluster (kinds_of (order_kind cluster member message outputs.CannotArm)) fits (tt, tt)
     output-moves past cluster outputs.DisablesWatchdog fits table alone answers = free-moves past cluster (kinds_of (order_kind cluster member message outputs.DisablesWatchdog)) fits (tt, tt)
     output-moves past cluster outputs.RunsWithoutKey fits table alone answers = free-moves past cluster (kinds_of (order_kind cluster member message outputs.RunsWithoutKey)) fits (tt, tt)
+    output-moves past cluster outputs.Passes fits table alone answers = absurd alone
     output-moves past cluster outputs.PostponesPromotion fits table alone answers = free-moves past cluster (kinds_of (order_kind cluster member message outputs.PostponesPromotion)) fits (tt, tt)
     output-moves past cluster (outputs.DoesNotRace bar) fits table alone answers = free-moves past cluster (kinds_of (order_kind cluster member message (outputs.DoesNotRace bar))) fits (tt, tt)
     output-moves past cluster outputs.ShutDown fits table alone answers = shuts-moves past cluster (server_at cluster member) refl fits

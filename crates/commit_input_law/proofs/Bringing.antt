@@ -33,10 +33,10 @@ use Rattle.commit_step_law.specs.Bridged.{CommitsBridged}
 use Rattle.commit_step_law.specs.Reading.{past_of, setup_of, state_of_run, volatile_of}
 use Rattle.commit_input_law.proofs.Alone.{AnswersNone, alone-moves}
 use Rattle.commit_input_law.proofs.Connected.{grown-waits}
-use Rattle.commit_input_law.proofs.Covering.{leave-both, own-both}
-use Rattle.commit_input_law.proofs.Inputs.{front-aside, Acting, After, Before, Events, First, Open, Page, PageOf, Part, Theirs, carried-out, front-acted, front-fits, front-flight, front-leaves, front-live, front-lives, front-needs, front-own, front-servers, given-unless, grows-by, lawful-as, page-moves, table}
+use Rattle.commit_input_law.proofs.Covering.{IsCarried, carried, leave-both, own-both}
+use Rattle.commit_input_law.proofs.Inputs.{front-aside, Acting, After, Before, Events, First, Open, Page, PageOf, Part, SendsInside, Theirs, carried-out, front-acted, front-fits, front-flight, front-leaves, front-live, front-lives, front-needs, front-own, front-servers, given-unless, grows-by, lawful-as, page-moves, table}
 use Rattle.commit_step_law.proofs.Moving.{Moves, moves-then}
-use Rattle.commit_input_law.proofs.Page.{BeginsNone, RequiresNone, Sets, alone-begins, alone-requires, covered-begins, none-begins, required-set, sets}
+use Rattle.commit_input_law.proofs.Page.{BeginsNone, PassesNone, RequiresNone, Sets, alone-begins, alone-passes, alone-requires, carried-begins, covered-passes, none-begins, none-passes, required-set, sets}
 
 -- what comes of some, and then of others
 pub each-both : {X : Type 0} (part : Cluster → X → List Event) (cluster : Cluster) (xs ys : List X) → each part cluster (xs ++ ys) ≡ each part cluster xs ++ each part (cluster_over cluster (each part cluster xs)) ys
@@ -62,6 +62,11 @@ alone-unasking (outputs.Send to sequence body) alone = alone
 alone-unasking outputs.Begin alone = alone
 alone-unasking _ alone = tt
 
+pub carried-unasking : (output : Output) → IsCarried output → IsUnasking output
+carried-unasking (outputs.Send to sequence body) is = is
+carried-unasking outputs.Begin is = absurd is
+carried-unasking _ is = tt
+
 pub sent-none : (m run : ℕ) (outs : List Output) → All IsUnasking outs → IsSent (requests_of m run outs) None
 sent-none m run outs all = subst (λ (l : List SyncRequest). IsSent l None) (sym (asks-none m run outs all)) refl
 
@@ -84,36 +89,36 @@ module _ (head : HeadText) (book : List Event) (cluster : Cluster) (good : Commi
   abbrev Of : List Event → Option Sending → Type 0
   Of events sends = PageOf head book cluster good a events sends
 
-  abbrev pub Lawful : (sends : Option Sending) → IsSent (requests_of M a.agent.knows.run Outs) sends → IsLawfulAs (moment_of cluster) a.heard (Before head book cluster good a) (state_of_run head book cluster) M (Theirs head book cluster good a sends)
+  abbrev pub Lawful : (sends : Option Sending) → SendsInside head book cluster good a sends → IsLawfulAs (moment_of cluster) a.heard (Before head book cluster good a) (state_of_run head book cluster) M (Theirs head book cluster good a sends)
   Lawful = lawful-as head book cluster good a
 
   -- nothing is given where no claim is sent
-  pub given-none : (sent : IsSent (requests_of M a.agent.knows.run Outs) None) → IsGivenByLease (state_of_run head book cluster) M (Theirs head book cluster good a None) (Lawful None sent).lawful.was (Lawful None sent).lawful.does
+  pub given-none : (sent : SendsInside head book cluster good a None) → IsGivenByLease (state_of_run head book cluster) M (Theirs head book cluster good a None) (Lawful None sent).lawful.was (Lawful None sent).lawful.does
   given-none sent = given-unless (moment_of cluster) a.heard (Before head book cluster good a) (state_of_run head book cluster) M (Theirs head book cluster good a None) (Lawful None sent).lawful.was (Lawful None sent).lawful.does refl (Lawful None sent).does
 
   -- a front of its outputs, which the law's input covers
   module _ (front : List Output) (covered : All IsCovered front) (of_table : All IsOfTable front) where
     abbrev Front : List Event
-    Front = Page head book cluster good a front covered of_table
+    Front = Page head book cluster good a front (carried front covered) of_table
 
     -- where neither a request nor a required list comes behind
-    pub front-page : All IsUnasking Outs → All RequiresNone Outs → Of Front None
-    front-page unasking none = record {
-      own = front-own head book cluster good a front covered of_table;
-      leaves = front-leaves head book cluster good a front covered of_table;
-      once = once-none Front (front-aside head book cluster good a front covered of_table);
-      flight = front-flight head book cluster good a front covered of_table;
-      live = front-live head book cluster good a front covered of_table;
-      needs = front-needs head book cluster good a front covered of_table none;
-      acted = front-acted head book cluster good a front covered of_table;
-      lives = front-lives head book cluster good a front covered of_table;
-      fits = front-fits head book cluster good a front covered of_table;
-      sent = sent-none M a.agent.knows.run Outs unasking;
+    pub front-page : All IsUnasking Outs → All RequiresNone Outs → All PassesNone Outs → Of Front None
+    front-page unasking none inside = record {
+      own = front-own head book cluster good a front (carried front covered) of_table;
+      leaves = front-leaves head book cluster good a front (carried front covered) of_table;
+      once = once-none Front (front-aside head book cluster good a front (carried front covered) of_table);
+      flight = front-flight head book cluster good a front (carried front covered) of_table;
+      live = front-live head book cluster good a front (carried front covered) of_table;
+      needs = front-needs head book cluster good a front (carried front covered) of_table none;
+      acted = front-acted head book cluster good a front (carried front covered) of_table;
+      lives = front-lives head book cluster good a front (carried front covered) of_table;
+      fits = front-fits head book cluster good a front (carried front covered) of_table;
+      sent = record { sent = sent-none M a.agent.knows.run Outs unasking; inside = none-passes Outs inside };
     }
 
   -- ---- each output is an action of its own
   alone-page : All StandsAlone Outs → Of (Open head book cluster good a ∷ []) None
-  alone-page alone = front-page [] (All-nil IsCovered) (All-nil IsOfTable) (All-weaker StandsAlone IsUnasking alone-unasking Outs alone) (All-weaker StandsAlone RequiresNone alone-requires Outs alone)
+  alone-page alone = front-page [] (All-nil IsCovered) (All-nil IsOfTable) (All-weaker StandsAlone IsUnasking alone-unasking Outs alone) (All-weaker StandsAlone RequiresNone alone-requires Outs alone) (All-weaker StandsAlone PassesNone alone-passes Outs alone)
 
   pub apart-moves : All StandsAlone Outs → All AnswersNone Outs → Moves Law P cluster All_
   apart-moves alone none =
@@ -130,7 +135,7 @@ module _ (head : HeadText) (book : List Event) (cluster : Cluster) (good : Commi
     of_table = all-front IsOfTable front (outputs.Require required ∷ behind) Outs whole (table head book cluster good a)
 
     abbrev pub Up : List Event
-    Up = Page head book cluster good a front covered of_table
+    Up = Page head book cluster good a front (carried front covered) of_table
 
     abbrev pub Reached : Cluster
     Reached = cluster_over cluster Up
@@ -139,7 +144,7 @@ module _ (head : HeadText) (book : List Event) (cluster : Cluster) (good : Commi
     required-is = ap (λ (m : Machine). m.replication.required) (carried-out head book cluster good a).machine_is
         ∙ ap (λ (l : List Output). (machine_after_outputs (moment_of cluster) a.machine l).replication.required) (sym whole) ∙ required-set (moment_of cluster) a.machine front required behind none
 
-    module _ (sent : IsSent (requests_of M a.agent.knows.run Outs) None) (s : ServerFacts) (found : slice_get cluster.book.servers M ≡ Some s) where
+    module _ (sent : SendsInside head book cluster good a None) (s : ServerFacts) (found : slice_get cluster.book.servers M ≡ Some s) where
       grows : GrowsByConnected (Before head book cluster good a) ((state_of_run head book cluster).members M).required (need_in required)
       grows = subst (λ (r : Required). GrowsByConnected (Before head book cluster good a) ((state_of_run head book cluster).members M).required (need_in r)) required-is
           (grows-by (moment_of cluster) a.heard (Before head book cluster good a) (state_of_run head book cluster) M (Theirs head book cluster good a None) (Lawful None sent).lawful.was (Lawful None sent).lawful.does (Lawful None sent).does)
@@ -148,7 +153,7 @@ module _ (head : HeadText) (book : List Event) (cluster : Cluster) (good : Commi
       waits = grown-waits head book cluster good few a.member a.machine a.machine_is a.agent s found required grows
 
       pub there : slice_get Reached.book.servers M ≡ Some s
-      there = ap (λ (known : List ServerFacts). slice_get known M) (front-servers head book cluster good a front covered of_table) ∙ found
+      there = ap (λ (known : List ServerFacts). slice_get known M) (front-servers head book cluster good a front (carried front covered) of_table) ∙ found
 
       abbrev pub Set_ : List Event
       Set_ = Part head book cluster good a Reached (outputs.Require required)
@@ -157,13 +162,13 @@ module _ (head : HeadText) (book : List Event) (cluster : Cluster) (good : Commi
       set-is = ap (λ (o : Option ServerFacts). events_of Reached (kinds_of (option_and_then (require_of Reached.book.members a.member required) o))) (sym there)
 
       sets-to : (states : ℕ → VolatileState) (lives : (n : ℕ) → (states n).live ≡ live_in cluster.book.servers n)
-          → Sets (past_over P Up) Reached a.member states (front-fits head book cluster good a front covered of_table states lives) required waits s there Set_
+          → Sets (past_over P Up) Reached a.member states (front-fits head book cluster good a front (carried front covered) of_table states lives) required waits s there Set_
       sets-to states lives =
-          subst (λ (l : List Event). Sets (past_over P Up) Reached a.member states (front-fits head book cluster good a front covered of_table states lives) required waits s there l) set-is
-          (sets (past_over P Up) Reached a.member states (front-fits head book cluster good a front covered of_table states lives) required waits s there)
+          subst (λ (l : List Event). Sets (past_over P Up) Reached a.member states (front-fits head book cluster good a front (carried front covered) of_table states lives) required waits s there l) set-is
+          (sets (past_over P Up) Reached a.member states (front-fits head book cluster good a front (carried front covered) of_table states lives) required waits s there)
 
       -- as servers are
-      pub now-set : Sets (past_over P Up) Reached a.member (volatile_of cluster) (front-fits head book cluster good a front covered of_table (volatile_of cluster) (λ n. refl)) required waits s there Set_
+      pub now-set : Sets (past_over P Up) Reached a.member (volatile_of cluster) (front-fits head book cluster good a front (carried front covered) of_table (volatile_of cluster) (λ n. refl)) required waits s there Set_
       now-set = sets-to (volatile_of cluster) (λ n. refl)
 
       past-both : past_over P (Up ++ Set_) ≡ past_over (past_over P Up) Set_
@@ -174,14 +179,14 @@ module _ (head : HeadText) (book : List Event) (cluster : Cluster) (good : Commi
 
       pub required-page : Of (Up ++ Set_) None
       required-page = record {
-        own = own-both M Up Set_ (front-own head book cluster good a front covered of_table) now-set.own;
-        leaves = leave-both Up Set_ (front-leaves head book cluster good a front covered of_table) now-set.leaves;
-        once = once-behind Up Set_ (front-aside head book cluster good a front covered of_table) now-set.once;
-        flight = λ i. ap (λ (p : Past). p.flight i) past-both ∙ ap (λ (f : ℕ → Option Flying). f i) now-set.flight ∙ front-flight head book cluster good a front covered of_table i;
-        live = ap (λ (p : Past). p.holder_was_live) past-both ∙ now-set.live ∙ front-live head book cluster good a front covered of_table;
+        own = own-both M Up Set_ (front-own head book cluster good a front (carried front covered) of_table) now-set.own;
+        leaves = leave-both Up Set_ (front-leaves head book cluster good a front (carried front covered) of_table) now-set.leaves;
+        once = once-behind Up Set_ (front-aside head book cluster good a front (carried front covered) of_table) now-set.once;
+        flight = λ i. ap (λ (p : Past). p.flight i) past-both ∙ ap (λ (f : ℕ → Option Flying). f i) now-set.flight ∙ front-flight head book cluster good a front (carried front covered) of_table i;
+        live = ap (λ (p : Past). p.holder_was_live) past-both ∙ now-set.live ∙ front-live head book cluster good a front (carried front covered) of_table;
         needs = ap (λ (p : Past). need_of (slice_get p.required M)) past-both ∙ now-set.needs ∙ ap need_in (sym required-is);
-        acted = ap (λ (c : Cluster). c.agents) reached-both ∙ now-set.agents_same ∙ front-acted head book cluster good a front covered of_table;
-        lives = λ n. ap (λ (c : Cluster). live_in c.book.servers n) reached-both ∙ now-set.lives n ∙ front-lives head book cluster good a front covered of_table n;
+        acted = ap (λ (c : Cluster). c.agents) reached-both ∙ now-set.agents_same ∙ front-acted head book cluster good a front (carried front covered) of_table;
+        lives = λ n. ap (λ (c : Cluster). live_in c.book.servers n) reached-both ∙ now-set.lives n ∙ front-lives head book cluster good a front (carried front covered) of_table n;
         fits = λ states lives.
             subst (λ (p : Past). Fits p (cluster_over cluster (Up ++ Set_)).book states) (sym past-both)
             (subst (λ (c : Cluster). Fits (past_over (past_over P Up) Set_) c.book states) (sym reached-both) (sets-to states lives).fits_behind);
@@ -190,10 +195,10 @@ module _ (head : HeadText) (book : List Event) (cluster : Cluster) (good : Commi
 
   -- all of them: up to whom commits wait for
   pub requires-whole : (front behind : List Output) (required : Required) (covered : All IsCovered front) (of_table : All IsOfTable front) → front ++ outputs.Require required ∷ behind ≡ Outs
-      → All_ ≡ (Page head book cluster good a front covered of_table ++ Part head book cluster good a (cluster_over cluster (Page head book cluster good a front covered of_table)) (outputs.Require required))
-      ++ each (Part head book cluster good a) (cluster_over (cluster_over cluster (Page head book cluster good a front covered of_table)) (Part head book cluster good a (cluster_over cluster (Page head book cluster good a front covered of_table)) (outputs.Require required))) behind
+      → All_ ≡ (Page head book cluster good a front (carried front covered) of_table ++ Part head book cluster good a (cluster_over cluster (Page head book cluster good a front (carried front covered) of_table)) (outputs.Require required))
+      ++ each (Part head book cluster good a) (cluster_over (cluster_over cluster (Page head book cluster good a front (carried front covered) of_table)) (Part head book cluster good a (cluster_over cluster (Page head book cluster good a front (carried front covered) of_table)) (outputs.Require required))) behind
   requires-whole front behind required covered of_table whole =
-      let up : List Event = Page head book cluster good a front covered of_table in
+      let up : List Event = Page head book cluster good a front (carried front covered) of_table in
       let reached : Cluster = cluster_over cluster up in
       let set : List Event = Part head book cluster good a reached (outputs.Require required) in
       ap (λ (l : List Output). Open head book cluster good a ∷ each (Part head book cluster good a) (First head book cluster good a) l) (sym whole)
@@ -209,9 +214,10 @@ module _ (head : HeadText) (book : List Event) (cluster : Cluster) (good : Commi
   requires-moves front required covered whole =
       let of_table = all-front IsOfTable front (outputs.Require required ∷ []) Outs whole (table head book cluster good a) in
       let unasked_all : All IsUnasking Outs = subst (λ (l : List Output). All IsUnasking l) whole (All-push IsUnasking front (outputs.Require required) (unasking front (covered-quiet front covered)) tt) in
-      let begins : All BeginsNone Outs = subst (λ (l : List Output). All BeginsNone l) whole (All-push BeginsNone front (outputs.Require required) (All-weaker IsCovered BeginsNone covered-begins front covered) tt) in
-      let sent : IsSent (requests_of M a.agent.knows.run Outs) None = sent-none M a.agent.knows.run Outs unasked_all in
-      let up : List Event = Page head book cluster good a front covered of_table in
+      let begins : All BeginsNone Outs = subst (λ (l : List Output). All BeginsNone l) whole (All-push BeginsNone front (outputs.Require required) (All-weaker IsCarried BeginsNone carried-begins front (carried front covered)) tt) in
+      let inside : All PassesNone Outs = subst (λ (l : List Output). All PassesNone l) whole (All-push PassesNone front (outputs.Require required) (All-weaker IsCovered PassesNone covered-passes front covered) tt) in
+      let sent : SendsInside head book cluster good a None = record { sent = sent-none M a.agent.knows.run Outs unasked_all; inside = none-passes Outs inside } in
+      let up : List Event = Page head book cluster good a front (carried front covered) of_table in
       let set : List Event = Part head book cluster good a (cluster_over cluster up) (outputs.Require required) in
       let page : Of (up ++ set) None = required-page front required [] covered whole (All-nil RequiresNone) sent server-found.0 server-found.1 in
       subst (λ (l : List Event). Moves Law P cluster l) (sym (append-nil (up ++ set)) ∙ sym (requires-whole front [] required covered of_table whole))

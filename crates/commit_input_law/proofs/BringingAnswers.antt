@@ -36,11 +36,11 @@ use Rattle.run_law.specs.Declaring.{member_count}
 use Rattle.commit_step_law.specs.Bridged.{CommitsBridged}
 use Rattle.commit_step_law.specs.Reading.{past_of, setup_of, state_of_run, volatile_of}
 use Rattle.commit_input_law.proofs.Bringing.{Lawful, all-front, each-last, front-page, given-none}
-use Rattle.commit_input_law.proofs.Covering.{Told}
+use Rattle.commit_input_law.proofs.Covering.{IsCarried, Told, carried}
 use Rattle.commit_input_law.proofs.Inputs.{Acting, After, Before, Events, First, Open, Page, PageOf, Part, Theirs, front-told, page-moves, page-shown, stands, states-behind, table}
 use Rattle.commit_step_law.proofs.Moving.{Moves, moves-then}
 use Rattle.commit_step_law.proofs.Numbers.{numbered-by}
-use Rattle.commit_input_law.proofs.Page.{BeginsNone, RequiresNone, covered-begins, covered-requires, none-begins}
+use Rattle.commit_input_law.proofs.Page.{BeginsNone, PassesNone, RequiresNone, carried-begins, carried-requires, covered-passes, none-begins}
 use Rattle.commit_input_law.proofs.Sending.{LogEndsAt, answer-moves}
 
 if-some : (test : Bool) (found : Option Lsn) (end : Lsn) → (if test then found else None) ≡ Some end → found ≡ Some end
@@ -95,19 +95,22 @@ module _ (head : HeadText) (book : List Event) (cluster : Cluster) (good : Commi
   unasking-all = subst (λ (l : List Output). All IsUnasking l) whole (All-push IsUnasking Stood.outputs Answer (unasking Stood.outputs (covered-quiet Stood.outputs covered)) tt)
 
   requires-none : All RequiresNone Outs
-  requires-none = subst (λ (l : List Output). All RequiresNone l) whole (All-push RequiresNone Stood.outputs Answer (All-weaker IsCovered RequiresNone covered-requires Stood.outputs covered) tt)
+  requires-none = subst (λ (l : List Output). All RequiresNone l) whole (All-push RequiresNone Stood.outputs Answer (All-weaker IsCarried RequiresNone carried-requires Stood.outputs (carried Stood.outputs covered)) tt)
 
   begins-none : All BeginsNone Outs
-  begins-none = subst (λ (l : List Output). All BeginsNone l) whole (All-push BeginsNone Stood.outputs Answer (All-weaker IsCovered BeginsNone covered-begins Stood.outputs covered) tt)
+  begins-none = subst (λ (l : List Output). All BeginsNone l) whole (All-push BeginsNone Stood.outputs Answer (All-weaker IsCarried BeginsNone carried-begins Stood.outputs (carried Stood.outputs covered)) tt)
+
+  passes-none : All PassesNone Outs
+  passes-none = subst (λ (l : List Output). All PassesNone l) whole (All-push PassesNone Stood.outputs Answer (All-weaker IsCovered PassesNone covered-passes Stood.outputs covered) tt)
 
   abbrev Upto : List Event
-  Upto = Page head book cluster good a Stood.outputs covered of_table
+  Upto = Page head book cluster good a Stood.outputs (carried Stood.outputs covered) of_table
 
   abbrev Reached : Cluster
   Reached = cluster_over cluster Upto
 
   page : PageOf head book cluster good a Upto None
-  page = front-page head book cluster good few a Stood.outputs covered of_table unasking-all requires-none
+  page = front-page head book cluster good few a Stood.outputs covered of_table unasking-all requires-none passes-none
 
   abbrev Replying : List Event
   Replying = Part head book cluster good a Reached Answer
@@ -134,7 +137,7 @@ module _ (head : HeadText) (book : List Event) (cluster : Cluster) (good : Commi
       (subst (λ (l : Option (List Entry)). IsEndOf a.machine.server.end l) log-same (stands head book cluster good a).end)
     where
       log-same : ((state_of_run head book cluster).members M).log ≡ (Later.members M).log
-      log-same = ap (λ (t : Told). log_found (slice_get t.logs M)) (sym (front-told head book cluster good a Stood.outputs covered of_table))
+      log-same = ap (λ (t : Told). log_found (slice_get t.logs M)) (sym (front-told head book cluster good a Stood.outputs (carried Stood.outputs covered) of_table))
 
   pub answers-moves : ((peer : Member) → slice_get cluster.book.members from.number ≡ Some peer → IsNumbered ((state_of_run head book cluster).members peer.id.number) run sequence) → Moves Law P cluster (Events head book cluster good a)
   answers-moves asks = subst (λ (l : List Event). Moves Law P cluster l) (sym whole-events)

@@ -26,10 +26,11 @@ use Rattle.cluster_script.specs.Script.{HeadText}
 use Rattle.ha_loop.specs.declared.output.Output.{Output}
 use Rattle.ha_loop.specs.declared.output.Output.TheVariants as outputs
 use Rattle.ha_loop.specs.declared.output.Target.TheVariants as targets
-use Rattle.ha_loop.specs.Committing.{IsCovered, IsSent, IsSynchronousBody, IsSynchronousOutput, IsSynchronousTxn, KnowsBelow, request_in, request_of_body, requests_of}
+use Rattle.ha_loop.specs.Committing.{IsSent, IsSynchronousBody, IsSynchronousOutput, IsSynchronousTxn, KnowsBelow, is_passing, request_in, request_of_body, requests_of}
 use Rattle.ha_loop.specs.Agents.{AgentFacts}
 use Rattle.ha_loop.specs.Orders.{IsOfTable}
-use Rattle.ha_loop.proofs.CommitQuiet.{asks-last, covered as covered-quiet, unasking}
+use Rattle.ha_loop.proofs.CommitQuiet.{asks-last, IsUnasking}
+use Rattle.ha_loop.specs.Outputs.{has_one}
 use Rattle.cluster_model.specs.Cluster.{agent_after, cluster_after, cluster_over}
 use Rattle.run_law.proofs.Places.{get-here}
 use Rattle.cluster_model.specs.Limits.{most_in_flight}
@@ -64,12 +65,12 @@ use Rattle.commit_step_law.specs.Ordered.{AllInOrder, AsksInOrder, noted_by}
 use Rattle.commit_step_law.proofs.Ordering.{order-then}
 use Rattle.commit_step_law.specs.Bridged.{CommitsBridged}
 use Rattle.commit_step_law.specs.Reading.{past_of, setup_of, state_of_run, volatile_of}
-use Rattle.commit_input_law.proofs.Bringing.{Lawful, all-front, each-last}
+use Rattle.commit_input_law.proofs.Bringing.{Lawful, all-front, carried-unasking, each-last}
 use Rattle.commit_input_law.proofs.Connected.{connected-member}
-use Rattle.commit_input_law.proofs.Covering.{NoneAbove, Told, leave-both, none-later, own-both, put-none}
+use Rattle.commit_input_law.proofs.Covering.{IsCarried, NoneAbove, Told, leave-both, none-later, own-both, put-none}
 use Rattle.commit_input_law.proofs.Inputs.{Acting, After, Events, First, Open, Page, PageOf, Part, Theirs, first-none, front-acted, front-aside, front-fits, front-flight, front-leaves, front-live, front-lives, front-needs, front-ordered, front-own, front-processes, front-told, fronts, page-moves, stays-on, table}
 use Rattle.commit_step_law.proofs.Moving.{Moves, moves-then}
-use Rattle.commit_input_law.proofs.Page.{BeginsNone, RequiresNone, covered-begins, covered-requires, none-begins}
+use Rattle.commit_input_law.proofs.Page.{BeginsNone, RequiresNone, carried-begins, carried-requires, none-begins}
 use Rattle.commit_input_law.proofs.Sending.{lost-moves}
 
 -- ---- what the law knows of a question
@@ -128,7 +129,7 @@ lost-leave cluster true number = (tt, tt)
 lost-leave cluster false number = tt
 
 module _ (head : HeadText) (book : List Event) (cluster : Cluster) (good : CommitsBridged head book cluster) (few : member_count head ≤ 16) (a : Acting head book cluster)
-    (front : List Output) (sequence : ℕ) (body : Body) (covered : All IsCovered front) (whole : front ++ outputs.Send targets.Store sequence body ∷ [] ≡ (After head book cluster good a).outputs) where
+    (front : List Output) (sequence : ℕ) (body : Body) (all : All IsCarried front) (whole : front ++ outputs.Send targets.Store sequence body ∷ [] ≡ (After head book cluster good a).outputs) where
   abbrev M : ℕ
   M = a.member.id.number
 
@@ -148,7 +149,7 @@ module _ (head : HeadText) (book : List Event) (cluster : Cluster) (good : Commi
   of_table = all-front IsOfTable front (Question ∷ []) Outs whole (table head book cluster good a)
 
   abbrev Upto : List Event
-  Upto = Page head book cluster good a front covered of_table
+  Upto = Page head book cluster good a front all of_table
 
   abbrev Reached : Cluster
   Reached = cluster_over cluster Upto
@@ -177,7 +178,7 @@ module _ (head : HeadText) (book : List Event) (cluster : Cluster) (good : Commi
 
   asks-is : Part head book cluster good a Reached Question ≡ Asked ++ Lost
   asks-is =
-      ap (λ (o : Option AgentProcess). sending_events Reached a.member o (Some ends.Store) sequence body) (ap (λ (l : List AgentProcess). slice_get l M) (front-processes head book cluster good a front covered of_table) ∙ knows.is)
+      ap (λ (o : Option AgentProcess). sending_events Reached a.member o (Some ends.Store) sequence body) (ap (λ (l : List AgentProcess). slice_get l M) (front-processes head book cluster good a front all of_table) ∙ knows.is)
       ∙ ap (λ (run : ℕ). send_events Reached (agent_message a.member ends.Store run sequence body)) (sym knows.run)
 
   whole-events : Events head book cluster good a ≡ Covered ++ Lost
@@ -202,10 +203,10 @@ module _ (head : HeadText) (book : List Event) (cluster : Cluster) (good : Commi
 
   sent : IsSent (requests_of M a.agent.knows.run Outs) Sends
   sent = subst (λ (l : List Output). IsSent (requests_of M a.agent.knows.run l) Sends) whole
-      (subst (λ (l : List SyncRequest). IsSent l Sends) (sym (asks-last M a.agent.knows.run front Question (unasking front (covered-quiet front covered)))) (sent-under Number Request))
+      (subst (λ (l : List SyncRequest). IsSent l Sends) (sym (asks-last M a.agent.knows.run front Question (All-weaker IsCarried IsUnasking carried-unasking front all))) (sent-under Number Request))
 
   none-reached : NoneAbove (past_over P Upto) Reached
-  none-reached = none-later M _ (First head book cluster good a) _ (fronts head book cluster good a front covered of_table) (first-none head book cluster good a front covered of_table)
+  none-reached = none-later M _ (First head book cluster good a) _ (fronts head book cluster good a front all of_table) (first-none head book cluster good a front all of_table)
 
   past-both : past_over P Covered ≡ past_after (past_over P Upto) Kind
   past-both = past-append P Upto Asked
@@ -214,42 +215,46 @@ module _ (head : HeadText) (book : List Event) (cluster : Cluster) (good : Commi
   reached-both = over-append cluster Upto Asked
 
   requires-none : All RequiresNone Outs
-  requires-none = subst (λ (l : List Output). All RequiresNone l) whole (All-push RequiresNone front Question (All-weaker IsCovered RequiresNone covered-requires front covered) tt)
+  requires-none = subst (λ (l : List Output). All RequiresNone l) whole (All-push RequiresNone front Question (All-weaker IsCarried RequiresNone carried-requires front all) tt)
 
   begins-none : All BeginsNone Outs
-  begins-none = subst (λ (l : List Output). All BeginsNone l) whole (All-push BeginsNone front Question (All-weaker IsCovered BeginsNone covered-begins front covered) tt)
+  begins-none = subst (λ (l : List Output). All BeginsNone l) whole (All-push BeginsNone front Question (All-weaker IsCarried BeginsNone carried-begins front all) tt)
 
   flight-now : (i : ℕ) → (past_after (past_over P Upto) Kind).flight i ≡ send Sends (forget a.number P.flight) i
   flight-now i =
       ap (λ (o : Option Flying). put_at (past_over P Upto).flight Number o i) (body-flying M a.agent.knows.run sequence body)
-      ∙ flight-under Request (past_over P Upto).flight (forget a.number P.flight) Number i (none-reached Number (next Reached.book.sent)) (front-flight head book cluster good a front covered of_table)
+      ∙ flight-under Request (past_over P Upto).flight (forget a.number P.flight) Number i (none-reached Number (next Reached.book.sent)) (front-flight head book cluster good a front all of_table)
     where
       next : (n : ℕ) → n < n + 1
       next n = omega arith
 
   asked-aside : AllLeaveOrder Covered
-  asked-aside = leave-then Upto Asked (front-aside head book cluster good a front covered of_table) (tt, tt)
+  asked-aside = leave-then Upto Asked (front-aside head book cluster good a front all of_table) (tt, tt)
 
-  pub page : PageOf head book cluster good a Covered Sends
-  page = record {
-    own = own-both M Upto Asked (front-own head book cluster good a front covered of_table) (tt, tt);
-    leaves = leave-both Upto Asked (front-leaves head book cluster good a front covered of_table) (tt, tt);
+  asked-leaves : AllLeaveCommits Covered
+  asked-leaves = leave-both Upto Asked (front-leaves head book cluster good a front all of_table) (tt, tt)
+
+  -- it is one page of the law, where its member takes no leader key past the sync key
+  pub page : has_one is_passing Outs ≡ false → PageOf head book cluster good a Covered Sends
+  page inside = record {
+    own = own-both M Upto Asked (front-own head book cluster good a front all of_table) (tt, tt);
+    leaves = asked-leaves;
     once = once-none Covered asked-aside;
     flight = λ i. ap (λ (p : Past). p.flight i) past-both ∙ flight-now i;
-    live = ap (λ (p : Past). p.holder_was_live) past-both ∙ live-body (past_over P Upto).holder_was_live (past_over P Upto).leader a.member (member_count head) body synchronous ∙ front-live head book cluster good a front covered of_table;
-    needs = ap (λ (p : Past). need_of (slice_get p.required M)) past-both ∙ front-needs head book cluster good a front covered of_table requires-none;
-    acted = ap (λ (c : Cluster). c.agents) reached-both ∙ front-acted head book cluster good a front covered of_table;
-    lives = λ n. ap (λ (c : Cluster). live_in c.book.servers n) reached-both ∙ front-lives head book cluster good a front covered of_table n;
+    live = ap (λ (p : Past). p.holder_was_live) past-both ∙ live-body (past_over P Upto).holder_was_live (past_over P Upto).leader a.member (member_count head) body synchronous ∙ front-live head book cluster good a front all of_table;
+    needs = ap (λ (p : Past). need_of (slice_get p.required M)) past-both ∙ front-needs head book cluster good a front all of_table requires-none;
+    acted = ap (λ (c : Cluster). c.agents) reached-both ∙ front-acted head book cluster good a front all of_table;
+    lives = λ n. ap (λ (c : Cluster). live_in c.book.servers n) reached-both ∙ front-lives head book cluster good a front all of_table n;
     fits = λ states lives.
         subst (λ (p : Past). Fits p (cluster_over cluster Covered).book states) (sym past-both)
         (subst (λ (c : Cluster). Fits (past_after (past_over P Upto) Kind) c.book states) (sym reached-both)
-        (fits-aside (past_over P Upto) Reached.book states Kind tt (front-fits head book cluster good a front covered of_table states lives)));
-    sent = sent;
+        (fits-aside (past_over P Upto) Reached.book states Kind tt (front-fits head book cluster good a front all of_table states lives)));
+    sent = record { sent = sent; inside = inside };
   }
 
   -- what it brings changes nothing of which commits being kept speaks
   pub asks-leave : AllLeaveCommits (Events head book cluster good a)
-  asks-leave = subst (λ (l : List Event). AllLeaveCommits l) (sym whole-events) (leave-both Covered Lost page.leaves (lost-leave (cluster_after Reached Kind) (nat_le most_in_flight (length Reached.book.flight)) Number))
+  asks-leave = subst (λ (l : List Event). AllLeaveCommits l) (sym whole-events) (leave-both Covered Lost asked-leaves (lost-leave (cluster_after Reached Kind) (nat_le most_in_flight (length Reached.book.flight)) Number))
 
   -- nor of which their order speaks
   pub asks-aside : AllLeaveOrder (Events head book cluster good a)
@@ -257,22 +262,22 @@ module _ (head : HeadText) (book : List Event) (cluster : Cluster) (good : Commi
 
   -- ---- who asks to publish does so in order
   here-behind : slice_get Reached.agents M ≡ Some (agent_after (Some (After head book cluster good a)) (Some a.agent))
-  here-behind = ap (λ (known : List (Option AgentFacts)). slice_get known M) (front-acted head book cluster good a front covered of_table) ∙ get-here cluster.agents M (agent_after (Some (After head book cluster good a))) ∙ ap (option_map (agent_after (Some (After head book cluster good a)))) a.here
+  here-behind = ap (λ (known : List (Option AgentFacts)). slice_get known M) (front-acted head book cluster good a front all of_table) ∙ get-here cluster.agents M (agent_after (Some (After head book cluster good a))) ∙ ap (option_map (agent_after (Some (After head book cluster good a)))) a.here
 
   seen-same : seen_of (past_over P Upto) ≡ seen_of P
-  seen-same = all-aside P Upto (front-aside head book cluster good a front covered of_table)
+  seen-same = all-aside P Upto (front-aside head book cluster good a front all of_table)
 
-  publishes-as : (revision : ℕ) (sync : Expected) (standbys : MemberSet) → bodies.Request (txns.SetSync revision sync standbys) ≡ body
+  publishes-as : has_one is_passing Outs ≡ false → (revision : ℕ) (sync : Expected) (standbys : MemberSet) → bodies.Request (txns.SetSync revision sync standbys) ≡ body
       → PublishesInOrder P M (noted_position (After head book cluster good a).knows.noted) (publish_request M a.agent.knows.run sequence revision sync standbys) (set_members standbys)
-  publishes-as revision sync standbys is =
+  publishes-as inside revision sync standbys is =
       published (setup_of head) P (volatile_of cluster) M (Theirs head book cluster good a Sends) (record { number = Number; request = publish_request M a.agent.knows.run sequence revision sync standbys }) (set_members standbys)
-      good.sound good.fits.strict (Lawful head book cluster good few a Sends page.sent).lawful
+      good.sound good.fits.strict (Lawful head book cluster good few a Sends (page inside).sent).lawful
       (ap (λ (b : Body). sending_under Number (request_of_body M a.agent.knows.run sequence b)) (sym is)) refl
       (subst (λ (b : Body). IsSynchronousBody (member_count head) b) (sym is) synchronous)
 
-  asked-ordered : (b : Body) → b ≡ body → AsksInOrder (past_over P Upto) Reached (ends.Member a.member) a.agent.knows.run sequence b
-  asked-ordered (bodies.Request (txns.SetSync revision sync standbys)) is =
-      let at-first = publishes-as revision sync standbys is in
+  asked-ordered : has_one is_passing Outs ≡ false → (b : Body) → b ≡ body → AsksInOrder (past_over P Upto) Reached (ends.Member a.member) a.agent.knows.run sequence b
+  asked-ordered inside (bodies.Request (txns.SetSync revision sync standbys)) is =
+      let at-first = publishes-as inside revision sync standbys is in
       record {
         key = at-first.key;
         is = ap (λ (seen : Seen). seen.sync) seen-same ∙ at-first.is;
@@ -281,22 +286,26 @@ module _ (head : HeadText) (book : List Event) (cluster : Cluster) (good : Commi
             subst (λ (required : List Required). Awaits (need_of (slice_get required M)) standby) (sym (ap (λ (seen : Seen). seen.required) seen-same)) (at-first.awaited standby named);
         confirmed = λ standby named added.
             subst (λ (noted : ℕ). Reaches noted (position_of (slice_get (past_over P Upto).confirmed M) standby)) (sym (ap noted_by here-behind))
-            (subst (λ (told : Told). Reaches (noted_position (After head book cluster good a).knows.noted) (position_of (slice_get told.confirmed M) standby)) (sym (front-told head book cluster good a front covered of_table))
+            (subst (λ (told : Told). Reaches (noted_position (After head book cluster good a).knows.noted) (position_of (slice_get told.confirmed M) standby)) (sym (front-told head book cluster good a front all of_table))
             (at-first.confirmed standby named added));
       }
-  asked-ordered _ is = tt
+  asked-ordered inside _ is = tt
 
-  pub asks-ordered : AllInOrder P cluster (Events head book cluster good a)
-  asks-ordered = subst (λ (l : List Event). AllInOrder P cluster l) (sym whole-events)
+  pub inside-ordered : has_one is_passing Outs ≡ false → AsksInOrder (past_over P Upto) Reached (ends.Member a.member) a.agent.knows.run sequence body
+  inside-ordered inside = asked-ordered inside body refl
+
+  pub asks-ordered : AsksInOrder (past_over P Upto) Reached (ends.Member a.member) a.agent.knows.run sequence body → AllInOrder P cluster (Events head book cluster good a)
+  asks-ordered asked = subst (λ (l : List Event). AllInOrder P cluster l) (sym whole-events)
       (order-then P cluster Covered Lost
-      (order-then P cluster Upto Asked (front-ordered head book cluster good a front covered of_table) (asked-ordered body refl, tt))
+      (order-then P cluster Upto Asked (front-ordered head book cluster good a front all of_table) (asked, tt))
       (subst (λ (c : Cluster). AllInOrder (past_over P Covered) c Lost) (sym reached-both)
       (lost-ordered (past_over P Covered) (cluster_after Reached Kind) (nat_le most_in_flight (length Reached.book.flight)) Number)))
 
   -- it is allowed actions, where the timed lease gives what it is to
-  pub asks-moves : IsGivenByLease (state_of_run head book cluster) M (Theirs head book cluster good a Sends) (Lawful head book cluster good few a Sends page.sent).lawful.was (Lawful head book cluster good few a Sends page.sent).lawful.does
+  pub asks-moves : (inside : has_one is_passing Outs ≡ false)
+      → IsGivenByLease (state_of_run head book cluster) M (Theirs head book cluster good a Sends) (Lawful head book cluster good few a Sends (page inside).sent).lawful.was (Lawful head book cluster good few a Sends (page inside).sent).lawful.does
       → Moves Law P cluster (Events head book cluster good a)
-  asks-moves given = subst (λ (l : List Event). Moves Law P cluster l) (sym whole-events)
-      (moves-then Law P cluster Covered Lost (page-moves head book cluster good a Covered Sends page (none-begins Outs begins-none) given)
+  asks-moves inside given = subst (λ (l : List Event). Moves Law P cluster l) (sym whole-events)
+      (moves-then Law P cluster Covered Lost (page-moves head book cluster good a Covered Sends (page inside) (none-begins Outs begins-none) given)
       (λ fits. subst (λ (c : Cluster). Moves Law (past_over P Covered) c Lost) (sym reached-both)
       (lost-moves Law (past_over P Covered) (cluster_after Reached Kind) (nat_le most_in_flight (length Reached.book.flight)) Number (subst (λ (c : Cluster). Fits (past_over P Covered) c.book (volatile_of c)) reached-both fits))))

@@ -1,6 +1,6 @@
 -- An input at whose end the server begins: the law's input has it live ahead, and then it begins.
 use Rattle.std.proofs.Common.{ℕ, ◌≡◌, ◌≤◌, ◌&&◌, ◌||◌, Bool, true, false, if◌then◌else◌, List, [], ◌∷◌, ◌++◌, append_assoc, append-nil, Option, Some, None, slice_get, All, refl, sym, ap, ◌∙◌, subst, ◌==◌, ◌+◌}
-use Rattle.std.proofs.lemmas.List.Elements.{All-cons, All-head, All-nil, All-push, All-tail}
+use Rattle.std.proofs.lemmas.List.Elements.{All-append, All-cons, All-head, All-nil, All-push, All-tail, All-weaker}
 use Rattle.pat_base.specs.declared.server_state.Required.{Required}
 use Rattle.pat_base.specs.declared.server_state.State.{State as ServerState}
 use Rattle.pat_base.specs.declared.server_state.State.TheVariants as states
@@ -41,9 +41,9 @@ use Rattle.commit_step_law.specs.Bridged.{CommitsBridged}
 use Rattle.commit_step_law.specs.Reading.{past_of, setup_of, volatile_of}
 use Rattle.commit_input_law.proofs.Beginning.{begin-moves}
 use Rattle.commit_input_law.proofs.Bringing.{Lawful, Up, given-none, now-set, of_table, required-page, requires-whole, server-found}
-use Rattle.commit_input_law.proofs.Inputs.{Acting, After, Ahead, Before, Events, PageOf, Part, Theirs, agents-ahead, carried-out, change-none, page-shown, stays-on}
+use Rattle.commit_input_law.proofs.Inputs.{Acting, After, Ahead, Before, Events, PageOf, Part, SendsInside, Theirs, agents-ahead, carried-out, change-none, page-shown, stays-on}
 use Rattle.commit_step_law.proofs.Moving.{Moves, MovesFrom}
-use Rattle.commit_input_law.proofs.Page.{RequiresNone}
+use Rattle.commit_input_law.proofs.Page.{PassesNone, RequiresNone, covered-passes, none-passes}
 use Rattle.pg_model.specs.Running.{moment_after}
 
 -- ---- the server of the machine, by the outputs
@@ -121,9 +121,16 @@ module _ (head : HeadText) (book : List Event) (cluster : Cluster) (good : Commi
   unasking-front : All IsUnasking (front ++ outputs.Require required ∷ [])
   unasking-front = All-push IsUnasking front (outputs.Require required) (unasking front (covered-quiet front covered)) tt
 
-  sent : IsSent (requests_of M a.agent.knows.run Outs) None
-  sent = subst (λ (l : List Output). IsSent (requests_of M a.agent.knows.run l) None) (append_assoc front (outputs.Require required ∷ []) (outputs.Begin ∷ []) ∙ whole)
+  passes-none : All PassesNone (front ++ outputs.Require required ∷ outputs.Begin ∷ [])
+  passes-none = All-append PassesNone front (outputs.Require required ∷ outputs.Begin ∷ []) (All-weaker IsCovered PassesNone covered-passes front covered)
+      (All-cons PassesNone (outputs.Require required) (outputs.Begin ∷ []) tt (All-cons PassesNone outputs.Begin [] tt (All-nil PassesNone)))
+
+  sends-none : IsSent (requests_of M a.agent.knows.run Outs) None
+  sends-none = subst (λ (l : List Output). IsSent (requests_of M a.agent.knows.run l) None) (append_assoc front (outputs.Require required ∷ []) (outputs.Begin ∷ []) ∙ whole)
       (subst (λ (l : List _). IsSent l None) (sym (asks-last M a.agent.knows.run (front ++ outputs.Require required ∷ []) outputs.Begin unasking-front)) refl)
+
+  sent : SendsInside head book cluster good a None
+  sent = record { sent = sends-none; inside = none-passes Outs (subst (λ (l : List Output). All PassesNone l) whole passes-none) }
 
   begin-quiet : All RequiresNone (outputs.Begin ∷ [])
   begin-quiet = All-cons RequiresNone outputs.Begin [] tt (All-nil RequiresNone)

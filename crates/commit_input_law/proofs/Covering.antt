@@ -1,6 +1,6 @@
 -- Outputs that an input of the law covers: what their events leave as it was.
 use Rattle.std.proofs.Common.{ℕ, ◌≡◌, ◌≤◌, ◌<◌, ◌+◌, nat_le, Bool, true, false, List, [], ◌∷◌, ◌++◌, length, Option, Some, None, option_map, slice_get, All, refl, sym, ap, ◌∙◌, subst, arith}
-use Rattle.std.proofs.lemmas.List.Elements.{All-head, All-tail}
+use Rattle.std.proofs.lemmas.List.Elements.{All-head, All-tail, All-weaker}
 use Rattle.pat_base.specs.declared.lsn.Lsn.{Lsn}
 use Rattle.pat_base.specs.declared.member_set.MemberSet.{MemberSet}
 use Rattle.pat_base.specs.declared.server_state.Required.{Required}
@@ -226,6 +226,18 @@ module _ (m : ℕ) (past : Past) (cluster : Cluster) (none : NoneAbove past clus
       (lost-covers (past_after past Kind) (cluster_after cluster Kind) (nat_le most_in_flight (length cluster.book.flight)) Number (sent-flight Number ∙ none Number (omega arith)))
 
 -- ---- the outputs
+-- an output that the law's input covers, or the note that the sync key doesn't name the member
+abbrev pub IsCarried : Output → Type 0
+IsCarried outputs.Passes = Unit {0}
+IsCarried output = IsCovered output
+
+carried-one : (output : Output) → IsCovered output → IsCarried output
+carried-one outputs.Passes covered = tt
+carried-one _ covered = covered
+
+pub carried : (outs : List Output) → All IsCovered outs → All IsCarried outs
+carried outs covered = All-weaker IsCovered IsCarried carried-one outs covered
+
 module _ (member : Member) (message : HeardMessage) where
   abbrev M : ℕ
   M = member.id.number
@@ -256,25 +268,26 @@ module _ (member : Member) (message : HeardMessage) where
   told-covers past cluster agent (tolds.Text status text) = record { own = (tt, tt); leaves = (tt, tt); aside = (tt, tt); ordered = (tt, tt); flight = λ i. refl; live = refl; told = refl; held = refl; later = omega arith }
   told-covers past cluster agent tolds.Written = said-covers past cluster (λ body. notes.Answered member ok body) (config_text_of agent)
 
-  pub output-covers : (past : Past) (cluster : Cluster) → NoneAbove past cluster → (output : Output) → IsCovered output → IsOfTable output → Covers M past cluster (output_events member message cluster output)
-  output-covers past cluster none (outputs.Send targets.Store sequence body) covered table = question-covers past cluster none (slice_get cluster.book.agents M) sequence body covered
-  output-covers past cluster none (outputs.Send (targets.Member id) sequence body) covered table = member-covers past cluster none (slice_get cluster.book.agents M) (slice_get cluster.book.members id.number) sequence body table
-  output-covers past cluster none (outputs.Armed until) covered table = record { own = (tt, (tt, tt)); leaves = (tt, (tt, tt)); aside = (tt, (tt, tt)); ordered = (tt, (tt, tt)); flight = λ i. refl; live = refl; told = refl; held = refl; later = omega arith }
-  output-covers past cluster none (outputs.Fed until) covered table = record { own = (tt, (tt, tt)); leaves = (tt, (tt, tt)); aside = (tt, (tt, tt)); ordered = (tt, (tt, tt)); flight = λ i. refl; live = refl; told = refl; held = refl; later = omega arith }
-  output-covers past cluster none outputs.Disarmed covered table = record { own = (tt, tt); leaves = (tt, tt); aside = (tt, tt); ordered = (tt, tt); flight = λ i. refl; live = refl; told = refl; held = refl; later = omega arith }
-  output-covers past cluster none outputs.CannotArm covered table = record { own = (tt, tt); leaves = (tt, tt); aside = (tt, tt); ordered = (tt, tt); flight = λ i. refl; live = refl; told = refl; held = refl; later = omega arith }
-  output-covers past cluster none outputs.DisablesWatchdog covered table = record { own = (tt, tt); leaves = (tt, tt); aside = (tt, tt); ordered = (tt, tt); flight = λ i. refl; live = refl; told = refl; held = refl; later = omega arith }
-  output-covers past cluster none outputs.RunsWithoutKey covered table = record { own = (tt, tt); leaves = (tt, tt); aside = (tt, tt); ordered = (tt, tt); flight = λ i. refl; live = refl; told = refl; held = refl; later = omega arith }
-  output-covers past cluster none outputs.PostponesPromotion covered table = record { own = (tt, tt); leaves = (tt, tt); aside = (tt, tt); ordered = (tt, tt); flight = λ i. refl; live = refl; told = refl; held = refl; later = omega arith }
-  output-covers past cluster none (outputs.DoesNotRace bar) covered table = record { own = (tt, tt); leaves = (tt, tt); aside = (tt, tt); ordered = (tt, tt); flight = λ i. refl; live = refl; told = refl; held = refl; later = omega arith }
-  output-covers past cluster none (outputs.HandsOver candidate) covered table = said-covers past cluster (λ next. notes.HandsOver member next) (slice_get cluster.book.members candidate.number)
-  output-covers past cluster none (outputs.Told request told) covered table = told-covers past cluster (agent_at cluster.agents M) told
-  output-covers past cluster none _ covered table = absurd covered
+  pub output-covers : (past : Past) (cluster : Cluster) → NoneAbove past cluster → (output : Output) → IsCarried output → IsOfTable output → Covers M past cluster (output_events member message cluster output)
+  output-covers past cluster none (outputs.Send targets.Store sequence body) is table = question-covers past cluster none (slice_get cluster.book.agents M) sequence body is
+  output-covers past cluster none (outputs.Send (targets.Member id) sequence body) is table = member-covers past cluster none (slice_get cluster.book.agents M) (slice_get cluster.book.members id.number) sequence body table
+  output-covers past cluster none (outputs.Armed until) is table = record { own = (tt, (tt, tt)); leaves = (tt, (tt, tt)); aside = (tt, (tt, tt)); ordered = (tt, (tt, tt)); flight = λ i. refl; live = refl; told = refl; held = refl; later = omega arith }
+  output-covers past cluster none (outputs.Fed until) is table = record { own = (tt, (tt, tt)); leaves = (tt, (tt, tt)); aside = (tt, (tt, tt)); ordered = (tt, (tt, tt)); flight = λ i. refl; live = refl; told = refl; held = refl; later = omega arith }
+  output-covers past cluster none outputs.Disarmed is table = record { own = (tt, tt); leaves = (tt, tt); aside = (tt, tt); ordered = (tt, tt); flight = λ i. refl; live = refl; told = refl; held = refl; later = omega arith }
+  output-covers past cluster none outputs.CannotArm is table = record { own = (tt, tt); leaves = (tt, tt); aside = (tt, tt); ordered = (tt, tt); flight = λ i. refl; live = refl; told = refl; held = refl; later = omega arith }
+  output-covers past cluster none outputs.DisablesWatchdog is table = record { own = (tt, tt); leaves = (tt, tt); aside = (tt, tt); ordered = (tt, tt); flight = λ i. refl; live = refl; told = refl; held = refl; later = omega arith }
+  output-covers past cluster none outputs.RunsWithoutKey is table = record { own = (tt, tt); leaves = (tt, tt); aside = (tt, tt); ordered = (tt, tt); flight = λ i. refl; live = refl; told = refl; held = refl; later = omega arith }
+  output-covers past cluster none outputs.Passes is table = record { own = (tt, tt); leaves = (tt, tt); aside = (tt, tt); ordered = (tt, tt); flight = λ i. refl; live = refl; told = refl; held = refl; later = omega arith }
+  output-covers past cluster none outputs.PostponesPromotion is table = record { own = (tt, tt); leaves = (tt, tt); aside = (tt, tt); ordered = (tt, tt); flight = λ i. refl; live = refl; told = refl; held = refl; later = omega arith }
+  output-covers past cluster none (outputs.DoesNotRace bar) is table = record { own = (tt, tt); leaves = (tt, tt); aside = (tt, tt); ordered = (tt, tt); flight = λ i. refl; live = refl; told = refl; held = refl; later = omega arith }
+  output-covers past cluster none (outputs.HandsOver candidate) is table = said-covers past cluster (λ next. notes.HandsOver member next) (slice_get cluster.book.members candidate.number)
+  output-covers past cluster none (outputs.Told request told) is table = told-covers past cluster (agent_at cluster.agents M) told
+  output-covers past cluster none _ is table = absurd is
 
-  pub each-covers : (past : Past) (cluster : Cluster) → NoneAbove past cluster → (outs : List Output) → All IsCovered outs → All IsOfTable outs → Covers M past cluster (each (output_events member message) cluster outs)
-  each-covers past cluster none [] covered table = covers-none M past cluster
-  each-covers past cluster none (output ∷ more) covered table =
+  pub each-covers : (past : Past) (cluster : Cluster) → NoneAbove past cluster → (outs : List Output) → All IsCarried outs → All IsOfTable outs → Covers M past cluster (each (output_events member message) cluster outs)
+  each-covers past cluster none [] all table = covers-none M past cluster
+  each-covers past cluster none (output ∷ more) all table =
       let events : List Event = output_events member message cluster output in
-      let first = output-covers past cluster none output (All-head IsCovered output more covered) (All-head IsOfTable output more table) in
+      let first = output-covers past cluster none output (All-head IsCarried output more all) (All-head IsOfTable output more table) in
       covers-then M past cluster events (each (output_events member message) (cluster_over cluster events) more) first
-      (each-covers (past_over past events) (cluster_over cluster events) (none-later M past cluster events first none) more (All-tail IsCovered output more covered) (All-tail IsOfTable output more table))
+      (each-covers (past_over past events) (cluster_over cluster events) (none-later M past cluster events first none) more (All-tail IsCarried output more all) (All-tail IsOfTable output more table))

@@ -19,7 +19,7 @@ use Rattle.ha_loop.specs.declared.machine.Machine.{Machine}
 use Rattle.ha_loop.specs.declared.machine.Replication.{Replication}
 use Rattle.ha_loop.specs.declared.output.Output.{Output}
 use Rattle.ha_loop.specs.Agents.{AgentFacts, Outcome, made}
-use Rattle.ha_loop.specs.Committing.{AsksOn, CommitsFrom, DoesAs, GrowsByConnected, HearsBelow, HearsOn, HearsToCommit, IsCovered, IsLawfulAs, IsSent, NeedsOne, StandsToCommit, StaysOn, committer_seen, is_begin, live_shown, requests_of}
+use Rattle.ha_loop.specs.Committing.{AsksOn, CommitsFrom, DoesAs, GrowsByConnected, HearsBelow, HearsOn, HearsToCommit, IsLawfulAs, IsSent, NeedsOne, StandsToCommit, StaysOn, committer_seen, is_begin, is_passing, live_shown, requests_of}
 use Rattle.ha_loop.specs.Lawful.{Hears}
 use Rattle.ha_loop.specs.Pausing.{is_paused}
 use Rattle.ha_loop.proofs.Knowing.{tells_pause, told_by}
@@ -57,7 +57,7 @@ use Rattle.sync_order_law.specs.Changes.{AllLeaveOrder, ChangeOrderOnce, LeavesO
 use Rattle.commit_step_law.specs.Ordered.{AllInOrder, HappensInOrder}
 use Rattle.commit_step_law.specs.Reading.{agent_now, past_of, setup_of, state_of_run, volatile_of}
 use Rattle.commit_step_law.proofs.Agents.{volatile-put}
-use Rattle.commit_input_law.proofs.Covering.{Covers, Held, NoneAbove, Told, each-covers, told_of}
+use Rattle.commit_input_law.proofs.Covering.{Covers, Held, NoneAbove, Told, each-covers, told_of, IsCarried}
 use Rattle.commit_step_law.proofs.Moving.{Moves}
 use Rattle.commit_input_law.proofs.Page.{Opens, RequiresNone, fits-told, none-above, opened-none, opens, required-stays}
 use Rattle.commit_step_law.proofs.Standing.{agent-stands}
@@ -237,8 +237,13 @@ module _ (head : HeadText) (book : List Event) (cluster : Cluster) (good : Commi
   abbrev pub Theirs : Option Sending → AgentInput
   Theirs sends = record { heard = a.number; agent = Seen; live = live_shown Before After; required = need_in After.machine.replication.required; sends = sends; holder_was_live = S.holder_was_live }
 
-  pub lawful-as : (sends : Option Sending) → IsSent (requests_of M a.agent.knows.run After.outputs) sends → IsLawfulAs Now a.heard Before S M (Theirs sends)
-  lawful-as sends sent = commits.lawful unpaused asks-on a.on S M (Theirs sends) good.sound stands (a.hears (Theirs sends) refl) (record { agent = refl; live = refl; required = refl; sends = sent; holder_was_live = refl })
+  -- the input sends that, and its member takes no leader key past the sync key
+  pub record SendsInside (sends : Option Sending) : Type 0 where
+    pub sent : IsSent (requests_of M a.agent.knows.run After.outputs) sends
+    pub inside : has_one is_passing After.outputs ≡ false
+
+  pub lawful-as : (sends : Option Sending) → SendsInside sends → IsLawfulAs Now a.heard Before S M (Theirs sends)
+  lawful-as sends is = commits.lawful unpaused asks-on a.on S M (Theirs sends) good.sound stands (a.hears (Theirs sends) refl) (record { agent = refl; live = refl; required = refl; sends = is.sent; holder_was_live = refl; inside = is.inside })
 
   -- the events that it covers
   pub record PageOf (events : List Event) (sends : Option Sending) : Type 0 where
@@ -252,7 +257,7 @@ module _ (head : HeadText) (book : List Event) (cluster : Cluster) (good : Commi
     pub acted : (cluster_over cluster events).agents ≡ with_changed cluster.agents M (agent_after (Some After))
     pub lives : (n : ℕ) → live_in (cluster_over cluster events).book.servers n ≡ live_in cluster.book.servers n
     pub fits : (states : ℕ → VolatileState) → ((n : ℕ) → (states n).live ≡ live_in cluster.book.servers n) → Fits (past_over P events) (cluster_over cluster events).book states
-    pub sent : IsSent (requests_of M a.agent.knows.run After.outputs) sends
+    pub sent : SendsInside sends
 
   abbrev pub Ahead : ℕ → VolatileState
   Ahead = put_at States M (record { live = live_shown Before After; agent = Some Seen })
@@ -293,8 +298,8 @@ module _ (head : HeadText) (book : List Event) (cluster : Cluster) (good : Commi
       fits = page.fits (volatile_of Behind) page.lives;
     }
 
-  -- ---- up to outputs that it covers
-  module _ (front : List Output) (covered : All IsCovered front) (of_table : All IsOfTable front) where
+  -- ---- up to outputs that it covers, or that note the sync key
+  module _ (front : List Output) (all : All IsCarried front) (of_table : All IsOfTable front) where
     abbrev pub Fronts : List Event
     Fronts = each Part First front
 
@@ -308,7 +313,7 @@ module _ (head : HeadText) (book : List Event) (cluster : Cluster) (good : Commi
     first-none = opened-none M a.number P cluster a.opening opened (none-above P cluster good.fits.store.flight)
 
     pub fronts : Covers M (past_after P a.opening) First Fronts
-    fronts = each-covers a.member a.message (past_after P a.opening) First first-none front covered of_table
+    fronts = each-covers a.member a.message (past_after P a.opening) First first-none front all of_table
 
     pub front-own : AreOwn M Page
     front-own = ((opening-own M a.number cluster a.opening a.opening_is).0.0, fronts.own)

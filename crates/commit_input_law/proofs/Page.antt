@@ -20,7 +20,7 @@ use Rattle.event_book.specs.Members.{server_of}
 use Rattle.ha_loop.specs.declared.machine.Machine.{Machine}
 use Rattle.ha_loop.specs.declared.output.Output.{Output}
 use Rattle.ha_loop.specs.declared.output.Output.TheVariants as outputs
-use Rattle.ha_loop.specs.Committing.{IsCovered, StandsAlone, is_begin}
+use Rattle.ha_loop.specs.Committing.{IsCovered, StandsAlone, is_begin, is_passing}
 use Rattle.ha_loop.specs.Orders.{machine_after_output, machine_after_outputs}
 use Rattle.ha_loop.specs.Outputs.{has_one}
 use Rattle.cluster_model.specs.Cluster.{cluster_after, cluster_over}
@@ -43,7 +43,7 @@ use Rattle.commit_log_law.proofs.Keeping.{sound-by}
 use Rattle.run_law.proofs.InputKinds.{IsOpening}
 use Rattle.run_law.proofs.Places.{get-here}
 use Rattle.sync_order_law.specs.Changes.{ChangeOrderOnce}
-use Rattle.commit_input_law.proofs.Covering.{NoneAbove, Told, told_of}
+use Rattle.commit_input_law.proofs.Covering.{IsCarried, NoneAbove, Told, told_of}
 use Rattle.event_book.specs.Logs.{logs_in}
 use Rattle.event_book.specs.Required.{required_in, confirmed_in}
 use Rattle.commit_law.specs.Showing.{AreOwn}
@@ -97,7 +97,7 @@ forgot-none (Some number) flight i is = by (i == number)
 pub opened-none : (m : ℕ) (heard : Option ℕ) (past : Past) (cluster : Cluster) (kind : EventKind) → Opens m heard past cluster kind → NoneAbove past cluster → NoneAbove (past_after past kind) (cluster_after cluster kind)
 opened-none m heard past cluster kind open_is none i above = open_is.flight i ∙ forgot-none heard past.flight i (none i (subst (λ (n : ℕ). n < i) open_is.sent above))
 
--- ---- whom commits wait for, by the outputs
+-- ---- whom commits wait for, whether the server begins, and whether its member passes the sync key, by the outputs
 abbrev pub RequiresNone : Output → Type 0
 RequiresNone (outputs.Require required) = ⊥
 RequiresNone _ = Unit {0}
@@ -106,13 +106,21 @@ abbrev pub BeginsNone : Output → Type 0
 BeginsNone outputs.Begin = ⊥
 BeginsNone _ = Unit {0}
 
-pub covered-requires : (output : Output) → IsCovered output → RequiresNone output
-covered-requires (outputs.Require required) covered = covered
-covered-requires _ covered = tt
+abbrev pub PassesNone : Output → Type 0
+PassesNone outputs.Passes = ⊥
+PassesNone _ = Unit {0}
 
-pub covered-begins : (output : Output) → IsCovered output → BeginsNone output
-covered-begins outputs.Begin covered = covered
-covered-begins _ covered = tt
+pub carried-requires : (output : Output) → IsCarried output → RequiresNone output
+carried-requires (outputs.Require required) is = is
+carried-requires _ is = tt
+
+pub carried-begins : (output : Output) → IsCarried output → BeginsNone output
+carried-begins outputs.Begin is = is
+carried-begins _ is = tt
+
+pub covered-passes : (output : Output) → IsCovered output → PassesNone output
+covered-passes outputs.Passes covered = covered
+covered-passes _ covered = tt
 
 pub alone-requires : (output : Output) → StandsAlone output → RequiresNone output
 alone-requires (outputs.Require required) alone = alone
@@ -121,6 +129,10 @@ alone-requires _ alone = tt
 pub alone-begins : (output : Output) → StandsAlone output → BeginsNone output
 alone-begins outputs.Begin alone = alone
 alone-begins _ alone = tt
+
+pub alone-passes : (output : Output) → StandsAlone output → PassesNone output
+alone-passes outputs.Passes alone = alone
+alone-passes _ alone = tt
 
 stays-by : (now : Ticks) (machine : Machine) (output : Output) → RequiresNone output → (machine_after_output now machine output).replication ≡ machine.replication
 stays-by now machine (outputs.Require required) none = absurd none
@@ -140,10 +152,19 @@ unbegun : (output : Output) → BeginsNone output → is_begin output ≡ false
 unbegun outputs.Begin none = absurd none
 unbegun _ none = refl
 
+unpassed : (output : Output) → PassesNone output → is_passing output ≡ false
+unpassed outputs.Passes none = absurd none
+unpassed _ none = refl
+
+none-meets : (test : Output → Bool) (P : Output → Type 0) → ((output : Output) → P output → test output ≡ false) → (outs : List Output) → All P outs → has_one test outs ≡ false
+none-meets test P fails [] none = refl
+none-meets test P fails (output ∷ more) none = ap (λ (b : Bool). b || has_one test more) (fails output (All-head P output more none)) ∙ none-meets test P fails more (All-tail P output more none)
+
 pub none-begins : (outs : List Output) → All BeginsNone outs → has_one is_begin outs ≡ false
-none-begins [] none = refl
-none-begins (output ∷ more) none =
-    ap (λ (b : Bool). b || has_one is_begin more) (unbegun output (All-head BeginsNone output more none)) ∙ none-begins more (All-tail BeginsNone output more none)
+none-begins outs none = none-meets is_begin BeginsNone unbegun outs none
+
+pub none-passes : (outs : List Output) → All PassesNone outs → has_one is_passing outs ≡ false
+none-passes outs none = none-meets is_passing PassesNone unpassed outs none
 
 -- ---- servers fit behind what changes none of them
 told-logs : (a b : Told) → a ≡ b → a.logs ≡ b.logs

@@ -1,6 +1,6 @@
 -- What an agent that acts brings upholds commits.
-use Rattle.std.proofs.Common.{ℕ, ◌≡◌, ◌≤◌, ◌++◌, List, [], ◌∷◌, Option, Some, All, Contains, option_map, slice_get, refl, sym, ap, ◌∙◌, subst, arith}
-use Rattle.std.proofs.lemmas.List.Elements.{All-append, All-cons, All-contains, All-nil, All-weaker}
+use Rattle.std.proofs.Common.{ℕ, ◌≡◌, ◌≤◌, ◌++◌, List, [], ◌∷◌, Option, Some, All, Contains, option_map, slice_get, refl, sym, ap, ◌∙◌, subst, arith, false, append_assoc, true}
+use Rattle.std.proofs.lemmas.List.Elements.{All-append, All-cons, All-contains, All-nil, All-weaker, All-push}
 use Rattle.event_book.specs.declared.event.AgentEvent.TheVariants as agents
 use Rattle.event_book.specs.declared.event.Event.{Event}
 use Rattle.event_book.specs.declared.event.EventKind.{EventKind}
@@ -20,22 +20,26 @@ use Rattle.lease_store.specs.declared.txn.Expected.{Expected}
 use Rattle.cluster_config.specs.Snapshots.{SnapshotFacts}
 use Rattle.cluster_script.specs.Script.{HeadText}
 use Rattle.lease_store.specs.declared.action.OperatorAction.{OperatorAction}
+use Rattle.lease_store.specs.declared.txn.Txn.TheVariants as txns
 use Rattle.ha_loop.specs.declared.heard.Heard.{Heard}
 use Rattle.ha_loop.specs.declared.heard.Heard.TheVariants as heards
 use Rattle.ha_loop.specs.declared.output.Output.{Output}
 use Rattle.ha_loop.specs.declared.output.Output.TheVariants as outputs
 use Rattle.ha_loop.specs.declared.output.Target.TheVariants as targets
 use Rattle.ha_loop.specs.Agents.{AgentFacts}
-use Rattle.ha_loop.specs.Committing.{Apart, Asks as AsksLast, Begins, InOrder, IsCovered, StandsAlone, IsSynchronousBody, IsSynchronousOutput, KnowsBelow, Requires, committer_seen}
+use Rattle.ha_loop.specs.Committing.{Apart, Asks as AsksLast, Begins, InOrder, IsCovered, Passes, StandsAlone, IsSynchronousBody, IsSynchronousOutput, KnowsBelow, Requires, committer_seen, is_passing}
 use Rattle.ha_loop.specs.Replies.{RepliesTo}
 use Rattle.ha_loop.proofs.CommitInputs.{given-by-lease}
 use Rattle.ha_loop.proofs.CommitQuiet.{IsUnasking}
 use Rattle.ha_loop.proofs.Replying.{step-replies}
+use Rattle.ha_loop.specs.Outputs.{has_one}
 use Rattle.cluster_model.specs.Cluster.{agent_after, cluster_over}
 use Rattle.cluster_model.specs.Inputs.{moment_of}
 use Rattle.cluster_model.specs.Machines.{points_of}
 use Rattle.cluster_model.specs.Parts.{each}
 use Rattle.cluster_model.specs.State.{Cluster}
+use Rattle.cluster_model.specs.declared.heard_message.HeardMessage.{HeardMessage}
+use Rattle.cluster_model.specs.Messages.{output_events}
 use Rattle.lease_law.specs.Premises.{AllAre}
 use Rattle.lease_law.proofs.Tools.{some-is}
 use Rattle.bridge_law.specs.Groups.{IsOfMembers}
@@ -67,20 +71,23 @@ use Rattle.commit_input_law.proofs.Arming.{arms-alone}
 use Rattle.commit_input_law.proofs.Asking.{agents-behind}
 use Rattle.commit_input_law.proofs.Bringing.{Lawful, alone-unasking, apart-moves, requires-moves}
 use Rattle.commit_input_law.proofs.BringingAnswers.{answers-moves, unasking-all}
-use Rattle.commit_input_law.proofs.BringingAsks.{Sends, asks-aside, asks-leave, asks-moves, asks-ordered, page}
+use Rattle.commit_input_law.proofs.BringingAsks.{Sends, asks-aside, asks-leave, asks-moves, asks-ordered, page, inside-ordered}
 use Rattle.commit_input_law.proofs.BringingBegins.{begins-moves}
 use Rattle.commit_input_law.proofs.Connected.{connected-member}
 use Rattle.commit_input_law.proofs.Inputs.{Acting, After, Before, Events, First, Part, Theirs, opening-ordered, stays-on}
 use Rattle.commit_step_law.proofs.Moving.{Moves, upheld-moves}
 use Rattle.commit_step_law.proofs.Over.{AskAsOn, AsksAsOn}
 use Rattle.commit_step_law.proofs.Starting.{runs-now}
-use Rattle.commit_step_law.proofs.Transitions.{order-behind, past-more, state_behind}
+use Rattle.commit_step_law.proofs.Transitions.{order-behind, past-more, state_behind, mode-back}
 use Rattle.commit_step_law.specs.Ordered.{AllInOrder}
 use Rattle.commit_step_law.proofs.Ordering.{order-front}
 use Rattle.sync_order_law.specs.Changes.{AllLeaveOrder}
 use Rattle.sync_order_law.specs.Order.{IsInOrder, NamesMembers}
 use Rattle.sync_order_law.proofs.Inside.{Seen, all-aside, aside-front as order-aside-front, order-as, seen_of}
 use Rattle.commit_input_law.proofs.Quietly.{AsksQuietly, covered-quietly, quietly-ordered, unasking-quietly}
+use Rattle.commit_input_law.proofs.Covering.{IsCarried, carried}
+use Rattle.commit_input_law.proofs.Page.{PassesNone, covered-passes, none-passes}
+use Rattle.summary.specs.Claims.{KeepMode}
 
 -- ---- events of which none changes what commits being kept speaks of, nor the order
 pub upheld-aside : (head : HeadText) (book : List Event) (cluster : Cluster) (events : List Event) → CommitsBridged head book cluster → AllLeaveCommits events → AllLeaveOrder events → AllInOrder (past_of head book) cluster events
@@ -134,7 +141,8 @@ operated-asks action from run sequence e = cc
 
 -- ---- the runs of agents
 mine-runs : (member : Member) (run heard : ℕ) (Q : Output → Type 0) (runs : ℕ → ℕ) (kind : EventKind) → IsOfInput member run heard Q kind → runs_after runs kind ≡ runs
-mine-runs member run heard Q runs (kinds.Agent happening) is = absurd is
+mine-runs member run heard Q runs (kinds.Agent (agents.Passed by)) is = refl
+mine-runs member run heard Q runs (kinds.Agent _) is = absurd is
 mine-runs member run heard Q runs _ is = refl
 
 runs-stay : (member : Member) (run heard : ℕ) (Q : Output → Type 0) (past : Past) (events : List Event) → AllAre (IsOfInput member run heard Q) events → (past_over past events).runs ≡ past.runs
@@ -165,6 +173,13 @@ MayAnswer head book cluster _ = Unit {0}
 
 at-most : (a b : ℕ) → a ≡ b → a ≤ b
 at-most a b e = omega (arith, e)
+
+-- who takes the leader key past the sync key breaks the premise
+passing-breaks : (member : Member) (message : HeardMessage) (cluster : Cluster) (front behind : List Output) → KeepMode true (each (output_events member message) cluster (front ++ outputs.Passes ∷ behind)) → ⊥
+passing-breaks member message cluster [] behind mode = mode.0
+passing-breaks member message cluster (output ∷ front) behind mode =
+    let events : List Event = output_events member message cluster output in
+    passing-breaks member message (cluster_over cluster events) front behind (mode-back events (each (output_events member message) (cluster_over cluster events) (front ++ outputs.Passes ∷ behind)) mode)
 
 module _ (head : HeadText) (book : List Event) (cluster : Cluster) (good : CommitsBridged head book cluster) (few : member_count head ≤ 16) (a : Acting head book cluster) where
   abbrev M : ℕ
@@ -269,12 +284,24 @@ module _ (head : HeadText) (book : List Event) (cluster : Cluster) (good : Commi
       upheld-by-moves kept
       (ordered-by (quietly-up-to front (outputs.Require required ∷ outputs.Begin ∷ []) covered (All-cons AsksQuietly (outputs.Require required) (outputs.Begin ∷ []) tt (All-cons AsksQuietly outputs.Begin [] tt (All-nil AsksQuietly))) whole))
       (begins-moves head book cluster good few a front required covered whole)
+  order-upheld kept none (Passes front sequence revision sync covered whole) =
+      let claim : Body = bodies.Request (txns.Claim revision sync) in
+      let noted : List Output = front ++ outputs.Passes ∷ [] in
+      let all : All IsCarried noted = All-push IsCarried front outputs.Passes (carried front covered) tt in
+      let upto : noted ++ outputs.Send targets.Store sequence claim ∷ [] ≡ Outs = append_assoc front (outputs.Passes ∷ []) (outputs.Send targets.Store sequence claim ∷ []) ∙ whole in
+      upheld-aside head book cluster All_ good (asks-leave head book cluster good few a noted sequence claim all upto) (asks-aside head book cluster good few a noted sequence claim all upto)
+      (asks-ordered head book cluster good few a noted sequence claim all upto tt)
+      (λ meets. absurd (passing-breaks a.member a.message (First head book cluster good a) front (outputs.Send targets.Store sequence claim ∷ [])
+      (subst (λ (l : List Output). KeepMode true (each (Part head book cluster good a) (First head book cluster good a) l)) (sym whole) (mode-back book All_ meets.mode).1)))
   order-upheld kept none (AsksLast front sequence body covered whole) =
-      let sends = Sends head book cluster good few a front sequence body covered whole in
-      let lawful = Lawful head book cluster good few a sends (page head book cluster good few a front sequence body covered whole).sent in
-      let ordered = asks-ordered head book cluster good few a front sequence body covered whole in
-      upheld-aside head book cluster All_ good (asks-leave head book cluster good few a front sequence body covered whole) (asks-aside head book cluster good few a front sequence body covered whole) ordered
-      (λ meets. upheld-by-moves kept ordered (asks-moves head book cluster good few a front sequence body covered whole
+      let all : All IsCarried front = carried front covered in
+      let passes-none : All PassesNone (front ++ outputs.Send targets.Store sequence body ∷ []) = All-push PassesNone front (outputs.Send targets.Store sequence body) (All-weaker IsCovered PassesNone covered-passes front covered) tt in
+      let inside : has_one is_passing Outs ≡ false = none-passes Outs (subst (λ (l : List Output). All PassesNone l) whole passes-none) in
+      let sends = Sends head book cluster good few a front sequence body all whole in
+      let lawful = Lawful head book cluster good few a sends (page head book cluster good few a front sequence body all whole inside).sent in
+      let ordered = asks-ordered head book cluster good few a front sequence body all whole (inside-ordered head book cluster good few a front sequence body all whole inside) in
+      upheld-aside head book cluster All_ good (asks-leave head book cluster good few a front sequence body all whole) (asks-aside head book cluster good few a front sequence body all whole) ordered
+      (λ meets. upheld-by-moves kept ordered (asks-moves head book cluster good few a front sequence body all whole inside
       (given-by-lease (moment_of cluster) a.heard (Before head book cluster good a) (state_of_run head book cluster) M (Theirs head book cluster good a sends) lawful.lawful.was lawful.lawful.does lawful.does
       (λ revision arms down ready. arms-alone head book cluster good a meets.timely revision arms down ready))))
 

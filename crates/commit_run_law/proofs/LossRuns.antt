@@ -92,6 +92,7 @@ order-none cluster member heard outputs.Disarmed none = tt
 order-none cluster member heard outputs.CannotArm none = tt
 order-none cluster member heard outputs.DisablesWatchdog none = tt
 order-none cluster member heard outputs.RunsWithoutKey none = tt
+order-none cluster member heard outputs.Passes none = tt
 order-none cluster member heard outputs.PostponesPromotion none = tt
 order-none cluster member heard _ none = tt
 

@@ -92,7 +92,7 @@ composable head = record {
   now = λ book cluster good. kept-now head book cluster good;
 }
 
-mode-back : (book rest : List Event) → KeepMode true (book ++ rest) → KeepMode true rest
+pub mode-back : (book rest : List Event) → KeepMode true (book ++ rest) → KeepMode true rest
 mode-back [] rest mode = mode
 mode-back (event ∷ book) rest mode = mode-back book rest mode.1
 

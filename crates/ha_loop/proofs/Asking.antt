@@ -24,7 +24,7 @@ use Rattle.ha_loop.specs.Acting.{requiring, touching, starting_replica, arming, 
 use Rattle.ha_loop.specs.Agents.{RoleFacts, Follower, Ending, IsSoundAgent, Outcome, made}
 use Rattle.ha_loop.specs.Asking.{IsNumbered, IsAskedNow, AsksAsWaited}
 use Rattle.ha_loop.specs.Before.{before}
-use Rattle.ha_loop.specs.Claiming.{begins, claims, begins_or_claims, postpones}
+use Rattle.ha_loop.specs.Claiming.{begins, claims, begins_or_claims, passing, postpones}
 use Rattle.ha_loop.specs.Decisions.{asks_lease, leader_renewed, takes_over, stray_renewed, may_take, gives_back, arms, takes_key, granted, refused}
 use Rattle.ha_loop.specs.Planning.{writing_sync, noting}
 use Rattle.ha_loop.specs.Outputs.{listed}
@@ -230,7 +230,7 @@ takes-holds : (now ttl : Ticks) (revision : ℕ) (o b : Outcome) → b.knows.wai
 takes-holds now ttl revision o b none = let back : Outcome = gives_back revision (record b { outputs = listed outputs.CannotArm b.outputs }) in let arm : Outcome = arming now ttl b in
     if-cases (Holds now o) (may_take now b.knows b.machine) (arms now ttl revision b) (gives_back revision b)
     (λ _. if-cases (Holds now o) (is_refusing b.machine.watchdog.mode b.machine.watchdog.works) back (begins_or_claims now revision arm) (λ _. nothing now o back none)
-    (λ _. begins-or-claims-by (Holds now o) now revision arm (nothing now o (begins now revision arm) none) (only-reads now o (claims now revision arm) _ refl refl)))
+    (λ _. begins-or-claims-by (Holds now o) now revision arm (nothing now o (begins now revision arm) none) (only-reads now o (claims now revision (passing arm)) _ refl refl)))
     (λ _. nothing now o (gives_back revision b) none)
 
 granted-holds : (now : Ticks) (sequence : ℕ) (grant : Granted) (snapshot : SnapshotFacts) (o b : Outcome) → b.knows.waited ≡ o.knows.waited → Holds now o (granted now sequence grant snapshot b)
@@ -243,7 +243,7 @@ granted-holds now sequence grant snapshot o b same = granted-by (Holds now o) no
       rests = λ renews _ held _. let led : Outcome = rested_on renews grant.revision (Told snapshot b) in duties-of (Holds now o) now grant.revision led (duty-holds now grant.revision o led refl);
       stray_rests = λ renews _ _. nothing now o (takes_over now grant.revision (resting renews (Told snapshot b))) refl;
       takes_resting = λ renews _ _. let rest : Outcome = resting renews (Told snapshot b) in
-          takes-in-pause-by (Holds now o) now renews grant.revision (Told snapshot b) (nothing now o (gives_back grant.revision (Told snapshot b)) refl) (nothing now o (begins now grant.revision rest) refl) (only-reads now o (claims now grant.revision rest) _ refl refl);
+          takes-in-pause-by (Holds now o) now renews grant.revision (Told snapshot b) (nothing now o (gives_back grant.revision (Told snapshot b)) refl) (nothing now o (begins now grant.revision rest) refl) (only-reads now o (claims now grant.revision (passing rest)) _ refl refl);
     })
     (record {
       other = nothing now o (Told snapshot b) refl;

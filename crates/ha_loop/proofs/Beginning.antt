@@ -15,7 +15,7 @@ use Rattle.ha_loop.specs.declared.output.Output.TheVariants as outputs
 use Rattle.ha_loop.specs.Acting.{arming, is_refusing, waiting_no_more}
 use Rattle.ha_loop.specs.Agents.{RoleFacts, Follower, Holder, Ready, Leader, Ending, Stray, Outcome, is_ready}
 use Rattle.ha_loop.specs.Before.{before}
-use Rattle.ha_loop.specs.Claiming.{begins, begins_or_claims, can_begin_on_claim, claims, postpones}
+use Rattle.ha_loop.specs.Claiming.{begins, begins_or_claims, can_begin_on_claim, claims, passing, postpones}
 use Rattle.ha_loop.specs.Decisions.{accepted_grant, accepted_sync, arms, asks_lease, asks_sync, belongs, gives_back, granted, granted_for, granted_write, is_decision, is_lease_of, is_sync_decision, is_write_of, lease_granted, may_create, may_take, sync_granted, takes_key, asks_in_pause, asks_renewal, granted_in_pause, lease_used}
 use Rattle.ha_loop.specs.FreeKey.{AsksWhereFree, AsksWhereWon, BeginsOn, ClaimsOn, IsAwaitedClaim, BeginsWhereGranted}
 use Rattle.ha_loop.specs.Outputs.{listed}
@@ -85,9 +85,9 @@ takes-then now sequence grant snapshot o unpaused awaited may take armed =
 lease-begins : (now : Ticks) (sequence : ℕ) (grant : Granted) (snapshot : SnapshotFacts) (o : Outcome) → (awaited : IsAwaitedLease sequence grant o.knows) → granted now sequence grant snapshot o ≡ begins_or_claims now grant.revision (arming now awaited.waited.ttl (Told snapshot o))
     → (o.knows.turn_settings.synchronous_mode ≡ false → BeginsOn now grant.revision o (granted now sequence grant snapshot o)) × (o.knows.turn_settings.synchronous_mode ≡ true → ClaimsOn grant.revision o (granted now sequence grant snapshot o))
 lease-begins now sequence grant snapshot o awaited is = let arm : Outcome = arming now awaited.waited.ttl (Told snapshot o) in
-    let by : (mode : Bool) → o.knows.turn_settings.synchronous_mode ≡ mode → granted now sequence grant snapshot o ≡ cond mode (claims now grant.revision arm) (begins now grant.revision arm) = λ mode e. is ∙ ap (λ (b : Bool). cond b (claims now grant.revision arm) (begins now grant.revision arm)) e in (
+    let by : (mode : Bool) → o.knows.turn_settings.synchronous_mode ≡ mode → granted now sequence grant snapshot o ≡ cond mode (claims now grant.revision (passing arm)) (begins now grant.revision arm) = λ mode e. is ∙ ap (λ (b : Bool). cond b (claims now grant.revision (passing arm)) (begins now grant.revision arm)) e in (
       (λ off. subst (BeginsOn now grant.revision o) (sym (by false off)) (record { role = refl; server = refl; begins = Contains-push _ outputs.Begin })),
-      (λ on. subst (ClaimsOn grant.revision o) (sym (by true on)) (record { role = refl; server = refl; waited = _; waits = refl; asks = refl; claims = Contains-push arm.outputs _ })),
+      (λ on. subst (ClaimsOn grant.revision o) (sym (by true on)) (record { role = refl; server = refl; waited = _; waits = refl; asks = refl; claims = Contains-push (passing arm).outputs _ })),
     )
 
 first-false : (a b : Bool) → a ≡ false → a && b ≡ false

@@ -32,7 +32,7 @@ use Rattle.ha_loop.specs.Synchronous.{sync_read_in, expected_of}
 use Rattle.ha_loop.proofs.CommitGrounds.{IsBehind, lease_granted_as, write_granted_as, hears-lease, hears-write, leads-live, IsLedBy, compared-as, has-confirmed, confirmed-any}
 use Rattle.ha_loop.proofs.CommitIdling.{Idle, idle-then, waits-nothing, waits-new}
 use Rattle.ha_loop.proofs.CommitLawful.{was_of, lawful-as, keeps-turn, keeps-live, keeps-server, keeps-ready, keeps-noted, sends-nothing, sends-one, idle-lawful}
-use Rattle.ha_loop.proofs.CommitQuiet.{IsQuiet, IsUnasking, asks-none, asks-unbegun, quiet-fed, last-request, last-unbegun}
+use Rattle.ha_loop.proofs.CommitQuiet.{IsQuiet, IsUnasking, asks-none, asks-unbegun, quiet-fed, last-request, last-unbegun, unasking}
 use Rattle.ha_loop.proofs.CommitTools.{IsWithin, HasReached, covers-required}
 use Rattle.ha_loop.proofs.Granting.{Told}
 use Rattle.ha_loop.proofs.Knowing.{Onward}
@@ -143,7 +143,7 @@ publishes-lawful now ttl sequence grant snapshot s m input o b ground leased led
     (Publishing (record {
       grant = lease_granted_as m sequence grant.revision snapshot o;
       hears = hears-lease s m sequence grant snapshot input o leased.hears leased.awaited;
-      keeps = keeps-server s m input o x ground.stands is (last-unbegun fed.outputs output fed-quiet refl) (ap (λ (r : Replication). r.required) ground.behind.replication);
+      keeps = keeps-server s m input o x ground.stands is (last-unbegun fed.outputs output (unasking fed.outputs fed-quiet) refl) (ap (λ (r : Replication). r.required) ground.behind.replication);
       live = lives;
       led = ground.behind.idle.leads leads;
       ready = keeps-ready s m input o x is (λ e. absurd (no-way e));

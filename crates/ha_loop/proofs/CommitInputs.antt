@@ -7,6 +7,7 @@ use Rattle.pat_base.specs.declared.server_state.Required.{Required}
 use Rattle.pat_base.specs.declared.server_state.Required.TheVariants as requireds
 use Rattle.pat_base.specs.declared.ticks.Ticks.{Ticks}
 use Rattle.lease_store.specs.declared.granted.Granted.{Granted}
+use Rattle.lease_store.specs.declared.txn.Expected.{Expected}
 use Rattle.lease_store.specs.declared.txn.Txn.TheVariants as txns
 use Rattle.lease_store.specs.Writes.{nobody}
 use Rattle.wal_model.specs.declared.entry.HistoryPoint.{HistoryPoint}
@@ -42,8 +43,8 @@ use Rattle.ha_loop.specs.declared.who.Who.{Who}
 use Rattle.ha_loop.specs.Acting.{deadline_after, disarmed, ending_server, arming, requiring, waiting_no_more}
 use Rattle.ha_loop.specs.Agents.{RoleFacts, Follower, Ending, Outcome, is_leader, made, fresh_knowledge}
 use Rattle.ha_loop.specs.Before.{before, has_ended}
-use Rattle.ha_loop.specs.Claiming.{begins, can_begin_on_claim, claims, postpones}
-use Rattle.ha_loop.specs.Committing.{sync_seen, committer_seen, ArmsOn, DoesAs, IsOn, HearsOn, HearsToCommit, KnowsBelow, AsksOn, FollowsOn, requests_of, is_begin, IsOneAtMost, IsCovered, IsSynchronousBody, IsSynchronousOutput, InOrder, Apart, Asks, Requires, Begins, StaysOn, CommitsFrom}
+use Rattle.ha_loop.specs.Claiming.{begins, can_begin_on_claim, claims, passing, postpones}
+use Rattle.ha_loop.specs.Committing.{sync_seen, committer_seen, ArmsOn, DoesAs, IsOn, HearsOn, HearsToCommit, KnowsBelow, AsksOn, FollowsOn, requests_of, is_begin, IsOneAtMost, IsCovered, IsSynchronousBody, IsSynchronousOutput, InOrder, Apart, Asks, Passes, Requires, Begins, StaysOn, CommitsFrom}
 use Rattle.ha_loop.specs.Decisions.{takes_over, gives_back, granted}
 use Rattle.ha_loop.specs.HandingOver.{checking, hands_over}
 use Rattle.ha_loop.specs.Operators.{grants_operator, looked, operated, operator_granted}
@@ -58,14 +59,14 @@ use Rattle.ha_loop.specs.Wake.{woken}
 use Rattle.ha_loop.proofs.CommitAsking.{before-asks, wake-asks, looked-asks, got-asks, any-refused-asks, operator-granted-asks, operated-asks, answered-asks, leases-on}
 use Rattle.ha_loop.proofs.CommitIdling.{Idle, idle-then, before-idle, wake-idle, looked-idle, got-idle, any-refused-idle, operator-granted-idle, operated-idle, answered-idle, asked-idle, postpones-idle, failover-idle}
 use Rattle.ha_loop.proofs.CommitLawful.{idle-lawful}
-use Rattle.ha_loop.proofs.CommitQuiet.{IsQuiet, IsUnasking, all-armed, all-disarmed, all-fed, alone, covered, keeps-mode, last-one, last-unbegun, quiet-fed, quiet-one, quiet-unbegun, quietly, unasked, unasking}
+use Rattle.ha_loop.proofs.CommitQuiet.{IsQuiet, IsUnasking, all-armed, all-disarmed, all-fed, alone, covered, keeps-mode, last-one, last-unbegun, passing-unasked, quiet-fed, quiet-one, quiet-unbegun, quietly, unasked, unasking}
 use Rattle.ha_loop.proofs.CommitRows.{grant-commits, led-idle}
 use Rattle.ha_loop.proofs.CommitGrounds.{IsBehind, before-behind}
 use Rattle.ha_loop.proofs.CommitTools.{both-first, confirmed-reached, no-members, within-set}
 use Rattle.ha_loop.proofs.CommitSteps.{confirmed_at, wanted_at, required_at, PlanSteps, LeaseSteps, WriteSteps, granted-steps}
 use Rattle.ha_loop.proofs.Granting.{Told}
 use Rattle.ha_loop.proofs.Knowing.{Onward, before-onward, wake-onward, looked-onward, got-onward, any-granted-onward, any-refused-onward, operated-onward, answered-onward, asked-onward, onward-then}
-use Rattle.ha_loop.proofs.Rows.{FailoverRows, dropping, before-by, if-cases, led_on}
+use Rattle.ha_loop.proofs.Rows.{FailoverRows, dropping, before-by, if-cases, led_on, passing-by}
 use Rattle.ha_loop.specs.Pausing.{is_paused}
 use Rattle.ha_loop.proofs.LawfulSteps.{stays-unpaused}
 
@@ -98,21 +99,26 @@ quiet-stays heard o x asks quiet = record {
   begins = λ e. absurd (not-false (has_one is_begin x.outputs) (quiet-unbegun x.outputs quiet) e);
 }
 
--- with one more output behind those that the input covers
-last-stays : (heard : Heard) (o x : Outcome) (outs : List Output) (output : Output) → AsksOn x.knows → x.outputs ≡ listed output outs → is_begin output ≡ false → All IsCovered outs → InOrder x.outputs → ((count : ℕ) → KnowsBelow count heard o → IsSynchronousOutput count output) → StaysOn heard o x
-last-stays heard o x outs output asks is unbegun all order sends =
-    let still : All IsUnasking outs = unasking outs (covered outs all) in
+-- with one more output behind those that send no other request
+last-stays : (heard : Heard) (o x : Outcome) (outs : List Output) (output : Output) → AsksOn x.knows → x.outputs ≡ listed output outs → is_begin output ≡ false → All IsUnasking outs → InOrder x.outputs → ((count : ℕ) → KnowsBelow count heard o → IsSynchronousOutput count output) → StaysOn heard o x
+last-stays heard o x outs output asks is unbegun still order sends =
     record {
       asks = asks;
       one = subst (λ (l : List Output). IsOneAtMost (requests_of o.knows.who.me.number o.knows.run l)) (sym is) (last-one o.knows.who.me.number o.knows.run outs output still);
       sends = λ count below. subst (λ (l : List Output). All (IsSynchronousOutput count) l) (sym is) (All-push (IsSynchronousOutput count) outs output (keeps-mode count outs still) (sends count below));
       order = order;
-      begins = λ e. absurd (not-false (has_one is_begin x.outputs) (ap (has_one is_begin) is ∙ last-unbegun outs output (covered outs all) unbegun) e);
+      begins = λ e. absurd (not-false (has_one is_begin x.outputs) (ap (has_one is_begin) is ∙ last-unbegun outs output still unbegun) e);
     }
 
 -- a question to the key store is the last output
 asks-stays : (heard : Heard) (o x : Outcome) (outs : List Output) (sequence : ℕ) (body : Body) → AsksOn x.knows → x.outputs ≡ listed (outputs.Send targets.Store sequence body) outs → All IsCovered outs → ((count : ℕ) → KnowsBelow count heard o → IsSynchronousBody count body) → StaysOn heard o x
-asks-stays heard o x outs sequence body asks is all sends = last-stays heard o x outs (outputs.Send targets.Store sequence body) asks is refl all (Asks outs sequence body all (sym is)) sends
+asks-stays heard o x outs sequence body asks is all sends = last-stays heard o x outs (outputs.Send targets.Store sequence body) asks is refl (unasking outs (covered outs all)) (Asks outs sequence body all (sym is)) sends
+
+-- so is a claim, behind the note that the sync key doesn't name the member, if that is so
+claims-order : (o : Outcome) (sequence revision : ℕ) (sync : Expected) → All IsCovered o.outputs → InOrder (listed (outputs.Send targets.Store sequence (bodies.Request (txns.Claim revision sync))) (passing o).outputs)
+claims-order o sequence revision sync all = let claim : Output = outputs.Send targets.Store sequence (bodies.Request (txns.Claim revision sync)) in
+    passing-by (λ (outs : List Output). InOrder (listed claim outs)) o (Asks o.outputs sequence (bodies.Request (txns.Claim revision sync)) all refl)
+    (Passes o.outputs sequence revision sync all (sym (append_assoc o.outputs (outputs.Passes ∷ []) (claim ∷ []))))
 
 -- nothing is waited for, or this question
 rest : (knows : Knowledge) → knows.waited ≡ None → AsksOn knows
@@ -123,7 +129,7 @@ asks-this knows asked is follows waited waits = subst (λ (w : Waited). FollowsO
 
 requires-stays : (heard : Heard) (o y : Outcome) (required : Required) → y.knows.waited ≡ None → All IsCovered y.outputs → StaysOn heard o (requiring required y)
 requires-stays heard o y required none all =
-    last-stays heard o (requiring required y) y.outputs (outputs.Require required) (rest y.knows none) refl refl all (Requires y.outputs required all refl) (λ count below. tt)
+    last-stays heard o (requiring required y) y.outputs (outputs.Require required) (rest y.knows none) refl refl (unasking y.outputs (covered y.outputs all)) (Requires y.outputs required all refl) (λ count below. tt)
 
 -- the rows of a grant, on what comes before it
 module _ (now : Ticks) (sequence : ℕ) (grant : Granted) (snapshot : SnapshotFacts) (o b : Outcome) (behind : IsBehind o b) (all : All IsCovered b.outputs) where
@@ -194,7 +200,8 @@ module _ (now : Ticks) (sequence : ℕ) (grant : Granted) (snapshot : SnapshotFa
       let over : Outcome = takes_over now revision arm in
       let back : Outcome = gives_back revision told in
       let refused-it : Outcome = gives_back revision (record told { outputs = listed outputs.CannotArm b.outputs }) in
-      let claimed : Outcome = claims now revision arm in record {
+      let claimed : Outcome = claims now revision (passing arm) in
+      let read : Expected = expected_of b.knows.turn_sync in record {
         other = quiet-stays Hears o told (rest told.knows refl) quiet;
         ends = quiet-stays Hears o ended (rest ended.knows refl) (quietly fed.outputs (outputs.Stop StartTooLong) (quiet-fed (deadline_after now ttl b.machine.watchdog) b.outputs quiet) tt);
         plans = λ held _. plan-stays ttl;
@@ -203,7 +210,8 @@ module _ (now : Ticks) (sequence : ℕ) (grant : Granted) (snapshot : SnapshotFa
         takes_over = λ _. quiet-stays Hears o over (rest over.knows refl) (covered arm.outputs armed);
         returns = quiet-stays Hears o back (rest back.knows refl) (quietly b.outputs _ quiet tt);
         refuses = quiet-stays Hears o refused-it (rest refused-it.knows refl) (quietly (listed outputs.CannotArm b.outputs) _ (quietly b.outputs outputs.CannotArm quiet tt) tt);
-        claims = λ _ _. asks-stays Hears o claimed arm.outputs (b.knows.sequence + 1) (bodies.Request (txns.Claim revision (expected_of b.knows.turn_sync))) (asks-this claimed.knows _ refl tt) refl armed (λ count below. tt);
+        claims = λ _. last-stays Hears o claimed (passing arm).outputs (outputs.Send targets.Store (b.knows.sequence + 1) (bodies.Request (txns.Claim revision read))) (asks-this claimed.knows _ refl tt) refl refl
+            (passing-unasked arm (covered arm.outputs armed)) (claims-order arm (b.knows.sequence + 1) revision read armed) (λ count below. tt);
       }
 
   begins-stays : (revision : ℕ) → can_begin_on_claim b.machine.server.was_primary b.machine.server.state ≡ true → Stays (begins now revision (Told snapshot b))

@@ -23,11 +23,13 @@ use Rattle.ha_loop.specs.declared.output.Output.TheVariants as outputs
 use Rattle.ha_loop.specs.declared.output.Target.TheVariants as targets
 use Rattle.ha_loop.specs.declared.who.Who.{Who}
 use Rattle.ha_loop.specs.Acting.{armed, fed_until, disarmed}
+use Rattle.ha_loop.specs.Agents.{Outcome}
 use Rattle.ha_loop.specs.Answers.{most_answers, is_other, asking_one, asking_first}
+use Rattle.ha_loop.specs.Claiming.{passing}
 use Rattle.ha_loop.specs.Committing.{request_in, request_of_body, request_of, requests_of, IsOneAtMost, IsQuietTxn, IsQuietBody, IsCovered, StandsAlone, IsSynchronousTxn, IsSynchronousBody, IsSynchronousOutput, is_begin}
 use Rattle.ha_loop.specs.HandingOver.{asking_whom}
 use Rattle.ha_loop.specs.Outputs.{listed, has_one}
-use Rattle.ha_loop.proofs.Rows.{if-cases}
+use Rattle.ha_loop.proofs.Rows.{if-cases, passing-by}
 
 -- an output that sends no other request, and by which no server comes to accept writes: one that starts again is live before it
 abbrev pub IsUnasking : Output → Type 0
@@ -35,16 +37,18 @@ IsUnasking (outputs.Send to sequence body) = IsQuietBody body
 IsUnasking outputs.Begin = ⊥
 IsUnasking _ = Unit {0}
 
--- one after which commits wait for the same members
+-- one after which commits wait for the same members, and that isn't the note that leads to a claim
 abbrev pub IsQuiet : Output → Type 0
 IsQuiet (outputs.Send to sequence body) = IsQuietBody body
 IsQuiet outputs.Begin = ⊥
+IsQuiet outputs.Passes = ⊥
 IsQuiet (outputs.Require required) = ⊥
 IsQuiet _ = Unit {0}
 
 quiet-unasking : (output : Output) → IsQuiet output → IsUnasking output
 quiet-unasking (outputs.Send to sequence body) quiet = quiet
 quiet-unasking outputs.Begin quiet = quiet
+quiet-unasking outputs.Passes quiet = absurd quiet
 quiet-unasking _ quiet = tt
 
 pub unasking : (outs : List Output) → All IsQuiet outs → All IsUnasking outs
@@ -55,6 +59,7 @@ covered-quiet : (output : Output) → IsCovered output → IsQuiet output
 covered-quiet (outputs.Send to sequence body) covered = covered
 covered-quiet outputs.Begin covered = covered
 covered-quiet (outputs.Require required) covered = covered
+covered-quiet outputs.Passes covered = covered
 covered-quiet _ covered = tt
 
 pub covered : (outs : List Output) → All IsCovered outs → All IsQuiet outs
@@ -65,6 +70,7 @@ quiet-alone : (output : Output) → IsQuiet output → StandsAlone output
 quiet-alone (outputs.Send to sequence body) quiet = quiet
 quiet-alone (outputs.Require required) quiet = quiet
 quiet-alone outputs.Begin quiet = quiet
+quiet-alone outputs.Passes quiet = quiet
 quiet-alone _ quiet = tt
 
 pub alone : (outs : List Output) → All IsQuiet outs → All StandsAlone outs
@@ -133,10 +139,10 @@ asks-unbegun (output ∷ outs) all = ap (λ (b : Bool). b || has_one is_begin ou
 pub quiet-unbegun : (outs : List Output) → All IsQuiet outs → has_one is_begin outs ≡ false
 quiet-unbegun outs quiet = asks-unbegun outs (unasking outs quiet)
 
-pub last-unbegun : (outs : List Output) (output : Output) → All IsQuiet outs → is_begin output ≡ false → has_one is_begin (listed output outs) ≡ false
-last-unbegun [] output quiet is = ap (λ (b : Bool). b || false) is
-last-unbegun (one ∷ outs) output quiet is =
-    ap (λ (b : Bool). b || has_one is_begin (listed output outs)) (unbegun one (quiet-unasking one (All-head IsQuiet one outs quiet))) ∙ last-unbegun outs output (All-tail IsQuiet one outs quiet) is
+pub last-unbegun : (outs : List Output) (output : Output) → All IsUnasking outs → is_begin output ≡ false → has_one is_begin (listed output outs) ≡ false
+last-unbegun [] output all is = ap (λ (b : Bool). b || false) is
+last-unbegun (one ∷ outs) output all is =
+    ap (λ (b : Bool). b || has_one is_begin (listed output outs)) (unbegun one (All-head IsUnasking one outs all)) ∙ last-unbegun outs output (All-tail IsUnasking one outs all) is
 
 -- and each is as synchronous mode has it
 create-kept : (count : ℕ) (info : MemberInfo) (ttl : Ticks) (failsafe : Option Expected) (sync : Option Expected) → sync ≡ None → IsSynchronousTxn count (txns.Create info ttl failsafe sync)
@@ -167,6 +173,10 @@ keeps-mode count outs all = All-weaker IsUnasking (IsSynchronousOutput count) (k
 
 pub quietly : (outs : List Output) (output : Output) → All IsQuiet outs → IsQuiet output → All IsQuiet (listed output outs)
 quietly outs output quiet more = All-push IsQuiet outs output quiet more
+
+-- so it is with a note of the sync key behind them
+pub passing-unasked : (o : Outcome) → All IsQuiet o.outputs → All IsUnasking (passing o).outputs
+passing-unasked o quiet = let all : All IsUnasking o.outputs = unasking o.outputs quiet in passing-by (All IsUnasking) o all (All-push IsUnasking o.outputs outputs.Passes all tt)
 
 -- whom commits wait for is told behind them
 pub unasked : (outs : List Output) (required : Required) → All IsQuiet outs → All IsUnasking (listed (outputs.Require required) outs)

@@ -1,5 +1,5 @@
 -- Each granted request is lawful for kept commits: who takes the leader key, claims and begins, and all rows together.
-use Rattle.std.proofs.Common.{◌≡◌, ℕ, ◌+◌, ◌&&◌, Bool, true, false, if◌then◌else◌, not, Option, Some, None, All, refl, sym, subst, ap, ◌∙◌, arith, inl, inr, slice_get}
+use Rattle.std.proofs.Common.{◌≡◌, ℕ, ◌+◌, Bool, true, false, Option, Some, None, List, All, refl, sym, subst, ap, ◌∙◌, arith, inl, inr, slice_get}
 use Rattle.pat_base.specs.declared.lsn.Lsn.{Lsn}
 use Rattle.pat_base.specs.declared.member_set.MemberSet.{MemberSet}
 use Rattle.pat_base.specs.declared.server_state.Required.{Required}
@@ -9,6 +9,7 @@ use Rattle.pat_base.specs.declared.server_state.State.TheVariants as states
 use Rattle.pat_base.specs.declared.ticks.Ticks.{Ticks}
 use Rattle.pat_base.specs.ServerState.{live}
 use Rattle.lease_store.specs.declared.granted.Granted.{Granted}
+use Rattle.lease_law.proofs.Tools.{not-false}
 use Rattle.lease_store.specs.declared.txn.Txn.TheVariants as txns
 use Rattle.pg_model.specs.declared.status.ServerStatus.{ServerStatus}
 use Rattle.pg_model.specs.Facts.{has_data}
@@ -37,63 +38,63 @@ use Rattle.ha_loop.specs.declared.output.Output.TheVariants as outputs
 use Rattle.ha_loop.specs.declared.output.Target.TheVariants as targets
 use Rattle.ha_loop.specs.declared.role.Why.TheVariants.{HandOver}
 use Rattle.ha_loop.specs.declared.who.Who.{Who}
-use Rattle.ha_loop.specs.Acting.{deadline_after, ending_server, arming, requiring, is_hold_active, waiting_no_more}
+use Rattle.ha_loop.specs.Acting.{deadline_after, ending_server, arming, requiring, waiting_no_more}
 use Rattle.ha_loop.specs.Agents.{Ready, Ending, Outcome, is_leader, is_ready}
 use Rattle.ha_loop.specs.Before.{before}
-use Rattle.ha_loop.specs.Claiming.{begins, claims, postpones, can_begin_on_claim}
-use Rattle.ha_loop.specs.Committing.{sync_seen, StandsToCommit, IsAwaitedWrite, IsAskedBy, HearsWrite, HearsGranted, IsOn, FollowsOn, AsksOn, NeedsOne, IsCommitInputOf, IsLawfulAs}
-use Rattle.ha_loop.specs.Decisions.{can_begin, takes_over, gives_back, may_create, may_take, granted}
+use Rattle.ha_loop.specs.Claiming.{begins, claims, passing, postpones, can_begin_on_claim, told_passing}
+use Rattle.ha_loop.specs.Committing.{sync_seen, StandsToCommit, IsAwaitedWrite, IsAskedBy, HearsWrite, HearsGranted, IsOn, FollowsOn, AsksOn, NeedsOne, IsCommitInputOf, is_passing, IsLawfulAs}
+use Rattle.ha_loop.specs.Decisions.{takes_over, gives_back, may_create, granted}
 use Rattle.ha_loop.specs.HandingOver.{checking, hands_over}
-use Rattle.ha_loop.specs.Outputs.{listed}
+use Rattle.ha_loop.specs.Outputs.{has_one, listed}
 use Rattle.ha_loop.specs.Planning.{leader_view, noting}
 use Rattle.ha_loop.specs.Powers.{IsAwaitedLease}
 use Rattle.ha_loop.specs.Racing.{unheard}
-use Rattle.ha_loop.specs.Synchronous.{expected_of, is_named_if, may_lead_in_sync, unnamed, waiting_for}
+use Rattle.ha_loop.specs.Synchronous.{expected_of, is_named_if, unnamed, waiting_for}
 use Rattle.ha_loop.proofs.CommitAsking.{before-asks, leases-on}
 use Rattle.ha_loop.proofs.CommitGrants.{Ground, Lawful, rests, Leased, unready, changes-lawful, settles-lawful, publishes-lawful}
 use Rattle.ha_loop.proofs.CommitGrounds.{IsBehind, before-behind, before-unready, lease-before, write-before, lease_granted_as, write_granted_as, hears-lease, hears-write, leads-live, IsLedBy, key-covers, led-by, written, compared-as, wins-named, noted-end}
 use Rattle.ha_loop.proofs.CommitIdling.{Idle, idle-then, waits-nothing, waits-new, stays, falls, same-idle, quiet-idle, postpones-idle, failover-idle}
 use Rattle.ha_loop.proofs.CommitLawful.{lawful-as, keeps-turn, keeps-server, keeps-ready, sends-nothing, sends-one}
 use Rattle.ha_loop.proofs.CommitGrowing.{narrows-grows, required-needs, wanted-connected}
-use Rattle.ha_loop.proofs.CommitQuiet.{IsQuiet, IsUnasking, asks-last, quietly, quiet-armed, quiet-fed, quiet-none, quiet-unbegun, last-request, last-unbegun, unasked}
+use Rattle.ha_loop.proofs.CommitQuiet.{IsQuiet, IsUnasking, asks-last, quietly, quiet-armed, quiet-fed, quiet-none, quiet-unbegun, last-unbegun, passing-unasked, unasked}
 use Rattle.ha_loop.proofs.CommitSteps.{IsForeign, wanted_at, confirmed_at, required_at, PlanSteps, LeaseSteps, WriteSteps, granted-steps}
 use Rattle.ha_loop.proofs.CommitTools.{IsWithin, HasReached, within-set, both-first, either-first, either-one, either-within, unnamed-need, waiting-covers, waiting-narrows, confirmed-reached}
 use Rattle.ha_loop.proofs.Fitting.{ended-for}
-use Rattle.ha_loop.proofs.Granting.{Told, both-true}
+use Rattle.ha_loop.proofs.Granting.{Told, one-before, one-last}
 use Rattle.ha_loop.proofs.Knowing.{before-onward, granted-onward, onward-then}
 use Rattle.ha_loop.proofs.Living.{no-way}
 use Rattle.ha_loop.proofs.Rows.{FailoverRows, dropping, led_on}
 use Rattle.ha_loop.specs.Pausing.{is_paused}
 use Rattle.ha_loop.proofs.LawfulSteps.{stays-unpaused}
 
-chosen : (on named : Bool) → on ≡ true → (if on then named else true) ≡ true → named ≡ true
-chosen true named is e = e
-chosen false named is e = absurd (no-way is)
+-- where nobody passes the sync key, that names who claims it
+inside-named : (named : Bool) (outs : List Output) (claim : Output) → has_one is_passing (listed claim (told_passing named outs)) ≡ false → named ≡ true
+inside-named true outs claim inside = refl
+inside-named false outs claim inside = absurd (not-false (has_one is_passing (listed claim (told_passing false outs))) inside
+    (one-before is_passing (listed outputs.Passes outs) claim (one-last is_passing outs outputs.Passes refl)))
 
 -- a member that takes the key claims the sync key that its turn read, which names it
-arms-lawful : (now ttl : Ticks) (sequence : ℕ) (grant : Granted) (snapshot : SnapshotFacts) (s : State) (m : ℕ) (input : AgentInput) (o b : Outcome) → Ground s m o b → Leased s m sequence grant snapshot input o → b.knows.turn_settings.synchronous_mode ≡ true → may_create b.role ≡ true → is_ready o.role ≡ false
-    → may_take now (Told snapshot b).knows b.machine ≡ true → Lawful now sequence grant snapshot s m input o (claims now grant.revision (arming now ttl (Told snapshot b)))
-arms-lawful now ttl sequence grant snapshot s m input o b ground leased mode creates unready-before may onward is =
+arms-lawful : (now ttl : Ticks) (sequence : ℕ) (grant : Granted) (snapshot : SnapshotFacts) (s : State) (m : ℕ) (input : AgentInput) (o b : Outcome) → Ground s m o b → Leased s m sequence grant snapshot input o → may_create b.role ≡ true → is_ready o.role ≡ false
+    → Lawful now sequence grant snapshot s m input o (claims now grant.revision (passing (arming now ttl (Told snapshot b))))
+arms-lawful now ttl sequence grant snapshot s m input o b ground leased creates unready-before onward is =
     let behind : IsBehind o b = ground.behind in
     let arm : Outcome = arming now ttl (Told snapshot b) in
-    let x : Outcome = claims now grant.revision arm in
-    let quiet : All IsQuiet arm.outputs = quiet-armed (deadline_after now ttl b.machine.watchdog) b.outputs (behind.idle.quiet ground.quiet) in
+    let noted : Outcome = passing arm in
+    let x : Outcome = claims now grant.revision noted in
+    let still : All IsUnasking noted.outputs = passing-unasked arm (quiet-armed (deadline_after now ttl b.machine.watchdog) b.outputs (behind.idle.quiet ground.quiet)) in
     let output : Output = outputs.Send targets.Store (b.knows.sequence + 1) (bodies.Request (txns.Claim grant.revision (expected_of b.knows.turn_sync))) in
     let request : SyncRequest = claim_request m o.knows.run (b.knows.sequence + 1) grant.revision (expected_of b.knows.turn_sync) in
-    let can : Bool = can_begin now (Told snapshot b).knows b.machine.server b.machine.server.state in
-    let leads : Bool = may_lead_in_sync (Told snapshot b).knows in
-    let may-lead : leads ≡ true = (both-true can leads (both-true (not (is_hold_active now b.machine.hold)) (can && leads) may).1).1 in
     let named : WinsByName (sync_seen b.knows.turn_sync) m = wins-named b.knows.who.me m b.knows.turn_sync (ap (λ (w : Who). w.me.number) behind.who ∙ ground.stands.me)
-    (chosen b.knows.turn_settings.synchronous_mode (is_named_if b.knows.who.me b.knows.turn_sync) mode may-lead) in
+    (inside-named (is_named_if b.knows.who.me b.knows.turn_sync) arm.outputs output is.inside) in
     lawful-as now (HeardGranted sequence grant snapshot) (Some snapshot) s m input o x ground.stands is onward (waits-new o x _ refl (omega (arith, behind.last)))
     (Arming (record {
       grant = lease_granted_as m sequence grant.revision snapshot o;
       hears = hears-lease s m sequence grant snapshot input o leased.hears leased.awaited;
-      keeps = keeps-server s m input o x ground.stands is (last-unbegun arm.outputs output quiet refl) (ap (λ (r : Replication). r.required) behind.replication);
+      keeps = keeps-server s m input o x ground.stands is (last-unbegun noted.outputs output still refl) (ap (λ (r : Replication). r.required) behind.replication);
       not_live = ground.stands.live ∙ (sym (ap (λ (y : ServerStatus). live y.state) behind.server) ∙ ended-for b.role (live b.machine.server.state) creates behind.fits);
       turn = keeps-turn s m input o x is behind.turn;
       request = request;
-      sends = sends-one s m input o x request is (last-request m o.knows.run arm.outputs output quiet) refl refl (omega (arith, behind.last)) (omega arith) refl;
+      sends = sends-one s m input o x request is (asks-last m o.knows.run noted.outputs output still) refl refl (omega (arith, behind.last)) (omega arith) refl;
       aim = refl;
       leader = refl;
       sync = compared-as b.knows.turn_sync ∙ ap (λ (r : Option SyncRead). sync_revision_of (sync_seen r)) behind.turn;
@@ -255,9 +256,9 @@ failover-lawful now ttl sequence grant snapshot s m input o b ground leads =
     }
 
 -- what each role does with a lease
-lease-lawful : (now ttl : Ticks) (sequence : ℕ) (grant : Granted) (snapshot : SnapshotFacts) (s : State) (m : ℕ) (input : AgentInput) (o b : Outcome) → Ground s m o b → Leased s m sequence grant snapshot input o → b.knows.turn_settings.synchronous_mode ≡ true → (may_create b.role ≡ true → is_ready o.role ≡ false)
+lease-lawful : (now ttl : Ticks) (sequence : ℕ) (grant : Granted) (snapshot : SnapshotFacts) (s : State) (m : ℕ) (input : AgentInput) (o b : Outcome) → Ground s m o b → Leased s m sequence grant snapshot input o → (may_create b.role ≡ true → is_ready o.role ≡ false)
     → LeaseSteps (Lawful now sequence grant snapshot s m input o) now ttl grant.revision snapshot b
-lease-lawful now ttl sequence grant snapshot s m input o b ground leased mode unready-before =
+lease-lawful now ttl sequence grant snapshot s m input o b ground leased unready-before =
     let told : Outcome = Told snapshot b in
     let fed : Outcome = led_on now ttl grant.revision told in
     let ended : Outcome = record (ending_server now StartTooLong fed) { role = Ending grant.revision HandOver } in
@@ -274,7 +275,7 @@ lease-lawful now ttl sequence grant snapshot s m input o b ground leased mode un
       takes_over = λ _. takes-over-lawful now ttl sequence grant snapshot s m input o b ground;
       returns = still back (falls None b back refl refl refl refl refl (waits-nothing b back refl) (λ q. quietly b.outputs _ q tt));
       refuses = still refused (falls None b refused refl refl refl refl refl (waits-nothing b refused refl) (λ q. quietly (listed outputs.CannotArm b.outputs) _ (quietly b.outputs outputs.CannotArm q tt) tt));
-      claims = λ creates may. arms-lawful now ttl sequence grant snapshot s m input o b ground leased mode creates (unready-before creates) may;
+      claims = λ creates. arms-lawful now ttl sequence grant snapshot s m input o b ground leased creates (unready-before creates);
     }
 
 -- what a granted write of the sync key comes to
@@ -303,7 +304,7 @@ grant-commits now sequence grant snapshot s m input o sound stands quiet was ask
       unpaused = stays-unpaused now snapshot o was on.unpaused;
       mode = mode;
       leases = λ awaited. let before-it : IsAwaitedLease sequence grant o.knows = lease-before sequence grant o b behind awaited in
-          lease-lawful now awaited.waited.ttl sequence grant snapshot s m input o b ground (record { awaited = before-it; hears = hears.lease before-it }) (mode awaited) (before-unready now o);
+          lease-lawful now awaited.waited.ttl sequence grant snapshot s m input o b ground (record { awaited = before-it; hears = hears.lease before-it }) (before-unready now o);
       writes = λ awaited. let before-it : IsAwaitedWrite sequence grant o.knows = write-before sequence grant o b behind awaited in
           write-lawful now sequence grant snapshot s m input o b ground before-it (hears.write before-it) (asks before-it.waited before-it.is);
     })

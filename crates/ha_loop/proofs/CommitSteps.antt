@@ -26,7 +26,7 @@ use Rattle.ha_loop.specs.declared.output.Output.TheVariants as outputs
 use Rattle.ha_loop.specs.declared.role.Why.TheVariants.{HandOver}
 use Rattle.ha_loop.specs.Acting.{ending_server, arming, requiring, is_refusing, waiting_no_more}
 use Rattle.ha_loop.specs.Agents.{RoleFacts, Follower, Holder, Ready, Leader, Ending, Stray, Outcome, is_leader}
-use Rattle.ha_loop.specs.Claiming.{begins, claims, begins_or_claims, postpones, can_begin_on_claim, may_begin_on_claim}
+use Rattle.ha_loop.specs.Claiming.{begins, claims, begins_or_claims, passing, postpones, can_begin_on_claim, may_begin_on_claim}
 use Rattle.ha_loop.specs.Committing.{IsAwaitedWrite, IsOn}
 use Rattle.ha_loop.specs.Decisions.{is_decision, is_sync_decision, is_lease_of, is_write_of, belongs, is_start_too_long, takes_over, stray_renewed, leader_renewed, may_create, may_take, gives_back, arms, takes_key, lease_granted, accepted_grant, sync_granted, accepted_sync, granted_write, granted_for, granted, asks_renewal, granted_in_pause, lease_used, uses_lease}
 use Rattle.ha_loop.specs.HandingOver.{duties}
@@ -108,7 +108,7 @@ pub record LeaseSteps (P : Outcome → Type 0) (now ttl : Ticks) (revision : ℕ
   pub takes_over : o.role ≡ Stray → P (takes_over now revision (arming now ttl (Told snapshot o)))
   pub returns : P (gives_back revision (Told snapshot o))
   pub refuses : P (gives_back revision (record (Told snapshot o) { outputs = listed outputs.CannotArm o.outputs }))
-  pub claims : may_create o.role ≡ true → may_take now (Told snapshot o).knows o.machine ≡ true → P (claims now revision (arming now ttl (Told snapshot o)))
+  pub claims : may_create o.role ≡ true → P (claims now revision (passing (arming now ttl (Told snapshot o))))
 
 renewed-steps : (P : Outcome → Type 0) (now ttl : Ticks) (revision : ℕ) (snapshot : SnapshotFacts) (o : Outcome) (held : ℕ) → o.role ≡ Leader held → IsOn snapshot → LeaseSteps P now ttl revision snapshot o → P (leader_renewed now ttl revision (Told snapshot o))
 renewed-steps P now ttl revision snapshot o held is on rows = let led : Outcome = led_on now ttl revision (Told snapshot o) in
@@ -124,8 +124,8 @@ takes-steps : (P : Outcome → Type 0) (now ttl : Ticks) (revision : ℕ) (snaps
 takes-steps P now ttl revision snapshot o creates mode rows = let told : Outcome = Told snapshot o in let arm : Outcome = arming now ttl told in
     let refuses : Outcome = gives_back revision (record told { outputs = listed outputs.CannotArm o.outputs }) in
     if-cases P (may_take now told.knows o.machine) (arms now ttl revision told) (gives_back revision told)
-    (λ may. if-cases P (is_refusing o.machine.watchdog.mode o.machine.watchdog.works) refuses (begins_or_claims now revision arm) (λ _. rows.refuses)
-    (λ _. if-cases P o.knows.turn_settings.synchronous_mode (claims now revision arm) (begins now revision arm) (λ _. rows.claims creates may) (λ off. absurd (no-way (sym off ∙ mode)))))
+    (λ _. if-cases P (is_refusing o.machine.watchdog.mode o.machine.watchdog.works) refuses (begins_or_claims now revision arm) (λ _. rows.refuses)
+    (λ _. if-cases P o.knows.turn_settings.synchronous_mode (claims now revision (passing arm)) (begins now revision arm) (λ _. rows.claims creates) (λ off. absurd (no-way (sym off ∙ mode)))))
     (λ _. rows.returns)
 
 lease-steps : (P : Outcome → Type 0) (now ttl : Ticks) (revision : ℕ) (snapshot : SnapshotFacts) (role : RoleFacts) (o : Outcome) → o.role ≡ role → IsOn snapshot → o.knows.turn_settings.synchronous_mode ≡ true → LeaseSteps P now ttl revision snapshot o → P (lease_granted now ttl revision role (Told snapshot o))

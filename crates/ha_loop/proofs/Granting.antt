@@ -12,7 +12,7 @@ use Rattle.ha_loop.specs.declared.output.Output.TheVariants as outputs
 use Rattle.ha_loop.specs.declared.role.Why.TheVariants.{HandOver}
 use Rattle.ha_loop.specs.Acting.{armed, fed_until, arming, ending_server, requiring, is_hold_active, is_refusing, waiting_no_more}
 use Rattle.ha_loop.specs.Agents.{Ending, Outcome, is_ready}
-use Rattle.ha_loop.specs.Claiming.{begins_or_claims, postpones, begins}
+use Rattle.ha_loop.specs.Claiming.{begins, begins_or_claims, passing, postpones}
 use Rattle.ha_loop.specs.Decisions.{is_decision, is_lease_of, leader_renewed, takes_over, stray_renewed, can_begin, may_take, gives_back, arms, takes_key, granted, takes_key_in_pause}
 use Rattle.ha_loop.specs.Fits.{Fits}
 use Rattle.ha_loop.specs.Outputs.{listed, is_feeding, has_one}
@@ -36,7 +36,7 @@ use Rattle.pat_base.specs.MemberId.{member_of}
 use Rattle.pat_base.specs.declared.member_id.MemberId.{MemberId}
 use Rattle.event_book.specs.declared.message.Body.TheVariants as bodies
 use Rattle.ha_loop.specs.declared.output.Target.TheVariants as targets
-use Rattle.ha_loop.proofs.Rows.{dropping, granted-any-by, SyncRows, led_on, if-cases, granted-by, renewed-by, begins-or-claims-by, DutyRows, duties-of, rested_on}
+use Rattle.ha_loop.proofs.Rows.{dropping, granted-any-by, SyncRows, led_on, if-cases, granted-by, renewed-by, passing-by, begins-or-claims-by, DutyRows, duties-of, rested_on}
 use Rattle.ha_loop.specs.Pausing.{is_paused, is_wanted, resting}
 
 pub take-free : (held can : Bool) → not held && can ≡ true → held ≡ false
@@ -127,6 +127,10 @@ stray-may now sequence grant snapshot o awaited = let over : Outcome = takes_ove
     (λ _. Nothing (same-role o (ending_server now WatchdogNotArmed (Told snapshot o)) refl (stop-live now o.machine.server)) (Kept refl))
     (λ _. leads-live now sequence grant snapshot o over awaited refl refl refl refl (armed-told o.outputs _ (is_armable o.machine.watchdog.mode o.machine.watchdog.works)) (λ e. e))
 
+-- a note of the sync key takes nothing from what was fed
+passing-told : (o : Outcome) → has_one is_feeding o.outputs ≡ true → has_one is_feeding (passing o).outputs ≡ true
+passing-told o told = passing-by (λ (outs : List Output). has_one is_feeding outs ≡ true) o told (one-before is_feeding o.outputs outputs.Passes told)
+
 arms-may : (now : Ticks) (sequence : ℕ) (grant : Granted) (snapshot : SnapshotFacts) (o : Outcome) (awaited : IsAwaitedLease sequence grant o.knows) → live o.machine.server.state ≡ false → is_hold_active now o.machine.hold ≡ false
     → GrantMay now sequence grant snapshot o (arms now awaited.waited.ttl grant.revision (Told snapshot o))
 arms-may now sequence grant snapshot o awaited ended free = let back : Outcome = gives_back grant.revision (record (Told snapshot o) { outputs = listed outputs.CannotArm o.outputs }) in
@@ -138,7 +142,7 @@ arms-may now sequence grant snapshot o awaited ended free = let back : Outcome =
     (Leads awaited refl refl (λ e. absurd (no-way e)) refl
     (λ armable. one-before is_feeding (listed (outputs.Require (unnamed arm.knows.turn_settings)) arm.outputs) outputs.Begin (one-before is_feeding arm.outputs (outputs.Require (unnamed arm.knows.turn_settings)) (told armable)))
     (λ _. inr free) (λ _. inr ready))
-    (Leads awaited refl refl (λ _. ended) refl (λ armable. one-before is_feeding arm.outputs _ (told armable)) (λ _. inr free) (λ _. inr ready)))
+    (Leads awaited refl refl (λ _. ended) refl (λ armable. one-before is_feeding (passing arm).outputs _ (passing-told arm (told armable))) (λ _. inr free) (λ _. inr ready)))
 
 takes-may : (now : Ticks) (sequence : ℕ) (grant : Granted) (snapshot : SnapshotFacts) (o : Outcome) (awaited : IsAwaitedLease sequence grant o.knows) → live o.machine.server.state ≡ false → GrantMay now sequence grant snapshot o (takes_key now awaited.waited.ttl grant.revision (Told snapshot o))
 takes-may now sequence grant snapshot o awaited ended = let back : Outcome = gives_back grant.revision (Told snapshot o) in

@@ -29,7 +29,7 @@ use Rattle.ha_loop.specs.Acting.{disarming, arming, ending_server, requiring, sh
 use Rattle.ha_loop.specs.Agents.{EndsAlone, HasCounted, RoleFacts, Follower, Holder, Ready, Leader, Ending, Stray, Outcome}
 use Rattle.ha_loop.specs.Before.{leader_finds_ended, has_ended, finds_live, stray_finds_ended, before}
 use Rattle.ha_loop.specs.Decisions.{may_create, leader_renewed, takes_over, stray_renewed, may_take, gives_back, arms, takes_key, granted, refused, takes_key_in_pause}
-use Rattle.ha_loop.specs.Claiming.{begins, claims, begins_or_claims, postpones}
+use Rattle.ha_loop.specs.Claiming.{begins, claims, begins_or_claims, passing, postpones}
 use Rattle.ha_loop.specs.Planning.{writing_sync, noting}
 use Rattle.ha_loop.specs.Outputs.{listed}
 use Rattle.ha_loop.specs.Seen.{lease_asked, leader_seen_if, failsafe_listed, failsafe_entry_seen, failsafe_seen_if}
@@ -423,7 +423,7 @@ arms-onward now ttl revision snapshot o = let back : Outcome = gives_back revisi
     if-cases (Onward (Some snapshot) o) (is_refusing o.machine.watchdog.mode o.machine.watchdog.works) back (begins_or_claims now revision arm)
     (λ _. quiet-told snapshot o back refl refl refl refl refl refl (omega arith) refl refl)
     (λ _. begins-or-claims-by (Onward (Some snapshot) o) now revision arm (quiet-told snapshot o (begins now revision arm) refl refl refl refl refl refl (omega arith) refl refl)
-    (writes-told snapshot o (claims now revision arm) refl refl refl refl refl refl (omega arith) refl refl refl _ refl refl))
+    (writes-told snapshot o (claims now revision (passing arm)) refl refl refl refl refl refl (omega arith) refl refl refl _ refl refl))
 
 takes-onward : (now ttl : Ticks) (revision : ℕ) (snapshot : SnapshotFacts) (o : Outcome) → Onward (Some snapshot) o (takes_key now ttl revision (Told snapshot o))
 takes-onward now ttl revision snapshot o = let back : Outcome = gives_back revision (Told snapshot o) in
@@ -435,7 +435,7 @@ rested-onward now renews revision snapshot o = let rest : Outcome = resting rene
     takes-in-pause-by (Onward (Some snapshot) o) now renews revision (Told snapshot o)
     (quiet-told snapshot o (gives_back revision (Told snapshot o)) refl refl refl refl refl refl (omega arith) refl refl)
     (quiet-told snapshot o (begins now revision rest) refl refl refl refl refl refl (omega arith) refl refl)
-    (writes-told snapshot o (claims now revision rest) refl refl refl refl refl refl (omega arith) refl refl refl _ refl refl)
+    (writes-told snapshot o (claims now revision (passing rest)) refl refl refl refl refl refl (omega arith) refl refl refl _ refl refl)
 
 pub granted-onward : (now : Ticks) (sequence : ℕ) (grant : Granted) (snapshot : SnapshotFacts) (o : Outcome) → Onward (Some snapshot) o (granted now sequence grant snapshot o)
 granted-onward now sequence grant snapshot o = granted-by (Onward (Some snapshot) o) now sequence grant snapshot o

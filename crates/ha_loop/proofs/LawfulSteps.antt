@@ -49,8 +49,9 @@ use Rattle.ha_loop.proofs.LawfulGrants.{heard-leader, heard-failsafe, hears-gran
 use Rattle.ha_loop.proofs.Leaving.{given-up-fits, told-fits, operated-leaves, leaves-then, before-leaves, wake-leaves, read-leaves, refusal-leaves, asked-leaves, answered-leaves}
 use Rattle.ha_loop.proofs.Living.{no-way}
 use Rattle.ha_loop.proofs.Rows.{before-by, wake-by, looked-by}
-use Rattle.ha_loop.proofs.Sending.BeginsOn.{WasReady, OnLease}
-use Rattle.ha_loop.proofs.Sending.{operated-may, IsSilent, AllMay, Decides, BeginsOn, wake-may, got-may, refused-may, granted-may as granted-sends, asked-may, answered-may, nobody-begins, grant-begins, begins-weaker}
+use Rattle.ha_loop.proofs.Behind.{BeginsOn, nobody-begins, grant-begins, begins-weaker}
+use Rattle.ha_loop.proofs.Behind.BeginsOn.{WasReady, OnLease}
+use Rattle.ha_loop.proofs.Sending.{operated-may, IsSilent, AllMay, Decides, wake-may, got-may, refused-may, granted-may as granted-sends, asked-may, answered-may}
 use Rattle.ha_loop.specs.Pausing.{is_paused}
 use Rattle.cluster_config.specs.KeyValues.{config_in}
 use Rattle.lease_store.specs.declared.config.Config.{Config}

@@ -9,6 +9,7 @@ pub mod Orders
 pub mod Judging
 pub mod Knowing
 pub mod Sending
+pub mod Behind
 pub mod Lawful
 pub mod LawfulGrants
 pub mod LawfulSteps

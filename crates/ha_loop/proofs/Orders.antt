@@ -28,7 +28,7 @@ use Rattle.ha_loop.specs.declared.role.Why.TheVariants.{HandOver, Lost}
 use Rattle.ha_loop.specs.Acting.{arming, requiring, feeding, armed, fed_until, disarmed, without_deadline, disarming, sending, touching, ending_server, starting_replica, following_server, is_refusing, shutting_down, waiting_no_more}
 use Rattle.ha_loop.specs.Agents.{RoleFacts, Follower, Outcome, made}
 use Rattle.ha_loop.specs.Before.{has_ended, before}
-use Rattle.ha_loop.specs.Claiming.{begins, begins_or_claims, postpones}
+use Rattle.ha_loop.specs.Claiming.{begins, begins_or_claims, passing, postpones}
 use Rattle.ha_loop.specs.Decisions.{leader_renewed, takes_over, stray_renewed, may_take, gives_back, arms, takes_key, granted, refused, takes_key_in_pause}
 use Rattle.ha_loop.specs.Planning.{noting}
 use Rattle.ha_loop.specs.Synchronous.{unnamed}
@@ -42,7 +42,7 @@ use Rattle.ha_loop.specs.Operators.{looked, given_up, learned, operated, restart
 use Rattle.ha_loop.specs.Table.{step, granted_any, refused_any}
 use Rattle.pg_model.specs.Running.{is_primary}
 use Rattle.ha_loop.specs.Wake.{overdue, turned, woken}
-use Rattle.ha_loop.proofs.Rows.{HandoverRows, ReplyRows, ActRows, looked-by, given-up-by, granted-any-by, refused-any-by, operated-by, led_on, if-cases, renewed-by, begins-or-claims-by, before-by, overdue-by, turn-by, wake-by, got-by, refused-by, follow-by, free-by, granted-by, repaired-by, judged-by, answered-by, DutyRows, duties-of, rested_on, takes-in-pause-by}
+use Rattle.ha_loop.proofs.Rows.{HandoverRows, ReplyRows, ActRows, looked-by, given-up-by, granted-any-by, refused-any-by, operated-by, led_on, if-cases, renewed-by, passing-by, begins-or-claims-by, before-by, overdue-by, turn-by, wake-by, got-by, refused-by, follow-by, free-by, granted-by, repaired-by, judged-by, answered-by, DutyRows, duties-of, rested_on, takes-in-pause-by}
 use Rattle.ha_loop.specs.Answers.{is_other, most_answers, asking_one, asking_first}
 use Rattle.ha_loop.specs.Peers.{keeping, answered}
 use Rattle.ha_loop.specs.declared.who.Who.{Who}
@@ -308,12 +308,15 @@ stray-reaches now ttl start revision o r =
 begin-reaches : (now : Ticks) (start : Machine) (revision : ℕ) (o : Outcome) → Reaches now start o → Reaches now start (begins now revision o)
 begin-reaches now start revision o r = let waits : Outcome = requiring (unnamed o.knows.turn_settings) o in one-more now start waits.machine waits.outputs outputs.Begin tt (require-reaches now start (unnamed o.knows.turn_settings) o r)
 
+passing-reaches : (now : Ticks) (start : Machine) (o : Outcome) → Reaches now start o → Reaches now start (passing o)
+passing-reaches now start o r = passing-by (λ (outs : List Output). Reached now start o.machine outs) o r (one-more now start o.machine o.outputs outputs.Passes tt r)
+
 arms-reaches : (now ttl : Ticks) (start : Machine) (revision : ℕ) (o : Outcome) → Reaches now start o → Reaches now start (arms now ttl revision o)
 arms-reaches now ttl start revision o r =
     if-cases (Reaches now start) (is_refusing o.machine.watchdog.mode o.machine.watchdog.works) _ (begins_or_claims now revision (arming now ttl o))
     (λ _. send-reaches now start (bodies.Request (txns.Release revision)) (record o { outputs = listed outputs.CannotArm o.outputs }) (one-more now start o.machine o.outputs outputs.CannotArm tt r))
     (λ _. let arm : Outcome = arming now ttl o in let fed : Reaches now start arm = arm-reaches now ttl start o r in
-    begins-or-claims-by (Reaches now start) now revision arm (begin-reaches now start revision arm fed) (send-reaches now start _ arm fed))
+    begins-or-claims-by (Reaches now start) now revision arm (begin-reaches now start revision arm fed) (send-reaches now start _ (passing arm) (passing-reaches now start arm fed)))
 
 takes-reaches : (now ttl : Ticks) (start : Machine) (revision : ℕ) (o : Outcome) → Reaches now start o → Reaches now start (takes_key now ttl revision o)
 takes-reaches now ttl start revision o r =
@@ -323,7 +326,7 @@ takes-reaches now ttl start revision o r =
 -- in a pause who is wanted takes the key with a watchdog that rests
 rested-reaches : (now : Ticks) (start : Machine) (renews : Bool) (revision : ℕ) (o : Outcome) → Reaches now start o → Reaches now start (takes_key_in_pause now renews revision o)
 rested-reaches now start renews revision o r = let rest : Outcome = resting renews o in let rested : Reaches now start rest = rest-reaches now start renews o r in
-    takes-in-pause-by (Reaches now start) now renews revision o (one-more now start o.machine o.outputs _ tt r) (begin-reaches now start revision rest rested) (send-reaches now start _ rest rested)
+    takes-in-pause-by (Reaches now start) now renews revision o (one-more now start o.machine o.outputs _ tt r) (begin-reaches now start revision rest rested) (send-reaches now start _ (passing rest) (passing-reaches now start rest rested))
 
 granted-reaches : (now : Ticks) (start : Machine) (sequence : ℕ) (grant : Granted) (snapshot : SnapshotFacts) (o : Outcome) → Reaches now start o → Reaches now start (granted now sequence grant snapshot o)
 granted-reaches now start sequence grant snapshot o r = let told : Outcome = record o { knows = informed snapshot o.knows } in

@@ -26,7 +26,7 @@ use Rattle.ha_loop.specs.Acting.{arming, waiting_no_more, armed, fed_until, disa
 use Rattle.ha_loop.specs.Agents.{RoleFacts, Follower, Outcome, made}
 use Rattle.ha_loop.specs.Answers.{is_other, most_answers, asking_one, asking_first}
 use Rattle.ha_loop.specs.Before.{has_ended, before}
-use Rattle.ha_loop.specs.Claiming.{begins, begins_or_claims, postpones}
+use Rattle.ha_loop.specs.Claiming.{begins, begins_or_claims, passing, postpones}
 use Rattle.ha_loop.specs.Decisions.{leader_renewed, takes_over, stray_renewed, may_take, gives_back, arms, takes_key, granted, refused}
 use Rattle.ha_loop.specs.OperatorAnswers.{told_by, told_in}
 use Rattle.ha_loop.specs.Outputs.{listed}
@@ -39,7 +39,7 @@ use Rattle.ha_loop.specs.Replies.{RepliesTo}
 use Rattle.ha_loop.specs.Snapshots.{follow_row, follows, read_noted, got, informed, led_by_another}
 use Rattle.ha_loop.specs.Table.{step}
 use Rattle.ha_loop.specs.Wake.{overdue, turned, woken}
-use Rattle.ha_loop.proofs.Rows.{HandoverRows, ReplyRows, ActRows, looked-by, given-up-by, granted-any-by, refused-any-by, operated-by, led_on, if-cases, renewed-by, begins-or-claims-by, before-by, overdue-by, turn-by, wake-by, got-by, refused-by, follow-by, repaired-by, free-by, granted-by, judged-by, answered-by, DutyRows, duties-of, rested_on, takes-in-pause-by}
+use Rattle.ha_loop.proofs.Rows.{HandoverRows, ReplyRows, ActRows, looked-by, given-up-by, granted-any-by, refused-any-by, operated-by, led_on, if-cases, renewed-by, passing-by, begins-or-claims-by, before-by, overdue-by, turn-by, wake-by, got-by, refused-by, follow-by, repaired-by, free-by, granted-by, judged-by, answered-by, DutyRows, duties-of, rested_on, takes-in-pause-by}
 use Rattle.ha_loop.specs.Pausing.{may_start_behind, rest_told, resting}
 
 -- an output that answers neither a member nor an operator
@@ -206,10 +206,13 @@ stray-quiet f now ttl revision o all = if-cases (Quiet f) (is_refusing o.machine
 begins-quiet : (f : Outcome) (now : Ticks) (revision : ℕ) (o : Outcome) → Quiet f o → Quiet f (begins now revision o)
 begins-quiet f now revision o all = said _ outputs.Begin tt (said o.outputs _ tt all)
 
+passing-quiet : (f o : Outcome) → Quiet f o → Quiet f (passing o)
+passing-quiet f o all = passing-by (λ (outs : List Output). Says f outs o.knows.operating) o all (said o.outputs outputs.Passes tt all)
+
 arms-quiet : (f : Outcome) (now ttl : Ticks) (revision : ℕ) (o : Outcome) → Quiet f o → Quiet f (arms now ttl revision o)
 arms-quiet f now ttl revision o all = if-cases (Quiet f) (is_refusing o.machine.watchdog.mode o.machine.watchdog.works) _ (begins_or_claims now revision (arming now ttl o))
     (λ _. said _ _ tt (said o.outputs outputs.CannotArm tt all)) (λ _. begins-or-claims-by (Quiet f) now revision (arming now ttl o) (begins-quiet f now revision (arming now ttl o) (armed-quiet f (deadline_after now ttl o.machine.watchdog) o.outputs all))
-    (said _ _ tt (armed-quiet f (deadline_after now ttl o.machine.watchdog) o.outputs all)))
+    (said _ _ tt (passing-quiet f (arming now ttl o) (armed-quiet f (deadline_after now ttl o.machine.watchdog) o.outputs all))))
 
 takes-quiet : (f : Outcome) (now ttl : Ticks) (revision : ℕ) (o : Outcome) → Quiet f o → Quiet f (takes_key now ttl revision o)
 takes-quiet f now ttl revision o all = if-cases (Quiet f) (may_take now o.knows o.machine) (arms now ttl revision o) (gives_back revision o) (λ _. arms-quiet f now ttl revision o all) (λ _. said o.outputs _ tt all)
@@ -224,7 +227,7 @@ granted-quiet f now sequence grant snapshot o all = let told : Outcome = record 
       rests = λ renews _ _ _. let led : Outcome = rested_on renews grant.revision told in duties-of (Quiet f) now grant.revision led (duty-quiet f now grant.revision led (rest-quiet f renews o.machine.watchdog.deadline o.outputs all));
       stray_rests = λ renews _ _. rest-quiet f renews o.machine.watchdog.deadline o.outputs all;
       takes_resting = λ renews _ _. let rest : Outcome = resting renews told in let rested : Quiet f rest = rest-quiet f renews o.machine.watchdog.deadline o.outputs all in
-          takes-in-pause-by (Quiet f) now renews grant.revision told (said o.outputs _ tt all) (begins-quiet f now grant.revision rest rested) (said rest.outputs _ tt rested);
+          takes-in-pause-by (Quiet f) now renews grant.revision told (said o.outputs _ tt all) (begins-quiet f now grant.revision rest rested) (said _ _ tt (passing-quiet f rest rested));
     })
     (record { other = all; begins = λ revision _. begins-quiet f now revision told all; postpones = λ revision _. postpones-quiet f revision told all; settles = λ required _. said o.outputs (outputs.Require required) tt all })
 

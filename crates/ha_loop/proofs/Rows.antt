@@ -11,6 +11,8 @@ use Rattle.pat_base.specs.declared.ticks.Ticks.{Ticks}
 use Rattle.pat_base.specs.declared.server_state.State.{State}
 use Rattle.pat_base.specs.declared.server_state.State.TheVariants as states
 use Rattle.pat_base.specs.ServerState.{live}
+use Rattle.ha_loop.specs.declared.output.Output.{Output}
+use Rattle.ha_loop.specs.declared.output.Output.TheVariants as outputs
 use Rattle.ha_loop.specs.declared.output.Repair.{Repair}
 use Rattle.ha_loop.specs.Repairs.{is_upstream, repairing, repaired_if}
 use Rattle.ha_loop.specs.declared.knowledge.Question.{Question}
@@ -19,7 +21,7 @@ use Rattle.ha_loop.specs.declared.knowledge.Settling.{Settling}
 use Rattle.ha_loop.specs.declared.knowledge.Settling.TheVariants.{Stays, Lists, Empties}
 use Rattle.ha_loop.specs.declared.knowledge.SyncRead.{SyncRead}
 use Rattle.ha_loop.specs.declared.knowledge.Waited.{Waited}
-use Rattle.ha_loop.specs.Synchronous.{sync_read_if, expected_of, waiting_for}
+use Rattle.ha_loop.specs.Synchronous.{sync_read_if, expected_of, is_named_if, waiting_for}
 use Rattle.pat_base.specs.declared.server_state.Required.{Required}
 use Rattle.pat_base.specs.declared.server_state.Required.TheVariants.{Nobody, All}
 use Rattle.lease_store.specs.declared.txn.Txn.{Txn}
@@ -36,9 +38,10 @@ use Rattle.ha_loop.specs.Agents.{RoleFacts, Follower, Holder, Ready, Leader, End
 use Rattle.ha_loop.specs.Before.{leader_finds_ended, has_ended, finds_live, stray_finds_ended, before_as, before}
 use Rattle.ha_loop.specs.Pausing.{is_paused, ends_forks, is_wanted, resting, running_without_key}
 use Rattle.ha_loop.specs.Decisions.{takes_over, may_take, gives_back, takes_key_in_pause, granted_in_pause, uses_lease, asks_renewal, lease_used, may_create, leader_renewed, is_start_too_long, stray_renewed, takes_key, lease_granted, belongs, accepted_grant, is_lease_of, granted_write, granted_for, granted, is_decision, is_sync_decision, awaits_decision, is_write_of, sync_granted, accepted_sync, follower_for, renewal_refused, refused_as, refused_for, refused}
-use Rattle.ha_loop.specs.Claiming.{begins, claims, begins_or_claims, postpones, claim_fails_as, claim_fails, may_begin_on_claim}
+use Rattle.ha_loop.specs.Claiming.{begins, claims, begins_or_claims, passing, told_passing, postpones, claim_fails_as, claim_fails, may_begin_on_claim}
 use Rattle.ha_loop.specs.Planning.{leader_view, writing_sync, switching_off, noting, planned_as, planned_on, planned, settled}
 use Rattle.ha_loop.specs.Fits.{Fits}
+use Rattle.ha_loop.specs.Outputs.{listed}
 use Rattle.ha_loop.specs.HandingOver.{is_done, leader_revision, clearing_under, clearing, successor_by, hands_over, hands_over_to, handover_judged, judged_if_leading, whom_answered, checking, checks, checks_unless_paused, failover_duty, duty_on, duties, check_answered}
 use Rattle.ha_loop.specs.Operators.{ok, telling, answering, answering_if, operating, config_revision, restarting, wiping, operated, result_as, looked_by, uses_read, looked, operator_until, late_answer, given_up_by, given_up, learned, granted_as, operates, grants_operator, operator_granted, refusal_of, operator_refused}
 use Rattle.ha_loop.specs.declared.operating.Operating.{Operating}
@@ -536,12 +539,20 @@ renewed-by P now ttl revision o ends rows = let fed : Outcome = led_on now ttl r
     if-cases P (is_start_too_long now fed.knows fed.machine.server.state) (record (ending_server now StartTooLong fed) { role = Ending revision HandOver }) (duties now revision fed)
     (λ _. ends) (λ _. duties-of P now revision fed rows)
 
+-- what a member notes of the sync key before it claims that: nothing, or that it doesn't name the member
+passing-as : (P : List Output → Type 0) (named : Bool) (outs : List Output) → P outs → P (listed outputs.Passes outs) → P (told_passing named outs)
+passing-as P true outs silent noted = silent
+passing-as P false outs silent noted = noted
+
+pub passing-by : (P : List Output → Type 0) (o : Outcome) → P o.outputs → P (listed outputs.Passes o.outputs) → P (passing o).outputs
+passing-by P o silent noted = passing-as P (is_named_if o.knows.who.me o.knows.turn_sync) o.outputs silent noted
+
 -- a member that takes the leader key behind an armed watchdog
-pub begins-or-claims-by : (P : Outcome → Type 0) (now : Ticks) (revision : ℕ) (o : Outcome) → P (begins now revision o) → P (claims now revision o) → P (begins_or_claims now revision o)
-begins-or-claims-by P now revision o begin claim = if-cases P o.knows.turn_settings.synchronous_mode (claims now revision o) (begins now revision o) (λ _. claim) (λ _. begin)
+pub begins-or-claims-by : (P : Outcome → Type 0) (now : Ticks) (revision : ℕ) (o : Outcome) → P (begins now revision o) → P (claims now revision (passing o)) → P (begins_or_claims now revision o)
+begins-or-claims-by P now revision o begin claim = if-cases P o.knows.turn_settings.synchronous_mode (claims now revision (passing o)) (begins now revision o) (λ _. claim) (λ _. begin)
 
 -- a member that takes the leader key in a pause, or gives it back
-pub takes-in-pause-by : (P : Outcome → Type 0) (now : Ticks) (renews : Bool) (revision : ℕ) (o : Outcome) → P (gives_back revision o) → P (begins now revision (resting renews o)) → P (claims now revision (resting renews o)) → P (takes_key_in_pause now renews revision o)
+pub takes-in-pause-by : (P : Outcome → Type 0) (now : Ticks) (renews : Bool) (revision : ℕ) (o : Outcome) → P (gives_back revision o) → P (begins now revision (resting renews o)) → P (claims now revision (passing (resting renews o))) → P (takes_key_in_pause now renews revision o)
 takes-in-pause-by P now renews revision o gives begin claim =
     if-cases P (is_wanted o.knows.who.me o.knows.turn_failover o.machine.server.state && may_take now o.knows o.machine) (begins_or_claims now revision (resting renews o)) (gives_back revision o)
     (λ _. begins-or-claims-by P now revision (resting renews o) begin claim) (λ _. gives)

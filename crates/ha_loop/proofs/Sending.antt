@@ -1,7 +1,6 @@
--- What an input sends, and by which outputs its server comes to accept writes.
-use Rattle.std.proofs.Common.{◌≡◌, ◌⊎◌, ℕ, ◌+◌, ◌≤◌, ◌<◌, ◌++◌, ◌==◌, ◌&&◌, Bool, true, false, if◌then◌else◌, List, [], ◌∷◌, Option, Some, None, All, refl, sym, subst, ap, ◌∙◌, arith, inl, inr, append_assoc, zero, suc}
-use Rattle.std.proofs.lemmas.List.{append-nil}
-use Rattle.std.proofs.lemmas.List.Elements.{All-push, All-weaker, All-head, All-tail}
+-- What an input sends.
+use Rattle.std.proofs.Common.{◌≡◌, ◌⊎◌, ℕ, ◌+◌, ◌≤◌, ◌<◌, ◌==◌, ◌&&◌, Bool, true, false, List, Option, Some, None, All, refl, sym, subst, ap, ◌∙◌, arith, inl, inr, zero, suc}
+use Rattle.std.proofs.lemmas.List.Elements.{All-push, All-weaker}
 use Rattle.std.proofs.lemmas.Bool.Decides.{nat_tests}
 use Rattle.pat_base.specs.MemberId.{member_of}
 use Rattle.pat_base.specs.declared.member_id.MemberId.{MemberId}
@@ -17,7 +16,6 @@ use Rattle.cluster_config.specs.Snapshots.{SnapshotFacts, leader_in}
 use Rattle.event_book.specs.declared.message.Body.{Body}
 use Rattle.event_book.specs.declared.message.Body.TheVariants as bodies
 use Rattle.event_book.specs.declared.reason.Reason.TheVariants.{StoreOutOfReach, LeaderKeyLost, StartTooLong, WatchdogNotArmed}
-use Rattle.leader_key.specs.Watchdog.{is_armable}
 use Rattle.lease_law.specs.Leases.{LeaderSeen}
 use Rattle.ha_loop.specs.declared.output.Repair.{Repair}
 use Rattle.ha_loop.specs.Repairs.{repair_of, repairing}
@@ -29,18 +27,18 @@ use Rattle.ha_loop.specs.declared.output.Target.TheVariants as targets
 use Rattle.ha_loop.specs.declared.role.Why.{Why}
 use Rattle.ha_loop.specs.declared.who.Who.{Who}
 use Rattle.ha_loop.specs.declared.role.Why.TheVariants.{HandOver, Lost}
-use Rattle.ha_loop.specs.Acting.{armed, fed_until, disarmed, deadline_after, arming, ending_server, requiring, touching, starting_replica, following_server, is_hold_active, is_refusing, waiting_no_more, shutting_down}
-use Rattle.ha_loop.specs.Agents.{Follower, Ready, Ending, Outcome, is_ready}
+use Rattle.ha_loop.specs.Acting.{armed, fed_until, disarmed, deadline_after, arming, ending_server, requiring, touching, starting_replica, following_server, is_refusing, waiting_no_more, shutting_down}
+use Rattle.ha_loop.specs.Agents.{Follower, Ready, Ending, Outcome}
 use Rattle.ha_loop.specs.Before.{has_ended, before}
-use Rattle.ha_loop.specs.Claiming.{begins, claims, begins_or_claims, postpones}
-use Rattle.ha_loop.specs.Decisions.{is_decision, is_lease_of, leader_renewed, takes_over, stray_renewed, can_begin, may_take, gives_back, arms, takes_key, granted, refused}
+use Rattle.ha_loop.specs.Claiming.{begins, claims, begins_or_claims, passing, postpones}
+use Rattle.ha_loop.specs.Decisions.{is_decision, is_lease_of, leader_renewed, takes_over, stray_renewed, may_take, gives_back, arms, takes_key, granted, refused}
 use Rattle.ha_loop.specs.Fits.{Fits}
-use Rattle.ha_loop.specs.Outputs.{listed, is_arming, has_one, BeginsOnly, OutputsBeginBehind}
+use Rattle.ha_loop.specs.Outputs.{listed}
 use Rattle.ha_loop.specs.Planning.{writing_sync, noting}
 use Rattle.ha_loop.specs.Powers.{Acts, lease_of}
-use Rattle.ha_loop.specs.Synchronous.{unnamed, may_lead_in_sync}
+use Rattle.ha_loop.specs.Synchronous.{unnamed}
 use Rattle.ha_loop.specs.Seen.{lease_asked, leader_entry_seen, leader_seen_if}
-use Rattle.ha_loop.specs.Snapshots.{renewing, follows, leader_loses_key, stray_loses_key, read_noted, got, follow_row, asks_as_stray, informed, led_by_another}
+use Rattle.ha_loop.specs.Snapshots.{renewing, follows, leader_loses_key, stray_loses_key, read_noted, got, follow_row, asks_as_stray, led_by_another}
 use Rattle.ha_loop.specs.HandingOver.{asking_whom, checking, hands_over}
 use Rattle.ha_loop.specs.Operators.{answering, given_up, learned, looked, operated, operating, restarting, telling, wiping}
 use Rattle.ha_loop.specs.Table.{granted_any, refused_any}
@@ -53,13 +51,13 @@ use Rattle.ha_loop.specs.Answers.{is_other, most_answers, asking_one, asking_fir
 use Rattle.ha_loop.specs.Orders.{IsAsk}
 use Rattle.ha_loop.specs.Peers.{asked, keeping, answered}
 use Rattle.ha_loop.specs.Wake.{reading, turn_noted, overdue, turned, woken}
-use Rattle.ha_loop.proofs.Granting.{take-free, Told, one-last, one-before}
+use Rattle.ha_loop.proofs.Granting.{Told}
 use Rattle.ha_loop.proofs.Knowing.{IsAlone, before-onward, given-up-onward, overdue-onward}
 use Rattle.ha_loop.proofs.Fitting.{ended-for}
-use Rattle.ha_loop.proofs.Leaving.{rests-by, ready-is}
+use Rattle.ha_loop.proofs.Leaving.{rests-by}
 use Rattle.ha_loop.proofs.Living.{no-way, primary-live, restart-live, wipe-live}
-use Rattle.ha_loop.proofs.Rows.{HandoverRows, ReplyRows, ActRows, IsOperatorTxn, dropping, looked-by, given-up-by, granted-any-by, refused-any-by, operated-by, WritesSync, led_on, if-cases, renewed-by, begins-or-claims-by, before-by, overdue-by, turn-by, wake-by, got-by, refused-by, follow-by, repaired-by, free-by, granted-by, judged-by, answered-by, DutyRows, duties-of, rested_on, takes-in-pause-by}
-use Rattle.ha_loop.specs.Pausing.{is_paused, may_start_behind, rest_told, resting, running_without_key}
+use Rattle.ha_loop.proofs.Rows.{HandoverRows, ReplyRows, ActRows, IsOperatorTxn, dropping, looked-by, given-up-by, granted-any-by, refused-any-by, operated-by, WritesSync, led_on, if-cases, renewed-by, passing-by, begins-or-claims-by, before-by, overdue-by, turn-by, wake-by, got-by, refused-by, follow-by, repaired-by, free-by, granted-by, judged-by, answered-by, DutyRows, duties-of, rested_on, takes-in-pause-by}
+use Rattle.ha_loop.specs.Pausing.{may_start_behind, rest_told, resting, running_without_key}
 
 -- an output that sends nothing, takes no hold, and by which no server comes to accept writes
 abbrev pub IsSilent : Output → Type 0
@@ -121,11 +119,11 @@ silent-disarmed : (deadline : Option Ticks) (outs : List Output) → All IsSilen
 silent-disarmed None outs all = all
 silent-disarmed (Some deadline) outs all = silently outs outputs.Disarmed all tt
 
-silent-armed : (deadline : Option Ticks) (outs : List Output) → All IsSilent outs → All IsSilent (armed deadline outs)
+pub silent-armed : (deadline : Option Ticks) (outs : List Output) → All IsSilent outs → All IsSilent (armed deadline outs)
 silent-armed None outs all = all
 silent-armed (Some deadline) outs all = silently outs (outputs.Armed deadline) all tt
 
-silent-fed : (deadline : Option Ticks) (outs : List Output) → All IsSilent outs → All IsSilent (fed_until deadline outs)
+pub silent-fed : (deadline : Option Ticks) (outs : List Output) → All IsSilent outs → All IsSilent (fed_until deadline outs)
 silent-fed None outs all = all
 silent-fed (Some deadline) outs all = silently outs (outputs.Fed deadline) all tt
 
@@ -241,7 +239,7 @@ others-mild low now o less silent = let high : ℕ = o.knows.sequence + 1 in
     asks-mild low high o.knows.who high most_answers o.outputs (omega (arith, less)) (omega arith) (mild-front low high o.outputs silent)
 
 -- a handover that is judged asks that the failover key be removed, or ends the server
-handover-mild : (low : ℕ) (now : Ticks) (held : ℕ) (o : Outcome) → low ≤ o.knows.sequence → All IsSilent o.outputs → HandoverRows (AllMild low) now held o
+pub handover-mild : (low : ℕ) (now : Ticks) (held : ℕ) (o : Outcome) → low ≤ o.knows.sequence → All IsSilent o.outputs → HandoverRows (AllMild low) now held o
 handover-mild low now held o less silent = let out : ℕ = o.knows.sequence in record {
   kept = mild-front low out o.outputs silent;
   clears = λ compared. All-push (IsMild low (out + 1)) o.outputs _ (mild-front low (out + 1) o.outputs silent) (omega (arith, less), omega arith, tt);
@@ -254,7 +252,7 @@ whom-mild : (low high : ℕ) (who : Who) (candidate : Option MemberId) (sequence
 whom-mild low high who None sequence outs later less all = asks-mild low high who sequence most_answers outs later less all
 whom-mild low high who (Some candidate) sequence outs later less all = ask-mild low high who sequence (Some candidate) outs later less all
 
-checking-mild : (low : ℕ) (now : Ticks) (candidate : Option MemberId) (o : Outcome) → low ≤ o.knows.sequence → All IsSilent o.outputs → AllMild low (checking now candidate o)
+pub checking-mild : (low : ℕ) (now : Ticks) (candidate : Option MemberId) (o : Outcome) → low ≤ o.knows.sequence → All IsSilent o.outputs → AllMild low (checking now candidate o)
 checking-mild low now candidate o less silent = let high : ℕ = o.knows.sequence + 1 in
     whom-mild low high o.knows.who candidate high o.outputs (omega (arith, less)) (omega arith) (mild-front low high o.outputs silent)
 
@@ -294,7 +292,7 @@ pub before-may : (G : ℕ → Type 0) (now : Ticks) (o : Outcome) → IsAlone o 
 before-may G now o alone silent = fronts-may G o (before now o) (before-fronts now o alone silent)
 
 -- a promotion that is postponed sends nothing
-postpones-silent : (held : ℕ) (o : Outcome) → All IsSilent o.outputs → All IsSilent (postpones held o).outputs
+pub postpones-silent : (held : ℕ) (o : Outcome) → All IsSilent o.outputs → All IsSilent (postpones held o).outputs
 postpones-silent held o silent = silently (disarmed o.machine.watchdog.deadline o.outputs) outputs.PostponesPromotion (silent-disarmed o.machine.watchdog.deadline o.outputs silent) tt
 
 overdue-mild : (low : ℕ) (now : Ticks) (o : Outcome) → low ≤ o.knows.sequence → All IsSilent o.outputs → AllMild low (overdue now o)
@@ -342,7 +340,7 @@ turn-fronts G now o b later (Released revision held alone role ended counted all
     subst (λ (z : Outcome). AllMay G o (turned now z)) (sym (overdue-none now b alone)) (turn-released G now o b revision held role ended counted all)
 
 -- what an operator is answered is silent
-told-fronts : (o b : Outcome) → Fronts o b → ReplyRows (Fronts o) b
+pub told-fronts : (o b : Outcome) → Fronts o b → ReplyRows (Fronts o) b
 told-fronts o b fronts = record { kept = fronts; answers = λ request told. answers-front request told fronts }
   where
     answers-front : (request : ℕ) (told : Tells) → Fronts o b → Fronts o (answering request told b)
@@ -544,6 +542,10 @@ begins-may : (G : ℕ → Type 0) (now : Ticks) (revision : ℕ) (o b : Outcome)
 begins-may G now revision o b given silent = let begun : Outcome = begins now revision b in let required : Output = outputs.Require (unnamed b.knows.turn_settings) in
     push G o begun (listed required b.outputs) outputs.Begin (front G o begun (listed required b.outputs) (silently b.outputs required silent tt)) (revision, given)
 
+-- a note of the sync key is silent
+pub silent-passing : (o : Outcome) → All IsSilent o.outputs → All IsSilent (passing o).outputs
+silent-passing o silent = passing-by (All IsSilent) o silent (silently o.outputs outputs.Passes silent tt)
+
 claims-may : (G : ℕ → Type 0) (now : Ticks) (revision : ℕ) (o b : Outcome) → o.knows.sequence ≤ b.knows.sequence → All IsSilent b.outputs → AllMay G o (claims now revision b)
 claims-may G now revision o b later silent = let after : Outcome = claims now revision b in
     push G o after b.outputs _ (front G o after b.outputs silent) (sends G o after b.knows.sequence _ later refl tt)
@@ -553,7 +555,7 @@ arms-may G now ttl revision o b later ended given silent = let cannot : Outcome 
     let rest : All IsSilent arm.outputs = silent-armed (deadline_after now ttl b.machine.watchdog) b.outputs silent in
     if-cases (AllMay G o) (is_refusing b.machine.watchdog.mode b.machine.watchdog.works) (gives_back revision cannot) (begins_or_claims now revision arm)
     (λ _. gives-back-may G revision o cannot later ended given (silently b.outputs outputs.CannotArm silent tt))
-    (λ _. begins-or-claims-by (AllMay G o) now revision arm (begins-may G now revision o arm given rest) (claims-may G now revision o arm later rest))
+    (λ _. begins-or-claims-by (AllMay G o) now revision arm (begins-may G now revision o arm given rest) (claims-may G now revision o (passing arm) later (silent-passing arm rest)))
 
 takes-may : (G : ℕ → Type 0) (now ttl : Ticks) (revision : ℕ) (o b : Outcome) → o.knows.sequence ≤ b.knows.sequence → live b.machine.server.state ≡ false → G revision → All IsSilent b.outputs → AllMay G o (takes_key now ttl revision b)
 takes-may G now ttl revision o b later ended given silent =
@@ -581,7 +583,7 @@ granted-silent G now sequence grant snapshot o b later fits gives readies silent
       stray_rests = λ renews _ _. let over : Outcome = takes_over now grant.revision (resting renews (Told snapshot b)) in front G o over over.outputs (silent-rest renews b.machine.watchdog.deadline b.outputs silent);
       takes_resting = λ renews _ may. let told : Outcome = Told snapshot b in let rest : Outcome = resting renews told in let quiet : All IsSilent rest.outputs = silent-rest renews b.machine.watchdog.deadline b.outputs silent in
           takes-in-pause-by (AllMay G o) now renews grant.revision told (gives-back-may G grant.revision o told later (ended-for b.role (live b.machine.server.state) may fits) (gives (waited, is, decision)) silent)
-          (begins-may G now grant.revision o rest (gives (waited, is, decision)) quiet) (claims-may G now grant.revision o rest later quiet);
+          (begins-may G now grant.revision o rest (gives (waited, is, decision)) quiet) (claims-may G now grant.revision o (passing rest) later (silent-passing rest quiet));
     })
     (record {
       other = front G o (Told snapshot b) b.outputs silent;
@@ -590,11 +592,11 @@ granted-silent G now sequence grant snapshot o b later fits gives readies silent
       settles = λ required _. front G o (requiring required (Told snapshot b)) _ (silently b.outputs (outputs.Require required) silent tt);
     })
 
-learned-fronts : (snapshot : SnapshotFacts) (o b : Outcome) → Fronts o b → Fronts o (learned snapshot b)
+pub learned-fronts : (snapshot : SnapshotFacts) (o b : Outcome) → Fronts o b → Fronts o (learned snapshot b)
 learned-fronts snapshot o b (Silent all) = Silent all
 learned-fronts snapshot o b (Released revision held alone role ended counted all) = Released revision held alone role ended counted all
 
-granted-none : (now : Ticks) (sequence : ℕ) (grant : Granted) (snapshot : SnapshotFacts) (o : Outcome) → o.knows.waited ≡ None → granted now sequence grant snapshot o ≡ o
+pub granted-none : (now : Ticks) (sequence : ℕ) (grant : Granted) (snapshot : SnapshotFacts) (o : Outcome) → o.knows.waited ≡ None → granted now sequence grant snapshot o ≡ o
 granted-none now sequence grant snapshot o is = rw is refl
 
 granted-fronts : (G : ℕ → Type 0) (now : Ticks) (sequence : ℕ) (grant : Granted) (snapshot : SnapshotFacts) (o b : Outcome) → o.knows.sequence ≤ b.knows.sequence → Fits b.role (live b.machine.server.state)
@@ -654,158 +656,3 @@ pub operated-may : (G : ℕ → Type 0) (now : Ticks) (action : OperatorAction) 
 operated-may G now action o alone silent = let b : Outcome = before now o in
     operated-by (AllMay G o) now action.request action.asked b (acts-may G now action.request o b (before-fronts now o alone silent) (before-onward None now o).last
     (λ e. subst (λ (s : ServerStatus). live s.state ≡ true) (before-server now o) (primary-live b.machine.server.state e)))
-
-begins-one : (P Q : Type 0) → (P → Q) → (output : Output) → BeginsOnly P output → BeginsOnly Q output
-begins-one P Q more outputs.Begin e = more e
-begins-one P Q more (outputs.Restart as_primary) e = λ is. more (e is)
-begins-one P Q more _ e = tt
-
--- where nothing is granted, only a server that was live before comes to accept writes
-unbegun : (o after : Outcome) (output : Output) → MayPut (λ r. ⊥) o after output → BeginsOnly (live o.machine.server.state ≡ true) output
-unbegun o after outputs.Begin may = absurd may.1
-unbegun o after (outputs.Restart as_primary) may = may
-unbegun o after _ may = tt
-
-all-begin : (P : List Output → Type 0) (Q : Type 0) → ((outs : List Output) → Q → P outs) → (before-it outs : List Output) → All (BeginsOnly Q) outs → OutputsBeginBehind P before-it outs
-all-begin P Q gives before-it [] all = tt
-all-begin P Q gives before-it (output ∷ outs) all =
-    (begins-one Q (P before-it) (gives before-it) output (All-head (BeginsOnly Q) output outs all), all-begin P Q gives (listed output before-it) outs (All-tail (BeginsOnly Q) output outs all))
-
-never : (P : List Output → Type 0) (before-it outs : List Output) → All (BeginsOnly ⊥) outs → OutputsBeginBehind P before-it outs
-never P before-it outs all = all-begin P ⊥ (λ _ no. absurd no) before-it outs all
-
-pub nobody-begins : (P : List Output → Type 0) (o after : Outcome) → ((outs : List Output) → live o.machine.server.state ≡ true → P outs) → AllMay (λ r. ⊥) o after → OutputsBeginBehind P [] after.outputs
-nobody-begins P o after gives all = all-begin P (live o.machine.server.state ≡ true) gives [] after.outputs (All-weaker (MayPut (λ r. ⊥) o after) (BeginsOnly (live o.machine.server.state ≡ true)) (unbegun o after) after.outputs all)
-
-mild-never : (low high : ℕ) (output : Output) → IsMild low high output → BeginsOnly ⊥ output
-mild-never low high outputs.Begin mild = mild
-mild-never low high (outputs.Restart as_primary) mild = absurd mild
-mild-never low high _ mild = tt
-
-mild-begins : (P : List Output → Type 0) (low : ℕ) (x : Outcome) → AllMild low x → OutputsBeginBehind P [] x.outputs
-mild-begins P low x mild = never P [] x.outputs (All-weaker (IsMild low x.knows.sequence) (BeginsOnly ⊥) (mild-never low x.knows.sequence) x.outputs mild)
-
--- one more output, behind which P holds if a server comes to accept writes by it
-behind-push : (P : List Output → Type 0) (before-it outs : List Output) (output : Output) → OutputsBeginBehind P before-it outs → ((all : List Output) → all ≡ before-it ++ outs → BeginsOnly (P all) output) → OutputsBeginBehind P before-it (listed output outs)
-behind-push P before-it [] output begin last = (last before-it (sym (append-nil before-it)), tt)
-behind-push P before-it (one ∷ outs) output begin last =
-    (begin.0, behind-push P (listed one before-it) outs output begin.1 (λ all is. last all (is ∙ append_assoc before-it (one ∷ []) outs)))
-
--- who may begin by this grant, behind these outputs: it was about to; or the leader key is granted, no hold is active, and the
--- watchdog was armed
-pub data BeginsOn (now : Ticks) (sequence : ℕ) (grant : Granted) (o : Outcome) (before-it : List Output) : Type 0 where
-  WasReady : (ready : is_ready o.role ≡ true) → BeginsOn now sequence grant o before-it
-  OnLease : (decides : Decides sequence grant o) → (free : is_hold_active now o.machine.hold ≡ false) → (armed_is : has_one is_arming before-it ≡ true) → BeginsOn now sequence grant o before-it
-
-armed-first : (outs : List Output) (until : Ticks) (armable : Bool) → armable ≡ true → has_one is_arming (armed (if armable then Some until else None) outs) ≡ true
-armed-first outs until true is = one-last is_arming outs (outputs.Armed until) refl
-armed-first outs until false is = absurd (no-way is)
-
-silent-never : (output : Output) → IsSilent output → BeginsOnly ⊥ output
-silent-never outputs.Begin silent = silent
-silent-never (outputs.Restart as_primary) silent = absurd silent
-silent-never _ silent = tt
-
-silent-begins : (P : List Output → Type 0) (outs : List Output) → All IsSilent outs → OutputsBeginBehind P [] outs
-silent-begins P outs silent = never P [] outs (All-weaker IsSilent (BeginsOnly ⊥) silent-never outs silent)
-
-gives-back-begins : (P : List Output → Type 0) (revision : ℕ) (b : Outcome) → All IsSilent b.outputs → OutputsBeginBehind P [] (gives_back revision b).outputs
-gives-back-begins P revision b silent = behind-push P [] b.outputs (outputs.Send targets.Store (b.knows.sequence + 1) (bodies.Request (txns.Release revision))) (silent-begins P b.outputs silent) (λ all is. tt)
-
--- a member that begins does so behind silent outputs and the order of whom its commits wait for
-begins-begins : (P : List Output → Type 0) (now : Ticks) (revision : ℕ) (b : Outcome) → All IsSilent b.outputs → ((all : List Output) → all ≡ [] ++ listed (outputs.Require (unnamed b.knows.turn_settings)) b.outputs → P all) → OutputsBeginBehind P [] (begins now revision b).outputs
-begins-begins P now revision b silent last = let required : Output = outputs.Require (unnamed b.knows.turn_settings) in
-    behind-push P [] (listed required b.outputs) outputs.Begin (silent-begins P (listed required b.outputs) (silently b.outputs required silent tt)) last
-
-arms-begins : (now ttl : Ticks) (sequence : ℕ) (grant : Granted) (revision : ℕ) (o b : Outcome) → Decides sequence grant o → is_hold_active now o.machine.hold ≡ false → is_armable b.machine.watchdog.mode b.machine.watchdog.works ≡ true → All IsSilent b.outputs
-    → OutputsBeginBehind (BeginsOn now sequence grant o) [] (arms now ttl revision b).outputs
-arms-begins now ttl sequence grant revision o b decides free armable silent =
-    let cannot : Outcome = record b { outputs = listed outputs.CannotArm b.outputs } in
-    let arm : Outcome = arming now ttl b in
-    let told : has_one is_arming arm.outputs ≡ true = armed-first b.outputs _ (is_armable b.machine.watchdog.mode b.machine.watchdog.works) armable in
-    let rest : All IsSilent arm.outputs = silent-armed (deadline_after now ttl b.machine.watchdog) b.outputs silent in
-    if-cases (λ (x : Outcome). OutputsBeginBehind (BeginsOn now sequence grant o) [] x.outputs) (is_refusing b.machine.watchdog.mode b.machine.watchdog.works) (gives_back revision cannot) (begins_or_claims now revision arm)
-    (λ _. gives-back-begins (BeginsOn now sequence grant o) revision cannot (silently b.outputs outputs.CannotArm silent tt))
-    (λ _. begins-or-claims-by (λ (x : Outcome). OutputsBeginBehind (BeginsOn now sequence grant o) [] x.outputs) now revision arm
-    (begins-begins (BeginsOn now sequence grant o) now revision arm rest
-    (λ all is. OnLease decides free (subst (λ (l : List Output). has_one is_arming l ≡ true) (sym is) (one-before is_arming arm.outputs (outputs.Require (unnamed arm.knows.turn_settings)) told))))
-    (behind-push (BeginsOn now sequence grant o) [] arm.outputs _ (silent-begins (BeginsOn now sequence grant o) arm.outputs rest) (λ all is. tt)))
-
-takes-begins : (now ttl : Ticks) (sequence : ℕ) (grant : Granted) (revision : ℕ) (o b : Outcome) → Decides sequence grant o → b.machine.hold ≡ o.machine.hold → is_armable b.machine.watchdog.mode b.machine.watchdog.works ≡ true → All IsSilent b.outputs
-    → OutputsBeginBehind (BeginsOn now sequence grant o) [] (takes_key now ttl revision b).outputs
-takes-begins now ttl sequence grant revision o b decides hold armable silent =
-    if-cases (λ (x : Outcome). OutputsBeginBehind (BeginsOn now sequence grant o) [] x.outputs) (may_take now b.knows b.machine) (arms now ttl revision b) (gives_back revision b)
-    (λ may. arms-begins now ttl sequence grant revision o b decides (subst (λ (h : Option Ticks). is_hold_active now h ≡ false) hold (take-free (is_hold_active now b.machine.hold) (can_begin now b.knows b.machine.server b.machine.server.state && may_lead_in_sync b.knows) may)) armable silent)
-    (λ _. gives-back-begins (BeginsOn now sequence grant o) revision b silent)
-
-granted-begins : (now : Ticks) (sequence : ℕ) (grant : Granted) (snapshot : SnapshotFacts) (b : Outcome) → is_paused (informed snapshot b.knows) ≡ false → (Decides sequence grant b → is_armable b.machine.watchdog.mode b.machine.watchdog.works ≡ true) → All IsSilent b.outputs
-    → OutputsBeginBehind (BeginsOn now sequence grant b) [] (granted now sequence grant snapshot b).outputs
-granted-begins now sequence grant snapshot b unpaused armable silent =
-    let told : Outcome = Told snapshot b in
-    let Mine : List Output → Type 0 = BeginsOn now sequence grant b in
-    granted-by (λ (x : Outcome). OutputsBeginBehind Mine [] x.outputs) now sequence grant snapshot b
-    (silent-begins (BeginsOn now sequence grant b) b.outputs silent) (silent-begins (BeginsOn now sequence grant b) b.outputs silent)
-    (λ waited is decision. let led : Outcome = led_on now waited.ttl grant.revision told in let over : Outcome = takes_over now grant.revision (arming now waited.ttl told) in
-    let rest : All IsSilent led.outputs = silent-fed (deadline_after now waited.ttl b.machine.watchdog) b.outputs silent in record {
-      other = silent-begins Mine b.outputs silent;
-      leader = λ held _. renewed-by (λ (x : Outcome). OutputsBeginBehind Mine [] x.outputs) now waited.ttl grant.revision told
-          (silent-begins Mine (listed (outputs.Stop StartTooLong) led.outputs) (silently led.outputs (outputs.Stop StartTooLong) rest tt)) (record {
-            plan = record {
-              kept = silent-begins Mine led.outputs rest;
-              writes = λ settling txn _. behind-push Mine [] led.outputs _ (silent-begins Mine led.outputs rest) (λ all is. tt);
-              adds = λ required. silent-begins Mine (listed (outputs.Require required) led.outputs) (silently led.outputs (outputs.Require required) rest tt);
-              drops = λ required. silent-begins Mine (listed (outputs.Require required) led.outputs) (silently led.outputs (outputs.Require required) rest tt);
-            };
-            clears = λ compared. behind-push Mine [] led.outputs _ (silent-begins Mine led.outputs rest) (λ all is. tt);
-            asks = λ candidate. mild-begins Mine b.knows.sequence (checking now candidate (unheard led)) (checking-mild b.knows.sequence now candidate (unheard led) (omega arith) rest);
-            judges = let rows : HandoverRows (AllMild b.knows.sequence) now grant.revision (unheard led) = handover-mild b.knows.sequence now grant.revision (unheard led) (omega arith) rest in record {
-              kept = mild-begins Mine b.knows.sequence (waiting_no_more (unheard led)) rows.kept;
-              clears = λ compared. mild-begins Mine b.knows.sequence (dropping compared (waiting_no_more (unheard led))) (rows.clears compared);
-              hands = λ candidate. mild-begins Mine b.knows.sequence (hands_over now grant.revision candidate (waiting_no_more (unheard led))) (rows.hands candidate);
-            };
-          });
-      stray = λ _. if-cases (λ (x : Outcome). OutputsBeginBehind Mine [] x.outputs) (is_refusing b.machine.watchdog.mode b.machine.watchdog.works) (ending_server now WatchdogNotArmed told) over
-          (λ _. silent-begins Mine (listed (outputs.Stop WatchdogNotArmed) b.outputs) (silently b.outputs (outputs.Stop WatchdogNotArmed) silent tt))
-          (λ _. silent-begins Mine over.outputs (silent-armed (deadline_after now waited.ttl b.machine.watchdog) b.outputs silent));
-      takes = λ _. takes-begins now waited.ttl sequence grant grant.revision b told (waited, is, decision) refl (armable (waited, is, decision)) silent;
-      rests = λ _ paused _ _. absurd (no-way (sym unpaused ∙ paused));
-      stray_rests = λ _ paused _. absurd (no-way (sym unpaused ∙ paused));
-      takes_resting = λ _ paused _. absurd (no-way (sym unpaused ∙ paused));
-    })
-    (record {
-      other = silent-begins Mine b.outputs silent;
-      begins = λ revision is. begins-begins Mine now revision told silent (λ all _. WasReady (ready-is b.role revision is));
-      postpones = λ revision _. silent-begins Mine (postpones revision told).outputs (postpones-silent revision told silent);
-      settles = λ required _. silent-begins Mine (listed (outputs.Require required) b.outputs) (silently b.outputs (outputs.Require required) silent tt);
-    })
-
-release-never : (sequence revision : ℕ) (output : Output) → IsReleaseOr sequence revision output → BeginsOnly ⊥ output
-release-never sequence revision output (inl silent) = silent-never output silent
-release-never sequence revision output (inr is) = subst (λ (y : Output). BeginsOnly ⊥ y) (sym is) tt
-
-begins-fronts : (now : Ticks) (sequence : ℕ) (grant : Granted) (snapshot : SnapshotFacts) (o b : Outcome) → is_paused (informed snapshot b.knows) ≡ false → (Decides sequence grant b → is_armable b.machine.watchdog.mode b.machine.watchdog.works ≡ true) → Fronts o b
-    → OutputsBeginBehind (BeginsOn now sequence grant b) [] (granted now sequence grant snapshot b).outputs
-begins-fronts now sequence grant snapshot o b unpaused armable (Silent all) = granted-begins now sequence grant snapshot b unpaused armable all
-begins-fronts now sequence grant snapshot o b unpaused armable (Released revision held alone role ended counted all) =
-    subst (λ (z : Outcome). OutputsBeginBehind (BeginsOn now sequence grant b) [] z.outputs) (sym (granted-none now sequence grant snapshot b alone))
-    (never (BeginsOn now sequence grant b) [] b.outputs (All-weaker (IsReleaseOr (o.knows.sequence + 1) revision) (BeginsOnly ⊥) (release-never (o.knows.sequence + 1) revision) b.outputs all))
-
--- what precedes an input lets no server begin
-fronts-begin : (P : List Output → Type 0) (o b : Outcome) → Fronts o b → OutputsBeginBehind P [] b.outputs
-fronts-begin P o b (Silent all) = silent-begins P b.outputs all
-fronts-begin P o b (Released revision held alone role ended counted all) = never P [] b.outputs (All-weaker (IsReleaseOr (o.knows.sequence + 1) revision) (BeginsOnly ⊥) (release-never (o.knows.sequence + 1) revision) b.outputs all)
-
-told-begins : (P : List Output → Type 0) (o b : Outcome) → Fronts o b → ReplyRows (λ (x : Outcome). OutputsBeginBehind P [] x.outputs) b
-told-begins P o b fronts = let rows : ReplyRows (Fronts o) b = told-fronts o b fronts in record { kept = fronts-begin P o b fronts; answers = λ request told. fronts-begin P o (answering request told b) (rows.answers request told) }
-
-pub grant-begins : (now : Ticks) (sequence : ℕ) (grant : Granted) (snapshot : SnapshotFacts) (o : Outcome) → IsAlone o → is_paused (informed snapshot (before now o).knows) ≡ false → (Decides sequence grant (before now o) → is_armable (before now o).machine.watchdog.mode (before now o).machine.watchdog.works ≡ true) → All IsSilent o.outputs
-    → OutputsBeginBehind (BeginsOn now sequence grant (before now o)) [] (granted_any now sequence grant snapshot (before now o)).outputs
-grant-begins now sequence grant snapshot o alone unpaused armable silent = let b : Outcome = before now o in
-    let fronts : Fronts o b = before-fronts now o alone silent in
-    let Mine : List Output → Type 0 = BeginsOn now sequence grant b in
-    granted-any-by (λ (x : Outcome). OutputsBeginBehind Mine [] x.outputs) now sequence grant snapshot b (fronts-begin Mine o b fronts) (told-begins Mine o (learned snapshot b) (learned-fronts snapshot o b fronts))
-    (begins-fronts now sequence grant snapshot o b unpaused armable fronts)
-
-pub begins-weaker : (P Q : List Output → Type 0) → ((outs : List Output) → P outs → Q outs) → (before-it outs : List Output) → OutputsBeginBehind P before-it outs → OutputsBeginBehind Q before-it outs
-begins-weaker P Q more before-it [] begin = tt
-begins-weaker P Q more before-it (output ∷ outs) begin = (begins-one (P before-it) (Q before-it) (more before-it) output begin.0, begins-weaker P Q more (listed output before-it) outs begin.1)

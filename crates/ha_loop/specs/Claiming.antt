@@ -1,5 +1,5 @@
 -- How a member begins that has the leader key: in synchronous mode it claims the sync key first (Patroni, "Replication modes").
-use Rattle.std.specs.Prelude.{ℕ, if◌then◌else◌, Bool, true, false, Some, None}
+use Rattle.std.specs.Prelude.{ℕ, if◌then◌else◌, Bool, true, false, List, Some, None}
 use Rattle.pat_base.specs.declared.server_state.State.{State}
 use Rattle.pat_base.specs.declared.server_state.State.TheVariants as states
 use Rattle.pat_base.specs.declared.ticks.Ticks.{Ticks}
@@ -8,12 +8,13 @@ use Rattle.pg_model.specs.declared.status.ServerStatus.{ServerStatus}
 use Rattle.event_book.specs.declared.message.Body.TheVariants as bodies
 use Rattle.ha_loop.specs.declared.knowledge.Knowledge.{Knowledge}
 use Rattle.ha_loop.specs.declared.knowledge.Question.TheVariants.{Claiming}
+use Rattle.ha_loop.specs.declared.output.Output.{Output}
 use Rattle.ha_loop.specs.declared.output.Output.TheVariants as outputs
 use Rattle.ha_loop.specs.Acting.{seconds_after, asking, disarming, beginning, requiring}
 use Rattle.ha_loop.specs.Agents.{RoleFacts, Holder, Ready, Leader, Outcome}
 use Rattle.ha_loop.specs.Outputs.{listed}
 use Rattle.ha_loop.specs.Pausing.{is_paused, is_wanted_by}
-use Rattle.ha_loop.specs.Synchronous.{expected_of, unnamed}
+use Rattle.ha_loop.specs.Synchronous.{expected_of, is_named_if, unnamed}
 
 -- the member begins: its commits wait for no named standby, and the server begins to accept writes
 abbrev pub begins : Ticks → ℕ → Outcome → Outcome
@@ -26,9 +27,18 @@ begins now revision o = record (beginning now (requiring (unnamed o.knows.turn_s
 abbrev pub claims : Ticks → ℕ → Outcome → Outcome
 claims now revision o = record (asking now Claiming (seconds_after now o.knows.settings.retry_timeout) (bodies.Request (txns.Claim revision (expected_of o.knows.turn_sync))) o) { role = Ready revision }
 
+-- that the member leads though the sync key doesn't name it stands behind what it did so far
+abbrev pub told_passing : Bool → List Output → List Output
+told_passing true out = out
+told_passing false out = listed outputs.Passes out
+
+-- the member notes where the sync key, as its turn read it, doesn't name it: a failover by hand alone lets it lead then
+abbrev pub passing : Outcome → Outcome
+passing o = record o { outputs = told_passing (is_named_if o.knows.who.me o.knows.turn_sync) o.outputs }
+
 -- an agent with an armed watchdog begins; in synchronous mode it claims the sync key first
 abbrev pub begins_or_claims : Ticks → ℕ → Outcome → Outcome
-begins_or_claims now revision o = if o.knows.turn_settings.synchronous_mode then claims now revision o else begins now revision o
+begins_or_claims now revision o = if o.knows.turn_settings.synchronous_mode then claims now revision (passing o) else begins now revision o
 
 -- the member keeps the leader key, and its promotion is postponed: what was armed is given up
 abbrev pub postpones : ℕ → Outcome → Outcome

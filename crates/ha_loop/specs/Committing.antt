@@ -7,6 +7,7 @@ use Rattle.pat_base.specs.declared.server_state.Required.{Required}
 use Rattle.pat_base.specs.declared.ticks.Ticks.{Ticks}
 use Rattle.pat_base.specs.ServerState.{live}
 use Rattle.lease_store.specs.declared.granted.Granted.{Granted}
+use Rattle.lease_store.specs.declared.txn.Expected.{Expected}
 use Rattle.lease_store.specs.declared.txn.Txn.{Txn}
 use Rattle.lease_store.specs.declared.txn.Txn.TheVariants as txns
 use Rattle.wal_model.specs.declared.entry.Entry.{Entry}
@@ -253,20 +254,29 @@ IsCovered (outputs.Told request told) = Unit {0}
 IsCovered _ = ⊥
 
 -- an output that may be an action of its own: neither does it ask for a write of the sync key, nor are others required by it, nor does
--- the server begin
+-- the server begin; and it isn't the note that leads to a claim
 abbrev pub StandsAlone : Output → Type 0
 StandsAlone (outputs.Send to sequence body) = IsQuietBody body
 StandsAlone (outputs.Require required) = ⊥
 StandsAlone outputs.Begin = ⊥
+StandsAlone outputs.Passes = ⊥
 StandsAlone _ = Unit {0}
 
--- the outputs of an input in their order: each may be an action of its own; or the law's input covers all up to a question, or up to whom
--- commits wait for from now on, and that is the last one, or the server begins behind it
+-- the outputs of an input in their order: each may be an action of its own; or the law's input covers all up to a question, or up to the note
+-- that the sync key doesn't name the member and its claim of that key, or up to whom commits wait for from now on, and that is the last one, or
+-- the server begins behind it
 pub data InOrder (outs : List Output) : Type 0 where
   Apart : (alone : All StandsAlone outs) → InOrder outs
   Asks : (front : List Output) → (sequence : ℕ) → (body : Body) → (covered : All IsCovered front) → (whole : front ++ outputs.Send targets.Store sequence body ∷ [] ≡ outs) → InOrder outs
+  Passes : (front : List Output) → (sequence revision : ℕ) → (sync : Expected) → (covered : All IsCovered front)
+      → (whole : front ++ outputs.Passes ∷ outputs.Send targets.Store sequence (bodies.Request (txns.Claim revision sync)) ∷ [] ≡ outs) → InOrder outs
   Requires : (front : List Output) → (required : Required) → (covered : All IsCovered front) → (whole : front ++ outputs.Require required ∷ [] ≡ outs) → InOrder outs
   Begins : (front : List Output) → (required : Required) → (covered : All IsCovered front) → (whole : front ++ outputs.Require required ∷ outputs.Begin ∷ [] ≡ outs) → InOrder outs
+
+-- the member takes the leader key though the sync key doesn't name it
+abbrev pub is_passing : Output → Bool
+is_passing outputs.Passes = true
+is_passing _ = false
 
 -- the server comes to accept writes by this output, or will when its start is complete
 abbrev pub is_begin : Output → Bool
@@ -277,13 +287,15 @@ is_begin _ = false
 abbrev pub live_shown : Outcome → Outcome → Bool
 live_shown o after = if has_one is_begin after.outputs then live after.machine.server.state else live o.machine.server.state
 
--- the input of the law that stands for one of the table. No renewal carries a set for the failsafe key
+-- the input of the law that stands for one of the table, where the member takes no leader key past the sync key. No renewal carries a set for
+-- the failsafe key
 pub record IsCommitInputOf (s : State) (m : ℕ) (o after : Outcome) (input : AgentInput) : Type 0 where
   pub agent : input.agent ≡ committer_seen after.role after.knows
   pub live : input.live ≡ live_shown o after
   pub required : input.required ≡ need_in after.machine.replication.required
   pub sends : IsSent (requests_of m o.knows.run after.outputs) input.sends
   pub holder_was_live : input.holder_was_live ≡ s.holder_was_live
+  pub inside : has_one is_passing after.outputs ≡ false
 
 -- on a lease of this revision an agent claims the sync key: it hears the grant that it waits for, and wasn't about to begin
 abbrev pub ArmsOn : Ticks → Heard → Outcome → ℕ → Type 0

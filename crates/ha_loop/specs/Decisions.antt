@@ -71,7 +71,7 @@ can_begin now knows server states.Stopped = may_start_again now knows server
 can_begin now knows server states.Crashed = may_start_again now knows server
 can_begin now knows server _ = false
 
--- a member may take the leader key: no hold is active, its server can begin, and in synchronous mode it lacks no acknowledged commit
+-- a member may take the leader key: no hold is active, its server can begin, and in synchronous mode it may lead
 abbrev pub may_take : Ticks → Knowledge → Machine → Bool
 may_take now knows machine = not (is_hold_active now machine.hold) && (can_begin now knows machine.server machine.server.state && may_lead_in_sync knows)
 

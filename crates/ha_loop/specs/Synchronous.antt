@@ -1,5 +1,5 @@
 -- What an agent reads of the sync key, and whom commits come to wait for (Patroni, "Replication modes").
-use Rattle.std.specs.Prelude.{ℕ, ◌==◌, ◌&&◌, if◌then◌else◌, Bool, true, Option, Some, None}
+use Rattle.std.specs.Prelude.{ℕ, ◌==◌, ◌&&◌, ◌||◌, if◌then◌else◌, Bool, true, Option, Some, None}
 use Rattle.pat_base.specs.declared.member_id.MemberId.{MemberId}
 use Rattle.pat_base.specs.declared.member_set.MemberSet.{MemberSet}
 use Rattle.pat_base.specs.declared.server_state.Required.{Required}
@@ -11,7 +11,7 @@ use Rattle.lease_store.specs.declared.txn.Expected.TheVariants.{Absent, Revision
 use Rattle.lease_store.specs.declared.value.SyncKey.{SyncKey}
 use Rattle.lease_store.specs.declared.value.KeyEntry.{KeyEntry}
 use Rattle.cluster_config.specs.KeyValues.{sync_by}
-use Rattle.cluster_config.specs.Naming.{is_named}
+use Rattle.cluster_config.specs.Naming.{is_failover_to, is_named}
 use Rattle.cluster_config.specs.Snapshots.{SnapshotFacts, entry_in}
 use Rattle.ha_loop.specs.declared.knowledge.Knowledge.{Knowledge}
 use Rattle.ha_loop.specs.declared.knowledge.SyncRead.{SyncRead}
@@ -45,9 +45,11 @@ abbrev pub is_named_if : MemberId → Option SyncRead → Bool
 is_named_if me None = true
 is_named_if me (Some read) = is_named me read.key
 
--- in synchronous mode only a member may lead that the sync key names, as the turn read both: another may lack an acknowledged commit
+-- in synchronous mode only a member may lead that the sync key names, as the turn read both, since another may lack an acknowledged commit;
+-- or one that a failover by hand names
 abbrev pub may_lead_in_sync : Knowledge → Bool
-may_lead_in_sync knows = if knows.turn_settings.synchronous_mode then is_named_if knows.who.me knows.turn_sync else true
+may_lead_in_sync knows =
+    if knows.turn_settings.synchronous_mode then is_named_if knows.who.me knows.turn_sync || is_failover_to knows.who.me knows.turn_failover else true
 
 -- commits wait for some standby in synchronous mode, also where none is named
 abbrev pub is_strict : Config → Bool

@@ -10,13 +10,13 @@ ghost use Rattle.ha_loop.specs.declared.output.Target.TheVariants as targets;
 ghost use Rattle.ha_loop.specs.Acting.{seconds_after, waiting, counted, without_deadline, disarmed};
 ghost use Rattle.ha_loop.specs.Agents.{IsSound, IsWithin, Follower, Holder, Ready, role_of, made, latest};
 ghost use Rattle.ha_loop.specs.Outputs.{listed};
-ghost use Rattle.ha_loop.specs.Synchronous.{expected_of};
-ghost use Rattle.ha_loop.specs.Claiming.{begins, begins_or_claims, claim_fails, can_begin_on_claim, may_begin_on_claim, claim_granted};
+ghost use Rattle.ha_loop.specs.Synchronous.{expected_of, is_named_if};
+ghost use Rattle.ha_loop.specs.Claiming.{begins, begins_or_claims, told_passing, claim_fails, can_begin_on_claim, may_begin_on_claim, claim_granted};
 
 use crate::acting::{ask, require, undo};
 use crate::pausing::{is_paused, is_wanted_by};
 use crate::role::Role;
-use crate::synchronous::{expected_of, unnamed};
+use crate::synchronous::{expected_of, is_named_if, unnamed};
 use crate::{Knowledge, Machine, Output, Outputs, Question};
 use event_book::Body;
 use leader_key::{Armed, Writer};
@@ -43,9 +43,21 @@ pub(crate) fn begin_or_claim(
     ensures room { out.old.spare ≤ out.new.spare + 2 }
 {
     if knows.turn_settings.synchronous_mode {
+        tell_passing(knows, out);
         claim(armed, knows, out, now)
     } else {
         begin(armed, knows, machine, out, now)
+    }
+}
+
+/// The member notes where the sync key, as its turn read it, doesn't name it: a failover by hand alone lets it lead then.
+fn tell_passing(knows: &Knowledge, out: &mut Outputs)
+    requires { 1 ≤ out.old.spare }
+    ensures out { out.new.outputs ≡ told_passing (is_named_if knows.now.who.me knows.now.turn_sync) out.old.outputs }
+    ensures room { out.old.spare ≤ out.new.spare + 1 }
+{
+    if !is_named_if(knows.who.me, knows.turn_sync) {
+        out.put(Output::Passes);
     }
 }
 

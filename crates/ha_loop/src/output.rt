@@ -80,6 +80,8 @@ pub enum Output {
     Disarmed,
     /// The member needs a watchdog, and its device doesn't work.
     CannotArm,
+    /// The member takes the leader key though the sync key doesn't name it: a failover by hand names it.
+    Passes,
     /// The member keeps the leader key without beginning: its claim of the sync key failed.
     PostponesPromotion,
     /// In a pause: the deadline was removed on a renewal of the leader key.

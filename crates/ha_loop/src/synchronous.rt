@@ -4,7 +4,7 @@ ghost use Rattle.cluster_config.specs.KeyValues.{sync_by};
 ghost use Rattle.ha_loop.specs.Synchronous.{sync_read_by, sync_read_of_entry, sync_read_in, sync_read_if, expected_of, is_named_if, may_lead_in_sync, is_strict, unnamed, waiting_for};
 
 use crate::{Knowledge, SyncRead};
-use cluster_config::{Snapshot, is_named};
+use cluster_config::{Snapshot, is_failover_to, is_named};
 use lease_store::{Config, Expected, Key, KeyEntry, SyncKey, Value};
 use pat_base::{MemberId, MemberSet, Required};
 
@@ -58,7 +58,7 @@ pub(crate) fn expected_of(read: Option<SyncRead>) -> Expected
 }
 
 /// The key that was read doesn't keep this member from leading.
-fn is_named_if(me: MemberId, read: Option<SyncRead>) -> bool
+pub(crate) fn is_named_if(me: MemberId, read: Option<SyncRead>) -> bool
     ensures { result ≡ is_named_if me read }
 {
     match read {
@@ -67,12 +67,14 @@ fn is_named_if(me: MemberId, read: Option<SyncRead>) -> bool
     }
 }
 
-/// In synchronous mode only a member may lead that the sync key names, as the turn read both.
+/// In synchronous mode only a member may lead that the sync key names, as the turn read both, or one that a failover by hand names
+/// (Patroni documentation, "Switchover and failover endpoints").
 pub(crate) fn may_lead_in_sync(knows: &Knowledge) -> bool
     ensures { result ≡ may_lead_in_sync knows.now }
 {
     if knows.turn_settings.synchronous_mode {
         is_named_if(knows.who.me, knows.turn_sync)
+            || is_failover_to(knows.who.me, knows.turn_failover)
     } else {
         true
     }

@@ -25,7 +25,7 @@ use Rattle.ha_loop.specs.declared.role.Why.TheVariants.{HandOver, Lost}
 use Rattle.ha_loop.specs.Acting.{arming, armed, deadline_after, disarmed, fed_until, is_refusing, touching, waiting_no_more}
 use Rattle.ha_loop.specs.Agents.{Follower, Outcome}
 use Rattle.ha_loop.specs.Before.{before, has_ended}
-use Rattle.ha_loop.specs.Claiming.{begins, begins_or_claims, claims, postpones}
+use Rattle.ha_loop.specs.Claiming.{begins, begins_or_claims, claims, passing, postpones}
 use Rattle.ha_loop.specs.Decisions.{arms, gives_back, granted, leader_renewed, may_take, refused, stray_renewed, takes_key, takes_over, takes_key_in_pause}
 use Rattle.ha_loop.specs.HandingOver.{asking_whom, hands_over}
 use Rattle.ha_loop.specs.Operators.{given_up, looked, operated}
@@ -35,7 +35,7 @@ use Rattle.ha_loop.specs.Repairs.{repair_of}
 use Rattle.ha_loop.specs.Snapshots.{follow_row, follows, got, informed, read_noted, led_by_another}
 use Rattle.ha_loop.specs.Table.{granted_any, refused_any, step}
 use Rattle.ha_loop.specs.Wake.{overdue, turned, woken}
-use Rattle.ha_loop.proofs.Rows.{HandoverRows, ReplyRows, WritesSync, led_on, if-cases, begins-or-claims-by, renewed-by, before-by, overdue-by, turn-by, wake-by, got-by, refused-by, granted-by, follow-by, repaired-by, free-by, judged-by, answered-by, given-up-by, looked-by, granted-any-by, refused-any-by, DutyRows, duties-of, rested_on, takes-in-pause-by}
+use Rattle.ha_loop.proofs.Rows.{HandoverRows, ReplyRows, WritesSync, led_on, if-cases, begins-or-claims-by, passing-by, renewed-by, before-by, overdue-by, turn-by, wake-by, got-by, refused-by, granted-by, follow-by, repaired-by, free-by, judged-by, answered-by, given-up-by, looked-by, granted-any-by, refused-any-by, DutyRows, duties-of, rested_on, takes-in-pause-by}
 use Rattle.ha_loop.specs.Answers.{is_other, most_answers, asking_one, asking_first}
 use Rattle.ha_loop.specs.Peers.{keeping, answered}
 use Rattle.pat_world.specs.Short.{AsksShortly}
@@ -294,8 +294,15 @@ begins-row now held o =
     grows-then 1 1 2 o.knows.sequence o.knows.sequence o.knows.sequence o.outputs _ _ (omega arith)
     (one o.knows.sequence o.knows.sequence o.outputs _ (omega arith) tt) (one o.knows.sequence o.knows.sequence _ outputs.Begin (omega arith) tt)
 
-claims-row : (now : Ticks) (held : ℕ) (o : Outcome) → Brings 2 o (claims now held o)
-claims-row now held o = weaker 1 2 _ _ _ _ (omega arith) (one o.knows.sequence (o.knows.sequence + 1) o.outputs _ (omega arith) (omega arith))
+-- what a member notes of the sync key, and its claim of that
+passing-row : (o : Outcome) → Brings 1 o (passing o)
+passing-row o =
+    passing-by (Grows 1 o.knows.sequence o.knows.sequence o.outputs) o (none o.knows.sequence o.outputs) (one o.knows.sequence o.knows.sequence o.outputs outputs.Passes (omega arith) tt)
+
+claims-row : (now : Ticks) (held : ℕ) (o : Outcome) → Brings 2 o (claims now held (passing o))
+claims-row now held o =
+    grows-then 1 1 2 o.knows.sequence o.knows.sequence (o.knows.sequence + 1) o.outputs (passing o).outputs _ (omega arith) (passing-row o)
+    (one o.knows.sequence (o.knows.sequence + 1) (passing o).outputs _ (omega arith) (omega arith))
 
 begun-row : (now : Ticks) (held : ℕ) (o : Outcome) → Brings 2 o (begins_or_claims now held o)
 begun-row now held o = begins-or-claims-by (Brings 2 o) now held o (begins-row now held o) (claims-row now held o)

@@ -237,6 +237,7 @@ order-above last cluster member heard outputs.Disarmed = tt
 order-above last cluster member heard outputs.CannotArm = tt
 order-above last cluster member heard outputs.DisablesWatchdog = tt
 order-above last cluster member heard outputs.RunsWithoutKey = tt
+order-above last cluster member heard outputs.Passes = tt
 order-above last cluster member heard outputs.PostponesPromotion = tt
 order-above last cluster member heard (outputs.DoesNotRace bar) = tt
 order-above last cluster member heard outputs.ShutDown =

@@ -9,8 +9,8 @@ ghost use Rattle.pat_world.specs.Comes.{MayCome};
 use crate::naming::required_names;
 use cluster_model::HeardMessage;
 use event_book::{
-    Basis, EventKind, LinkEnd, LogEvent, Member, Note, ReplicationEvent, ServerEvent, ServerOf,
-    WatchdogEvent,
+    AgentEvent, Basis, EventKind, LinkEnd, LogEvent, Member, Note, ReplicationEvent, ServerEvent,
+    ServerOf, WatchdogEvent,
 };
 use ha_loop::{Output, Target};
 use lease_store::Bar;
@@ -202,7 +202,7 @@ pub fn feeding(member: Member, until: Ticks, heard: HeardMessage) -> EventKind
     })
 }
 
-/// What an agent tells of its watchdog, but for its feeds, and of its promotion.
+/// What an agent tells of its watchdog, but for its feeds, and of its promotion, and that it leads past the sync key.
 pub fn told_of(member: Member, output: &Output) -> Option<EventKind>
     ensures kind { result ≡ told_of member output.now }
     ensures comes { (cluster : Cluster) → IfSome result (MayCome cluster) }
@@ -213,6 +213,7 @@ pub fn told_of(member: Member, output: &Output) -> Option<EventKind>
         Output::DisablesWatchdog => Some(EventKind::Note(Note::DisablesWatchdog { member })),
         Output::RunsWithoutKey => Some(EventKind::Note(Note::RunsWithoutKey { member })),
         Output::PostponesPromotion => Some(EventKind::Note(Note::PostponesPromotion { member })),
+        Output::Passes => Some(EventKind::Agent(AgentEvent::Passed { agent: member })),
         _ => None,
     }
 }

@@ -157,6 +157,40 @@ const FAILOVER: Run = (
     LED_BY_B,
 );
 
+/// In synchronous mode a failover by hand lets a member lead that the sync key doesn't name, and that lacks an acknowledged commit.
+const FAILOVER_OUTSIDE_THE_SYNC_KEY: Run = (
+    "config {\"synchronous_mode\":true}\nmember a\nmember b\nmember c\nrun 300\nfreeze c\ncommit a 100\nrun 1\n\
+     rest a POST /failover {\"candidate\":\"c\"}\nrun 110\n",
+    "1 a takes the leader key\n\
+     1 a arms its watchdog until 251\n\
+     1 a claims the sync key\n\
+     1 a accepts writes on timeline 2\n\
+     2 b follows a\n\
+     3 c follows a\n\
+     101 a requires b\n\
+     201 a publishes sync standbys b\n\
+     300 c is frozen\n\
+     300 commit 1 of 100 bytes on a\n\
+     301 commit 1 is acknowledged\n\
+     302 a writes the failover key\n\
+     401 a hands over to c\n\
+     401 a no longer accepts writes\n\
+     401 a releases the leader key\n\
+     402 b does not race: c is the candidate\n\
+     403 c takes the leader key\n\
+     403 c arms its watchdog until 653\n\
+     403 c claims the sync key\n\
+     403 c accepts writes on timeline 3\n",
+    Closing {
+        end: 411,
+        synchronous: "broken at 403",
+        writers: "c",
+        acknowledged: 1,
+        lost: "first at 403",
+        ..QUIET
+    },
+);
+
 /// The candidate doesn't answer in time: the leader clears the key, and stays.
 const CANDIDATE_DIES_BEFORE: Run = (
     "rest a POST /switchover {\"leader\":\"a\",\"candidate\":\"b\"}\nrun 10\nkill b\nrun 150\n",
@@ -322,7 +356,9 @@ fn switchovers_that_fail(rt: HostRuntime) -> Result<(), Fail> {
 
 #[test]
 fn failover_by_hand(rt: HostRuntime) -> Result<(), Fail> {
-    prints(&rt, rt.alloc(), &FOLLOWED_AT_150, &[FAILOVER])
+    let alloc = rt.alloc();
+    prints(&rt, alloc, &FOLLOWED_AT_150, &[FAILOVER])?;
+    prints(&rt, alloc, &OWN_MEMBERS, &[FAILOVER_OUTSIDE_THE_SYNC_KEY])
 }
 
 #[test]

@@ -189,6 +189,7 @@ module _ (member : Member) (run heard : ℕ) (Q : Output → Type 0) where
   order-mine cluster message at outputs.CannotArm table is = tt
   order-mine cluster message at outputs.DisablesWatchdog table is = tt
   order-mine cluster message at outputs.RunsWithoutKey table is = tt
+  order-mine cluster message at outputs.Passes table is = refl
   order-mine cluster message at outputs.PostponesPromotion table is = tt
   order-mine cluster message at (outputs.DoesNotRace bar) table is = tt
   order-mine cluster message at outputs.ShutDown table is = holds-then Mine (stop_of member) (server_at cluster member)

@@ -102,7 +102,8 @@ module _ (member : Member) (run heard : ℕ) (Q : Output → Type 0) where
   mine-own (kinds.Watchdog (watchdogs.HoldTaken by until from r sequence)) is = absurd is
   mine-own kinds.Tick is = absurd is
   mine-own (kinds.Store happening) is = absurd is
-  mine-own (kinds.Agent happening) is = absurd is
+  mine-own (kinds.Agent (agents.Passed by)) is = tt
+  mine-own (kinds.Agent _) is = absurd is
   mine-own _ is = tt
 
   pub mine-taken : (clock : ℕ) (taken : List Taking) (kind : EventKind) → Mine kind → taken_after clock taken kind ≡ taken

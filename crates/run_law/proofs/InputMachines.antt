@@ -13,6 +13,7 @@ use Rattle.pg_model.specs.declared.status.ServerStatus.{ServerStatus}
 use Rattle.pg_model.specs.Running.{is_primary, moment_after, started, starting, stopped, wiped}
 use Rattle.pg_model.specs.Status.{status_promoted, status_started, status_starting, status_replica_started, status_primary_started, status_ending, status_stopping, status_following, status_restarted, status_restarted_in, status_wiped}
 use Rattle.event_book.specs.declared.agent_process.AgentProcess.{AgentProcess}
+use Rattle.event_book.specs.declared.event.AgentEvent.TheVariants as agents
 use Rattle.event_book.specs.declared.event.EventKind.{EventKind}
 use Rattle.event_book.specs.declared.event.EventKind.TheVariants as kinds
 use Rattle.event_book.specs.declared.event.LogEvent.{LogEvent}
@@ -665,6 +666,7 @@ module _ (member : Member) where
   output-here cluster message machine outputs.CannotArm table none old = unmoved cluster (cluster_after cluster (kinds.Note (notes.CannotArm member))) member.id.number machine refl refl refl old
   output-here cluster message machine outputs.DisablesWatchdog table none old = unmoved cluster (cluster_after cluster (kinds.Note (notes.DisablesWatchdog member))) member.id.number machine refl refl refl old
   output-here cluster message machine outputs.RunsWithoutKey table none old = unmoved cluster (cluster_after cluster (kinds.Note (notes.RunsWithoutKey member))) member.id.number machine refl refl refl old
+  output-here cluster message machine outputs.Passes table none old = unmoved cluster (cluster_after cluster (kinds.Agent (agents.Passed member))) member.id.number machine refl refl refl old
   output-here cluster message machine outputs.PostponesPromotion table none old = unmoved cluster (cluster_after cluster (kinds.Note (notes.PostponesPromotion member))) member.id.number machine refl refl refl old
   output-here cluster message machine (outputs.DoesNotRace bar) table none old = unmoved cluster (cluster_after cluster (not_racing cluster.book.members member bar)) member.id.number machine refl refl refl old
   output-here cluster message machine (outputs.Restart as_primary) table none old = restart-here cluster machine old

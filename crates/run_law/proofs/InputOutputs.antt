@@ -11,6 +11,7 @@ use Rattle.pat_base.specs.ServerState.{live}
 use Rattle.pg_model.specs.Facts.{ServerFacts}
 use Rattle.event_book.specs.declared.agent_process.AgentProcess.{AgentProcess}
 use Rattle.event_book.specs.declared.event.Event.{Event}
+use Rattle.event_book.specs.declared.event.AgentEvent.TheVariants as agents
 use Rattle.event_book.specs.declared.event.EventKind.{EventKind}
 use Rattle.event_book.specs.declared.event.EventKind.TheVariants as kinds
 use Rattle.event_book.specs.declared.event.MessageEvent.TheVariants.{Sent, Delivered, Lost}
@@ -93,13 +94,15 @@ unnumbered-all member run heard last (event ∷ events) all =
 -- an event at which the clock stands, no agent starts, and the message of this number isn't sent
 moments-kept : (member : Member) (run heard n : ℕ) (kind : EventKind) → (n < 0 → ⊥) → IsOfInput member run heard no_message kind → KeepsMomentOf n kind
 moments-kept member run heard n kinds.Tick low is = absurd is
-moments-kept member run heard n (kinds.Agent happening) low is = absurd is
+moments-kept member run heard n (kinds.Agent (agents.Passed by)) low is = tt
+moments-kept member run heard n (kinds.Agent _) low is = absurd is
 moments-kept member run heard n (kinds.Message (Sent number message)) low is = absurd (no-sent member run message is)
 moments-kept member run heard n _ low is = tt
 
 above-kept : (member : Member) (run heard last n : ℕ) (Q : Output → Type 0) (kind : EventKind) → n ≤ last → IsNumberedAbove last kind → IsOfInput member run heard Q kind → KeepsMomentOf n kind
 above-kept member run heard last n Q kinds.Tick low above is = absurd is
-above-kept member run heard last n Q (kinds.Agent happening) low above is = absurd is
+above-kept member run heard last n Q (kinds.Agent (agents.Passed by)) low above is = tt
+above-kept member run heard last n Q (kinds.Agent _) low above is = absurd is
 above-kept member run heard last n Q (kinds.Message (Sent number message)) low above is = λ e. omega (arith, e, low, above)
 above-kept member run heard last n Q _ low above is = tt
 
@@ -185,6 +188,7 @@ module _ (member : Member) (run : ℕ) (message : HeardMessage) where
   output-numbered cluster outputs.CannotArm runs table = other-numbered cluster outputs.CannotArm runs table tt
   output-numbered cluster outputs.DisablesWatchdog runs table = other-numbered cluster outputs.DisablesWatchdog runs table tt
   output-numbered cluster outputs.RunsWithoutKey runs table = other-numbered cluster outputs.RunsWithoutKey runs table tt
+  output-numbered cluster outputs.Passes runs table = other-numbered cluster outputs.Passes runs table tt
   output-numbered cluster outputs.PostponesPromotion runs table = other-numbered cluster outputs.PostponesPromotion runs table tt
   output-numbered cluster (outputs.DoesNotRace bar) runs table = other-numbered cluster (outputs.DoesNotRace bar) runs table tt
   output-numbered cluster outputs.ShutDown runs table = other-numbered cluster outputs.ShutDown runs table tt

@@ -5,6 +5,7 @@ use Rattle.pat_base.specs.Changes.{with_changed}
 use Rattle.pg_model.specs.Facts.{ServerFacts}
 use Rattle.event_book.specs.declared.agent_process.AgentProcess.{AgentProcess}
 use Rattle.event_book.specs.declared.event.Event.{Event}
+use Rattle.event_book.specs.declared.event.AgentEvent.TheVariants as agents
 use Rattle.event_book.specs.declared.event.EventKind.{EventKind}
 use Rattle.event_book.specs.declared.event.EventKind.TheVariants as kinds
 use Rattle.event_book.specs.declared.event.MessageEvent.TheVariants.{Sent, Delivered, Lost}
@@ -65,12 +66,14 @@ module _ (member : Member) (run heard : ℕ) (Q : Output → Type 0) where
   agents-one cluster (kinds.Message (Delivered number)) is = absurd is
   agents-one cluster (kinds.Message (Lost number)) is = refl
   agents-one cluster (kinds.Watchdog (watchdogs.Reset by)) is = absurd is
-  agents-one cluster (kinds.Agent happening) is = absurd is
+  agents-one cluster (kinds.Agent (agents.Passed by)) is = refl
+  agents-one cluster (kinds.Agent _) is = absurd is
   agents-one cluster _ is = refl
 
   processes-one : (processes : List AgentProcess) (kind : EventKind) → Mine kind → agents_after processes kind ≡ processes
   processes-one processes (kinds.Watchdog (watchdogs.Reset by)) is = absurd is
-  processes-one processes (kinds.Agent happening) is = absurd is
+  processes-one processes (kinds.Agent (agents.Passed by)) is = refl
+  processes-one processes (kinds.Agent _) is = absurd is
   processes-one processes _ is = refl
 
   pub clock-one : (now : ℕ) (kind : EventKind) → Mine kind → now_after now kind ≡ now

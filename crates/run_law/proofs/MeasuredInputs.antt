@@ -105,6 +105,7 @@ module _ (member : Member) (run : ℕ) (message : HeardMessage) where
   output-measured moments since cluster outputs.CannotArm runs table heard = silent moments since cluster outputs.CannotArm runs table tt
   output-measured moments since cluster outputs.DisablesWatchdog runs table heard = silent moments since cluster outputs.DisablesWatchdog runs table tt
   output-measured moments since cluster outputs.RunsWithoutKey runs table heard = silent moments since cluster outputs.RunsWithoutKey runs table tt
+  output-measured moments since cluster outputs.Passes runs table heard = silent moments since cluster outputs.Passes runs table tt
   output-measured moments since cluster outputs.PostponesPromotion runs table heard = silent moments since cluster outputs.PostponesPromotion runs table tt
   output-measured moments since cluster outputs.ShutDown runs table heard = silent moments since cluster outputs.ShutDown runs table tt
   output-measured moments since cluster (outputs.Repair leader repair) runs table heard = silent moments since cluster (outputs.Repair leader repair) runs table tt

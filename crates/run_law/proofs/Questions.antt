@@ -39,7 +39,7 @@ use Rattle.ha_loop.specs.declared.role.Why.TheVariants.{HandOver, Lost}
 use Rattle.ha_loop.specs.Acting.{requiring, ending_server, seconds_after, lease_span, counted, arming, feeding, armed, fed_until, disarmed, disarming, sending, asking, touching, starting_replica, is_refusing, deadline_after, waiting, waiting_no_more}
 use Rattle.ha_loop.specs.Agents.{RoleFacts, Follower, Ending, Outcome, made}
 use Rattle.ha_loop.specs.Before.{has_ended, before}
-use Rattle.ha_loop.specs.Claiming.{begins, claims, begins_or_claims, postpones}
+use Rattle.ha_loop.specs.Claiming.{begins, claims, begins_or_claims, passing, postpones}
 use Rattle.ha_loop.specs.Decisions.{asks_lease, asks_sync, is_start_too_long, leader_renewed, takes_over, stray_renewed, may_take, gives_back, arms, takes_key, granted, refused}
 use Rattle.ha_loop.specs.Planning.{writing_sync, switching_off, planned_as, planned_on, leader_view, noting}
 use Rattle.ha_loop.specs.Synchronous.{expected_of, sync_read_if, unnamed, waiting_for}
@@ -53,7 +53,7 @@ use Rattle.ha_loop.specs.Repairs.{repair_of}
 use Rattle.ha_loop.specs.Snapshots.{informed, follows, read_noted, got, follow_row, led_by_another}
 use Rattle.ha_loop.specs.Table.{granted_any, refused_any, step}
 use Rattle.ha_loop.specs.Wake.{turn_noted, overdue, turned, woken}
-use Rattle.ha_loop.proofs.Rows.{HandoverRows, IsOperatorTxn, ReplyRows, dropping, led_on, if-cases, begins-or-claims-by, before-by, duties-by, given-up-by, granted-any-by, looked-by, operated-by, overdue-by, refused-any-by, turn-by, wake-by, got-by, refused-by, follow-by, repaired-by, free-by, granted-by, judged-by, answered-by, rested_on, takes-in-pause-by}
+use Rattle.ha_loop.proofs.Rows.{HandoverRows, IsOperatorTxn, ReplyRows, dropping, led_on, if-cases, begins-or-claims-by, passing-by, before-by, duties-by, given-up-by, granted-any-by, looked-by, operated-by, overdue-by, refused-any-by, turn-by, wake-by, got-by, refused-by, follow-by, repaired-by, free-by, granted-by, judged-by, answered-by, rested_on, takes-in-pause-by}
 use Rattle.ha_loop.specs.declared.who.Who.{Who}
 use Rattle.ha_loop.specs.Answers.{is_other, most_answers, asking_all, asking_one, asking_first}
 use Rattle.ha_loop.specs.Peers.{keeping, answered}
@@ -442,8 +442,10 @@ stray-reaches now ttl known revision o r = let armed-now : Outcome = arming now 
 begin-reaches : (now : Ticks) (known : Knowledge) (revision : ℕ) (o : Outcome) → Reaches now known o → Reaches now known (begins now revision o)
 begin-reaches now known revision o r = goes-on now known o.knows _ _ refl refl refl refl (one-more now known o.knows _ outputs.Begin tt (require-reaches now known (unnamed o.knows.turn_settings) o r))
 
-claim-reaches : (now : Ticks) (known : Knowledge) (revision : ℕ) (o : Outcome) → Reaches now known o → Reaches now known (claims now revision o)
-claim-reaches now known revision o r = ask-reaches now known Claiming _ _ o tt (λ e. absurd (both e)) (λ _. tt) r
+-- a claim, behind what is noted of the sync key
+claim-reaches : (now : Ticks) (known : Knowledge) (revision : ℕ) (o : Outcome) → Reaches now known o → Reaches now known (claims now revision (passing o))
+claim-reaches now known revision o r =
+    ask-reaches now known Claiming _ _ (passing o) tt (λ e. absurd (both e)) (λ _. tt) (passing-by (AsksAnew now known o.knows) o r (one-more now known o.knows o.outputs outputs.Passes tt r))
 
 arms-reaches : (now ttl : Ticks) (known : Knowledge) (revision : ℕ) (o : Outcome) → Reaches now known o → Reaches now known (arms now ttl revision o)
 arms-reaches now ttl known revision o r =

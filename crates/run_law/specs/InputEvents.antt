@@ -2,6 +2,7 @@
 use Rattle.std.specs.Prelude.{ℕ, ◌≡◌, ◌⊎◌, Bool}
 use Rattle.pat_base.specs.declared.member_id.MemberId.{MemberId}
 use Rattle.pat_base.specs.declared.peer_answer.PeerAnswer.{PeerAnswer}
+use Rattle.event_book.specs.declared.event.AgentEvent.TheVariants as agents
 use Rattle.event_book.specs.declared.event.EventKind.{EventKind}
 use Rattle.event_book.specs.declared.event.EventKind.TheVariants as kinds
 use Rattle.event_book.specs.declared.event.LogEvent.TheVariants as logs
@@ -58,5 +59,6 @@ IsOfInput member run heard Q (kinds.Watchdog (watchdogs.Disarmed by)) = by ≡ m
 IsOfInput member run heard Q (kinds.Watchdog (watchdogs.Measured by from)) = by ≡ member
 IsOfInput member run heard Q (kinds.Replication (replications.RequiredSet server required names)) = server ≡ server_of member
 IsOfInput member run heard Q (kinds.Replication (replications.Lacks server)) = server ≡ server_of member
+IsOfInput member run heard Q (kinds.Agent (agents.Passed by)) = by ≡ member
 IsOfInput member run heard Q (kinds.Note note) = Unit {0}
 IsOfInput member run heard Q _ = ⊥
