@@ -5,15 +5,11 @@ use Rattle.lease_store.specs.declared.action.FailoverKind.TheVariants as failove
 use Rattle.lease_store.specs.declared.action.OperatorAction.{OperatorAction}
 use Rattle.lease_store.specs.declared.action.OperatorRequest.{OperatorRequest}
 use Rattle.lease_store.specs.declared.action.OperatorRequest.TheVariants as requests
-use Rattle.lease_store.specs.declared.key.Key.TheVariants as keys
-use Rattle.lease_store.specs.declared.value.KeyEntry.{KeyEntry}
-use Rattle.lease_store.specs.declared.value.Value.{Value}
-use Rattle.lease_store.specs.declared.value.Value.TheVariants as values
+use Rattle.lease_store.specs.Settings.{Settings}
 use Rattle.event_book.specs.declared.event.EventKind.{EventKind}
 use Rattle.event_book.specs.declared.event.EventKind.TheVariants as kinds
 use Rattle.event_book.specs.declared.event.Note.TheVariants as notes
 use Rattle.event_book.specs.declared.member.Member.{Member}
-use Rattle.cluster_config.specs.Snapshots.{SnapshotFacts, entry_in}
 use Rattle.cluster_script.specs.declared.rest.RestCall.{RestCall}
 use Rattle.cluster_script.specs.declared.rest.RestCall.TheVariants as calls
 use Rattle.operator_keys.specs.declared.answer_text.Text.TheVariants as texts
@@ -21,7 +17,7 @@ use Rattle.operator_keys.specs.declared.config_checks.ConfigChange.TheVariants a
 use Rattle.operator_keys.specs.declared.refusal.Refused.{Refused}
 use Rattle.operator_keys.specs.AnswerTexts.{answer_text}
 use Rattle.operator_keys.specs.Checks.{switchover_on, failover_on}
-use Rattle.operator_keys.specs.ConfigChecks.{configuration_on}
+use Rattle.operator_keys.specs.ConfigChecks.{configuration_in, configuration_on}
 use Rattle.operator_keys.specs.ServerChecks.{restart_refusal, reinit_refusal}
 use Rattle.ha_loop.specs.declared.operating.Told.{Told}
 use Rattle.ha_loop.specs.declared.operating.Told.TheVariants as tolds
@@ -69,18 +65,13 @@ answering member status body = kinds.Note (notes.Answered member status body)
 abbrev pub refusing : Member → Refused → EventKind
 refusing member refused = answering member refused.status (answer_text refused.text)
 
--- the text of the configuration that a value is
-abbrev pub config_text_by : Value → Option (List ℕ)
-config_text_by (values.Config config) = Some config.text
-config_text_by _ = None
+-- the configuration that an agent read last
+abbrev pub configuration_read : AgentFacts → Option Settings
+configuration_read agent = option_and_then configuration_in agent.knows.seen
 
--- the text of the configuration in a snapshot
-abbrev pub config_text_in : SnapshotFacts → Option (List ℕ)
-config_text_in snapshot = option_and_then (λ (found : KeyEntry). config_text_by found.value) (entry_in keys.Config snapshot)
-
--- the text of the configuration that an agent read last
+-- its text
 abbrev pub config_text_of : Option AgentFacts → Option (List ℕ)
-config_text_of agent = option_and_then (λ (a : AgentFacts). option_and_then config_text_in a.knows.seen) agent
+config_text_of agent = option_map (λ (config : Settings). config.text) (option_and_then configuration_read agent)
 
 -- what the agent of a member, which stands so, answers an operator
 abbrev pub told_kind : Member → Option AgentFacts → Told → Option EventKind

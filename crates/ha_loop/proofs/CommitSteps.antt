@@ -1,5 +1,6 @@
 -- The steps of a granted request while the synchronous mode is on: what holds of each that applies holds of what is made of it.
 use Rattle.std.proofs.Common.{◌≡◌, ℕ, ◌==◌, ◌&&◌, Bool, true, false, if◌then◌else◌, not, Option, Some, None, refl, sym, ap, ◌∙◌}
+use Rattle.std.proofs.lemmas.Bool.{not-false}
 use Rattle.pat_base.specs.declared.member_set.MemberSet.{MemberSet}
 use Rattle.pat_base.specs.declared.server_state.Required.TheVariants as requireds
 use Rattle.pat_base.specs.declared.ticks.Ticks.{Ticks}
@@ -63,10 +64,6 @@ pub record PlanSteps (P : Outcome → Type 0) (now : Ticks) (revision : ℕ) (sn
   pub publishes : is_within (wanted_at now snapshot o) (required_at o) ≡ true → is_within (wanted_at now snapshot o) (confirmed_at now o) ≡ true → P (naming now revision Stays (wanted_at now snapshot o) o)
   pub drops : is_within (wanted_at now snapshot o) (required_at o) ≡ true → P (requiring (waiting_for o.knows.settings (either (published_in snapshot) (wanted_at now snapshot o))) o)
 
-is-so : (b : Bool) → not b ≡ false → b ≡ true
-is-so true e = refl
-is-so false e = absurd (no-way (sym e))
-
 change-by : (P : Outcome → Type 0) (now : Ticks) (revision : ℕ) (snapshot : SnapshotFacts) (o : Outcome) → PlanSteps P now revision snapshot o → P (planned_as now revision (change_of (standbys_in (leader_view now o.knows o.machine) snapshot)) o)
 change-by P now revision snapshot o rows =
     let published : MemberSet = published_in snapshot in let wanted : MemberSet = wanted_at now snapshot o in let required : MemberSet = required_at o in let confirmed : MemberSet = confirmed_at now o in
@@ -76,7 +73,7 @@ change-by P now revision snapshot o rows =
     let add : Plan = if not (is_within wanted required) then plans.AddRequired (either required wanted) else publish in
     if-cases Q (not (is_within published wanted)) (plans.Withdraw (both published wanted)) add (λ _. rows.withdraws)
     (λ _. if-cases Q (not (is_within wanted required)) (plans.AddRequired (either required wanted)) publish (λ _. rows.adds)
-    (λ covered. let within : is_within wanted required ≡ true = is-so (is_within wanted required) covered in
+    (λ covered. let within : is_within wanted required ≡ true = not-false (is_within wanted required) covered in
     if-cases Q (not (are_same wanted published) && is_within wanted confirmed) (plans.Publish wanted) drop
     (λ e. rows.publishes within (both-true (not (are_same wanted published)) (is_within wanted confirmed) e).1)
     (λ _. if-cases Q (not (is_within required (either published wanted))) (plans.DropRequired (either published wanted)) plans.Keep (λ _. rows.drops within) (λ _. rows.kept))))

@@ -2,7 +2,7 @@
 use Rattle.std.proofs.Common.{◌≡◌, ℕ, ◌<◌, ◌≤◌, ◌==◌, min, max, Bool, true, false, List, length, get_or, map, Option, Some, None, slice_get, refl, sym, ap, ◌∙◌, subst, arith, bit_and, inl, inr, ◌⊎◌}
 use Rattle.std.specs.Int.{bit_at}
 use Rattle.std.specs.Int.Bits.{bit_or}
-use Rattle.std.proofs.lemmas.Bool.{cases_lt}
+use Rattle.std.proofs.lemmas.Bool.{cases_lt, false_from_ne_true}
 use Rattle.std.proofs.lemmas.Bool.Decides.{nat_tests}
 use Rattle.std.proofs.lemmas.List.{get_or-map, get_or_past, length-map}
 use Rattle.std.proofs.lemmas.Nat.Bits.{bit_at_and, bit_at_or, bit_at-zero, same_from_bits}
@@ -91,13 +91,9 @@ no-members set none n = zero-out (bit_at set.bits n) (ap (λ (b : ℕ). bit_at b
 pub no-bits : (set : MemberSet) → ((n : ℕ) → set_members set n ≡ false) → set.bits ≡ 0
 no-bits set none = same_from_bits set.bits 0 (λ n. out-zero (bit_at set.bits n) (bit-small set.bits n) (none n) ∙ sym (bit_at-zero n))
 
-not-in : (b : Bool) → (b ≡ true → ⊥) → b ≡ false
-not-in true never = absurd (never refl)
-not-in false never = refl
-
 -- what is within nobody is empty
 within-nobody : (set : ℕ → Bool) → IsWithin set (set_members nobody) → (n : ℕ) → set n ≡ false
-within-nobody set within n = not-in (set n) (λ is. not-false (set_members nobody n) (no-members nobody refl n) (within n is))
+within-nobody set within n = false_from_ne_true (set n) (λ is. not-false (set_members nobody n) (no-members nobody refl n) (within n is))
 
 -- published standbys, each a member of the cluster, that a required list covers by the law are required
 pub required-covers : (member_count : ℕ) (published : ℕ → Bool) (required : Required) → ((n : ℕ) → published n ≡ true → n < member_count) → Overlaps member_count published 0 (need_in required) → IsWithin published (set_members (required_members required))
@@ -125,7 +121,7 @@ waiting-by P settings set none some = if-cases (λ (r : Required). P (need_in r)
 
 pub waiting-covers : (member_count : ℕ) (published : ℕ → Bool) (settings : Config) (set : MemberSet) → IsWithin published (set_members set) → Overlaps member_count published 0 (need_in (waiting_for settings set))
 waiting-covers member_count published settings set within = waiting-by (Overlaps member_count published 0) settings set
-    (λ none. count-no member_count published (λ n. not-in (published n) (λ is. not-false (set_members set n) (no-members set none n) (within n is))))
+    (λ none. count-no member_count published (λ n. false_from_ne_true (published n) (λ is. not-false (set_members set n) (no-members set none n) (within n is))))
     (λ _. within)
 
 some-bits : (n : ℕ) → (n == 0) ≡ false → n ≡ 0 → ⊥

@@ -12,7 +12,7 @@ use Rattle.ha_loop.specs.declared.output.Output.TheVariants as outputs
 use Rattle.ha_loop.specs.declared.role.Why.TheVariants.{HandOver}
 use Rattle.ha_loop.specs.Acting.{armed, fed_until, arming, ending_server, requiring, is_hold_active, is_refusing, waiting_no_more}
 use Rattle.ha_loop.specs.Agents.{Ending, Outcome, is_ready}
-use Rattle.ha_loop.specs.Claiming.{begins, begins_or_claims, passing, postpones}
+use Rattle.ha_loop.specs.Claiming.{begins_or_claims, passing, postpones}
 use Rattle.ha_loop.specs.Decisions.{is_decision, is_lease_of, leader_renewed, takes_over, stray_renewed, can_begin, may_take, gives_back, arms, takes_key, granted, takes_key_in_pause}
 use Rattle.ha_loop.specs.Fits.{Fits}
 use Rattle.ha_loop.specs.Outputs.{listed, is_feeding, has_one}

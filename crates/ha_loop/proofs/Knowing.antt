@@ -259,6 +259,18 @@ before-onward told now o = before-by (Onward told o) now o (record {
   stray = λ _ _. waits-on told o (stray_finds_ended o) refl refl refl refl refl refl (omega arith) refl refl refl;
 })
 
+-- what was read last stays through what comes before an input
+abbrev pub IsAsRead : Outcome → Outcome → Type 0
+IsAsRead o x = (x.knows.settings ≡ o.knows.settings) × (x.knows.seen ≡ o.knows.seen)
+
+ended-read : (why : Why) (held : ℕ) (o : Outcome) → IsAsRead o (has_ended why held o)
+ended-read HandOver held o = (refl, refl)
+ended-read Lost held o = (refl, refl)
+
+pub before-read : (now : Ticks) (o : Outcome) → IsAsRead o (before now o)
+before-read now o = before-by (IsAsRead o) now o
+    (record { kept = λ _. (refl, refl); leader = λ _ _ _. (refl, refl); ending = λ held why _ _. ended-read why held o; follower = λ _ _. (refl, refl); holder = λ _ _ _. (refl, refl); ready = λ _ _ _. (refl, refl); stray = λ _ _. (refl, refl) })
+
 pub creates-active : (role : RoleFacts) → may_create role ≡ true → is_active role ≡ true
 creates-active Follower may = refl
 creates-active (Holder held) may = refl

@@ -1,5 +1,6 @@
 -- Each input of the table is lawful.
-use Rattle.std.proofs.Common.{◌≡◌, ◌⊎◌, ℕ, ◌≤◌, Bool, true, false, Option, Some, refl, sym, subst, ap, ◌∙◌, arith, inl, inr}
+use Rattle.std.proofs.Common.{◌≡◌, ◌⊎◌, ℕ, ◌≤◌, true, false, Option, Some, refl, sym, subst, ap, ◌∙◌, arith, inl, inr}
+use Rattle.std.proofs.lemmas.Bool.{false_from_ne_true}
 use Rattle.pat_base.specs.declared.member_set.MemberSet.{MemberSet}
 use Rattle.pat_base.specs.declared.ticks.Ticks.{Ticks}
 use Rattle.pat_base.specs.ServerState.{live}
@@ -136,10 +137,6 @@ watchdog-leaves s m runs input now o after stands is leaves brings = elim leaves
   | DeadlineUndone gone ready lives ↦ Undone (ap (λ (x : MachineSeen). law_ready x.agent) stands.member ∙ ready) (ap (λ (x : MachineSeen). x.live) stands.member ∙ lives)
 ]
 
-pub not-true : (b : Bool) → (b ≡ true → ⊥) → b ≡ false
-not-true true never = absurd (never refl)
-not-true false never = refl
-
 -- nobody is Ready over a live server
 pub parted-by : (b after : Outcome) → Fits b.role (live b.machine.server.state) → BringsNothing b after → is_ready after.role ≡ true → live after.machine.server.state ≡ false
-parted-by b after fits brings ready = not-true (live after.machine.server.state) (λ lives. no-way (sym (ready-ended b.role (live b.machine.server.state) (brings.ready ready) fits) ∙ brings.live lives))
+parted-by b after fits brings ready = false_from_ne_true (live after.machine.server.state) (λ lives. no-way (sym (ready-ended b.role (live b.machine.server.state) (brings.ready ready) fits) ∙ brings.live lives))

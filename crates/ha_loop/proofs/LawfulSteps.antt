@@ -2,6 +2,7 @@
 use Rattle.std.proofs.Common.{◌≡◌, ◌⊎◌, ℕ, true, false, List, [], Option, Some, None, All, refl, sym, subst, ap, ◌∙◌, inl, inr}
 use Rattle.std.proofs.lemmas.List.Elements.{All-nil}
 use Rattle.std.specs.Option.{ForSome}
+use Rattle.std.proofs.lemmas.Bool.{false_from_ne_true}
 use Rattle.pat_base.specs.declared.member_id.MemberId.{MemberId}
 use Rattle.pat_base.specs.declared.member_set.MemberSet.{MemberSet}
 use Rattle.pat_base.specs.declared.peer_answer.PeerAnswer.{PeerAnswer}
@@ -43,8 +44,8 @@ use Rattle.ha_loop.specs.Wake.{overdue, turned, woken}
 use Rattle.ha_loop.proofs.Bringing.{acting-brings, any-refused-brings, operated-brings, ready-leads, brings-then, before-brings, overdue-brings, turn-brings, wake-brings, got-brings, answer-brings, read-brings, refusal-brings, asked-brings, answered-brings}
 use Rattle.ha_loop.proofs.Fitting.{before-fits, ready-same}
 use Rattle.ha_loop.proofs.Granting.{awaited-lease, any-granted-may as grant-may}
-use Rattle.ha_loop.proofs.Knowing.{any-granted-onward, any-refused-onward, looked-onward, operated-onward, IsAlone, alone-of, ends-of, Onward, before-onward, wake-onward, got-onward, answered-onward, asked-onward, onward-then, step-onward, told-pause}
-use Rattle.ha_loop.proofs.Lawful.{was_of, acts-seen, seen-acts, watchdog-kept, watchdog-leaves, parted-by, lawful-of, not-true}
+use Rattle.ha_loop.proofs.Knowing.{any-granted-onward, any-refused-onward, looked-onward, operated-onward, IsAlone, alone-of, ends-of, Onward, before-onward, wake-onward, got-onward, answered-onward, asked-onward, onward-then, step-onward, told-pause, before-read}
+use Rattle.ha_loop.proofs.Lawful.{was_of, acts-seen, seen-acts, watchdog-kept, watchdog-leaves, parted-by, lawful-of}
 use Rattle.ha_loop.proofs.LawfulGrants.{heard-leader, heard-failsafe, hears-grant, fed-of, entry-known, armable-before, new-deadline, free-of}
 use Rattle.ha_loop.proofs.Leaving.{given-up-fits, told-fits, operated-leaves, leaves-then, before-leaves, wake-leaves, read-leaves, refusal-leaves, asked-leaves, answered-leaves}
 use Rattle.ha_loop.proofs.Living.{no-way}
@@ -131,25 +132,10 @@ gives-owns s m runs sequence input now grant snapshot o stands hears awaited rev
     inr ((hears.lease awaited).told, hears-grant s m runs sequence input.heard now grant snapshot o stands hears awaited, (hears.lease awaited).revision ∙ is)
 
 -- an agent that reads of no pause behind what precedes an input isn't paused after it
-before-settings : (now : Ticks) (o : Outcome) → (before now o).knows.settings ≡ o.knows.settings
-before-settings now o = before-by (λ (x : Outcome). x.knows.settings ≡ o.knows.settings) now o (record {
-  kept = λ _. refl;
-  leader = λ _ _ _. refl;
-  ending = λ held why _ _. ended-settings why held o;
-  follower = λ _ _. refl;
-  holder = λ _ _ _. refl;
-  ready = λ _ _ _. refl;
-  stray = λ _ _. refl;
-})
-  where
-    ended-settings : (why : Why) (held : ℕ) (x : Outcome) → (has_ended why held x).knows.settings ≡ x.knows.settings
-    ended-settings HandOver held x = refl
-    ended-settings Lost held x = refl
-
 pub stays-unpaused : (now : Ticks) (snapshot : SnapshotFacts) (o : Outcome) → is_paused o.knows ≡ false → (config_in snapshot).pause ≡ false → is_paused (informed snapshot (before now o).knows) ≡ false
 stays-unpaused now snapshot o was told = let settings : Config = (before now o).knows.settings in
-    not-true (settings_in settings snapshot).pause (λ e. elim (told-pause settings (entry_in keys.Config snapshot) e) [
-      | inl before-it ↦ no-way (sym (ap (λ (c : Config). c.pause) (before-settings now o) ∙ was) ∙ before-it)
+    false_from_ne_true (settings_in settings snapshot).pause (λ e. elim (told-pause settings (entry_in keys.Config snapshot) e) [
+      | inl before-it ↦ no-way (sym (ap (λ (c : Config). c.pause) (before-read now o).0 ∙ was) ∙ before-it)
       | inr new ↦ no-way (sym told ∙ new)
     ])
 

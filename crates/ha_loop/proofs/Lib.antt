@@ -19,6 +19,7 @@ pub mod FreeKey
 pub mod Beginning
 pub mod Replying
 pub mod OperatorAnswers
+pub mod Handovers
 pub mod CommitTools
 pub mod CommitGrowing
 pub mod CommitQuiet

@@ -33,11 +33,9 @@ use Rattle.ha_loop.specs.declared.operating.Told.TheVariants as tolds
 use Rattle.ha_loop.specs.declared.output.Output.{Output}
 use Rattle.ha_loop.specs.declared.output.Output.TheVariants as outputs
 use Rattle.ha_loop.specs.declared.output.Target.TheVariants as targets
-use Rattle.ha_loop.specs.declared.role.Why.{Why}
-use Rattle.ha_loop.specs.declared.role.Why.TheVariants.{HandOver, Lost}
 use Rattle.ha_loop.specs.declared.who.Who.{Who}
 use Rattle.ha_loop.specs.Agents.{RoleFacts, Outcome, made}
-use Rattle.ha_loop.specs.Before.{has_ended, before}
+use Rattle.ha_loop.specs.Before.{before}
 use Rattle.ha_loop.specs.Decisions.{granted, is_write_of, refused}
 use Rattle.ha_loop.specs.OperatorAnswers.{told_in, HasNewLeader, HasOldLeader, IsResultBy, IsReason, AnswersWaiting, IsDoneIn, AnswersOneAtMost, IsWish, IsAskedFor, WaitsAsAsked}
 use Rattle.ha_loop.specs.Operators.{ok, answering, answering_if, operating, config_revision, operated, done_by, failed_by, done_text, failed_text, holder_in, holder_if, name_in, is_same_member, result_as, looked_by, uses_read, looked, operator_until, late_answer, given_up_by, given_up, learned, granted_as, is_asked_for, operates, grants_operator, operator_granted, refusal_of, operator_refused}
@@ -46,9 +44,9 @@ use Rattle.ha_loop.specs.Outputs.{listed}
 use Rattle.ha_loop.specs.Table.{step}
 use Rattle.ha_loop.specs.Wake.{woken}
 use Rattle.ha_loop.proofs.Granting.{both-true}
-use Rattle.ha_loop.proofs.Knowing.{before-onward}
+use Rattle.ha_loop.proofs.Knowing.{before-onward, before-read}
 use Rattle.ha_loop.proofs.Replying.{Quiet, as-said, told-more, told-same, before-quiet, roused-quiet, got-quiet, refused-quiet, granted-quiet, answered-quiet}
-use Rattle.ha_loop.proofs.Rows.{if-cases, before-by, wake-by}
+use Rattle.ha_loop.proofs.Rows.{if-cases, wake-by}
 
 -- no operator is told anything yet, and the same request waits as before
 abbrev Untold : Outcome → Outcome → Type 0
@@ -94,18 +92,6 @@ right-of now heard o x (Tells answer one answers) = record {
   answers = subst (AnswersOneAtMost now heard o x) (sym one) (inl answers);
   waits = λ waiting is. absurd (none-some waiting (sym answers.over ∙ is));
 }
-
--- what was read last stays
-abbrev IsAsRead : Outcome → Outcome → Type 0
-IsAsRead o x = (x.knows.settings ≡ o.knows.settings) × (x.knows.seen ≡ o.knows.seen)
-
-ended-read : (why : Why) (held : ℕ) (o : Outcome) → IsAsRead o (has_ended why held o)
-ended-read HandOver held o = (refl, refl)
-ended-read Lost held o = (refl, refl)
-
-before-read : (now : Ticks) (o : Outcome) → IsAsRead o (before now o)
-before-read now o = before-by (IsAsRead o) now o
-    (record { kept = λ _. (refl, refl); leader = λ _ _ _. (refl, refl); ending = λ held why _ _. ended-read why held o; follower = λ _ _. (refl, refl); holder = λ _ _ _. (refl, refl); ready = λ _ _ _. (refl, refl); stray = λ _ _. (refl, refl) })
 
 -- a wake
 given-up-as : (now : Ticks) (o b : Outcome) (waiting : Option Operating) → Untold o b → b.knows.operating ≡ waiting → b.knows.settings ≡ o.knows.settings → Owed now Wake o (given_up_by now waiting b)

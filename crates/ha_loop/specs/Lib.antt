@@ -9,6 +9,7 @@ pub mod Decisions
 pub mod Fits
 pub mod FreeKey
 pub mod HandingOver
+pub mod Handovers
 pub mod Info
 pub mod Lawful
 pub mod OperatorAnswers

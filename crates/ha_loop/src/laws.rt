@@ -1,5 +1,6 @@
 //! Laws of the decision table.
-ghost use Rattle.std.specs.Prelude.{ℕ, ◌≡◌, List, [], Some, None, All, false, true};
+ghost use Rattle.std.specs.Prelude.{ℕ, ◌≡◌, ◌⊎◌, List, [], Some, None, All, false, true};
+ghost use Rattle.std.specs.List.{Contains};
 ghost use Rattle.pat_base.specs.declared.member_id.MemberId.{MemberId};
 ghost use Rattle.pat_base.specs.declared.peer_answer.PeerAnswer.{PeerAnswer};
 ghost use Rattle.pat_base.specs.declared.ticks.Ticks.{Ticks};
@@ -18,12 +19,15 @@ ghost use Rattle.ha_loop.specs.declared.heard.Heard.TheVariants as heard;
 ghost use Rattle.ha_loop.specs.declared.knowledge.Knowledge.{Knowledge};
 ghost use Rattle.ha_loop.specs.declared.knowledge.Waited.{Waited};
 ghost use Rattle.ha_loop.specs.declared.machine.Machine.{Machine};
+ghost use Rattle.ha_loop.specs.declared.output.Output.TheVariants as outputs;
 ghost use Rattle.ha_loop.specs.Agents.{RoleFacts, IsSoundAgent, Outcome, made};
 ghost use Rattle.ha_loop.specs.Answers.{with_answer, all_answered};
 ghost use Rattle.ha_loop.specs.Asking.{AsksAsWaited};
 ghost use Rattle.ha_loop.specs.Before.{before};
 ghost use Rattle.ha_loop.specs.Fits.{Fits};
 ghost use Rattle.ha_loop.specs.FreeKey.{HearsFree, StaysOut, AsksForKey, AsksOthers, HearsLast, RunsLate, LosesRace, LosesAndTurns};
+ghost use Rattle.ha_loop.specs.HandingOver.{handover_judged};
+ghost use Rattle.ha_loop.specs.Handovers.{HandsOverTo};
 ghost use Rattle.ha_loop.specs.OperatorAnswers.{told_in, AnswersOneAtMost, WaitsAsAsked};
 ghost use Rattle.ha_loop.specs.Orders.{IsCarriedOut};
 ghost use Rattle.ha_loop.specs.Powers.{BringsNothing, GrantMay, LeavesMachine};
@@ -87,6 +91,13 @@ pub fn what_is_asked_is_waited_for()
 pub fn an_operator_is_answered_once()
     ensures answers { (now : Ticks) (points : List HistoryPoint) (heard : Heard) (role : RoleFacts) (knows : Knowledge) (machine : Machine) → AnswersOneAtMost now heard (made role knows machine []) (step now points heard (made role knows machine [])) (told_in (step now points heard (made role knows machine [])).outputs) }
     ensures waits { (now : Ticks) (points : List HistoryPoint) (heard : Heard) (role : RoleFacts) (knows : Knowledge) (machine : Machine) → WaitsAsAsked now heard (made role knows machine []) (step now points heard (made role knows machine [])) }
+{}
+
+/// A leader hands over only to a member that may lead next, by what it answered: one that accepts no writes, may fail over, lags no
+/// further than `maximum_lag_on_failover` and, at a switchover in synchronous mode, is a standby in the sync key. Then the leader ends
+/// its server, and keeps its lease until that has ended.
+pub fn a_leader_hands_over_to_who_may_lead()
+    ensures { (now : Ticks) (revision : ℕ) (candidate : MemberId) (o : Outcome) → Contains (handover_judged now revision o).outputs (outputs.HandsOver candidate) → Contains o.outputs (outputs.HandsOver candidate) ⊎ HandsOverTo revision candidate o (handover_judged now revision o) }
 {}
 
 /// Who is barred doesn't ask for a free leader key: where the answer to its read tells that nobody leads, an agent without a

@@ -44,7 +44,7 @@ pub fn check_configuration(
 }
 
 /// The configuration in a snapshot.
-fn configuration_in(seen: &Snapshot) -> Option<&ConfigValue>
+pub fn configuration_in(seen: &Snapshot) -> Option<&ConfigValue>
     ensures { option_copied result ≡ configuration_in seen.now }
 {
     configuration_of_entry(seen.entry(Key::Config))

@@ -15,7 +15,7 @@ mod server_checks;
 
 pub use answer_text::Text;
 pub use checks::{check_failover, check_switchover};
-pub use config_checks::{ConfigChange, check_configuration};
+pub use config_checks::{ConfigChange, check_configuration, configuration_in};
 pub use laws::{keys_name_whom_bodies_name, what_a_failover_names, what_a_switchover_names};
 pub use refusal::{CheckFault, Refused};
 pub use server_checks::{check_reinit, check_restart};

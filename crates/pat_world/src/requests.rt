@@ -1,27 +1,24 @@
 //! Requests to the REST interface of agents, and what those answer.
 ghost use Rattle.std.specs.Prelude.{◌≡◌, ◌≢◌, Result, Ok, Err, IfOk, IfSome, Some, option_copied, option_map, string_bytes};
-ghost use Rattle.cluster_config.specs.Snapshots.{SnapshotFacts};
 ghost use Rattle.lease_store.specs.declared.action.OperatorRequest.TheVariants as requests;
 ghost use Rattle.lease_store.specs.declared.value.FailoverKey.{FailoverKey};
 ghost use Rattle.lease_store.specs.Settings.{Settings};
 ghost use Rattle.operator_keys.specs.declared.refusal.Refused.{Refused};
 ghost use Rattle.operator_keys.specs.AnswerTexts.{answer_text};
 ghost use Rattle.operator_keys.specs.Refusals.{Answers};
-ghost use Rattle.cluster_model.specs.Requests.{answering, asking, config_text_by, config_text_in, config_text_of, refusing, told_kind};
+ghost use Rattle.cluster_model.specs.Requests.{answering, asking, config_text_of, refusing, told_kind};
 ghost use Rattle.cluster_model.specs.State.{Cluster};
 ghost use Rattle.pat_world.specs.Calls.{decision_by};
 ghost use Rattle.pat_world.specs.Comes.{MayCome};
 
-use cluster_config::{AgentView, Snapshot};
+use cluster_config::AgentView;
 use cluster_script::RestCall;
 use event_book::{Bytes, EventKind, Member, Note};
 use ha_loop::{Agent, Told};
-use lease_store::{
-    ConfigValue, FailoverKey, FailoverKind, Key, OperatorAction, OperatorRequest, Value,
-};
+use lease_store::{ConfigValue, FailoverKey, FailoverKind, OperatorAction, OperatorRequest};
 use operator_keys::{
     CheckFault, ConfigChange, Refused, Text, check_configuration, check_failover, check_reinit,
-    check_restart, check_switchover,
+    check_restart, check_switchover, configuration_in,
 };
 use std::alloc::{AllocError, Global};
 
@@ -177,20 +174,6 @@ pub fn told_kind(
 fn config_text_of(agent: Option<&Agent>) -> Option<&str>
     ensures { option_copied result ≡ config_text_of (option_copied agent.entry) }
 {
-    config_text_in(agent?.seen()?)
-}
-
-fn config_text_in(snapshot: &Snapshot) -> Option<&str>
-    ensures { option_copied result ≡ config_text_in snapshot.now }
-{
-    config_text_by(&snapshot.entry(Key::Config)?.value)
-}
-
-fn config_text_by(value: &Value) -> Option<&str>
-    ensures { option_copied result ≡ config_text_by value.now }
-{
-    match value {
-        Value::Config(config) => Some(config.as_str()),
-        _ => None,
-    }
+    let config = configuration_in(agent?.seen()?)?;
+    Some(config.as_str())
 }

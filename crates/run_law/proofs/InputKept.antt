@@ -6,6 +6,7 @@ use Rattle.std.proofs.lemmas.Option.{slice_get_within}
 use Rattle.std.proofs.Common.{◌≡◌, ◌≢◌, ◌⊎◌, ◌++◌, ◌≤◌, ◌<◌, ℕ, Bool, true, false, List, [], ◌∷◌, Option, Some, None, All, Contains, length, slice_get, refl, sym, subst, ap, ◌∙◌, inl, inr}
 use Rattle.std.proofs.lemmas.List.Elements.{All-contains_itself}
 use Rattle.std.proofs.Math.Path.{fun_ext}
+use Rattle.std.proofs.lemmas.Bool.{false_from_ne_true}
 use Rattle.pat_base.specs.Changes.{with_changed}
 use Rattle.pat_base.specs.declared.ticks.Ticks.{Ticks}
 use Rattle.pg_model.specs.Facts.{ServerFacts}
@@ -33,7 +34,6 @@ use Rattle.ha_loop.specs.Outputs.{is_arming, is_feeding, has_one}
 use Rattle.ha_loop.specs.Seen.{machine_seen}
 use Rattle.ha_loop.specs.Table.{step}
 use Rattle.ha_loop.proofs.Knowing.{step-onward, tells_pause, told_by}
-use Rattle.ha_loop.proofs.Lawful.{not-true}
 use Rattle.ha_loop.proofs.LawfulSteps.{input-lawful-from, input-ends}
 use Rattle.ha_loop.proofs.Orders.{step-carried-out}
 use Rattle.cluster_model.specs.declared.heard_message.HeardMessage.{HeardMessage}
@@ -280,7 +280,7 @@ module _ (head : HeadText) (book : List Event) (cluster : Cluster) (good : Bridg
   -- ---- where it reads of no pause
   module _ (acts : agent_facts_after cluster opening ≡ with_changed cluster.agents M (agent_after (Some After))) (calm : tells_pause (told_by heard) ≡ false) where
     unpaused : is_paused After.knows ≡ false
-    unpaused = not-true (is_paused After.knows) (λ e. elim ((step-onward Now (points_of cluster member) heard Before).pauses e) [
+    unpaused = false_from_ne_true (is_paused After.knows) (λ e. elim ((step-onward Now (points_of cluster member) heard Before).pauses e) [
       | inl was ↦ not-false (is_paused agent.knows) knows-it.unpaused was
       | inr told ↦ not-false (tells_pause (told_by heard)) calm told
     ])
