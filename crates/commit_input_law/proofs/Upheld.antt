@@ -27,7 +27,7 @@ use Rattle.ha_loop.specs.declared.output.Output.{Output}
 use Rattle.ha_loop.specs.declared.output.Output.TheVariants as outputs
 use Rattle.ha_loop.specs.declared.output.Target.TheVariants as targets
 use Rattle.ha_loop.specs.Agents.{AgentFacts}
-use Rattle.ha_loop.specs.Committing.{Apart, Asks as AsksLast, Begins, InOrder, IsCovered, Passes, StandsAlone, IsSynchronousBody, IsSynchronousOutput, KnowsBelow, Requires, committer_seen, is_passing}
+use Rattle.ha_loop.specs.Committing.{Apart, Asks as AsksLast, Begins, HasForm, IsCovered, Passes, StandsAlone, IsSynchronousBody, IsSynchronousOutput, KnowsBelow, Requires, committer_seen, is_passing}
 use Rattle.ha_loop.specs.Replies.{RepliesTo}
 use Rattle.ha_loop.proofs.CommitInputs.{given-by-lease}
 use Rattle.ha_loop.proofs.CommitQuiet.{IsUnasking}
@@ -274,17 +274,17 @@ module _ (head : HeadText) (book : List Event) (cluster : Cluster) (good : Commi
   upheld-by-moves kept ordered moves = upheld-moves head book cluster All_ good moves kept causal asks ordered
       (agents-behind head book cluster good a.member a.agent a.machine (found-of cluster a.member a.machine a.machine_is) a.here a.heard a.number a.message a.opening a.opening_is a.numbered a.low a.acts (stays-on head book cluster good a).asks)
 
-  order-upheld : IsKept head book cluster All_ → All AnswersNone Outs → InOrder Outs → Upholds (kept_commits head) book cluster All_
-  order-upheld kept none (Apart alone) =
+  form-upheld : IsKept head book cluster All_ → All AnswersNone Outs → HasForm Outs → Upholds (kept_commits head) book cluster All_
+  form-upheld kept none (Apart alone) =
       upheld-by-moves kept (ordered-by (All-weaker IsUnasking AsksQuietly unasking-quietly Outs (All-weaker StandsAlone IsUnasking alone-unasking Outs alone))) (apart-moves head book cluster good few a alone none)
-  order-upheld kept none (Requires front required covered whole) =
+  form-upheld kept none (Requires front required covered whole) =
       upheld-by-moves kept (ordered-by (quietly-up-to front (outputs.Require required ∷ []) covered (All-cons AsksQuietly (outputs.Require required) [] tt (All-nil AsksQuietly)) whole))
       (requires-moves head book cluster good few a front required covered whole)
-  order-upheld kept none (Begins front required covered whole) =
+  form-upheld kept none (Begins front required covered whole) =
       upheld-by-moves kept
       (ordered-by (quietly-up-to front (outputs.Require required ∷ outputs.Begin ∷ []) covered (All-cons AsksQuietly (outputs.Require required) (outputs.Begin ∷ []) tt (All-cons AsksQuietly outputs.Begin [] tt (All-nil AsksQuietly))) whole))
       (begins-moves head book cluster good few a front required covered whole)
-  order-upheld kept none (Passes front sequence revision sync covered whole) =
+  form-upheld kept none (Passes front sequence revision sync covered whole) =
       let claim : Body = bodies.Request (txns.Claim revision sync) in
       let noted : List Output = front ++ outputs.Passes ∷ [] in
       let all : All IsCarried noted = All-push IsCarried front outputs.Passes (carried front covered) tt in
@@ -293,7 +293,7 @@ module _ (head : HeadText) (book : List Event) (cluster : Cluster) (good : Commi
       (asks-ordered head book cluster good few a noted sequence claim all upto tt)
       (λ meets. absurd (passing-breaks a.member a.message (First head book cluster good a) front (outputs.Send targets.Store sequence claim ∷ [])
       (subst (λ (l : List Output). KeepMode true (each (Part head book cluster good a) (First head book cluster good a) l)) (sym whole) (mode-back book All_ meets.mode).1)))
-  order-upheld kept none (AsksLast front sequence body covered whole) =
+  form-upheld kept none (AsksLast front sequence body covered whole) =
       let all : All IsCarried front = carried front covered in
       let passes-none : All PassesNone (front ++ outputs.Send targets.Store sequence body ∷ []) = All-push PassesNone front (outputs.Send targets.Store sequence body) (All-weaker IsCovered PassesNone covered-passes front covered) tt in
       let inside : has_one is_passing Outs ≡ false = none-passes Outs (subst (λ (l : List Output). All PassesNone l) whole passes-none) in
@@ -306,9 +306,9 @@ module _ (head : HeadText) (book : List Event) (cluster : Cluster) (good : Commi
       (λ revision arms down ready. arms-alone head book cluster good a meets.timely revision arms down ready))))
 
   other-upheld : ((from : MemberId) (run sequence : ℕ) → a.heard ≡ heards.Asked from run sequence → ⊥) → IsKept head book cluster All_ → Upholds (kept_commits head) book cluster All_
-  other-upheld other kept = order-upheld kept
+  other-upheld other kept = form-upheld kept
       (All-weaker (RepliesTo a.heard) AnswersNone (answer-none a.heard other) Outs (step-replies (moment_of cluster) (points_of cluster a.member) a.heard a.agent.role a.agent.knows a.machine))
-      (stays-on head book cluster good a).order
+      (stays-on head book cluster good a).form
 
   heard-upheld : (heard : Heard) → a.heard ≡ heard → MayAnswer head book cluster heard → IsKept head book cluster All_ → Upholds (kept_commits head) book cluster All_
   heard-upheld (heards.Asked from run sequence) is may kept =

@@ -44,7 +44,7 @@ use Rattle.ha_loop.specs.Acting.{deadline_after, disarmed, ending_server, arming
 use Rattle.ha_loop.specs.Agents.{RoleFacts, Follower, Ending, Outcome, is_leader, made, fresh_knowledge}
 use Rattle.ha_loop.specs.Before.{before, has_ended}
 use Rattle.ha_loop.specs.Claiming.{begins, can_begin_on_claim, claims, passing, postpones}
-use Rattle.ha_loop.specs.Committing.{sync_seen, committer_seen, ArmsOn, DoesAs, IsOn, HearsOn, HearsToCommit, KnowsBelow, AsksOn, FollowsOn, requests_of, is_begin, IsOneAtMost, IsCovered, IsSynchronousBody, IsSynchronousOutput, InOrder, Apart, Asks, Passes, Requires, Begins, StaysOn, CommitsFrom}
+use Rattle.ha_loop.specs.Committing.{sync_seen, committer_seen, ArmsOn, DoesAs, IsOn, HearsOn, HearsToCommit, KnowsBelow, AsksOn, FollowsOn, requests_of, is_begin, IsOneAtMost, IsCovered, IsSynchronousBody, IsSynchronousOutput, HasForm, Apart, Asks, Passes, Requires, Begins, StaysOn, CommitsFrom}
 use Rattle.ha_loop.specs.Decisions.{takes_over, gives_back, granted}
 use Rattle.ha_loop.specs.HandingOver.{checking, hands_over}
 use Rattle.ha_loop.specs.Operators.{grants_operator, looked, operated, operator_granted}
@@ -95,18 +95,18 @@ quiet-stays heard o x asks quiet = record {
   asks = asks;
   one = quiet-one o.knows.who.me.number o.knows.run x.outputs quiet;
   sends = λ count below. keeps-mode count x.outputs (unasking x.outputs quiet);
-  order = Apart (alone x.outputs quiet);
+  form = Apart (alone x.outputs quiet);
   begins = λ e. absurd (not-false (has_one is_begin x.outputs) (quiet-unbegun x.outputs quiet) e);
 }
 
 -- with one more output behind those that send no other request
-last-stays : (heard : Heard) (o x : Outcome) (outs : List Output) (output : Output) → AsksOn x.knows → x.outputs ≡ listed output outs → is_begin output ≡ false → All IsUnasking outs → InOrder x.outputs → ((count : ℕ) → KnowsBelow count heard o → IsSynchronousOutput count output) → StaysOn heard o x
-last-stays heard o x outs output asks is unbegun still order sends =
+last-stays : (heard : Heard) (o x : Outcome) (outs : List Output) (output : Output) → AsksOn x.knows → x.outputs ≡ listed output outs → is_begin output ≡ false → All IsUnasking outs → HasForm x.outputs → ((count : ℕ) → KnowsBelow count heard o → IsSynchronousOutput count output) → StaysOn heard o x
+last-stays heard o x outs output asks is unbegun still form sends =
     record {
       asks = asks;
       one = subst (λ (l : List Output). IsOneAtMost (requests_of o.knows.who.me.number o.knows.run l)) (sym is) (last-one o.knows.who.me.number o.knows.run outs output still);
       sends = λ count below. subst (λ (l : List Output). All (IsSynchronousOutput count) l) (sym is) (All-push (IsSynchronousOutput count) outs output (keeps-mode count outs still) (sends count below));
-      order = order;
+      form = form;
       begins = λ e. absurd (not-false (has_one is_begin x.outputs) (ap (has_one is_begin) is ∙ last-unbegun outs output still unbegun) e);
     }
 
@@ -115,9 +115,9 @@ asks-stays : (heard : Heard) (o x : Outcome) (outs : List Output) (sequence : �
 asks-stays heard o x outs sequence body asks is all sends = last-stays heard o x outs (outputs.Send targets.Store sequence body) asks is refl (unasking outs (covered outs all)) (Asks outs sequence body all (sym is)) sends
 
 -- so is a claim, behind the note that the sync key doesn't name the member, if that is so
-claims-order : (o : Outcome) (sequence revision : ℕ) (sync : Expected) → All IsCovered o.outputs → InOrder (listed (outputs.Send targets.Store sequence (bodies.Request (txns.Claim revision sync))) (passing o).outputs)
-claims-order o sequence revision sync all = let claim : Output = outputs.Send targets.Store sequence (bodies.Request (txns.Claim revision sync)) in
-    passing-by (λ (outs : List Output). InOrder (listed claim outs)) o (Asks o.outputs sequence (bodies.Request (txns.Claim revision sync)) all refl)
+claims-form : (o : Outcome) (sequence revision : ℕ) (sync : Expected) → All IsCovered o.outputs → HasForm (listed (outputs.Send targets.Store sequence (bodies.Request (txns.Claim revision sync))) (passing o).outputs)
+claims-form o sequence revision sync all = let claim : Output = outputs.Send targets.Store sequence (bodies.Request (txns.Claim revision sync)) in
+    passing-by (λ (outs : List Output). HasForm (listed claim outs)) o (Asks o.outputs sequence (bodies.Request (txns.Claim revision sync)) all refl)
     (Passes o.outputs sequence revision sync all (sym (append_assoc o.outputs (outputs.Passes ∷ []) (claim ∷ []))))
 
 -- nothing is waited for, or this question
@@ -211,7 +211,7 @@ module _ (now : Ticks) (sequence : ℕ) (grant : Granted) (snapshot : SnapshotFa
         returns = quiet-stays Hears o back (rest back.knows refl) (quietly b.outputs _ quiet tt);
         refuses = quiet-stays Hears o refused-it (rest refused-it.knows refl) (quietly (listed outputs.CannotArm b.outputs) _ (quietly b.outputs outputs.CannotArm quiet tt) tt);
         claims = λ _. last-stays Hears o claimed (passing arm).outputs (outputs.Send targets.Store (b.knows.sequence + 1) (bodies.Request (txns.Claim revision read))) (asks-this claimed.knows _ refl tt) refl refl
-            (passing-unasked arm (covered arm.outputs armed)) (claims-order arm (b.knows.sequence + 1) revision read armed) (λ count below. tt);
+            (passing-unasked arm (covered arm.outputs armed)) (claims-form arm (b.knows.sequence + 1) revision read armed) (λ count below. tt);
       }
 
   begins-stays : (revision : ℕ) → can_begin_on_claim b.machine.server.was_primary b.machine.server.state ≡ true → Stays (begins now revision (Told snapshot b))
@@ -224,7 +224,7 @@ module _ (now : Ticks) (sequence : ℕ) (grant : Granted) (snapshot : SnapshotFa
         asks = rest x.knows refl;
         one = last-one o.knows.who.me.number o.knows.run (listed required b.outputs) outputs.Begin asking-none;
         sends = λ count below. All-push (IsSynchronousOutput count) (listed required b.outputs) outputs.Begin (keeps-mode count (listed required b.outputs) asking-none) tt;
-        order = Begins b.outputs list all (sym (append_assoc b.outputs (required ∷ []) (outputs.Begin ∷ [])));
+        form = Begins b.outputs list all (sym (append_assoc b.outputs (required ∷ []) (outputs.Begin ∷ [])));
         begins = λ _. subst (λ (server : ServerStatus). can_begin_on_claim server.was_primary server.state ≡ true) behind.server can;
       }
 

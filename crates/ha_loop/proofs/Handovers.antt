@@ -25,7 +25,7 @@ use Rattle.ha_loop.proofs.Living.{no-way}
 use Rattle.ha_loop.proofs.Rows.{clearing-by, if-cases}
 
 -- ---- of the members whose answers pass, the first is one of them
-record IsPassing (passes : PeerAnswer → Bool) (answers : List PeerAnswer) (member : MemberId) : Type 0 where
+record IsOneOf (passes : PeerAnswer → Bool) (answers : List PeerAnswer) (member : MemberId) : Type 0 where
   answer : PeerAnswer
   among : Contains answers answer
   is_member : answer.member ≡ member
@@ -41,7 +41,7 @@ where-true : (passes : Bool) (own member : MemberId) → member_where passes own
 where-true true own member is = (refl, some-is own member is)
 where-true false own member is = absurd (none-some member is)
 
-first-passes : (passes : PeerAnswer → Bool) (answers : List PeerAnswer) (member : MemberId) → first_of passes answers ≡ Some member → IsPassing passes answers member
+first-passes : (passes : PeerAnswer → Bool) (answers : List PeerAnswer) (member : MemberId) → first_of passes answers ≡ Some member → IsOneOf passes answers member
 first-passes passes [] member is = absurd (none-some member is)
 first-passes passes (answer ∷ more) member is = elim (earlier-one (member_where (passes answer) answer.member) (first_of passes more) member is) [
   | inl here ↦ let both = where-true (passes answer) answer.member member here in
@@ -68,7 +68,7 @@ standby-from true true found member e read asked on is = subst (λ (f : Option S
 standby-from true false found member e read asked on is = absurd (no-way asked)
 standby-from false switchover found member e read asked on is = absurd (no-way on)
 
-may-lead : (o : Outcome) (failover : FailoverKey) (candidate : MemberId) → IsPassing (is_successor o.knows o.machine.server failover) o.knows.answers candidate → MayLeadNext o failover candidate
+may-lead : (o : Outcome) (failover : FailoverKey) (candidate : MemberId) → IsOneOf (is_successor o.knows o.machine.server failover) o.knows.answers candidate → MayLeadNext o failover candidate
 may-lead o failover candidate found =
     let answer : PeerAnswer = found.answer in
     let near : Bool = is_near o.knows.turn_settings.maximum_lag_on_failover o.machine.server.end answer.end in

@@ -262,16 +262,16 @@ StandsAlone outputs.Begin = ⊥
 StandsAlone outputs.Passes = ⊥
 StandsAlone _ = Unit {0}
 
--- the outputs of an input in their order: each may be an action of its own; or the law's input covers all up to a question, or up to the note
--- that the sync key doesn't name the member and its claim of that key, or up to whom commits wait for from now on, and that is the last one, or
--- the server begins behind it
-pub data InOrder (outs : List Output) : Type 0 where
-  Apart : (alone : All StandsAlone outs) → InOrder outs
-  Asks : (front : List Output) → (sequence : ℕ) → (body : Body) → (covered : All IsCovered front) → (whole : front ++ outputs.Send targets.Store sequence body ∷ [] ≡ outs) → InOrder outs
+-- the form of an input's outputs, in their order: each may be an action of its own; or the law's input covers all up to a question, or up to
+-- the note that the sync key doesn't name the member and its claim of that key, or up to whom commits wait for from now on, and that is the
+-- last one, or the server begins behind it
+pub data HasForm (outs : List Output) : Type 0 where
+  Apart : (alone : All StandsAlone outs) → HasForm outs
+  Asks : (front : List Output) → (sequence : ℕ) → (body : Body) → (covered : All IsCovered front) → (whole : front ++ outputs.Send targets.Store sequence body ∷ [] ≡ outs) → HasForm outs
   Passes : (front : List Output) → (sequence revision : ℕ) → (sync : Expected) → (covered : All IsCovered front)
-      → (whole : front ++ outputs.Passes ∷ outputs.Send targets.Store sequence (bodies.Request (txns.Claim revision sync)) ∷ [] ≡ outs) → InOrder outs
-  Requires : (front : List Output) → (required : Required) → (covered : All IsCovered front) → (whole : front ++ outputs.Require required ∷ [] ≡ outs) → InOrder outs
-  Begins : (front : List Output) → (required : Required) → (covered : All IsCovered front) → (whole : front ++ outputs.Require required ∷ outputs.Begin ∷ [] ≡ outs) → InOrder outs
+      → (whole : front ++ outputs.Passes ∷ outputs.Send targets.Store sequence (bodies.Request (txns.Claim revision sync)) ∷ [] ≡ outs) → HasForm outs
+  Requires : (front : List Output) → (required : Required) → (covered : All IsCovered front) → (whole : front ++ outputs.Require required ∷ [] ≡ outs) → HasForm outs
+  Begins : (front : List Output) → (required : Required) → (covered : All IsCovered front) → (whole : front ++ outputs.Require required ∷ outputs.Begin ∷ [] ≡ outs) → HasForm outs
 
 -- the member takes the leader key though the sync key doesn't name it
 abbrev pub is_passing : Output → Bool
@@ -334,13 +334,13 @@ pub record IsLawfulAs (now : Ticks) (heard : Heard) (o : Outcome) (s : State) (m
   pub does : DoesAs now heard o s m input lawful.was lawful.does
 
 -- an input leaves the synchronous mode on: what it waits for it asked with the mode on; it sends one request at most that compares the
--- sync key; what it sends is as the mode has it, among members of whom it knows; its outputs are in order; and the server begins only where
--- it can
+-- sync key; what it sends is as the mode has it, among members of whom it knows; its outputs have one of the forms; and the server begins
+-- only where it can
 pub record StaysOn (heard : Heard) (o after : Outcome) : Type 0 where
   pub asks : AsksOn after.knows
   pub one : IsOneAtMost (requests_of o.knows.who.me.number o.knows.run after.outputs)
   pub sends : (count : ℕ) → KnowsBelow count heard o → All (IsSynchronousOutput count) after.outputs
-  pub order : InOrder after.outputs
+  pub form : HasForm after.outputs
   pub begins : has_one is_begin after.outputs ≡ true → can_begin_on_claim o.machine.server.was_primary o.machine.server.state ≡ true
 
 -- while the synchronous mode is on, and no pause, whatever input of the law stands for this one of the table is lawful
