@@ -1,0 +1,5 @@
+//! Worked inputs of an agent: what no clause says.
+#![tactic(auto)]
+
+#[cfg(test)]
+mod agents;

@@ -1,0 +1,17 @@
+//! Worked cases of the key store, and of what is decided by what it tells, one file a concept: what no clause says.
+#![tactic(auto)]
+
+#[cfg(test)]
+mod clusters;
+#[cfg(test)]
+mod config_changes;
+#[cfg(test)]
+mod configurations;
+#[cfg(test)]
+mod operators;
+#[cfg(test)]
+mod races;
+#[cfg(test)]
+mod standbys;
+#[cfg(test)]
+mod store;
