@@ -92,26 +92,64 @@ fn request(body: &Body) -> &'static str {
     }
 }
 
-/// One input, and the words of what it does.
-fn input(
-    rt: &impl Abort,
-    agent: Agent,
-    at: Ticks,
-    heard: Heard,
-    history: &History,
-    machine: &mut Machine,
-    out: &mut Outputs,
-    wanted: &[&str],
-) -> Agent {
-    assert!(rt; at <= Ticks(10_000));
-    assert!(rt; agent.room() >= 40);
-    assert!(rt; out.spare() >= 40);
-    assert!(rt; machine.server.timeline < 1000);
-    assert!(rt; machine.server.stop_delay == Ticks(0));
-    assert!(rt; machine.server.start_delay == Ticks(0));
-    let agent = agent.step(at, heard, history, machine, out);
-    check_outputs(rt, out, wanted);
-    agent
+/// What an agent acts on, with room for what it does.
+#[derive(Drop)]
+struct Workplace {
+    history: History,
+    machine: Machine,
+    out: Outputs,
+}
+
+impl Workplace {
+    fn new(rt: &impl Abort, alloc: Global) -> Result<Workplace, Fail> {
+        let mut out = Outputs::new(alloc);
+        out.reserve(40)?;
+        Ok(Workplace {
+            history: History::new(alloc),
+            machine: machine(rt),
+            out,
+        })
+    }
+
+    /// One input, and the words of what it does.
+    fn hears(
+        &mut self,
+        rt: &impl Abort,
+        agent: Agent,
+        at: Ticks,
+        heard: Heard,
+        wanted: &[&str],
+    ) -> Agent {
+        assert!(rt; at <= Ticks(10_000));
+        assert!(rt; agent.room() >= 40);
+        assert!(rt; self.out.spare() >= 40);
+        assert!(rt; self.machine.server.timeline < 1000);
+        assert!(rt; self.machine.server.stop_delay == Ticks(0));
+        assert!(rt; self.machine.server.start_delay == Ticks(0));
+        let agent = agent.step(at, heard, &self.history, &mut self.machine, &mut self.out);
+        check_outputs(rt, &mut self.out, wanted);
+        agent
+    }
+
+    /// What an operator has it do, and the words of that.
+    fn does(
+        &mut self,
+        rt: &impl Abort,
+        agent: Agent,
+        at: Ticks,
+        action: OperatorAction,
+        wanted: &[&str],
+    ) -> Agent {
+        assert!(rt; at <= Ticks(10_000));
+        assert!(rt; agent.room() >= 40);
+        assert!(rt; self.out.spare() >= 40);
+        assert!(rt; self.machine.server.timeline < 1000);
+        assert!(rt; self.machine.server.stop_delay == Ticks(0));
+        assert!(rt; self.machine.server.start_delay == Ticks(0));
+        let agent = agent.act(at, action, &self.history, &mut self.machine, &mut self.out);
+        check_outputs(rt, &mut self.out, wanted);
+        agent
+    }
 }
 
 /// Takes all outputs, and checks the words of what they do.
@@ -130,20 +168,11 @@ fn asked_of_a_replica(
     asked: OperatorRequest,
     wanted: &[&str],
 ) -> Result<u64, Fail> {
-    let history = History::new(alloc);
-    let mut out = Outputs::new(alloc);
-    out.reserve(40)?;
-    let mut machine = machine(rt);
-    let agent = Agent::start(who(rt), Ticks(0), 1, &mut machine);
+    let mut place = Workplace::new(rt, alloc)?;
+    let agent = Agent::start(who(rt), Ticks(0), 1, &mut place.machine);
     assert!(rt; agent.seen().is_none());
-    assert!(rt; agent.room() >= 40);
-    assert!(rt; out.spare() >= 40);
-    assert!(rt; machine.server.timeline < 1000);
-    assert!(rt; machine.server.stop_delay == Ticks(0));
-    assert!(rt; machine.server.start_delay == Ticks(0));
     let action = OperatorAction { request: 7, asked };
-    let agent = agent.act(Ticks(1), action, &history, &mut machine, &mut out);
-    check_outputs(rt, &mut out, wanted);
+    let agent = place.does(rt, agent, Ticks(1), action, wanted);
     let room = agent.room();
     agent.wreck();
     Ok(room)
@@ -159,9 +188,6 @@ fn snapshot(alloc: Global, rt: &impl Abort, store: &Store, at: Ticks) -> Result<
 #[test]
 fn one_member(rt: HostRuntime) -> Result<(), Fail> {
     let mut store = Store::new(rt.alloc(), ConfigValue::defaults(rt.alloc())?)?;
-    let history = History::new(rt.alloc());
-    let mut out = Outputs::new(rt.alloc());
-    out.reserve(40)?;
     let free = snapshot(rt.alloc(), &rt, &store, Ticks(1))?;
     let create = Txn::Create {
         info: MemberInfo {
@@ -179,103 +205,31 @@ fn one_member(rt: HostRuntime) -> Result<(), Fail> {
     let granted = store.apply(Ticks(1), who(&rt).me, &create)?;
     let held = snapshot(rt.alloc(), &rt, &store, Ticks(1))?;
     let read = snapshot(rt.alloc(), &rt, &store, Ticks(101))?;
-    let mut machine = machine(&rt);
-    let agent = Agent::start(who(&rt), Ticks(0), 1, &mut machine);
-    let agent = input(
-        &rt,
-        agent,
-        Ticks(1),
-        Heard::Wake,
-        &history,
-        &mut machine,
-        &mut out,
-        &["read"],
-    );
+    let mut place = Workplace::new(&rt, rt.alloc())?;
+    let agent = Agent::start(who(&rt), Ticks(0), 1, &mut place.machine);
+    let agent = place.hears(&rt, agent, Ticks(1), Heard::Wake, &["read"]);
     let got = Heard::Got {
         sequence: 1,
         snapshot: free,
     };
-    let agent = input(
-        &rt,
-        agent,
-        Ticks(1),
-        got,
-        &history,
-        &mut machine,
-        &mut out,
-        &["create"],
-    );
+    let agent = place.hears(&rt, agent, Ticks(1), got, &["create"]);
     let grant = Heard::Granted {
         sequence: 2,
         granted,
         snapshot: held,
     };
     let begun = ["armed until 251", "require", "begin"];
-    let agent = input(
-        &rt,
-        agent,
-        Ticks(1),
-        grant,
-        &history,
-        &mut machine,
-        &mut out,
-        &begun,
-    );
-    let agent = input(
-        &rt,
-        agent,
-        Ticks(100),
-        Heard::Wake,
-        &history,
-        &mut machine,
-        &mut out,
-        &[],
-    );
-    let agent = input(
-        &rt,
-        agent,
-        Ticks(101),
-        Heard::Wake,
-        &history,
-        &mut machine,
-        &mut out,
-        &["read"],
-    );
+    let agent = place.hears(&rt, agent, Ticks(1), grant, &begun);
+    let agent = place.hears(&rt, agent, Ticks(100), Heard::Wake, &[]);
+    let agent = place.hears(&rt, agent, Ticks(101), Heard::Wake, &["read"]);
     let got = Heard::Got {
         sequence: 3,
         snapshot: read,
     };
-    let agent = input(
-        &rt,
-        agent,
-        Ticks(101),
-        got,
-        &history,
-        &mut machine,
-        &mut out,
-        &["renewal"],
-    );
-    let agent = input(
-        &rt,
-        agent,
-        Ticks(201),
-        Heard::Wake,
-        &history,
-        &mut machine,
-        &mut out,
-        &["out of reach"],
-    );
-    let ended = input(
-        &rt,
-        agent,
-        Ticks(202),
-        Heard::Wake,
-        &history,
-        &mut machine,
-        &mut out,
-        &["disarmed"],
-    );
-    let is_follower = ended.view(Ticks(202), &machine).role == RoleWord::Follower;
+    let agent = place.hears(&rt, agent, Ticks(101), got, &["renewal"]);
+    let agent = place.hears(&rt, agent, Ticks(201), Heard::Wake, &["out of reach"]);
+    let ended = place.hears(&rt, agent, Ticks(202), Heard::Wake, &["disarmed"]);
+    let is_follower = ended.view(Ticks(202), &place.machine).role == RoleWord::Follower;
     ended.wreck();
     assert!(rt; is_follower);
     Ok(())
