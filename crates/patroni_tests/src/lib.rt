@@ -1,30 +1,13 @@
-//! Worked runs of the whole program, in memory: what no clause says. A crate with tests is proved twice, so they stand here and
-//! not in `patroni_top`.
+//! What the worked runs (`worked_runs`) can't show of the whole program: faults of what is read and written, other words than
+//! `run`, scripts as long as they may be, and the world that a run leaves. A crate with tests is proved twice, so they stand here
+//! and not in `patroni_top`.
 #![tactic(auto)]
 
 #[cfg(test)]
+mod faults;
+#[cfg(test)]
 mod in_memory;
 #[cfg(test)]
-mod runs;
+mod sizes;
 #[cfg(test)]
-mod runs_of_changes;
-#[cfg(test)]
-mod runs_of_configurations;
-#[cfg(test)]
-mod runs_of_messages;
-#[cfg(test)]
-mod runs_of_operators;
-#[cfg(test)]
-mod runs_of_pauses;
-#[cfg(test)]
-mod runs_of_races;
-#[cfg(test)]
-mod runs_of_servers;
-#[cfg(test)]
-mod runs_of_standbys;
-#[cfg(test)]
-mod runs_of_watchdogs;
-#[cfg(test)]
-mod runs_refused;
-#[cfg(test)]
-mod runs_that_keep_commits;
+mod views;

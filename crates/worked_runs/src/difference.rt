@@ -1,0 +1,41 @@
+//! The first line in which two texts differ.
+use std::fmt;
+
+/// The first line in which two texts differ. A text that has fewer lines has none there.
+#[derive(Drop)]
+pub struct Difference<'a> {
+    line: u64,
+    told: Option<&'a str>,
+    wanted: Option<&'a str>,
+}
+
+/// The first line in which what is told differs from what is wanted.
+pub fn first_difference<'a>(told: &'a str, wanted: &'a str) -> Difference<'a> {
+    let mut line = 1u64;
+    let mut lines = wanted.split('\n');
+    for told in told.split('\n') {
+        let wanted = lines.next();
+        if wanted != Some(told) {
+            return Difference {
+                line,
+                told: Some(told),
+                wanted,
+            };
+        }
+        line = line.saturating_add(1);
+    }
+    Difference {
+        line,
+        told: None,
+        wanted: lines.next(),
+    }
+}
+
+impl fmt::Display for Difference<'_> {
+    fn fmt<W: fmt::Write>(&self, f: &mut fmt::Formatter<W>) -> fmt::Result {
+        let Difference { line, told, wanted } = self;
+        let told = told.unwrap_or("(no line)");
+        let wanted = wanted.unwrap_or("(no line)");
+        write!(f, "line {line} is `{told}`, and is to be `{wanted}`")
+    }
+}

@@ -1,0 +1,39 @@
+//! What comes of a script.
+use pat_base::{MemorySink, MemorySource};
+use patroni_top::{Ended, Status, run};
+use std::alloc::{AllocError, Global};
+
+/// How many bytes a run may print.
+const ROOM: usize = 1_048_576;
+
+/// What comes of a script.
+#[derive(Drop)]
+pub struct Outcome {
+    /// How the name of the file ends that has it.
+    pub ending: &'static str,
+    /// All that is printed; or else the status and what is said on `err`.
+    pub text: Vec<u8>,
+}
+
+/// What `run` makes of these bytes.
+pub fn run_script(alloc: Global, script: Vec<u8>) -> Result<Outcome, AllocError> {
+    let words = vec![in alloc; String::from_str(alloc, "run")?]?;
+    let mut input = MemorySource::new(script, Vec::new(alloc));
+    let mut out = MemorySink::new(alloc, ROOM, Vec::new(alloc))?;
+    let mut err = MemorySink::new(alloc, ROOM, Vec::new(alloc))?;
+    let Ended { status, world } = run(alloc, &words, &mut input, &mut out, &mut err);
+    if let Some(world) = world {
+        world.close();
+    }
+    let mut text = Vec::new(alloc);
+    let ending = if status == Status::Done {
+        "run"
+    } else {
+        let number = status.code();
+        text.extend_from_slice(format!(in alloc; "{number} ")?.as_str().as_bytes())?;
+        "refused"
+    };
+    text.extend_from_slice(err.bytes())?;
+    text.extend_from_slice(out.bytes())?;
+    Ok(Outcome { ending, text })
+}
