@@ -1,9 +1,10 @@
 //! Inputs of agents, worked by hand.
 ghost use Rattle.std.specs.Prelude.{◌≡◌};
 
+use agent_model::{Heard, Machine, Output, Replication, Who};
 use cluster_config::{RoleWord, Snapshot};
 use event_book::{Body, Reason};
-use ha_loop::{Agent, Heard, Machine, Output, Outputs, Replication, Who};
+use ha_loop::{Agent, Outputs};
 use leader_key::{Mode, Watchdog};
 use lease_store::{
     ConfigValue, FailoverKey, FailoverKind, MemberInfo, OperatorAction, OperatorRequest, Store,

@@ -17,8 +17,8 @@ use Rattle.event_book.specs.declared.link.LinkEnd.TheVariants as link_ends
 use Rattle.event_book.specs.declared.member.Member.{Member}
 use Rattle.event_book.specs.Facts.{facts_after}
 use Rattle.event_book.specs.Flight.{InFlightFacts, in_flight}
-use Rattle.ha_loop.specs.declared.heard.Heard.TheVariants.{Wake, Operated}
-use Rattle.ha_loop.specs.Agents.{AgentFacts, Outcome}
+use Rattle.agent_model.specs.declared.heard.Heard.TheVariants.{Wake, Operated}
+use Rattle.agent_model.specs.Agents.{AgentFacts, Outcome}
 use Rattle.cluster_model.specs.State.{Cluster}
 use Rattle.cluster_model.specs.Hearing.{heard_from}
 use Rattle.cluster_model.specs.Inputs.{outcome_of, outcome_of_heard, starting_agent}

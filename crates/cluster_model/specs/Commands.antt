@@ -16,7 +16,7 @@ use Rattle.event_book.specs.declared.link.LinkEnd.TheVariants as link_ends
 use Rattle.event_book.specs.Links.{CutLinks, is_cut}
 use Rattle.cluster_script.specs.declared.line.End.{End}
 use Rattle.cluster_script.specs.declared.line.End.TheVariants as ends
-use Rattle.ha_loop.specs.declared.machine.Machine.{Machine}
+use Rattle.agent_model.specs.declared.machine.Machine.{Machine}
 
 -- an agent that runs and isn't suspended becomes suspended
 abbrev pub hold_of : Member → AgentProcess → Option EventKind

@@ -7,8 +7,8 @@ use Rattle.event_book.specs.declared.message.Body.{Body}
 use Rattle.event_book.specs.declared.message.Body.TheVariants as bodies
 use Rattle.event_book.specs.Flight.{InFlightFacts}
 use Rattle.cluster_config.specs.Snapshots.{SnapshotFacts}
-use Rattle.ha_loop.specs.declared.heard.Heard.{Heard}
-use Rattle.ha_loop.specs.declared.heard.Heard.TheVariants as heard
+use Rattle.agent_model.specs.declared.heard.Heard.{Heard}
+use Rattle.agent_model.specs.declared.heard.Heard.TheVariants as heard
 use Rattle.cluster_model.specs.Machines.{hosts_of}
 use Rattle.cluster_model.specs.State.{Cluster}
 

@@ -4,13 +4,13 @@ use Rattle.pat_base.specs.declared.ticks.Ticks.{Ticks}
 use Rattle.wal_model.specs.declared.entry.HistoryPoint.{HistoryPoint}
 use Rattle.event_book.specs.declared.agent_process.AgentProcess.{AgentProcess}
 use Rattle.event_book.specs.declared.member.Member.{Member}
-use Rattle.ha_loop.specs.declared.heard.Heard.{Heard}
-use Rattle.ha_loop.specs.declared.machine.Machine.{Machine}
-use Rattle.ha_loop.specs.declared.output.Output.{Output}
-use Rattle.ha_loop.specs.declared.who.Who.{Who}
-use Rattle.ha_loop.specs.Agents.{AgentFacts, Follower, Outcome, fresh_knowledge, made}
-use Rattle.ha_loop.specs.Table.{step}
-use Rattle.ha_loop.specs.Wake.{is_due}
+use Rattle.agent_model.specs.declared.heard.Heard.{Heard}
+use Rattle.agent_model.specs.declared.machine.Machine.{Machine}
+use Rattle.agent_model.specs.declared.output.Output.{Output}
+use Rattle.agent_model.specs.declared.who.Who.{Who}
+use Rattle.agent_model.specs.Agents.{AgentFacts, Follower, Outcome, fresh_knowledge, made}
+use Rattle.agent_model.specs.Table.{step}
+use Rattle.agent_model.specs.Wake.{is_due}
 use Rattle.cluster_model.specs.Machines.{machine_of, points_of}
 use Rattle.cluster_model.specs.State.{Cluster}
 

@@ -4,7 +4,7 @@ use Rattle.std.specs.List.{range_with_len}
 use Rattle.pat_base.specs.declared.lsn.Lsn.{Lsn}
 use Rattle.pat_base.specs.ServerState.{writes}
 use Rattle.event_book.specs.Links.{CutLinks}
-use Rattle.ha_loop.specs.declared.machine.Replication.{Replication}
+use Rattle.agent_model.specs.declared.machine.Replication.{Replication}
 use Rattle.pat_base.specs.declared.host.Host.{Host}
 use Rattle.pat_base.specs.declared.name.Name.{Name}
 use Rattle.pat_base.specs.declared.ticks.Ticks.{Ticks}
@@ -15,8 +15,8 @@ use Rattle.pg_model.specs.Facts.{ServerFacts}
 use Rattle.pg_model.specs.Status.{status_of}
 use Rattle.event_book.specs.declared.member.Member.{Member}
 use Rattle.leader_key.specs.Watchdog.{WatchdogFacts}
-use Rattle.ha_loop.specs.declared.machine.Machine.{Machine}
-use Rattle.ha_loop.specs.declared.who.Who.{Who}
+use Rattle.agent_model.specs.declared.machine.Machine.{Machine}
+use Rattle.agent_model.specs.declared.who.Who.{Who}
 use Rattle.cluster_model.specs.State.{Cluster}
 use Rattle.cluster_model.specs.Streaming.{source_of}
 

@@ -27,10 +27,10 @@ use Rattle.event_book.specs.declared.reason.Reason.{Reason}
 use Rattle.event_book.specs.Links.{CutLinks, is_cut}
 use Rattle.event_book.specs.Members.{server_of}
 use Rattle.event_book.specs.NameLists.{names_of}
-use Rattle.ha_loop.specs.declared.output.Output.{Output}
-use Rattle.ha_loop.specs.declared.output.Output.TheVariants as outputs
-use Rattle.ha_loop.specs.declared.output.Repair.{Repair}
-use Rattle.ha_loop.specs.declared.output.Repair.TheVariants as repairs
+use Rattle.agent_model.specs.declared.output.Output.{Output}
+use Rattle.agent_model.specs.declared.output.Output.TheVariants as outputs
+use Rattle.agent_model.specs.declared.output.Repair.{Repair}
+use Rattle.agent_model.specs.declared.output.Repair.TheVariants as repairs
 use Rattle.cluster_model.specs.declared.heard_message.HeardMessage.{HeardMessage}
 use Rattle.cluster_model.specs.Commands.{kinds_of}
 use Rattle.cluster_model.specs.Inputs.{agent_at}

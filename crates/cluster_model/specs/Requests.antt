@@ -19,11 +19,11 @@ use Rattle.operator_keys.specs.AnswerTexts.{answer_text}
 use Rattle.operator_keys.specs.Checks.{switchover_on, failover_on}
 use Rattle.operator_keys.specs.ConfigChecks.{configuration_in, configuration_on}
 use Rattle.operator_keys.specs.ServerChecks.{restart_refusal, reinit_refusal}
-use Rattle.ha_loop.specs.declared.operating.Told.{Told}
-use Rattle.ha_loop.specs.declared.operating.Told.TheVariants as tolds
-use Rattle.ha_loop.specs.Agents.{AgentFacts, Outcome}
-use Rattle.ha_loop.specs.Operators.{ok}
-use Rattle.ha_loop.specs.Views.{shown}
+use Rattle.agent_model.specs.declared.operating.Told.{Told}
+use Rattle.agent_model.specs.declared.operating.Told.TheVariants as tolds
+use Rattle.agent_model.specs.Agents.{AgentFacts, Outcome}
+use Rattle.agent_model.specs.Operators.{ok}
+use Rattle.agent_model.specs.Views.{shown}
 
 -- the status of a request for what isn't there (RFC 9110, "404 Not Found")
 abbrev pub not_found : ℕ

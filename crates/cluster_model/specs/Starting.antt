@@ -5,7 +5,7 @@ use Rattle.cluster_script.specs.declared.head.MemberOptions.{MemberOptions}
 use Rattle.cluster_script.specs.Script.{HeadText, MemberText, names_of}
 use Rattle.event_book.specs.declared.member.Member.{Member}
 use Rattle.event_book.specs.Facts.{start_of}
-use Rattle.ha_loop.specs.Agents.{AgentFacts}
+use Rattle.agent_model.specs.Agents.{AgentFacts}
 use Rattle.cluster_model.specs.Inputs.{starting_agent}
 use Rattle.cluster_model.specs.Machines.{who_of}
 use Rattle.cluster_model.specs.State.{Cluster}

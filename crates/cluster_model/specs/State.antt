@@ -3,7 +3,7 @@ use Rattle.std.specs.Prelude.{List, Option}
 use Rattle.pat_base.specs.declared.name.Name.{Name}
 use Rattle.cluster_script.specs.declared.head.MemberOptions.{MemberOptions}
 use Rattle.event_book.specs.Facts.{Facts}
-use Rattle.ha_loop.specs.Agents.{AgentFacts}
+use Rattle.agent_model.specs.Agents.{AgentFacts}
 
 -- the cluster's name and what its head declares of the members, what a book leaves of it, and where the agents stand that run;
 -- members by their numbers

@@ -2,11 +2,11 @@
 use Rattle.std.proofs.Common.{ℕ, ◌≡◌, ◌++◌, true, false, List, Option, Some, slice_get, refl, sym, ap, ◌∙◌, inl, inr}
 use Rattle.event_book.specs.declared.event.Event.{Event}
 use Rattle.cluster_script.specs.Script.{HeadText}
-use Rattle.ha_loop.specs.declared.heard.Heard.{Heard}
-use Rattle.ha_loop.specs.declared.heard.Heard.TheVariants as heards
-use Rattle.ha_loop.specs.Agents.{is_ready as is_ready_role}
-use Rattle.ha_loop.specs.Committing.{ArmsOn}
-use Rattle.ha_loop.specs.Lawful.{Hears}
+use Rattle.agent_model.specs.declared.heard.Heard.{Heard}
+use Rattle.agent_model.specs.declared.heard.Heard.TheVariants as heards
+use Rattle.agent_model.specs.Agents.{is_ready as is_ready_role}
+use Rattle.agent_commit_law.specs.Committing.{ArmsOn}
+use Rattle.agent_lease_law.specs.Lawful.{Hears}
 use Rattle.cluster_model.specs.Inputs.{moment_of}
 use Rattle.cluster_model.specs.State.{Cluster}
 use Rattle.lease_law.specs.Inputs.{Fed, HeardGrant}

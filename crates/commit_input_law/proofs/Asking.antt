@@ -20,19 +20,19 @@ use Rattle.event_book.specs.Facts.{Facts}
 use Rattle.event_book.specs.Flight.{sent_after}
 use Rattle.event_book.specs.Functions.{put_at}
 use Rattle.cluster_script.specs.Script.{HeadText}
-use Rattle.ha_loop.specs.declared.heard.Heard.{Heard}
-use Rattle.ha_loop.specs.declared.knowledge.Question.{Question}
-use Rattle.ha_loop.specs.declared.knowledge.Question.TheVariants.{Claiming, Syncing}
-use Rattle.ha_loop.specs.declared.knowledge.Settling.TheVariants.{Stays, Lists, Empties}
-use Rattle.ha_loop.specs.declared.knowledge.Waited.{Waited}
-use Rattle.ha_loop.specs.declared.machine.Machine.{Machine}
-use Rattle.ha_loop.specs.declared.output.Output.{Output}
-use Rattle.ha_loop.specs.declared.output.Output.TheVariants as outputs
-use Rattle.ha_loop.specs.declared.output.Target.TheVariants as targets
-use Rattle.ha_loop.specs.Agents.{AgentFacts, Outcome, made}
-use Rattle.ha_loop.specs.Committing.{AsksOn, FollowsOn}
-use Rattle.ha_loop.specs.Decisions.{asks_sync}
-use Rattle.ha_loop.specs.Table.{step}
+use Rattle.agent_model.specs.declared.heard.Heard.{Heard}
+use Rattle.agent_model.specs.declared.knowledge.Question.{Question}
+use Rattle.agent_model.specs.declared.knowledge.Question.TheVariants.{Claiming, Syncing}
+use Rattle.agent_model.specs.declared.knowledge.Settling.TheVariants.{Stays, Lists, Empties}
+use Rattle.agent_model.specs.declared.knowledge.Waited.{Waited}
+use Rattle.agent_model.specs.declared.machine.Machine.{Machine}
+use Rattle.agent_model.specs.declared.output.Output.{Output}
+use Rattle.agent_model.specs.declared.output.Output.TheVariants as outputs
+use Rattle.agent_model.specs.declared.output.Target.TheVariants as targets
+use Rattle.agent_model.specs.Agents.{AgentFacts, Outcome, made}
+use Rattle.agent_commit_law.specs.Committing.{AsksOn, FollowsOn}
+use Rattle.agent_model.specs.Decisions.{asks_sync}
+use Rattle.agent_model.specs.Table.{step}
 use Rattle.cluster_model.specs.declared.heard_message.HeardMessage.{HeardMessage}
 use Rattle.cluster_model.specs.Cluster.{agent_after, agent_facts_after, cluster_after, cluster_over}
 use Rattle.cluster_model.specs.Inputs.{moment_of}

@@ -10,7 +10,7 @@ use Rattle.event_book.specs.declared.event.ServerEvent.TheVariants as servers
 use Rattle.event_book.specs.declared.member.Member.{Member}
 use Rattle.event_book.specs.Members.{server_of}
 use Rattle.event_book.specs.Servers.{starts_as_primary}
-use Rattle.ha_loop.specs.Agents.{AgentFacts}
+use Rattle.agent_model.specs.Agents.{AgentFacts}
 use Rattle.cluster_model.specs.declared.beginning.Beginning.{Beginning}
 use Rattle.cluster_model.specs.declared.beginning.Beginning.TheVariants as beginnings
 use Rattle.cluster_model.specs.Beginnings.{begin_kinds, beginning_of, kinds_by}

@@ -5,12 +5,12 @@ use Rattle.pat_base.specs.declared.server_state.Required.{Required}
 use Rattle.pg_model.specs.Facts.{ServerFacts}
 use Rattle.event_book.specs.declared.event.Event.{Event}
 use Rattle.cluster_script.specs.Script.{HeadText}
-use Rattle.ha_loop.specs.declared.machine.Machine.{Machine}
-use Rattle.ha_loop.specs.declared.output.Output.{Output}
-use Rattle.ha_loop.specs.declared.output.Output.TheVariants as outputs
-use Rattle.ha_loop.specs.Committing.{GrowsByConnected, IsCovered, IsLawfulAs, IsSent, StandsAlone, requests_of}
-use Rattle.ha_loop.specs.Orders.{IsOfTable, machine_after_outputs}
-use Rattle.ha_loop.proofs.CommitQuiet.{IsUnasking, asks-none, covered as covered-quiet, unasking}
+use Rattle.agent_model.specs.declared.machine.Machine.{Machine}
+use Rattle.agent_model.specs.declared.output.Output.{Output}
+use Rattle.agent_model.specs.declared.output.Output.TheVariants as outputs
+use Rattle.agent_commit_law.specs.Committing.{GrowsByConnected, IsCovered, IsLawfulAs, IsSent, StandsAlone, requests_of}
+use Rattle.agent_law.specs.Orders.{IsOfTable, machine_after_outputs}
+use Rattle.agent_commit_law.proofs.CommitQuiet.{IsUnasking, asks-none, covered as covered-quiet, unasking}
 use Rattle.cluster_model.specs.Cluster.{cluster_over}
 use Rattle.cluster_model.specs.Commands.{kinds_of}
 use Rattle.cluster_model.specs.Inputs.{moment_of}

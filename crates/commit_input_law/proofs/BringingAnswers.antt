@@ -10,19 +10,19 @@ use Rattle.pg_model.specs.declared.status.ServerStatus.{ServerStatus}
 use Rattle.event_book.specs.declared.event.Event.{Event}
 use Rattle.event_book.specs.declared.member.Member.{Member}
 use Rattle.cluster_script.specs.Script.{HeadText}
-use Rattle.ha_loop.specs.declared.heard.Heard.TheVariants.{Asked}
-use Rattle.ha_loop.specs.declared.output.Output.{Output}
-use Rattle.ha_loop.specs.declared.output.Output.TheVariants as outputs
-use Rattle.ha_loop.specs.Agents.{Outcome}
-use Rattle.ha_loop.specs.Answers.{peer_answer_of}
-use Rattle.ha_loop.specs.Before.{before}
-use Rattle.ha_loop.specs.Committing.{IsCovered, IsEndOf}
-use Rattle.ha_loop.specs.Info.{runs}
-use Rattle.ha_loop.specs.Orders.{IsOfTable}
-use Rattle.ha_loop.specs.Table.{step}
-use Rattle.ha_loop.proofs.CommitGrounds.{before-behind}
-use Rattle.ha_loop.proofs.CommitInputs.{before-covered}
-use Rattle.ha_loop.proofs.CommitQuiet.{IsUnasking, covered as covered-quiet, unasking}
+use Rattle.agent_model.specs.declared.heard.Heard.TheVariants.{Asked}
+use Rattle.agent_model.specs.declared.output.Output.{Output}
+use Rattle.agent_model.specs.declared.output.Output.TheVariants as outputs
+use Rattle.agent_model.specs.Agents.{Outcome}
+use Rattle.agent_model.specs.Answers.{peer_answer_of}
+use Rattle.agent_model.specs.Before.{before}
+use Rattle.agent_commit_law.specs.Committing.{IsCovered, IsEndOf}
+use Rattle.agent_model.specs.Info.{runs}
+use Rattle.agent_law.specs.Orders.{IsOfTable}
+use Rattle.agent_model.specs.Table.{step}
+use Rattle.agent_commit_law.proofs.CommitGrounds.{before-behind}
+use Rattle.agent_commit_law.proofs.CommitInputs.{before-covered}
+use Rattle.agent_commit_law.proofs.CommitQuiet.{IsUnasking, covered as covered-quiet, unasking}
 use Rattle.cluster_model.specs.Cluster.{cluster_after, cluster_over}
 use Rattle.cluster_model.specs.Inputs.{moment_of}
 use Rattle.cluster_model.specs.Machines.{points_of}

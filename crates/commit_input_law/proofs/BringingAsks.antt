@@ -23,14 +23,14 @@ use Rattle.event_book.specs.declared.message.Body.TheVariants as bodies
 use Rattle.event_book.specs.declared.message.Message.{Message}
 use Rattle.event_book.specs.Functions.{put_at}
 use Rattle.cluster_script.specs.Script.{HeadText}
-use Rattle.ha_loop.specs.declared.output.Output.{Output}
-use Rattle.ha_loop.specs.declared.output.Output.TheVariants as outputs
-use Rattle.ha_loop.specs.declared.output.Target.TheVariants as targets
-use Rattle.ha_loop.specs.Committing.{IsSent, IsSynchronousBody, IsSynchronousOutput, IsSynchronousTxn, KnowsBelow, is_passing, request_in, request_of_body, requests_of}
-use Rattle.ha_loop.specs.Agents.{AgentFacts}
-use Rattle.ha_loop.specs.Orders.{IsOfTable}
-use Rattle.ha_loop.proofs.CommitQuiet.{asks-last, IsUnasking}
-use Rattle.ha_loop.specs.Outputs.{has_one}
+use Rattle.agent_model.specs.declared.output.Output.{Output}
+use Rattle.agent_model.specs.declared.output.Output.TheVariants as outputs
+use Rattle.agent_model.specs.declared.output.Target.TheVariants as targets
+use Rattle.agent_commit_law.specs.Committing.{IsSent, IsSynchronousBody, IsSynchronousOutput, IsSynchronousTxn, KnowsBelow, is_passing, request_in, request_of_body, requests_of}
+use Rattle.agent_model.specs.Agents.{AgentFacts}
+use Rattle.agent_law.specs.Orders.{IsOfTable}
+use Rattle.agent_commit_law.proofs.CommitQuiet.{asks-last, IsUnasking}
+use Rattle.agent_model.specs.Outputs.{has_one}
 use Rattle.cluster_model.specs.Cluster.{agent_after, cluster_after, cluster_over}
 use Rattle.run_law.proofs.Places.{get-here}
 use Rattle.cluster_model.specs.Limits.{most_in_flight}

@@ -10,18 +10,18 @@ use Rattle.pg_model.specs.declared.status.ServerStatus.{ServerStatus}
 use Rattle.pg_model.specs.Facts.{ServerFacts, has_data}
 use Rattle.event_book.specs.declared.event.Event.{Event}
 use Rattle.cluster_script.specs.Script.{HeadText}
-use Rattle.ha_loop.specs.declared.machine.Machine.{Machine}
-use Rattle.ha_loop.specs.declared.output.Output.{Output}
-use Rattle.ha_loop.specs.declared.output.Output.TheVariants as outputs
-use Rattle.ha_loop.specs.Acting.{status_begun}
+use Rattle.agent_model.specs.declared.machine.Machine.{Machine}
+use Rattle.agent_model.specs.declared.output.Output.{Output}
+use Rattle.agent_model.specs.declared.output.Output.TheVariants as outputs
+use Rattle.agent_model.specs.Acting.{status_begun}
 use Rattle.pg_model.specs.Status.{status_primary_started, status_started, status_starting}
 use Rattle.pg_model.specs.Facts.{is_down, is_replica}
-use Rattle.ha_loop.specs.Claiming.{can_begin_on_claim}
-use Rattle.ha_loop.specs.Committing.{IsCovered, IsSent, is_begin, live_shown, requests_of}
-use Rattle.ha_loop.specs.Orders.{IsOfTable, machine_after_output, machine_after_outputs}
-use Rattle.ha_loop.specs.Outputs.{has_one}
-use Rattle.ha_loop.proofs.CommitRows.{begins-data}
-use Rattle.ha_loop.proofs.CommitQuiet.{IsUnasking, asks-last, covered as covered-quiet, unasking}
+use Rattle.agent_model.specs.Claiming.{can_begin_on_claim}
+use Rattle.agent_commit_law.specs.Committing.{IsCovered, IsSent, is_begin, live_shown, requests_of}
+use Rattle.agent_law.specs.Orders.{IsOfTable, machine_after_output, machine_after_outputs}
+use Rattle.agent_model.specs.Outputs.{has_one}
+use Rattle.agent_commit_law.proofs.CommitRows.{begins-data}
+use Rattle.agent_commit_law.proofs.CommitQuiet.{IsUnasking, asks-last, covered as covered-quiet, unasking}
 use Rattle.cluster_model.specs.Cluster.{cluster_over}
 use Rattle.cluster_model.specs.Inputs.{moment_of}
 use Rattle.cluster_model.specs.Messages.{begin_events}

@@ -12,10 +12,10 @@ use Rattle.event_book.specs.declared.event.Event.{Event}
 use Rattle.event_book.specs.declared.member.Member.{Member}
 use Rattle.event_book.specs.Links.{CutLinks}
 use Rattle.cluster_script.specs.Script.{HeadText}
-use Rattle.ha_loop.specs.declared.machine.Machine.{Machine}
-use Rattle.ha_loop.specs.declared.machine.Replication.{Replication}
-use Rattle.ha_loop.specs.Agents.{AgentFacts, made}
-use Rattle.ha_loop.specs.Committing.{GrowsByConnected, NeedsOne}
+use Rattle.agent_model.specs.declared.machine.Machine.{Machine}
+use Rattle.agent_model.specs.declared.machine.Replication.{Replication}
+use Rattle.agent_model.specs.Agents.{AgentFacts, made}
+use Rattle.agent_commit_law.specs.Committing.{GrowsByConnected, NeedsOne}
 use Rattle.cluster_model.specs.Machines.{connected_end, connected_ends, is_connected, machine_from, machine_of, nothing_confirmed, replication_of}
 use Rattle.cluster_model.specs.State.{Cluster}
 use Rattle.lease_law.proofs.Tools.{none-some}

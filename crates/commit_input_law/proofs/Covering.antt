@@ -23,15 +23,15 @@ use Rattle.event_book.specs.declared.message.Body.TheVariants as bodies
 use Rattle.event_book.specs.declared.message.Message.{Message}
 use Rattle.event_book.specs.Functions.{put_at}
 use Rattle.event_book.specs.Logs.{Logs}
-use Rattle.ha_loop.specs.declared.operating.Told.{Told as OperatorTold}
-use Rattle.ha_loop.specs.declared.operating.Told.TheVariants as tolds
-use Rattle.ha_loop.specs.declared.output.Output.{Output}
-use Rattle.ha_loop.specs.declared.output.Output.TheVariants as outputs
-use Rattle.ha_loop.specs.declared.output.Target.TheVariants as targets
-use Rattle.ha_loop.specs.Agents.{AgentFacts}
-use Rattle.ha_loop.specs.Committing.{IsCovered, IsQuietBody, IsQuietTxn}
-use Rattle.ha_loop.specs.Operators.{ok}
-use Rattle.ha_loop.specs.Orders.{IsAsk, IsOfTable}
+use Rattle.agent_model.specs.declared.operating.Told.{Told as OperatorTold}
+use Rattle.agent_model.specs.declared.operating.Told.TheVariants as tolds
+use Rattle.agent_model.specs.declared.output.Output.{Output}
+use Rattle.agent_model.specs.declared.output.Output.TheVariants as outputs
+use Rattle.agent_model.specs.declared.output.Target.TheVariants as targets
+use Rattle.agent_model.specs.Agents.{AgentFacts}
+use Rattle.agent_commit_law.specs.Committing.{IsCovered, IsQuietBody, IsQuietTxn}
+use Rattle.agent_model.specs.Operators.{ok}
+use Rattle.agent_law.specs.Orders.{IsAsk, IsOfTable}
 use Rattle.cluster_model.specs.declared.heard_message.HeardMessage.{HeardMessage}
 use Rattle.cluster_model.specs.Cluster.{cluster_after, cluster_over}
 use Rattle.cluster_model.specs.Commands.{kinds_of}

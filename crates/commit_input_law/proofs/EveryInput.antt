@@ -14,14 +14,14 @@ use Rattle.event_book.specs.declared.message.Body.{Body}
 use Rattle.event_book.specs.declared.message.Body.TheVariants as bodies
 use Rattle.event_book.specs.Flight.{InFlightFacts, in_flight}
 use Rattle.cluster_script.specs.Script.{HeadText}
-use Rattle.ha_loop.specs.declared.heard.Heard.{Heard}
-use Rattle.ha_loop.specs.declared.heard.Heard.TheVariants as heards
-use Rattle.ha_loop.specs.declared.machine.Machine.{Machine}
+use Rattle.agent_model.specs.declared.heard.Heard.{Heard}
+use Rattle.agent_model.specs.declared.heard.Heard.TheVariants as heards
+use Rattle.agent_model.specs.declared.machine.Machine.{Machine}
 use Rattle.lease_store.specs.declared.action.OperatorAction.{OperatorAction}
 use Rattle.lease_store.specs.declared.granted.Granted.{Granted}
-use Rattle.ha_loop.specs.Agents.{AgentFacts, Outcome, made}
-use Rattle.ha_loop.specs.Committing.{HearsBelow, HearsOn, HearsToCommit}
-use Rattle.ha_loop.specs.Lawful.{Hears}
+use Rattle.agent_model.specs.Agents.{AgentFacts, Outcome, made}
+use Rattle.agent_commit_law.specs.Committing.{HearsBelow, HearsOn, HearsToCommit}
+use Rattle.agent_lease_law.specs.Lawful.{Hears}
 use Rattle.cluster_model.specs.declared.delivery.Delivery.TheVariants as deliveries
 use Rattle.cluster_model.specs.Cluster.{agent_facts_by, agent_facts_with, cluster_after}
 use Rattle.cluster_model.specs.Deliveries.{delivery_of}

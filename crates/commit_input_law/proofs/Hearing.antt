@@ -25,16 +25,16 @@ use Rattle.event_book.specs.Flight.{InFlightFacts, in_flight}
 use Rattle.sync_state.specs.Published.{standbys_of}
 use Rattle.sync_state.specs.Sets.{nobody}
 use Rattle.cluster_script.specs.Script.{HeadText}
-use Rattle.ha_loop.specs.declared.heard.Heard.{Heard}
-use Rattle.ha_loop.specs.declared.heard.Heard.TheVariants as heards
-use Rattle.ha_loop.specs.declared.knowledge.Waited.{Waited}
-use Rattle.ha_loop.specs.declared.machine.Machine.{Machine}
-use Rattle.ha_loop.specs.Agents.{AgentFacts, made}
-use Rattle.ha_loop.specs.Committing.{HearsBelow, HearsGranted, HearsLease, HearsOn, HearsToCommit, HearsWrite, IsAskedBy, sync_seen}
-use Rattle.ha_loop.specs.Decisions.{asks_sync, is_sync_decision}
-use Rattle.ha_loop.specs.Synchronous.{sync_read_by, sync_read_in, sync_read_of_entry}
-use Rattle.ha_loop.proofs.CommitTools.{no-members}
-use Rattle.ha_loop.proofs.Granting.{both-true}
+use Rattle.agent_model.specs.declared.heard.Heard.{Heard}
+use Rattle.agent_model.specs.declared.heard.Heard.TheVariants as heards
+use Rattle.agent_model.specs.declared.knowledge.Waited.{Waited}
+use Rattle.agent_model.specs.declared.machine.Machine.{Machine}
+use Rattle.agent_model.specs.Agents.{AgentFacts, made}
+use Rattle.agent_commit_law.specs.Committing.{HearsBelow, HearsGranted, HearsLease, HearsOn, HearsToCommit, HearsWrite, IsAskedBy, sync_seen}
+use Rattle.agent_model.specs.Decisions.{asks_sync, is_sync_decision}
+use Rattle.agent_model.specs.Synchronous.{sync_read_by, sync_read_in, sync_read_of_entry}
+use Rattle.agent_commit_law.proofs.CommitTools.{no-members}
+use Rattle.agent_law.proofs.Granting.{both-true}
 use Rattle.cluster_model.specs.Hearing.{heard_from, heard_in, member_at_end, snapshot_in}
 use Rattle.cluster_model.specs.State.{Cluster}
 use Rattle.lease_law.specs.Leases.{FailsafeKey, LeaderKey}

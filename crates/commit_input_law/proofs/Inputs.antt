@@ -13,21 +13,21 @@ use Rattle.event_book.specs.declared.event.MessageEvent.TheVariants.{Delivered}
 use Rattle.event_book.specs.declared.member.Member.{Member}
 use Rattle.event_book.specs.Functions.{put_at}
 use Rattle.cluster_script.specs.Script.{HeadText}
-use Rattle.ha_loop.specs.declared.heard.Heard.{Heard}
-use Rattle.ha_loop.specs.declared.heard.Heard.TheVariants as heards
-use Rattle.ha_loop.specs.declared.machine.Machine.{Machine}
-use Rattle.ha_loop.specs.declared.machine.Replication.{Replication}
-use Rattle.ha_loop.specs.declared.output.Output.{Output}
-use Rattle.ha_loop.specs.Agents.{AgentFacts, Outcome, made}
-use Rattle.ha_loop.specs.Committing.{AsksOn, CommitsFrom, DoesAs, GrowsByConnected, HearsBelow, HearsOn, HearsToCommit, IsLawfulAs, IsSent, NeedsOne, StandsToCommit, StaysOn, committer_seen, is_begin, is_passing, live_shown, requests_of}
-use Rattle.ha_loop.specs.Lawful.{Hears}
-use Rattle.ha_loop.specs.Pausing.{is_paused}
-use Rattle.ha_loop.proofs.Knowing.{tells_pause, told_by}
-use Rattle.ha_loop.specs.Orders.{IsCarriedOut, IsOfTable}
-use Rattle.ha_loop.specs.Outputs.{has_one}
-use Rattle.ha_loop.specs.Table.{step}
-use Rattle.ha_loop.proofs.CommitInputs.{input-commits-as}
-use Rattle.ha_loop.proofs.Orders.{step-carried-out}
+use Rattle.agent_model.specs.declared.heard.Heard.{Heard}
+use Rattle.agent_model.specs.declared.heard.Heard.TheVariants as heards
+use Rattle.agent_model.specs.declared.machine.Machine.{Machine}
+use Rattle.agent_model.specs.declared.machine.Replication.{Replication}
+use Rattle.agent_model.specs.declared.output.Output.{Output}
+use Rattle.agent_model.specs.Agents.{AgentFacts, Outcome, made}
+use Rattle.agent_commit_law.specs.Committing.{AsksOn, CommitsFrom, DoesAs, GrowsByConnected, HearsBelow, HearsOn, HearsToCommit, IsLawfulAs, IsSent, NeedsOne, StandsToCommit, StaysOn, committer_seen, is_begin, is_passing, live_shown, requests_of}
+use Rattle.agent_lease_law.specs.Lawful.{Hears}
+use Rattle.agent_model.specs.Pausing.{is_paused}
+use Rattle.agent_law.proofs.Knowing.{tells_pause, told_by}
+use Rattle.agent_law.specs.Orders.{IsCarriedOut, IsOfTable}
+use Rattle.agent_model.specs.Outputs.{has_one}
+use Rattle.agent_model.specs.Table.{step}
+use Rattle.agent_commit_law.proofs.CommitInputs.{input-commits-as}
+use Rattle.agent_law.proofs.Orders.{step-carried-out}
 use Rattle.cluster_model.specs.declared.heard_message.HeardMessage.{HeardMessage}
 use Rattle.cluster_model.specs.Cluster.{agent_after, agent_facts_after, cluster_after, cluster_over}
 use Rattle.cluster_model.specs.Inputs.{moment_of}

@@ -17,12 +17,12 @@ use Rattle.event_book.specs.declared.member.Member.{Member}
 use Rattle.event_book.specs.Facts.{Facts}
 use Rattle.event_book.specs.Flight.{in_flight}
 use Rattle.event_book.specs.Members.{server_of}
-use Rattle.ha_loop.specs.declared.machine.Machine.{Machine}
-use Rattle.ha_loop.specs.declared.output.Output.{Output}
-use Rattle.ha_loop.specs.declared.output.Output.TheVariants as outputs
-use Rattle.ha_loop.specs.Committing.{IsCovered, StandsAlone, is_begin, is_passing}
-use Rattle.ha_loop.specs.Orders.{machine_after_output, machine_after_outputs}
-use Rattle.ha_loop.specs.Outputs.{has_one}
+use Rattle.agent_model.specs.declared.machine.Machine.{Machine}
+use Rattle.agent_model.specs.declared.output.Output.{Output}
+use Rattle.agent_model.specs.declared.output.Output.TheVariants as outputs
+use Rattle.agent_commit_law.specs.Committing.{IsCovered, StandsAlone, is_begin, is_passing}
+use Rattle.agent_law.specs.Orders.{machine_after_output, machine_after_outputs}
+use Rattle.agent_model.specs.Outputs.{has_one}
 use Rattle.cluster_model.specs.Cluster.{cluster_after, cluster_over}
 use Rattle.cluster_model.specs.Commands.{kinds_of}
 use Rattle.cluster_model.specs.Orders.{is_same_required, require_of, required_names}

@@ -6,10 +6,10 @@ use Rattle.event_book.specs.declared.event.EventKind.TheVariants as kinds
 use Rattle.event_book.specs.declared.event.MessageEvent.TheVariants.{Delivered, Lost, Sent}
 use Rattle.event_book.specs.declared.member.Member.{Member}
 use Rattle.event_book.specs.declared.message.Message.{Message}
-use Rattle.ha_loop.specs.declared.output.Output.{Output}
-use Rattle.ha_loop.specs.declared.output.Output.TheVariants as outputs
-use Rattle.ha_loop.specs.Committing.{IsCovered, IsQuietBody}
-use Rattle.ha_loop.proofs.CommitQuiet.{IsUnasking}
+use Rattle.agent_model.specs.declared.output.Output.{Output}
+use Rattle.agent_model.specs.declared.output.Output.TheVariants as outputs
+use Rattle.agent_commit_law.specs.Committing.{IsCovered, IsQuietBody}
+use Rattle.agent_commit_law.proofs.CommitQuiet.{IsUnasking}
 use Rattle.cluster_model.specs.Cluster.{cluster_after}
 use Rattle.cluster_model.specs.State.{Cluster}
 use Rattle.lease_law.specs.Premises.{AllAre}

@@ -21,18 +21,18 @@ use Rattle.cluster_config.specs.Snapshots.{SnapshotFacts}
 use Rattle.cluster_script.specs.Script.{HeadText}
 use Rattle.lease_store.specs.declared.action.OperatorAction.{OperatorAction}
 use Rattle.lease_store.specs.declared.txn.Txn.TheVariants as txns
-use Rattle.ha_loop.specs.declared.heard.Heard.{Heard}
-use Rattle.ha_loop.specs.declared.heard.Heard.TheVariants as heards
-use Rattle.ha_loop.specs.declared.output.Output.{Output}
-use Rattle.ha_loop.specs.declared.output.Output.TheVariants as outputs
-use Rattle.ha_loop.specs.declared.output.Target.TheVariants as targets
-use Rattle.ha_loop.specs.Agents.{AgentFacts}
-use Rattle.ha_loop.specs.Committing.{Apart, Asks as AsksLast, Begins, HasForm, IsCovered, Passes, StandsAlone, IsSynchronousBody, IsSynchronousOutput, KnowsBelow, Requires, committer_seen, is_passing}
-use Rattle.ha_loop.specs.Replies.{RepliesTo}
-use Rattle.ha_loop.proofs.CommitInputs.{given-by-lease}
-use Rattle.ha_loop.proofs.CommitQuiet.{IsUnasking}
-use Rattle.ha_loop.proofs.Replying.{step-replies}
-use Rattle.ha_loop.specs.Outputs.{has_one}
+use Rattle.agent_model.specs.declared.heard.Heard.{Heard}
+use Rattle.agent_model.specs.declared.heard.Heard.TheVariants as heards
+use Rattle.agent_model.specs.declared.output.Output.{Output}
+use Rattle.agent_model.specs.declared.output.Output.TheVariants as outputs
+use Rattle.agent_model.specs.declared.output.Target.TheVariants as targets
+use Rattle.agent_model.specs.Agents.{AgentFacts}
+use Rattle.agent_commit_law.specs.Committing.{Apart, Asks as AsksLast, Begins, HasForm, IsCovered, Passes, StandsAlone, IsSynchronousBody, IsSynchronousOutput, KnowsBelow, Requires, committer_seen, is_passing}
+use Rattle.agent_law.specs.Replies.{RepliesTo}
+use Rattle.agent_commit_law.proofs.CommitInputs.{given-by-lease}
+use Rattle.agent_commit_law.proofs.CommitQuiet.{IsUnasking}
+use Rattle.agent_law.proofs.Replying.{step-replies}
+use Rattle.agent_model.specs.Outputs.{has_one}
 use Rattle.cluster_model.specs.Cluster.{agent_after, cluster_over}
 use Rattle.cluster_model.specs.Inputs.{moment_of}
 use Rattle.cluster_model.specs.Machines.{points_of}

@@ -18,8 +18,8 @@ use Rattle.event_book.specs.declared.member.Member.{Member}
 use Rattle.event_book.specs.Facts.{Facts}
 use Rattle.event_book.specs.Links.{CutLinks, is_cut}
 use Rattle.event_book.specs.Members.{server_of}
-use Rattle.ha_loop.specs.declared.output.Repair.{Repair}
-use Rattle.ha_loop.specs.declared.output.Repair.TheVariants as repairs
+use Rattle.agent_model.specs.declared.output.Repair.{Repair}
+use Rattle.agent_model.specs.declared.output.Repair.TheVariants as repairs
 use Rattle.cluster_model.specs.Commands.{kinds_of}
 use Rattle.cluster_model.specs.Messages.{repair_events}
 use Rattle.cluster_model.specs.Orders.{copying, repair_by, repair_over, rewinding, wipe_of}

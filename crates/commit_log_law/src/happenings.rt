@@ -10,7 +10,7 @@ ghost use Rattle.event_book.specs.Facts.{Facts};
 ghost use Rattle.event_book.specs.Links.{CutLinks};
 ghost use Rattle.cluster_script.specs.declared.line.SlowedCall.{SlowedCall};
 ghost use Rattle.cluster_script.specs.declared.ranges.Delay.{Delay};
-ghost use Rattle.ha_loop.specs.declared.output.Repair.{Repair};
+ghost use Rattle.agent_model.specs.declared.output.Repair.{Repair};
 ghost use Rattle.cluster_model.specs.Losing.{beginning_kinds};
 ghost use Rattle.cluster_model.specs.Messages.{begin_events, repair_events, replica_start_events, server_restart_events, stop_events};
 ghost use Rattle.cluster_model.specs.Next.{acknowledge_events, promote_events, receive_events_at_most, receive_events_of};

@@ -29,7 +29,7 @@ use Rattle.event_book.specs.declared.message.Message.{Message}
 use Rattle.event_book.specs.Flight.{InFlightFacts}
 use Rattle.event_book.specs.Links.{is_cut}
 use Rattle.event_book.specs.Members.{server_of}
-use Rattle.ha_loop.specs.declared.machine.Machine.{Machine}
+use Rattle.agent_model.specs.declared.machine.Machine.{Machine}
 use Rattle.cluster_script.specs.declared.line.Command.{Command}
 use Rattle.cluster_script.specs.declared.line.Command.TheVariants as commands
 use Rattle.cluster_script.specs.declared.line.SlowedCall.{SlowedCall}

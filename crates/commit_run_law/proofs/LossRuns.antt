@@ -22,11 +22,11 @@ use Rattle.event_book.specs.declared.message.Body.{Body}
 use Rattle.event_book.specs.declared.message.Body.TheVariants as bodies
 use Rattle.event_book.specs.Members.{server_of}
 use Rattle.pg_model.specs.Facts.{fresh}
-use Rattle.ha_loop.specs.declared.heard.Heard.TheVariants.{Operated as HearsOperator, Wake}
-use Rattle.ha_loop.specs.declared.output.Output.{Output}
-use Rattle.ha_loop.specs.declared.output.Output.TheVariants as outputs
-use Rattle.ha_loop.specs.declared.output.Target.TheVariants as targets
-use Rattle.ha_loop.specs.Agents.{Outcome}
+use Rattle.agent_model.specs.declared.heard.Heard.TheVariants.{Operated as HearsOperator, Wake}
+use Rattle.agent_model.specs.declared.output.Output.{Output}
+use Rattle.agent_model.specs.declared.output.Output.TheVariants as outputs
+use Rattle.agent_model.specs.declared.output.Target.TheVariants as targets
+use Rattle.agent_model.specs.Agents.{Outcome}
 use Rattle.cluster_model.specs.declared.beginning.Beginning.{Beginning}
 use Rattle.cluster_model.specs.declared.beginning.Beginning.TheVariants as beginnings
 use Rattle.cluster_model.specs.declared.heard_message.HeardMessage.{HeardMessage}

@@ -17,7 +17,7 @@ use Rattle.event_book.specs.declared.message.Body.TheVariants as bodies
 use Rattle.event_book.specs.declared.message.Message.{Message}
 use Rattle.event_book.specs.Flight.{InFlightFacts, in_flight}
 use Rattle.event_book.specs.Functions.{put_at}
-use Rattle.ha_loop.specs.Agents.{AgentFacts}
+use Rattle.agent_model.specs.Agents.{AgentFacts}
 use Rattle.pg_model.specs.Facts.{ServerFacts}
 use Rattle.cluster_script.specs.Script.{HeadText}
 use Rattle.cluster_model.specs.Cluster.{agent_facts_reached, agent_facts_reached_at, cluster_after, cluster_over}
@@ -31,7 +31,7 @@ use Rattle.lease_law.specs.Premises.{AllAre}
 use Rattle.lease_law.specs.Showing.{granted_events, read_events, refused_events}
 use Rattle.lease_law.specs.Stores.{IsSpannedTxn, is_granted as is_grant}
 use Rattle.lease_law.proofs.Tools.{put-there}
-use Rattle.ha_loop.specs.Committing.{IsSynchronousBody, IsSynchronousTxn}
+use Rattle.agent_commit_law.specs.Committing.{IsSynchronousBody, IsSynchronousTxn}
 use Rattle.commit_law.specs.Actions.{Action, IsNumbered}
 use Rattle.commit_law.specs.Books.{Transition}
 use Rattle.commit_law.specs.Past.{claim_request, OtherQuery, Past, Setup, VolatileState, past_after, past_over}

@@ -10,8 +10,8 @@ use Rattle.event_book.specs.declared.member.Member.{Member}
 use Rattle.event_book.specs.Facts.{start_of}
 use Rattle.event_book.specs.Logs.{logs_in}
 use Rattle.event_book.specs.Required.{confirmed_in, required_in}
-use Rattle.ha_loop.specs.Agents.{AgentFacts}
-use Rattle.ha_loop.proofs.CommitInputs.{fresh-asks, fresh-seen}
+use Rattle.agent_model.specs.Agents.{AgentFacts}
+use Rattle.agent_commit_law.proofs.CommitInputs.{fresh-asks, fresh-seen}
 use Rattle.cluster_model.specs.Machines.{who_of}
 use Rattle.cluster_model.specs.Starting.{cluster_of, first_agent, options_of}
 use Rattle.lease_law.specs.Past as lease_past

@@ -6,8 +6,8 @@ use Rattle.event_book.specs.declared.link.LinkEnd.TheVariants as ends
 use Rattle.event_book.specs.declared.member.Member.{Member}
 use Rattle.event_book.specs.declared.message.Body.TheVariants as bodies
 use Rattle.event_book.specs.Flight.{InFlightFacts, in_flight}
-use Rattle.ha_loop.specs.Agents.{AgentFacts}
-use Rattle.ha_loop.specs.Committing.{committer_seen}
+use Rattle.agent_model.specs.Agents.{AgentFacts}
+use Rattle.agent_commit_law.specs.Committing.{committer_seen}
 use Rattle.cluster_script.specs.Script.{HeadText}
 use Rattle.cluster_model.specs.State.{Cluster}
 use Rattle.lease_law.specs.Leases.{FailsafeKey, LeaderKey, Question}

@@ -18,7 +18,8 @@ use Rattle.lease_store.specs.KeyOrder.{key_cmp}
 use Rattle.lease_law.proofs.Runs.{head-is, no-cons, tail-is}
 use Rattle.lease_law.proofs.Tools.{both, none-some, some-is}
 use Rattle.commit_law.specs.Keys.{SyncKey}
-use Rattle.ha_loop.specs.Committing.{IsStrict, IsSynchronousBody, IsSynchronousTxn}
+use Rattle.agent_commit_law.specs.Committing.{IsSynchronousBody, IsSynchronousTxn}
+use Rattle.commit_law.specs.Keys.{IsStrict}
 use Rattle.event_book.specs.Facts.{Facts}
 use Rattle.event_book.specs.Flight.{InFlightFacts, snapshot_for}
 use Rattle.cluster_model.specs.Cluster.{cluster_after, cluster_over}

@@ -14,10 +14,10 @@ use Rattle.pg_model.specs.Status.{end_in}
 use Rattle.event_book.specs.declared.event.Event.{Event}
 use Rattle.event_book.specs.declared.member.Member.{Member}
 use Rattle.event_book.specs.Links.{CutLinks}
-use Rattle.ha_loop.specs.declared.machine.Machine.{Machine}
-use Rattle.ha_loop.specs.declared.machine.Replication.{Replication}
-use Rattle.ha_loop.specs.Agents.{AgentFacts, made}
-use Rattle.ha_loop.specs.Committing.{IsEndOf, StandsToCommit}
+use Rattle.agent_model.specs.declared.machine.Machine.{Machine}
+use Rattle.agent_model.specs.declared.machine.Replication.{Replication}
+use Rattle.agent_model.specs.Agents.{AgentFacts, made}
+use Rattle.agent_commit_law.specs.Committing.{IsEndOf, StandsToCommit}
 use Rattle.cluster_script.specs.declared.head.MemberOptions.{MemberOptions}
 use Rattle.cluster_script.specs.Script.{HeadText}
 use Rattle.cluster_model.specs.Machines.{connected_end, connected_ends, is_connected, machine_from, machine_of, nothing_confirmed, replication_of}

@@ -12,9 +12,9 @@ use Rattle.event_book.specs.declared.event.Note.TheVariants.{AlreadyRunning}
 use Rattle.event_book.specs.declared.member.Member.{Member}
 use Rattle.event_book.specs.Facts.{Facts}
 use Rattle.event_book.specs.Functions.{put_at}
-use Rattle.ha_loop.specs.declared.machine.Machine.{Machine}
-use Rattle.ha_loop.specs.Agents.{AgentFacts}
-use Rattle.ha_loop.proofs.CommitInputs.{fresh-asks}
+use Rattle.agent_model.specs.declared.machine.Machine.{Machine}
+use Rattle.agent_model.specs.Agents.{AgentFacts}
+use Rattle.agent_commit_law.proofs.CommitInputs.{fresh-asks}
 use Rattle.cluster_model.specs.Cluster.{cluster_after, cluster_over}
 use Rattle.cluster_model.specs.Commands.{disarm_if, disarm_of, kinds_of}
 use Rattle.cluster_model.specs.Inputs.{starting_agent}

@@ -10,11 +10,11 @@ use Rattle.event_book.specs.declared.link.LinkEnd.TheVariants as ends
 use Rattle.event_book.specs.declared.message.Body.{Body}
 use Rattle.event_book.specs.declared.message.Body.TheVariants as bodies
 use Rattle.event_book.specs.Flight.{Flight, InFlightFacts, in_flight}
-use Rattle.ha_loop.specs.declared.knowledge.Question.{Question}
-use Rattle.ha_loop.specs.declared.knowledge.Waited.{Waited}
-use Rattle.ha_loop.specs.Agents.{AgentFacts}
-use Rattle.ha_loop.specs.Committing.{AsksOn, IsAskedBy, IsSynchronousBody}
-use Rattle.ha_loop.specs.Decisions.{asks_sync}
+use Rattle.agent_model.specs.declared.knowledge.Question.{Question}
+use Rattle.agent_model.specs.declared.knowledge.Waited.{Waited}
+use Rattle.agent_model.specs.Agents.{AgentFacts}
+use Rattle.agent_commit_law.specs.Committing.{AsksOn, IsAskedBy, IsSynchronousBody}
+use Rattle.agent_model.specs.Decisions.{asks_sync}
 use Rattle.commit_law.specs.Actions.{IsNumbered, sync_key_by}
 use Rattle.commit_law.specs.Flights.{SyncRequest}
 use Rattle.commit_law.specs.Past.{Query, SyncQuery}

@@ -11,7 +11,7 @@ use Rattle.event_book.specs.declared.link.LinkEnd.{LinkEnd}
 use Rattle.event_book.specs.declared.link.LinkEnd.TheVariants as ends
 use Rattle.event_book.specs.declared.message.Body.{Body}
 use Rattle.event_book.specs.declared.message.Body.TheVariants as bodies
-use Rattle.ha_loop.specs.Agents.{AgentFacts}
+use Rattle.agent_model.specs.Agents.{AgentFacts}
 use Rattle.sync_state.specs.Standbys.{noted_position}
 use Rattle.cluster_model.specs.Cluster.{cluster_after}
 use Rattle.cluster_model.specs.Starting.{cluster_of}

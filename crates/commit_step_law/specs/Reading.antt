@@ -5,8 +5,8 @@ use Rattle.event_book.specs.declared.event.Event.{Event}
 use Rattle.event_book.specs.Facts.{Facts, start_of}
 use Rattle.event_book.specs.Logs.{logs_in}
 use Rattle.event_book.specs.Required.{confirmed_in, required_in}
-use Rattle.ha_loop.specs.Agents.{AgentFacts}
-use Rattle.ha_loop.specs.Committing.{committer_seen}
+use Rattle.agent_model.specs.Agents.{AgentFacts}
+use Rattle.agent_commit_law.specs.Committing.{committer_seen}
 use Rattle.cluster_model.specs.State.{Cluster}
 use Rattle.commit_law.specs.Actions.{fresh_agent}
 use Rattle.commit_law.specs.Past.{Past, Setup, VolatileState, first_past, past_over, state_of}

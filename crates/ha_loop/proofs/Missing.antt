@@ -5,7 +5,7 @@ use Rattle.std.proofs.lemmas.List.{drop_more}
 use Rattle.std.proofs.lemmas.Option.{slice_get_within, get_or_from_slice_get, slice_get-get_or}
 use Rattle.wal_model.specs.declared.entry.HistoryPoint.{HistoryPoint}
 use Rattle.cluster_config.specs.Snapshots.{SnapshotFacts, has_row}
-use Rattle.ha_loop.specs.Snapshots.{missing_point}
+use Rattle.agent_model.specs.Snapshots.{missing_point}
 
 -- what is left of a list begins with the element that stands there
 drop-at : (points : List HistoryPoint) (i : ℕ) (point : HistoryPoint) → slice_get points i ≡ Some point → drop i points ≡ point ∷ drop (i + 1) points

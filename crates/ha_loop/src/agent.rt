@@ -2,19 +2,21 @@
 ghost use Rattle.std.specs.Prelude.{ℕ, Bool, ◌≡◌, ◌≤◌, ◌<◌, ◌+◌, ◌-◌, ◌^◌, [], Some, None, false, nat_le, option_copied};
 ghost use Rattle.pat_base.specs.declared.ticks.Ticks.{Ticks};
 ghost use Rattle.lease_law.specs.States.{start_machine};
-ghost use Rattle.ha_loop.specs.declared.machine.Machine.{Machine};
-ghost use Rattle.ha_loop.specs.declared.heard.Heard.TheVariants as heards;
-ghost use Rattle.ha_loop.specs.Agents.{AgentFacts, RoleFacts, IsSound, IsWithin, Follower, role_of, word_of, fresh_knowledge, made, latest, most_messages};
-ghost use Rattle.ha_loop.specs.Committing.{CommitsFrom};
-ghost use Rattle.ha_loop.specs.FreeKey.{AsksWhereFree, AsksWhereWon, BeginsWhereGranted};
-ghost use Rattle.ha_loop.specs.Lawful.{IsLawfulFrom};
-ghost use Rattle.ha_loop.specs.Outputs.{most_outputs};
-ghost use Rattle.ha_loop.specs.Seen.{machine_with, machine_seen};
-ghost use Rattle.ha_loop.specs.Start.{started_machine};
-ghost use Rattle.ha_loop.specs.Table.{prepared, step};
-ghost use Rattle.ha_loop.specs.Views.{view_of};
-ghost use Rattle.ha_loop.specs.Wake.{due_from, is_due};
+ghost use Rattle.agent_model.specs.declared.machine.Machine.{Machine};
+ghost use Rattle.agent_model.specs.declared.heard.Heard.TheVariants as heards;
+ghost use Rattle.agent_model.specs.Agents.{AgentFacts, RoleFacts, IsSound, IsWithin, Follower, word_of, fresh_knowledge, made, latest, most_messages};
+ghost use Rattle.ha_loop.specs.Roles.{role_of};
+ghost use Rattle.agent_commit_law.specs.Committing.{CommitsFrom};
+ghost use Rattle.agent_law.specs.FreeKey.{AsksWhereFree, AsksWhereWon, BeginsWhereGranted};
+ghost use Rattle.agent_lease_law.specs.Lawful.{IsLawfulFrom};
+ghost use Rattle.agent_model.specs.Outputs.{most_outputs};
+ghost use Rattle.agent_law.specs.Seen.{machine_with, machine_seen};
+ghost use Rattle.agent_model.specs.Start.{started_machine};
+ghost use Rattle.agent_model.specs.Table.{prepared, step};
+ghost use Rattle.agent_model.specs.Views.{view_of};
+ghost use Rattle.agent_model.specs.Wake.{due_from, is_due};
 
+use crate::Outputs;
 use crate::before::before;
 use crate::decisions::{granted, refused};
 use crate::operators::{
@@ -25,7 +27,7 @@ use crate::role::Role;
 use crate::snapshots::got;
 use crate::view::{view_of, word_of};
 use crate::wake::{due_from, is_due, wake};
-use crate::{Answers, Heard, Knowledge, Machine, Outputs, Who};
+use agent_model::{Answers, Heard, Knowledge, Machine, Who};
 use cluster_config::{AgentView, Snapshot};
 use lease_store::{Config, OperatorAction};
 use pat_base::{MemberSet, State, Ticks};
@@ -43,7 +45,8 @@ pub struct Agent {
 }
 
 impl Model for Agent {
-    ghost use Rattle.ha_loop.specs.Agents.{AgentFacts, IsSoundAgent, role_of};
+    ghost use Rattle.agent_model.specs.Agents.{AgentFacts, IsSoundAgent};
+    ghost use Rattle.ha_loop.specs.Roles.{role_of};
 
     ghost Value = { AgentFacts };
 

@@ -2,13 +2,15 @@
 ghost use Rattle.std.specs.Prelude.{◌≡◌, ◌≤◌, ◌<◌, ◌+◌, ◌^◌, Some, None, false, true};
 ghost use Rattle.pat_base.specs.ServerState.{live};
 ghost use Rattle.leader_key.specs.Lease.{armed_revision, writer_revision};
-ghost use Rattle.ha_loop.specs.Acting.{disarming, disarmed, without_deadline};
-ghost use Rattle.ha_loop.specs.Agents.{IsSound, Follower, Holder, Ready, Leader, Ending, Stray, role_of, made};
-ghost use Rattle.ha_loop.specs.Before.{noted_or, leader_finds_ended, has_ended, finds_live, stray_finds_ended, before_as, before};
+ghost use Rattle.agent_model.specs.Acting.{disarming, disarmed, without_deadline};
+ghost use Rattle.agent_model.specs.Agents.{IsSound, Follower, Holder, Ready, Leader, Ending, Stray, made};
+ghost use Rattle.ha_loop.specs.Roles.{role_of};
+ghost use Rattle.agent_model.specs.Before.{noted_or, leader_finds_ended, has_ended, finds_live, stray_finds_ended, before_as, before};
 
+use crate::Outputs;
 use crate::acting::{disarm, end_writer, release, undo};
 use crate::role::Role;
-use crate::{Knowledge, Machine, Outputs, Why};
+use agent_model::{Knowledge, Machine, Why};
 use leader_key::{Armed, Lease, Writer};
 use pat_base::Ticks;
 

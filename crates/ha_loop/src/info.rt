@@ -1,8 +1,8 @@
 //! What members tell of themselves.
 ghost use Rattle.std.specs.Prelude.{◌≡◌};
-ghost use Rattle.ha_loop.specs.Info.{state_word, runs, info_of};
+ghost use Rattle.agent_model.specs.Info.{state_word, runs, info_of};
 
-use crate::Who;
+use agent_model::Who;
 use lease_store::MemberInfo;
 use pat_base::{State, Word};
 use pg_model::ServerStatus;

@@ -1,9 +1,10 @@
 //! Lists of outputs, with room taken before.
 ghost use Rattle.std.specs.Prelude.{◌≡◌, ◌≤◌, ◌+◌, ◌++◌, [], OnOk, OnErr, option_to_list, IsNone, ◌↔◌};
 ghost use Rattle.std.specs.VecDeque.{deque_len, deque_capacity};
-ghost use Rattle.ha_loop.specs.Outputs.{OutputsFacts, listed};
+ghost use Rattle.agent_model.specs.Outputs.{listed};
+ghost use Rattle.ha_loop.specs.Room.{OutputsFacts};
 
-use crate::Output;
+use agent_model::Output;
 use std::alloc::{AllocError, Global};
 use std::collections::VecDeque;
 use std::marker::Model;
@@ -17,7 +18,7 @@ pub struct Outputs {
 impl Model for Outputs {
     ghost use Rattle.std.specs.Prelude.{◌-◌};
     ghost use Rattle.std.specs.VecDeque.{deque_len, deque_capacity};
-    ghost use Rattle.ha_loop.specs.Outputs.{OutputsFacts};
+    ghost use Rattle.ha_loop.specs.Room.{OutputsFacts};
 
     ghost Value = { OutputsFacts };
 

@@ -2,14 +2,16 @@
 //! handover (Patroni's documentation, "Pause/Resume mode for the cluster").
 ghost use Rattle.std.specs.Prelude.{◌≡◌, ◌≤◌, ◌+◌, Some, None, true, option_copied};
 ghost use Rattle.leader_key.specs.Lease.{armed_revision, lease_revision, writer_revision};
-ghost use Rattle.ha_loop.specs.declared.output.Output.TheVariants as outputs;
-ghost use Rattle.ha_loop.specs.Acting.{without_deadline};
-ghost use Rattle.ha_loop.specs.Agents.{Stray, role_of};
-ghost use Rattle.ha_loop.specs.Outputs.{listed};
-ghost use Rattle.ha_loop.specs.Pausing.{ends_forks, is_paused, is_replica, is_wanted, is_wanted_by, lets_rewind, may_start_behind, rest_told};
+ghost use Rattle.agent_model.specs.declared.output.Output.TheVariants as outputs;
+ghost use Rattle.agent_model.specs.Acting.{without_deadline};
+ghost use Rattle.agent_model.specs.Agents.{Stray};
+ghost use Rattle.ha_loop.specs.Roles.{role_of};
+ghost use Rattle.agent_model.specs.Outputs.{listed};
+ghost use Rattle.agent_model.specs.Pausing.{ends_forks, is_paused, is_replica, is_wanted, is_wanted_by, lets_rewind, may_start_behind, rest_told};
 
+use crate::Outputs;
 use crate::role::Role;
-use crate::{Knowledge, Machine, Output, Outputs};
+use agent_model::{Knowledge, Machine, Output};
 use cluster_config::{Snapshot, is_candidate};
 use leader_key::{Armed, Lease, Writer};
 use lease_store::{Config, FailoverKey, Granted};

@@ -1,5 +1,6 @@
 //! What an agent is to its cluster, with the values that say so.
 
+use agent_model::Why;
 use leader_key::{Armed, Lease, Writer};
 
 /// What an agent is to its cluster. The values can't be copied or dropped: who has none has no leader key.
@@ -17,11 +18,4 @@ pub(crate) enum Role {
     Ending(Writer, Why),
     /// Its server accepts writes, or will, while it has no lease.
     Stray,
-}
-
-/// Why an agent ends its server: so that another member leads, or because it lost the leader key.
-#[derive(Clone, Copy, Debug, PartialEq, Eq)]
-pub enum Why {
-    HandOver,
-    Lost,
 }

@@ -1,10 +1,11 @@
 //! What an agent shows of itself and of its server.
 ghost use Rattle.std.specs.Prelude.{◌≡◌, None, option_copied};
-ghost use Rattle.ha_loop.specs.Agents.{role_of, word_of};
-ghost use Rattle.ha_loop.specs.Views.{view_of};
+ghost use Rattle.agent_model.specs.Agents.{word_of};
+ghost use Rattle.ha_loop.specs.Roles.{role_of};
+ghost use Rattle.agent_model.specs.Views.{view_of};
 
 use crate::role::Role;
-use crate::{Knowledge, Machine};
+use agent_model::{Knowledge, Machine};
 use cluster_config::{AgentView, RoleWord};
 use pat_base::Ticks;
 

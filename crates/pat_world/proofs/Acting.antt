@@ -13,33 +13,33 @@ use Rattle.lease_store.specs.declared.txn.Txn.TheVariants as txns
 use Rattle.lease_store.specs.Writes.{ttl_of}
 use Rattle.wal_model.specs.declared.entry.HistoryPoint.{HistoryPoint}
 use Rattle.cluster_config.specs.Snapshots.{SnapshotFacts}
-use Rattle.ha_loop.specs.declared.heard.Heard.{Heard}
-use Rattle.ha_loop.specs.declared.heard.Heard.TheVariants as heards
-use Rattle.ha_loop.specs.declared.output.Output.{Output}
-use Rattle.ha_loop.specs.declared.output.Output.TheVariants as outputs
-use Rattle.ha_loop.specs.declared.output.Target.TheVariants as targets
-use Rattle.ha_loop.specs.declared.role.Why.{Why}
-use Rattle.ha_loop.specs.declared.who.Who.{Who}
+use Rattle.agent_model.specs.declared.heard.Heard.{Heard}
+use Rattle.agent_model.specs.declared.heard.Heard.TheVariants as heards
+use Rattle.agent_model.specs.declared.output.Output.{Output}
+use Rattle.agent_model.specs.declared.output.Output.TheVariants as outputs
+use Rattle.agent_model.specs.declared.output.Target.TheVariants as targets
+use Rattle.agent_model.specs.declared.why.Why.{Why}
+use Rattle.agent_model.specs.declared.who.Who.{Who}
 use Rattle.event_book.specs.declared.message.Body.TheVariants as bodies
-use Rattle.ha_loop.specs.declared.role.Why.TheVariants.{HandOver, Lost}
-use Rattle.ha_loop.specs.Acting.{arming, armed, deadline_after, disarmed, fed_until, is_refusing, touching, waiting_no_more}
-use Rattle.ha_loop.specs.Agents.{Follower, Outcome}
-use Rattle.ha_loop.specs.Before.{before, has_ended}
-use Rattle.ha_loop.specs.Claiming.{begins, begins_or_claims, claims, passing, postpones}
-use Rattle.ha_loop.specs.Decisions.{arms, gives_back, granted, leader_renewed, may_take, refused, stray_renewed, takes_key, takes_over, takes_key_in_pause}
-use Rattle.ha_loop.specs.HandingOver.{asking_whom, hands_over}
-use Rattle.ha_loop.specs.Operators.{given_up, looked, operated}
-use Rattle.ha_loop.specs.Outputs.{listed, most_outputs}
-use Rattle.ha_loop.specs.Racing.{finds_free, judged, unheard}
-use Rattle.ha_loop.specs.Repairs.{repair_of}
-use Rattle.ha_loop.specs.Snapshots.{follow_row, follows, got, informed, read_noted, led_by_another}
-use Rattle.ha_loop.specs.Table.{granted_any, refused_any, step}
-use Rattle.ha_loop.specs.Wake.{overdue, turned, woken}
-use Rattle.ha_loop.proofs.Rows.{HandoverRows, ReplyRows, WritesSync, led_on, if-cases, begins-or-claims-by, passing-by, renewed-by, before-by, overdue-by, turn-by, wake-by, got-by, refused-by, granted-by, follow-by, repaired-by, free-by, judged-by, answered-by, given-up-by, looked-by, granted-any-by, refused-any-by, DutyRows, duties-of, rested_on, takes-in-pause-by}
-use Rattle.ha_loop.specs.Answers.{is_other, most_answers, asking_one, asking_first}
-use Rattle.ha_loop.specs.Peers.{keeping, answered}
+use Rattle.agent_model.specs.declared.why.Why.TheVariants.{HandOver, Lost}
+use Rattle.agent_model.specs.Acting.{arming, armed, deadline_after, disarmed, fed_until, is_refusing, touching, waiting_no_more}
+use Rattle.agent_model.specs.Agents.{Follower, Outcome}
+use Rattle.agent_model.specs.Before.{before, has_ended}
+use Rattle.agent_model.specs.Claiming.{begins, begins_or_claims, claims, passing, postpones}
+use Rattle.agent_model.specs.Decisions.{arms, gives_back, granted, leader_renewed, may_take, refused, stray_renewed, takes_key, takes_over, takes_key_in_pause}
+use Rattle.agent_model.specs.HandingOver.{asking_whom, hands_over}
+use Rattle.agent_model.specs.Operators.{given_up, looked, operated}
+use Rattle.agent_model.specs.Outputs.{listed, most_outputs}
+use Rattle.agent_model.specs.Racing.{finds_free, judged, unheard}
+use Rattle.agent_model.specs.Repairs.{repair_of}
+use Rattle.agent_model.specs.Snapshots.{follow_row, follows, got, informed, read_noted, led_by_another}
+use Rattle.agent_model.specs.Table.{granted_any, refused_any, step}
+use Rattle.agent_model.specs.Wake.{overdue, turned, woken}
+use Rattle.agent_law.proofs.Rows.{HandoverRows, ReplyRows, WritesSync, led_on, if-cases, begins-or-claims-by, passing-by, renewed-by, before-by, overdue-by, turn-by, wake-by, got-by, refused-by, granted-by, follow-by, repaired-by, free-by, judged-by, answered-by, given-up-by, looked-by, granted-any-by, refused-any-by, DutyRows, duties-of, rested_on, takes-in-pause-by}
+use Rattle.agent_model.specs.Answers.{is_other, most_answers, asking_one, asking_first}
+use Rattle.agent_model.specs.Peers.{keeping, answered}
 use Rattle.pat_world.specs.Short.{AsksShortly}
-use Rattle.ha_loop.specs.Pausing.{may_start_behind, rest_told, resting}
+use Rattle.agent_model.specs.Pausing.{may_start_behind, rest_told, resting}
 
 -- from this number of messages and these outputs on there are so many more at most, and each asks shortly if each did before
 record Grows (most sequence later : ℕ) (before after : List Output) : Type 0 where

@@ -20,9 +20,9 @@ use Rattle.operator_keys.specs.ServerChecks.{reinit_refusal, restart_refusal}
 use Rattle.event_book.specs.declared.event.Event.{Event}
 use Rattle.event_book.specs.declared.event.EventKind.{EventKind}
 use Rattle.event_book.specs.declared.member.Member.{Member}
-use Rattle.ha_loop.specs.declared.machine.Machine.{Machine}
-use Rattle.ha_loop.specs.Agents.{AgentFacts, Outcome, made, most_messages}
-use Rattle.ha_loop.specs.Views.{shown}
+use Rattle.agent_model.specs.declared.machine.Machine.{Machine}
+use Rattle.agent_model.specs.Agents.{AgentFacts, Outcome, made, most_messages}
+use Rattle.agent_model.specs.Views.{shown}
 use Rattle.cluster_model.specs.Inputs.{agent_at, moment_of, standing, standing_of}
 use Rattle.cluster_model.specs.Machines.{machine_of}
 use Rattle.cluster_model.specs.Messages.{call_events_of, decided_events, operate_events}

@@ -26,7 +26,7 @@ use Rattle.cluster_model.specs.State.{Cluster}
 use Rattle.cluster_model.specs.Messages.{heard_message, input_events, send_events, answer_message, answer_events, decision_events, published_names, arrival_events, arrival_events_at}
 use Rattle.cluster_model.specs.Parts.{event_of, for_some}
 use Rattle.pat_world.specs.Room.{decision_cost, message_cost, outputs_cost, sending_cost}
-use Rattle.ha_loop.specs.Agents.{AgentFacts}
+use Rattle.agent_model.specs.Agents.{AgentFacts}
 use Rattle.pat_world.specs.Emits.{Emits}
 use Rattle.pat_world.specs.Comes.{Counts}
 use Rattle.pat_world.proofs.Taking.{Emits-nothing, Emits-one, Emits-then}

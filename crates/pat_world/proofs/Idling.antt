@@ -35,10 +35,10 @@ use Rattle.event_book.specs.declared.member.Member.{Member}
 use Rattle.cluster_script.specs.declared.head.MemberOptions.{MemberOptions}
 use Rattle.cluster_script.specs.declared.line.Step.{Step}
 use Rattle.cluster_script.specs.declared.line.Step.TheVariants as steps
-use Rattle.ha_loop.specs.declared.machine.Replication.{Replication}
-use Rattle.ha_loop.specs.Agents.{AgentFacts, Outcome}
-use Rattle.ha_loop.specs.Wake.{due_from}
-use Rattle.ha_loop.proofs.Waiting.{due-at}
+use Rattle.agent_model.specs.declared.machine.Replication.{Replication}
+use Rattle.agent_model.specs.Agents.{AgentFacts, Outcome}
+use Rattle.agent_model.specs.Wake.{due_from}
+use Rattle.agent_model.proofs.Waiting.{due-at}
 use Rattle.cluster_model.specs.Acknowledging.{AreAcknowledged, IsDone, acknowledge_kinds, acknowledgements, confirmed_front}
 use Rattle.cluster_model.specs.Cluster.{cluster_after, cluster_over}
 use Rattle.cluster_model.specs.declared.beginning.Completion.{Completion}

@@ -33,13 +33,13 @@ use Rattle.event_book.specs.declared.message.Message.{Message}
 use Rattle.event_book.specs.declared.reason.Reason.{Reason}
 use Rattle.event_book.specs.Flight.{Flight, InFlightFacts, flight_after, in_flight, sent_after}
 use Rattle.event_book.specs.Members.{server_of}
-use Rattle.ha_loop.specs.declared.operating.Told.{Told}
-use Rattle.ha_loop.specs.declared.operating.Told.TheVariants as tolds
-use Rattle.ha_loop.specs.declared.output.Output.{Output}
-use Rattle.ha_loop.specs.declared.output.Output.TheVariants as outputs
-use Rattle.ha_loop.specs.declared.output.Target.TheVariants as targets
-use Rattle.ha_loop.specs.Agents.{AgentFacts}
-use Rattle.ha_loop.specs.Operators.{ok}
+use Rattle.agent_model.specs.declared.operating.Told.{Told}
+use Rattle.agent_model.specs.declared.operating.Told.TheVariants as tolds
+use Rattle.agent_model.specs.declared.output.Output.{Output}
+use Rattle.agent_model.specs.declared.output.Output.TheVariants as outputs
+use Rattle.agent_model.specs.declared.output.Target.TheVariants as targets
+use Rattle.agent_model.specs.Agents.{AgentFacts}
+use Rattle.agent_model.specs.Operators.{ok}
 use Rattle.cluster_model.specs.declared.beginning.Beginning.{Beginning}
 use Rattle.cluster_model.specs.declared.beginning.Beginning.TheVariants as beginnings
 use Rattle.cluster_model.specs.declared.delivery.Delivery.{Delivery}

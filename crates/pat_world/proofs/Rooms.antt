@@ -25,12 +25,12 @@ use Rattle.event_book.specs.Agents.{with_member_changed, agents_by, agents_by_wa
 use Rattle.event_book.specs.Clock.{now_after}
 use Rattle.event_book.specs.Flight.{InFlightFacts, Flight, in_flight, sent_after}
 use Rattle.event_book.specs.Keys.{keys_after}
-use Rattle.ha_loop.specs.declared.heard.Heard.{Heard}
-use Rattle.ha_loop.specs.declared.heard.Heard.TheVariants.{Wake, Operated}
-use Rattle.ha_loop.specs.declared.machine.Machine.{Machine}
-use Rattle.ha_loop.specs.Agents.{AgentFacts, made, most_messages}
-use Rattle.ha_loop.specs.Outputs.{most_outputs}
-use Rattle.ha_loop.specs.Table.{step}
+use Rattle.agent_model.specs.declared.heard.Heard.{Heard}
+use Rattle.agent_model.specs.declared.heard.Heard.TheVariants.{Wake, Operated}
+use Rattle.agent_model.specs.declared.machine.Machine.{Machine}
+use Rattle.agent_model.specs.Agents.{AgentFacts, made, most_messages}
+use Rattle.agent_model.specs.Outputs.{most_outputs}
+use Rattle.agent_model.specs.Table.{step}
 use Rattle.wal_model.specs.declared.entry.HistoryPoint.{HistoryPoint}
 use Rattle.cluster_script.specs.declared.head.MemberOptions.{MemberOptions}
 use Rattle.cluster_model.specs.Cluster.{agent_after, agent_facts_after, agent_facts_by, agent_facts_by_message, agent_facts_by_watchdog, agent_facts_moved, agent_facts_reached, agent_facts_reached_at, agent_facts_with, cluster_after}

@@ -5,7 +5,7 @@ use Rattle.cluster_script.specs.declared.head.MemberOptions.{MemberOptions}
 use Rattle.event_book.specs.declared.event.EventKind.{EventKind}
 use Rattle.event_book.specs.declared.event.EventKind.TheVariants as kinds
 use Rattle.event_book.specs.declared.member.Member.{Member}
-use Rattle.ha_loop.specs.Agents.{AgentFacts}
+use Rattle.agent_model.specs.Agents.{AgentFacts}
 use Rattle.cluster_model.specs.Cluster.{agent_facts_by_watchdog, agent_facts_moved}
 
 -- the agents of a cluster of this name with these members, of whom these options are declared, after a happening of this moment that is no input of one

@@ -17,8 +17,8 @@ use Rattle.event_book.specs.Links.{CutLinks}
 use Rattle.cluster_script.specs.declared.line.Step.{Step}
 use Rattle.cluster_script.specs.declared.line.Step.TheVariants as steps
 use Rattle.cluster_script.specs.declared.head.MemberOptions.{MemberOptions}
-use Rattle.ha_loop.specs.Agents.{AgentFacts, Outcome}
-use Rattle.ha_loop.specs.Wake.{due_from}
+use Rattle.agent_model.specs.Agents.{AgentFacts, Outcome}
+use Rattle.agent_model.specs.Wake.{due_from}
 use Rattle.cluster_model.specs.declared.delivery.Delivery.TheVariants.{Suspended}
 use Rattle.cluster_model.specs.Acknowledging.{AreAcknowledged}
 use Rattle.cluster_model.specs.Cluster.{cluster_over}

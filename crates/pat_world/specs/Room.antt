@@ -1,7 +1,7 @@
 -- How far a cluster may go, and how many events its parts bring at most.
 use Rattle.std.specs.Prelude.{ℕ, ◌+◌, ◌*◌, ◌^◌, ◌<◌, ◌≤◌, All, Option, IfSome}
-use Rattle.ha_loop.specs.Agents.{AgentFacts, most_messages}
-use Rattle.ha_loop.specs.Outputs.{most_outputs}
+use Rattle.agent_model.specs.Agents.{AgentFacts, most_messages}
+use Rattle.agent_model.specs.Outputs.{most_outputs}
 use Rattle.cluster_model.specs.Limits.{most_in_flight, most_members, most_rounds}
 use Rattle.cluster_model.specs.State.{Cluster}
 

@@ -7,12 +7,12 @@ ghost use Rattle.cluster_model.specs.State.{Cluster};
 ghost use Rattle.pat_world.specs.Comes.{MayCome};
 
 use crate::naming::required_names;
+use agent_model::{Output, Target};
 use cluster_model::HeardMessage;
 use event_book::{
     AgentEvent, Basis, EventKind, LinkEnd, LogEvent, Member, Note, ReplicationEvent, ServerEvent,
     ServerOf, WatchdogEvent,
 };
-use ha_loop::{Output, Target};
 use lease_store::Bar;
 use pat_base::{MemberId, Name, Required, State, Ticks};
 use pg_model::Servers;

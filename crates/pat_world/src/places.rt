@@ -1,8 +1,8 @@
 //! The agents of members, each at the place of its member. An agent can't be dropped: one that ends is wrecked.
 ghost use Rattle.std.specs.Prelude.{ℕ, ◌≡◌, ◌≤◌, ◌<◌, ◌+◌, [], List, Option, Some, None, All, IfSome, IfOk, length, map, option_copied};
 ghost use Rattle.pat_base.specs.Changes.{with_changed};
-ghost use Rattle.ha_loop.specs.Agents.{AgentFacts, IsWithin, latest, most_messages};
-ghost use Rattle.ha_loop.specs.Outputs.{most_outputs};
+ghost use Rattle.agent_model.specs.Agents.{AgentFacts, IsWithin, latest, most_messages};
+ghost use Rattle.agent_model.specs.Outputs.{most_outputs};
 ghost use Rattle.cluster_model.specs.Cluster.{agent_after, agent_facts_moved, agent_facts_by_watchdog, agent_facts_without};
 ghost use Rattle.cluster_model.specs.Inputs.{agent_at, outcome_at, outputs_of, standing, starting_agent};
 ghost use Rattle.cluster_model.specs.Limits.{most_members};
@@ -10,9 +10,10 @@ ghost use Rattle.cluster_model.specs.Starting.{first_agent};
 ghost use Rattle.pat_world.specs.Room.{HasNumbers};
 
 use crate::machines::who_of;
+use agent_model::{Heard, Machine, Who};
 use cluster_script::MemberOptions;
 use event_book::{AgentEvent, Member, WatchdogEvent};
-use ha_loop::{Agent, Heard, Machine, Outputs, Who};
+use ha_loop::{Agent, Outputs};
 use pat_base::{Name, Ticks};
 use std::alloc::{AllocError, Global};
 use wal_model::History;

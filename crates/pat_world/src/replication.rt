@@ -5,8 +5,8 @@ ghost use Rattle.cluster_model.specs.Machines.{connected_end, connected_ends, is
 
 use crate::links::CutLinks;
 use crate::streaming::source_of;
+use agent_model::Replication;
 use event_book::Member;
-use ha_loop::Replication;
 use pat_base::{Lsn, MemberId};
 use pg_model::{Server, Servers};
 

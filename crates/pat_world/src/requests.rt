@@ -11,10 +11,11 @@ ghost use Rattle.cluster_model.specs.State.{Cluster};
 ghost use Rattle.pat_world.specs.Calls.{decision_by};
 ghost use Rattle.pat_world.specs.Comes.{MayCome};
 
+use agent_model::Told;
 use cluster_config::AgentView;
 use cluster_script::RestCall;
 use event_book::{Bytes, EventKind, Member, Note};
-use ha_loop::{Agent, Told};
+use ha_loop::Agent;
 use lease_store::{ConfigValue, FailoverKey, FailoverKind, OperatorAction, OperatorRequest};
 use operator_keys::{
     CheckFault, ConfigChange, Refused, Text, check_configuration, check_failover, check_reinit,

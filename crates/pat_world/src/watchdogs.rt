@@ -9,8 +9,8 @@ ghost use Rattle.cluster_model.specs.Ticking.{reset_of};
 ghost use Rattle.pat_world.specs.Comes.{MayCome};
 ghost use Rattle.pat_world.specs.Idle.{NoneResets};
 
+use agent_model::Machine;
 use event_book::{AgentProcess, EventKind, Member, WatchdogEvent};
-use ha_loop::Machine;
 use pat_base::Ticks;
 
 /// The deadlines after what happens to a watchdog.

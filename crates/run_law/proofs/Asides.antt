@@ -14,7 +14,7 @@ use Rattle.event_book.specs.declared.member.Member.{Member}
 use Rattle.event_book.specs.Agents.{agents_after, running_in}
 use Rattle.event_book.specs.Facts.{Facts}
 use Rattle.event_book.specs.Writers.{BeginsKind}
-use Rattle.ha_loop.specs.Agents.{AgentFacts}
+use Rattle.agent_model.specs.Agents.{AgentFacts}
 use Rattle.cluster_model.specs.Cluster.{agent_facts_after, cluster_after, cluster_over}
 use Rattle.cluster_script.specs.Script.{HeadText}
 use Rattle.cluster_model.specs.State.{Cluster}
@@ -35,7 +35,7 @@ use Rattle.run_law.specs.Machines.{run_in}
 use Rattle.run_law.proofs.Machines.{machines-by, sized-by}
 use Rattle.run_law.proofs.Places.{get-changed, length-changed, there}
 use Rattle.run_law.proofs.Waiting.{aside-within, waiting-aside, waiting-started}
-use Rattle.ha_loop.specs.Pausing.{is_paused}
+use Rattle.agent_model.specs.Pausing.{is_paused}
 
 -- what such an event is beside
 aside-spanned : (May : ℕ → Type 0) (kind : EventKind) → IsAsideIn May kind → IsSpanned kind

@@ -13,7 +13,7 @@ use Rattle.event_book.specs.declared.event.ServerEvent.TheVariants as servers
 use Rattle.event_book.specs.declared.member.Member.{Member}
 use Rattle.event_book.specs.declared.member.ServerOf.{ServerOf}
 use Rattle.event_book.specs.Functions.{put_at}
-use Rattle.ha_loop.specs.Agents.{AgentFacts}
+use Rattle.agent_model.specs.Agents.{AgentFacts}
 use Rattle.cluster_model.specs.Cluster.{cluster_after}
 use Rattle.cluster_script.specs.Script.{HeadText}
 use Rattle.cluster_model.specs.Parts.{event_of}

@@ -21,11 +21,11 @@ use Rattle.event_book.specs.declared.message.Body.TheVariants as bodies
 use Rattle.event_book.specs.declared.message.Message.{Message}
 use Rattle.event_book.specs.Flight.{InFlightFacts, in_flight}
 use Rattle.event_book.specs.Links.{is_cut}
-use Rattle.ha_loop.specs.declared.heard.Heard.{Heard}
-use Rattle.ha_loop.specs.declared.heard.Heard.TheVariants.{Operated, Wake}
-use Rattle.ha_loop.specs.declared.machine.Machine.{Machine}
-use Rattle.ha_loop.specs.Agents.{AgentFacts, Outcome, made}
-use Rattle.ha_loop.specs.Lawful.{Hears}
+use Rattle.agent_model.specs.declared.heard.Heard.{Heard}
+use Rattle.agent_model.specs.declared.heard.Heard.TheVariants.{Operated, Wake}
+use Rattle.agent_model.specs.declared.machine.Machine.{Machine}
+use Rattle.agent_model.specs.Agents.{AgentFacts, Outcome, made}
+use Rattle.agent_lease_law.specs.Lawful.{Hears}
 use Rattle.cluster_script.specs.Script.{HeadText}
 use Rattle.cluster_model.specs.declared.delivery.Delivery.TheVariants as deliveries
 use Rattle.cluster_model.specs.Cluster.{agent_after, agent_facts_reached, agent_facts_reached_at, agent_facts_with, cluster_after}
@@ -50,7 +50,7 @@ use Rattle.run_law.specs.Kept.{IsKept, one_writer}
 use Rattle.run_law.specs.Volatile.{agent_now, volatile_of}
 use Rattle.run_law.specs.Waiting.{IsAddressed, IsAnswer, IsPeerBody}
 use Rattle.run_law.proofs.Actions.{action-kept, machines-kept}
-use Rattle.ha_loop.proofs.Knowing.{tells_pause, told_by}
+use Rattle.agent_law.proofs.Knowing.{tells_pause, told_by}
 use Rattle.run_law.proofs.InputHears.{calm-from, unpaused-told, hears-by, peers-hear}
 use Rattle.run_law.proofs.InputKept.{IsBegun, begun-by, input-kept, opening-addressed}
 use Rattle.run_law.proofs.InputKinds.{IsOpening, opening-hands_off, opening-members}

@@ -10,7 +10,7 @@ use Rattle.pg_model.specs.Facts.{fresh}
 use Rattle.event_book.specs.declared.member.Member.{Member}
 use Rattle.event_book.specs.Agents.{first_agents, running_in}
 use Rattle.event_book.specs.Writers.{writes_now}
-use Rattle.ha_loop.specs.Agents.{AgentFacts}
+use Rattle.agent_model.specs.Agents.{AgentFacts}
 use Rattle.cluster_script.specs.declared.head.MemberOptions.{MemberOptions}
 use Rattle.cluster_script.specs.Script.{HeadText, names_of}
 use Rattle.cluster_model.specs.Machines.{who_of}
@@ -31,7 +31,7 @@ use Rattle.run_law.specs.Volatile.{agent_now, volatile_of}
 use Rattle.run_law.proofs.Fresh.{fresh-seen}
 use Rattle.run_law.proofs.Members.{counted, numbered}
 use Rattle.run_law.proofs.Waiting.{waiting-first}
-use Rattle.ha_loop.specs.Pausing.{is_paused}
+use Rattle.agent_model.specs.Pausing.{is_paused}
 
 -- at each place of a list of one thing stands that thing, or none
 module _ {A B : Type 0} (x : A) (see : Option A → B) (y : B) (none : see None ≡ y) (some : see (Some x) ≡ y) where

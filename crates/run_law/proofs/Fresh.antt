@@ -3,7 +3,7 @@ use Rattle.std.proofs.Common.{ℕ, ◌≡◌, ◌==◌, Bool, false, ap}
 use Rattle.std.proofs.Math.Path.{fun_ext}
 use Rattle.std.proofs.lemmas.Nat.Bits.{bit_at-zero}
 use Rattle.std.specs.Int.{bit_at}
-use Rattle.ha_loop.specs.declared.who.Who.{Who}
+use Rattle.agent_model.specs.declared.who.Who.{Who}
 use Rattle.cluster_model.specs.Inputs.{starting_agent}
 use Rattle.lease_law.specs.States.{Agent, fresh_agent}
 use Rattle.run_law.specs.AgentSeen.{agent_seen}

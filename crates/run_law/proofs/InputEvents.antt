@@ -24,16 +24,16 @@ use Rattle.event_book.specs.declared.reason.Basis.TheVariants as bases
 use Rattle.event_book.specs.declared.reason.Reason.{Reason}
 use Rattle.event_book.specs.Links.{CutLinks, is_cut}
 use Rattle.event_book.specs.Members.{server_of}
-use Rattle.ha_loop.specs.declared.operating.Told.{Told}
-use Rattle.ha_loop.specs.declared.operating.Told.TheVariants as tolds
-use Rattle.ha_loop.specs.declared.output.Output.{Output}
-use Rattle.ha_loop.specs.declared.output.Output.TheVariants as outputs
-use Rattle.ha_loop.specs.declared.output.Repair.{Repair}
-use Rattle.ha_loop.specs.declared.output.Repair.TheVariants as repairs
-use Rattle.ha_loop.specs.declared.output.Target.TheVariants as targets
-use Rattle.ha_loop.specs.Agents.{AgentFacts}
-use Rattle.ha_loop.specs.Operators.{ok}
-use Rattle.ha_loop.specs.Orders.{IsAsk, IsOfTable}
+use Rattle.agent_model.specs.declared.operating.Told.{Told}
+use Rattle.agent_model.specs.declared.operating.Told.TheVariants as tolds
+use Rattle.agent_model.specs.declared.output.Output.{Output}
+use Rattle.agent_model.specs.declared.output.Output.TheVariants as outputs
+use Rattle.agent_model.specs.declared.output.Repair.{Repair}
+use Rattle.agent_model.specs.declared.output.Repair.TheVariants as repairs
+use Rattle.agent_model.specs.declared.output.Target.TheVariants as targets
+use Rattle.agent_model.specs.Agents.{AgentFacts}
+use Rattle.agent_model.specs.Operators.{ok}
+use Rattle.agent_law.specs.Orders.{IsAsk, IsOfTable}
 use Rattle.cluster_model.specs.declared.beginning.Beginning.{Beginning}
 use Rattle.cluster_model.specs.declared.beginning.Beginning.TheVariants as beginnings
 use Rattle.cluster_model.specs.declared.heard_message.HeardMessage.{HeardMessage}

@@ -22,15 +22,15 @@ use Rattle.event_book.specs.declared.message.Body.TheVariants as bodies
 use Rattle.event_book.specs.declared.message.Message.{Message}
 use Rattle.event_book.specs.Flight.{Flight, InFlightFacts, in_flight}
 use Rattle.cluster_script.specs.Script.{HeadText}
-use Rattle.ha_loop.specs.declared.heard.Heard.{Heard}
-use Rattle.ha_loop.specs.declared.heard.Heard.TheVariants as heards
-use Rattle.ha_loop.specs.declared.knowledge.Waited.{Waited}
-use Rattle.ha_loop.specs.declared.machine.Machine.{Machine}
-use Rattle.ha_loop.specs.Agents.{AgentFacts, Outcome, made}
-use Rattle.ha_loop.specs.Decisions.{asks_lease, is_decision, is_lease_of}
-use Rattle.ha_loop.specs.Lawful.{HearsAnswer, HearsGrant, Hears}
-use Rattle.ha_loop.specs.Seen.{leader_entry_seen, failsafe_entry_seen}
-use Rattle.ha_loop.proofs.Knowing.{tells_pause, told_by}
+use Rattle.agent_model.specs.declared.heard.Heard.{Heard}
+use Rattle.agent_model.specs.declared.heard.Heard.TheVariants as heards
+use Rattle.agent_model.specs.declared.knowledge.Waited.{Waited}
+use Rattle.agent_model.specs.declared.machine.Machine.{Machine}
+use Rattle.agent_model.specs.Agents.{AgentFacts, Outcome, made}
+use Rattle.agent_model.specs.Decisions.{asks_lease, is_decision, is_lease_of}
+use Rattle.agent_lease_law.specs.Lawful.{HearsAnswer, HearsGrant, Hears}
+use Rattle.agent_law.specs.Seen.{leader_entry_seen, failsafe_entry_seen}
+use Rattle.agent_law.proofs.Knowing.{tells_pause, told_by}
 use Rattle.pat_base.specs.declared.member_id.MemberId.{MemberId}
 use Rattle.cluster_model.specs.Hearing.{member_at_end, heard_from, heard_in, snapshot_in}
 use Rattle.cluster_model.specs.State.{Cluster}

@@ -21,21 +21,22 @@ use Rattle.event_book.specs.declared.message.Body.{Body}
 use Rattle.event_book.specs.declared.message.Message.{Message}
 use Rattle.event_book.specs.Functions.{put_at}
 use Rattle.cluster_script.specs.Script.{HeadText}
-use Rattle.ha_loop.specs.declared.heard.Heard.{Heard}
-use Rattle.ha_loop.specs.declared.machine.Machine.{Machine}
-use Rattle.ha_loop.specs.declared.output.Output.{Output}
-use Rattle.ha_loop.specs.declared.output.Output.TheVariants as outputs
-use Rattle.ha_loop.specs.declared.output.Target.TheVariants as targets
-use Rattle.ha_loop.specs.Agents.{AgentFacts, Outcome, made, EndsAlone}
-use Rattle.ha_loop.specs.Lawful.{StandsIn, Hears, IsSentBy, IsInputOf, MayPromote, IsLawfulAnd}
-use Rattle.ha_loop.specs.Orders.{IsOfTable}
-use Rattle.ha_loop.specs.Pausing.{is_paused}
-use Rattle.ha_loop.specs.Outputs.{is_arming, is_feeding, has_one}
-use Rattle.ha_loop.specs.Seen.{machine_seen}
-use Rattle.ha_loop.specs.Table.{step}
-use Rattle.ha_loop.proofs.Knowing.{step-onward, tells_pause, told_by}
-use Rattle.ha_loop.proofs.LawfulSteps.{input-lawful-from, input-ends}
-use Rattle.ha_loop.proofs.Orders.{step-carried-out}
+use Rattle.agent_model.specs.declared.heard.Heard.{Heard}
+use Rattle.agent_model.specs.declared.machine.Machine.{Machine}
+use Rattle.agent_model.specs.declared.output.Output.{Output}
+use Rattle.agent_model.specs.declared.output.Output.TheVariants as outputs
+use Rattle.agent_model.specs.declared.output.Target.TheVariants as targets
+use Rattle.agent_model.specs.Agents.{AgentFacts, Outcome, made, EndsAlone}
+use Rattle.agent_lease_law.specs.Lawful.{StandsIn, Hears, IsSentBy, IsInputOf, MayPromote, IsLawfulAnd}
+use Rattle.agent_law.specs.Orders.{IsOfTable}
+use Rattle.agent_model.specs.Pausing.{is_paused}
+use Rattle.agent_model.specs.Outputs.{is_arming, is_feeding, has_one}
+use Rattle.agent_law.specs.Seen.{machine_seen}
+use Rattle.agent_model.specs.Table.{step}
+use Rattle.agent_law.proofs.Knowing.{step-onward, tells_pause, told_by}
+use Rattle.agent_lease_law.proofs.LawfulSteps.{input-lawful-from}
+use Rattle.agent_law.proofs.Staying.{input-ends}
+use Rattle.agent_law.proofs.Orders.{step-carried-out}
 use Rattle.cluster_model.specs.declared.heard_message.HeardMessage.{HeardMessage}
 use Rattle.cluster_model.specs.Cluster.{agent_after, agent_facts_after, cluster_after, cluster_over}
 use Rattle.cluster_model.specs.Inputs.{moment_of}

@@ -16,10 +16,10 @@ use Rattle.event_book.specs.declared.message.Body.TheVariants as bodies
 use Rattle.event_book.specs.declared.message.Message.{Message}
 use Rattle.event_book.specs.declared.reason.Basis.{Basis}
 use Rattle.event_book.specs.declared.reason.Basis.TheVariants as bases
-use Rattle.ha_loop.specs.declared.output.Output.{Output}
-use Rattle.ha_loop.specs.declared.output.Output.TheVariants as outputs
-use Rattle.ha_loop.specs.declared.output.Target.TheVariants as targets
-use Rattle.ha_loop.specs.Lawful.{query_in}
+use Rattle.agent_model.specs.declared.output.Output.{Output}
+use Rattle.agent_model.specs.declared.output.Output.TheVariants as outputs
+use Rattle.agent_model.specs.declared.output.Target.TheVariants as targets
+use Rattle.agent_lease_law.specs.Lawful.{query_in}
 use Rattle.cluster_model.specs.Messages.{agent_message}
 use Rattle.lease_law.specs.Leases.{Query, Read, Question, Flying, Requested, Taking}
 use Rattle.lease_law.specs.Past.{Past, first_past, flying_of, past_after, past_over, query_of, taken_after}

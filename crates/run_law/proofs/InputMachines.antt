@@ -34,13 +34,13 @@ use Rattle.event_book.specs.Members.{server_of, server_id_of}
 use Rattle.event_book.specs.Servers.{begun_in, loses_log, replica_starts_in, starts_as_primary, starts_as_replica, stops, servers_by_log}
 use Rattle.event_book.proofs.Parts.{logged-kept}
 use Rattle.event_book.proofs.Starts.{down-starts}
-use Rattle.ha_loop.specs.declared.machine.Machine.{Machine}
-use Rattle.ha_loop.specs.declared.output.Output.{Output}
-use Rattle.ha_loop.specs.declared.output.Output.TheVariants as outputs
-use Rattle.ha_loop.specs.declared.output.Repair.{Repair}
-use Rattle.ha_loop.specs.declared.output.Target.TheVariants as targets
-use Rattle.ha_loop.specs.Acting.{status_begun, upstream_of as upstream_id}
-use Rattle.ha_loop.specs.Orders.{IsOfTable, machine_after_output, with_server}
+use Rattle.agent_model.specs.declared.machine.Machine.{Machine}
+use Rattle.agent_model.specs.declared.output.Output.{Output}
+use Rattle.agent_model.specs.declared.output.Output.TheVariants as outputs
+use Rattle.agent_model.specs.declared.output.Repair.{Repair}
+use Rattle.agent_model.specs.declared.output.Target.TheVariants as targets
+use Rattle.agent_model.specs.Acting.{status_begun, upstream_of as upstream_id}
+use Rattle.agent_law.specs.Orders.{IsOfTable, machine_after_output, with_server}
 use Rattle.cluster_model.specs.declared.beginning.Beginning.TheVariants as beginnings
 use Rattle.cluster_model.specs.declared.heard_message.HeardMessage.{HeardMessage}
 use Rattle.cluster_model.specs.Cluster.{cluster_after, cluster_over}

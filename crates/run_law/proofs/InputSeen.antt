@@ -7,13 +7,13 @@ use Rattle.cluster_script.specs.Script.{HeadText, MemberText}
 use Rattle.pg_model.specs.Facts.{ServerFacts}
 use Rattle.leader_key.specs.Watchdog.{HasMargin, is_armable}
 use Rattle.event_book.specs.declared.member.Member.{Member}
-use Rattle.ha_loop.specs.declared.machine.Machine.{Machine}
-use Rattle.ha_loop.specs.Agents.{AgentFacts}
-use Rattle.ha_loop.specs.Lawful.{IsYoung}
-use Rattle.ha_loop.specs.Seen.{moment_seen, hold_seen, machine_seen}
-use Rattle.ha_loop.specs.declared.knowledge.Waited.{Waited}
+use Rattle.agent_model.specs.declared.machine.Machine.{Machine}
+use Rattle.agent_model.specs.Agents.{AgentFacts}
+use Rattle.agent_lease_law.specs.Lawful.{IsYoung}
+use Rattle.agent_law.specs.Seen.{moment_seen, hold_seen, machine_seen}
+use Rattle.agent_model.specs.declared.knowledge.Waited.{Waited}
 use Rattle.cluster_model.specs.Machines.{machine_from, machine_of, replication_of, ticks_of_second}
-use Rattle.ha_loop.specs.declared.machine.Replication.{Replication}
+use Rattle.agent_model.specs.declared.machine.Replication.{Replication}
 use Rattle.cluster_model.specs.State.{Cluster}
 use Rattle.cluster_model.specs.Streaming.{source_of}
 use Rattle.lease_law.specs.Past.{Past}

@@ -8,13 +8,13 @@ use Rattle.leader_key.specs.Watchdog.{IsLeaseSpan}
 use Rattle.event_book.specs.declared.agent_process.AgentProcess.{AgentProcess}
 use Rattle.event_book.specs.declared.message.Body.{Body}
 use Rattle.event_book.specs.declared.message.Body.TheVariants as bodies
-use Rattle.ha_loop.specs.declared.knowledge.Knowledge.{Knowledge}
-use Rattle.ha_loop.specs.declared.knowledge.Waited.{Waited}
-use Rattle.ha_loop.specs.declared.output.Output.{Output}
-use Rattle.ha_loop.specs.declared.output.Output.TheVariants as outputs
-use Rattle.ha_loop.specs.declared.output.Target.TheVariants as targets
-use Rattle.ha_loop.specs.Agents.{AgentFacts, Outcome, EndsAlone}
-use Rattle.ha_loop.specs.Lawful.{query_in, IsSentBy}
+use Rattle.agent_model.specs.declared.knowledge.Knowledge.{Knowledge}
+use Rattle.agent_model.specs.declared.knowledge.Waited.{Waited}
+use Rattle.agent_model.specs.declared.output.Output.{Output}
+use Rattle.agent_model.specs.declared.output.Output.TheVariants as outputs
+use Rattle.agent_model.specs.declared.output.Target.TheVariants as targets
+use Rattle.agent_model.specs.Agents.{AgentFacts, Outcome, EndsAlone}
+use Rattle.agent_lease_law.specs.Lawful.{query_in, IsSentBy}
 use Rattle.cluster_model.specs.Cluster.{agent_after}
 use Rattle.lease_law.specs.Leases.{Query, Read, Question, Flying, Requested}
 use Rattle.lease_law.specs.Past.{lease_span, query_of}
@@ -25,7 +25,7 @@ use Rattle.run_law.specs.Machines.{run_in}
 use Rattle.run_law.specs.Questions.{span_asked, SendsBetween, AsksFor, WaitsOn, Same, Nothing, New, AsksAnew}
 use Rattle.run_law.specs.Waiting.{IsAwaited, IsAgentSound, AreAgentsSound}
 use Rattle.run_law.proofs.Places.{get-changed}
-use Rattle.ha_loop.specs.Pausing.{is_paused}
+use Rattle.agent_model.specs.Pausing.{is_paused}
 
 requested-is : (a b : Question) → ◌≡◌ {A = Flying} (Requested a) (Requested b) → a ≡ b
 requested-is a b e = cc

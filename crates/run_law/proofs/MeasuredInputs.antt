@@ -15,16 +15,16 @@ use Rattle.event_book.specs.declared.event.WatchdogEvent.TheVariants as watchdog
 use Rattle.event_book.specs.declared.member.Member.{Member}
 use Rattle.event_book.specs.Agents.{agents_after}
 use Rattle.event_book.specs.Flight.{InFlightFacts, in_flight}
-use Rattle.ha_loop.specs.declared.heard.Heard.{Heard}
-use Rattle.ha_loop.specs.declared.heard.Heard.TheVariants.{Operated, Wake}
-use Rattle.ha_loop.specs.declared.knowledge.Knowledge.{Knowledge}
-use Rattle.ha_loop.specs.declared.machine.Machine.{Machine}
-use Rattle.ha_loop.specs.declared.output.Output.{Output}
-use Rattle.ha_loop.specs.declared.output.Output.TheVariants as outputs
-use Rattle.ha_loop.specs.Agents.{AgentFacts, RoleFacts, made}
-use Rattle.ha_loop.specs.Orders.{IsOfTable}
-use Rattle.ha_loop.specs.Table.{step}
-use Rattle.ha_loop.proofs.Orders.{step-carried-out}
+use Rattle.agent_model.specs.declared.heard.Heard.{Heard}
+use Rattle.agent_model.specs.declared.heard.Heard.TheVariants.{Operated, Wake}
+use Rattle.agent_model.specs.declared.knowledge.Knowledge.{Knowledge}
+use Rattle.agent_model.specs.declared.machine.Machine.{Machine}
+use Rattle.agent_model.specs.declared.output.Output.{Output}
+use Rattle.agent_model.specs.declared.output.Output.TheVariants as outputs
+use Rattle.agent_model.specs.Agents.{AgentFacts, RoleFacts, made}
+use Rattle.agent_law.specs.Orders.{IsOfTable}
+use Rattle.agent_model.specs.Table.{step}
+use Rattle.agent_law.proofs.Orders.{step-carried-out}
 use Rattle.cluster_model.specs.declared.heard_message.HeardMessage.{HeardMessage}
 use Rattle.cluster_model.specs.Cluster.{cluster_after, cluster_over}
 use Rattle.cluster_model.specs.Hearing.{heard_from}

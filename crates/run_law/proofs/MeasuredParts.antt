@@ -23,7 +23,7 @@ use Rattle.event_book.specs.declared.message.Body.TheVariants as bodies
 use Rattle.event_book.specs.declared.message.Message.{Message}
 use Rattle.event_book.specs.Members.{server_of}
 use Rattle.event_book.specs.declared.event.Note.TheVariants.{AlreadyRunning}
-use Rattle.ha_loop.specs.declared.machine.Machine.{Machine}
+use Rattle.agent_model.specs.declared.machine.Machine.{Machine}
 use Rattle.cluster_model.specs.Machines.{machine_of}
 use Rattle.event_book.specs.Flight.{InFlightFacts}
 use Rattle.cluster_script.specs.declared.line.Command.{Command}

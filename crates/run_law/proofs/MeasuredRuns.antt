@@ -5,7 +5,7 @@ use Rattle.operator_keys.specs.declared.refusal.Refused.{Refused}
 use Rattle.cluster_script.specs.declared.rest.RestCall.{RestCall}
 use Rattle.event_book.specs.declared.event.EventKind.TheVariants as kinds
 use Rattle.event_book.specs.declared.event.Note.TheVariants.{NoAnswer}
-use Rattle.ha_loop.specs.Agents.{Outcome}
+use Rattle.agent_model.specs.Agents.{Outcome}
 use Rattle.std.specs.Map.{keys_of}
 use Rattle.event_book.specs.declared.link.LinkEnd.{LinkEnd}
 use Rattle.event_book.specs.declared.link.LinkEnd.TheVariants as ends

@@ -20,46 +20,46 @@ use Rattle.leader_key.specs.Watchdog.{IsLeaseSpan}
 use Rattle.sync_state.specs.declared.steps.Plan.{Plan}
 use Rattle.sync_state.specs.declared.steps.Plan.TheVariants as plans
 use Rattle.sync_state.specs.Plans.{plan_of}
-use Rattle.ha_loop.specs.declared.heard.Heard.{Heard}
-use Rattle.ha_loop.specs.declared.heard.Heard.TheVariants.{Wake, Got, Granted as HeardGranted, Mismatch, Asked, Answered, Operated}
-use Rattle.ha_loop.specs.declared.knowledge.Knowledge.{Knowledge}
-use Rattle.ha_loop.specs.declared.knowledge.Question.{Question}
-use Rattle.ha_loop.specs.declared.knowledge.Question.TheVariants.{Reading, Asking, Checking, Creating, Renewing, Claiming, Syncing}
-use Rattle.ha_loop.specs.declared.knowledge.Settling.{Settling}
-use Rattle.ha_loop.specs.declared.knowledge.Settling.TheVariants.{Stays, Lists, Empties}
-use Rattle.ha_loop.specs.declared.knowledge.SyncRead.{SyncRead}
-use Rattle.ha_loop.specs.declared.knowledge.Waited.{Waited}
-use Rattle.ha_loop.specs.declared.machine.Machine.{Machine}
-use Rattle.ha_loop.specs.declared.operating.Told.{Told}
-use Rattle.ha_loop.specs.declared.output.Output.{Output}
-use Rattle.ha_loop.specs.declared.output.Output.TheVariants as outputs
-use Rattle.ha_loop.specs.declared.output.Target.TheVariants as targets
-use Rattle.ha_loop.specs.declared.role.Why.{Why}
-use Rattle.ha_loop.specs.declared.role.Why.TheVariants.{HandOver, Lost}
-use Rattle.ha_loop.specs.Acting.{requiring, ending_server, seconds_after, lease_span, counted, arming, feeding, armed, fed_until, disarmed, disarming, sending, asking, touching, starting_replica, is_refusing, deadline_after, waiting, waiting_no_more}
-use Rattle.ha_loop.specs.Agents.{RoleFacts, Follower, Ending, Outcome, made}
-use Rattle.ha_loop.specs.Before.{has_ended, before}
-use Rattle.ha_loop.specs.Claiming.{begins, claims, begins_or_claims, passing, postpones}
-use Rattle.ha_loop.specs.Decisions.{asks_lease, asks_sync, is_start_too_long, leader_renewed, takes_over, stray_renewed, may_take, gives_back, arms, takes_key, granted, refused}
-use Rattle.ha_loop.specs.Planning.{writing_sync, switching_off, planned_as, planned_on, leader_view, noting}
-use Rattle.ha_loop.specs.Synchronous.{expected_of, sync_read_if, unnamed, waiting_for}
+use Rattle.agent_model.specs.declared.heard.Heard.{Heard}
+use Rattle.agent_model.specs.declared.heard.Heard.TheVariants.{Wake, Got, Granted as HeardGranted, Mismatch, Asked, Answered, Operated}
+use Rattle.agent_model.specs.declared.knowledge.Knowledge.{Knowledge}
+use Rattle.agent_model.specs.declared.knowledge.Question.{Question}
+use Rattle.agent_model.specs.declared.knowledge.Question.TheVariants.{Reading, Asking, Checking, Creating, Renewing, Claiming, Syncing}
+use Rattle.agent_model.specs.declared.knowledge.Settling.{Settling}
+use Rattle.agent_model.specs.declared.knowledge.Settling.TheVariants.{Stays, Lists, Empties}
+use Rattle.agent_model.specs.declared.knowledge.SyncRead.{SyncRead}
+use Rattle.agent_model.specs.declared.knowledge.Waited.{Waited}
+use Rattle.agent_model.specs.declared.machine.Machine.{Machine}
+use Rattle.agent_model.specs.declared.operating.Told.{Told}
+use Rattle.agent_model.specs.declared.output.Output.{Output}
+use Rattle.agent_model.specs.declared.output.Output.TheVariants as outputs
+use Rattle.agent_model.specs.declared.output.Target.TheVariants as targets
+use Rattle.agent_model.specs.declared.why.Why.{Why}
+use Rattle.agent_model.specs.declared.why.Why.TheVariants.{HandOver, Lost}
+use Rattle.agent_model.specs.Acting.{requiring, ending_server, seconds_after, lease_span, counted, arming, feeding, armed, fed_until, disarmed, disarming, sending, asking, touching, starting_replica, is_refusing, deadline_after, waiting, waiting_no_more}
+use Rattle.agent_model.specs.Agents.{RoleFacts, Follower, Ending, Outcome, made}
+use Rattle.agent_model.specs.Before.{has_ended, before}
+use Rattle.agent_model.specs.Claiming.{begins, claims, begins_or_claims, passing, postpones}
+use Rattle.agent_model.specs.Decisions.{asks_lease, asks_sync, is_start_too_long, leader_renewed, takes_over, stray_renewed, may_take, gives_back, arms, takes_key, granted, refused}
+use Rattle.agent_model.specs.Planning.{writing_sync, switching_off, planned_as, planned_on, leader_view, noting}
+use Rattle.agent_model.specs.Synchronous.{expected_of, sync_read_if, unnamed, waiting_for}
 use Rattle.pat_base.specs.declared.server_state.Required.{Required}
 use Rattle.pat_base.specs.declared.server_state.Required.TheVariants as needs
-use Rattle.ha_loop.specs.HandingOver.{asking_whom, checking, duties, hands_over}
-use Rattle.ha_loop.specs.Operators.{answering, given_up, learned, looked, operated, operating, restarting, wiping}
-use Rattle.ha_loop.specs.Outputs.{listed}
-use Rattle.ha_loop.specs.Racing.{finds_free, judged, answers_until, asking_others, unheard}
-use Rattle.ha_loop.specs.Repairs.{repair_of}
-use Rattle.ha_loop.specs.Snapshots.{informed, follows, read_noted, got, follow_row, led_by_another}
-use Rattle.ha_loop.specs.Table.{granted_any, refused_any, step}
-use Rattle.ha_loop.specs.Wake.{turn_noted, overdue, turned, woken}
-use Rattle.ha_loop.proofs.Rows.{HandoverRows, IsOperatorTxn, ReplyRows, dropping, led_on, if-cases, begins-or-claims-by, passing-by, before-by, duties-by, given-up-by, granted-any-by, looked-by, operated-by, overdue-by, refused-any-by, turn-by, wake-by, got-by, refused-by, follow-by, repaired-by, free-by, granted-by, judged-by, answered-by, rested_on, takes-in-pause-by}
-use Rattle.ha_loop.specs.declared.who.Who.{Who}
-use Rattle.ha_loop.specs.Answers.{is_other, most_answers, asking_all, asking_one, asking_first}
-use Rattle.ha_loop.specs.Peers.{keeping, answered}
+use Rattle.agent_model.specs.HandingOver.{asking_whom, checking, duties, hands_over}
+use Rattle.agent_model.specs.Operators.{answering, given_up, learned, looked, operated, operating, restarting, wiping}
+use Rattle.agent_model.specs.Outputs.{listed}
+use Rattle.agent_model.specs.Racing.{finds_free, judged, answers_until, asking_others, unheard}
+use Rattle.agent_model.specs.Repairs.{repair_of}
+use Rattle.agent_model.specs.Snapshots.{informed, follows, read_noted, got, follow_row, led_by_another}
+use Rattle.agent_model.specs.Table.{granted_any, refused_any, step}
+use Rattle.agent_model.specs.Wake.{turn_noted, overdue, turned, woken}
+use Rattle.agent_law.proofs.Rows.{HandoverRows, IsOperatorTxn, ReplyRows, dropping, led_on, if-cases, begins-or-claims-by, passing-by, before-by, duties-by, given-up-by, granted-any-by, looked-by, operated-by, overdue-by, refused-any-by, turn-by, wake-by, got-by, refused-by, follow-by, repaired-by, free-by, granted-by, judged-by, answered-by, rested_on, takes-in-pause-by}
+use Rattle.agent_model.specs.declared.who.Who.{Who}
+use Rattle.agent_model.specs.Answers.{is_other, most_answers, asking_all, asking_one, asking_first}
+use Rattle.agent_model.specs.Peers.{keeping, answered}
 use Rattle.lease_law.proofs.Tools.{both}
 use Rattle.run_law.specs.Questions.{IsQuestion, IsPutBy, IsPutByBody, span_asked, SendsBetween, AsksFor, WaitsOn, Same, Nothing, New, AsksAnew}
-use Rattle.ha_loop.specs.Pausing.{may_start_behind, rest_told, resting, running_without_key}
+use Rattle.agent_model.specs.Pausing.{may_start_behind, rest_told, resting, running_without_key}
 
 all-of : {X : Type 0} (P Q : X → Type 0) (xs : List X) → ((x : X) → P x → Q x) → All P xs → All Q xs
 all-of P Q xs more all = λ k d h. more _ (all k d h)

@@ -16,11 +16,11 @@ use Rattle.event_book.specs.declared.event.WatchdogEvent.TheVariants as watchdog
 use Rattle.event_book.specs.declared.member.Member.{Member}
 use Rattle.event_book.specs.Agents.{running_in}
 use Rattle.event_book.specs.Functions.{put_at}
-use Rattle.ha_loop.specs.Agents.{AgentFacts}
+use Rattle.agent_model.specs.Agents.{AgentFacts}
 use Rattle.cluster_model.specs.Cluster.{cluster_after, cluster_over}
 use Rattle.cluster_model.specs.Commands.{disarm_of, disarm_if, kinds_of}
 use Rattle.cluster_model.specs.Machines.{machine_from, machine_of, replication_of, who_of}
-use Rattle.ha_loop.specs.declared.machine.Replication.{Replication}
+use Rattle.agent_model.specs.declared.machine.Replication.{Replication}
 use Rattle.cluster_model.specs.Next.{restart_events, restart_events_of}
 use Rattle.cluster_model.specs.Parts.{event_of, events_of}
 use Rattle.cluster_model.specs.Starting.{options_of}

@@ -5,28 +5,28 @@ use Rattle.pat_base.specs.ServerState.{live}
 use Rattle.pat_base.specs.declared.ticks.Ticks.{Ticks}
 use Rattle.lease_store.specs.declared.action.OperatorAction.{OperatorAction}
 use Rattle.wal_model.specs.declared.entry.HistoryPoint.{HistoryPoint}
-use Rattle.ha_loop.specs.declared.heard.Heard.TheVariants.{Operated, Wake}
-use Rattle.ha_loop.specs.declared.knowledge.Knowledge.{Knowledge}
-use Rattle.ha_loop.specs.declared.knowledge.Question.{Question}
-use Rattle.ha_loop.specs.declared.knowledge.Question.TheVariants.{Asking, Checking, Creating, Reading, Renewing, Claiming, Syncing}
-use Rattle.ha_loop.specs.declared.knowledge.Waited.{Waited}
-use Rattle.ha_loop.specs.declared.machine.Machine.{Machine}
-use Rattle.ha_loop.specs.declared.output.Output.{Output}
-use Rattle.ha_loop.specs.declared.output.Output.TheVariants as outputs
-use Rattle.ha_loop.specs.declared.role.Why.{Why}
-use Rattle.ha_loop.specs.declared.role.Why.TheVariants.{HandOver, Lost}
-use Rattle.ha_loop.specs.Acting.{disarmed, waiting_no_more}
-use Rattle.ha_loop.specs.Agents.{RoleFacts, Follower, Holder, Ready, Leader, Ending, Stray, Outcome, made}
-use Rattle.ha_loop.proofs.Rows.{HandoverRows, given-up-by, handover-by, judged-by, operated-by}
-use Rattle.ha_loop.specs.Before.{before, before_as, has_ended}
-use Rattle.ha_loop.specs.Claiming.{claim_fails_as}
-use Rattle.ha_loop.specs.Decisions.{may_create}
-use Rattle.ha_loop.specs.HandingOver.{judged_if_leading}
-use Rattle.ha_loop.specs.Operators.{given_up}
-use Rattle.ha_loop.specs.Racing.{judged}
-use Rattle.ha_loop.specs.Table.{step}
-use Rattle.ha_loop.specs.Wake.{has_turn, is_due, is_overdue, is_stopping, out_of_reach_as, overdue, overdue_for, roused, turn_as, turn_begins, turn_noted, turned, unanswered, woken}
-use Rattle.ha_loop.specs.Pausing.{is_paused}
+use Rattle.agent_model.specs.declared.heard.Heard.TheVariants.{Operated, Wake}
+use Rattle.agent_model.specs.declared.knowledge.Knowledge.{Knowledge}
+use Rattle.agent_model.specs.declared.knowledge.Question.{Question}
+use Rattle.agent_model.specs.declared.knowledge.Question.TheVariants.{Asking, Checking, Creating, Reading, Renewing, Claiming, Syncing}
+use Rattle.agent_model.specs.declared.knowledge.Waited.{Waited}
+use Rattle.agent_model.specs.declared.machine.Machine.{Machine}
+use Rattle.agent_model.specs.declared.output.Output.{Output}
+use Rattle.agent_model.specs.declared.output.Output.TheVariants as outputs
+use Rattle.agent_model.specs.declared.why.Why.{Why}
+use Rattle.agent_model.specs.declared.why.Why.TheVariants.{HandOver, Lost}
+use Rattle.agent_model.specs.Acting.{disarmed, waiting_no_more}
+use Rattle.agent_model.specs.Agents.{RoleFacts, Follower, Holder, Ready, Leader, Ending, Stray, Outcome, made}
+use Rattle.agent_law.proofs.Rows.{HandoverRows, given-up-by, handover-by, judged-by, operated-by}
+use Rattle.agent_model.specs.Before.{before, before_as, has_ended}
+use Rattle.agent_model.specs.Claiming.{claim_fails_as}
+use Rattle.agent_model.specs.Decisions.{may_create}
+use Rattle.agent_model.specs.HandingOver.{judged_if_leading}
+use Rattle.agent_model.specs.Operators.{given_up}
+use Rattle.agent_model.specs.Racing.{judged}
+use Rattle.agent_model.specs.Table.{step}
+use Rattle.agent_model.specs.Wake.{has_turn, is_due, is_overdue, is_stopping, out_of_reach_as, overdue, overdue_for, roused, turn_as, turn_begins, turn_noted, turned, unanswered, woken}
+use Rattle.agent_model.specs.Pausing.{is_paused}
 
 -- an output that feeds no watchdog
 abbrev pub FeedsNone : Output → Type 0

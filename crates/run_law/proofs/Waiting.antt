@@ -12,7 +12,7 @@ use Rattle.event_book.specs.declared.event.ServerEvent.TheVariants as servers
 use Rattle.event_book.specs.declared.event.WatchdogEvent.TheVariants as watchdogs
 use Rattle.event_book.specs.declared.member.Member.{Member}
 use Rattle.event_book.specs.Agents.{agents_after}
-use Rattle.ha_loop.specs.Agents.{AgentFacts}
+use Rattle.agent_model.specs.Agents.{AgentFacts}
 use Rattle.cluster_model.specs.Cluster.{agent_facts_after, cluster_after}
 use Rattle.cluster_model.specs.Inputs.{starting_agent}
 use Rattle.cluster_model.specs.Machines.{who_of}

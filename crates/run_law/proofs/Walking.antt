@@ -16,7 +16,7 @@ use Rattle.cluster_script.specs.declared.line.Command.{Command}
 use Rattle.cluster_script.specs.declared.line.Command.TheVariants as commands
 use Rattle.cluster_script.specs.declared.line.Step.{Step}
 use Rattle.cluster_script.specs.declared.rest.RestCall.{RestCall}
-use Rattle.ha_loop.specs.Agents.{Outcome}
+use Rattle.agent_model.specs.Agents.{Outcome}
 use Rattle.cluster_script.specs.declared.line.Step.TheVariants as steps
 use Rattle.cluster_model.specs.declared.delivery.Delivery.{Delivery}
 use Rattle.cluster_model.specs.declared.delivery.Delivery.TheVariants as deliveries

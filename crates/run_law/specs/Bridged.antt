@@ -4,8 +4,8 @@ use Rattle.cluster_script.specs.Script.{HeadText}
 use Rattle.bridge_law.specs.Flights.{IsSameFlight}
 use Rattle.event_book.specs.declared.agent_process.AgentProcess.{AgentProcess}
 use Rattle.event_book.specs.declared.event.Event.{Event}
-use Rattle.ha_loop.specs.Agents.{AgentFacts}
-use Rattle.ha_loop.specs.Pausing.{is_paused}
+use Rattle.agent_model.specs.Agents.{AgentFacts}
+use Rattle.agent_model.specs.Pausing.{is_paused}
 use Rattle.cluster_model.specs.Starting.{options_of}
 use Rattle.cluster_model.specs.State.{Cluster}
 use Rattle.lease_law.specs.Carried.{IsCarried}

@@ -6,17 +6,17 @@ use Rattle.lease_store.specs.declared.txn.Txn.TheVariants as txns
 use Rattle.leader_key.specs.Watchdog.{IsLeaseSpan}
 use Rattle.event_book.specs.declared.message.Body.{Body}
 use Rattle.event_book.specs.declared.message.Body.TheVariants as bodies
-use Rattle.ha_loop.specs.declared.knowledge.Knowledge.{Knowledge}
-use Rattle.ha_loop.specs.declared.knowledge.Question.{Question}
-use Rattle.ha_loop.specs.declared.knowledge.Question.TheVariants.{Claiming, Syncing}
-use Rattle.ha_loop.specs.declared.knowledge.Settling.TheVariants.{Stays, Lists, Empties}
-use Rattle.ha_loop.specs.declared.knowledge.Waited.{Waited}
-use Rattle.ha_loop.specs.declared.output.Output.{Output}
-use Rattle.ha_loop.specs.declared.output.Output.TheVariants as outputs
-use Rattle.ha_loop.specs.declared.output.Target.{Target}
-use Rattle.ha_loop.specs.declared.output.Target.TheVariants as targets
-use Rattle.ha_loop.specs.Decisions.{asks_lease, asks_sync}
-use Rattle.ha_loop.specs.Orders.{IsAsk}
+use Rattle.agent_model.specs.declared.knowledge.Knowledge.{Knowledge}
+use Rattle.agent_model.specs.declared.knowledge.Question.{Question}
+use Rattle.agent_model.specs.declared.knowledge.Question.TheVariants.{Claiming, Syncing}
+use Rattle.agent_model.specs.declared.knowledge.Settling.TheVariants.{Stays, Lists, Empties}
+use Rattle.agent_model.specs.declared.knowledge.Waited.{Waited}
+use Rattle.agent_model.specs.declared.output.Output.{Output}
+use Rattle.agent_model.specs.declared.output.Output.TheVariants as outputs
+use Rattle.agent_model.specs.declared.output.Target.{Target}
+use Rattle.agent_model.specs.declared.output.Target.TheVariants as targets
+use Rattle.agent_model.specs.Decisions.{asks_lease, asks_sync}
+use Rattle.agent_law.specs.Orders.{IsAsk}
 use Rattle.lease_law.specs.Past.{lease_span, query_of}
 use Rattle.lease_law.specs.Stores.{IsSpannedTxn}
 

@@ -1,6 +1,6 @@
 -- What the law of one writer sees of a cluster.
 use Rattle.std.specs.Prelude.{ℕ, false, Option, Some, None, option_map, slice_get}
-use Rattle.ha_loop.specs.Agents.{AgentFacts}
+use Rattle.agent_model.specs.Agents.{AgentFacts}
 use Rattle.cluster_model.specs.State.{Cluster}
 use Rattle.lease_law.specs.Past.{VolatileState}
 use Rattle.lease_law.specs.States.{Agent, Machine, fresh_agent}

@@ -5,7 +5,7 @@ use Rattle.pat_base.specs.declared.server_state.Required.{Required}
 use Rattle.commit_law.specs.Carried.{IsLed}
 use Rattle.commit_law.specs.Keys.{Need, All, SyncKey}
 use Rattle.commit_law.specs.Past.{Past, need_of}
-use Rattle.ha_loop.specs.Committing.{IsStrict}
+use Rattle.commit_law.specs.Keys.{IsStrict}
 
 -- commits wait for this member
 abbrev pub Awaits : Need → ℕ → Type 0

@@ -2,18 +2,20 @@
 ghost use Rattle.std.specs.Prelude.{◌≡◌, ◌≤◌, ◌<◌, ◌+◌, ◌*◌, ◌-◌, ◌^◌, Some, None, false, true, is_err};
 ghost use Rattle.leader_key.specs.Lease.{lease_revision, armed_revision, writer_revision};
 ghost use Rattle.leader_key.specs.Watchdog.{IsLeaseSpan};
-ghost use Rattle.ha_loop.specs.Acting.{is_refusing, is_hold_active, arming, feeding};
-ghost use Rattle.ha_loop.specs.Answers.{most_answers, most_grant_outputs};
-ghost use Rattle.ha_loop.specs.Agents.{IsSound, IsWithin, Follower, Leader, Stray, role_of, made, latest};
-ghost use Rattle.ha_loop.specs.Decisions.{has_lasted, is_start_too_long, judges_start, leader_renewed, takes_over, stray_renewed, since_crash, may_start_again, can_begin, may_take, gives_back, arms, takes_key, takes_key_in_pause, granted_in_pause};
+ghost use Rattle.agent_model.specs.Acting.{is_refusing, is_hold_active, arming, feeding};
+ghost use Rattle.agent_model.specs.Answers.{most_answers, most_grant_outputs};
+ghost use Rattle.agent_model.specs.Agents.{IsSound, IsWithin, Follower, Leader, Stray, made, latest};
+ghost use Rattle.ha_loop.specs.Roles.{role_of};
+ghost use Rattle.agent_model.specs.Decisions.{has_lasted, is_start_too_long, judges_start, leader_renewed, takes_over, stray_renewed, since_crash, may_start_again, can_begin, may_take, gives_back, arms, takes_key, takes_key_in_pause, granted_in_pause};
 
+use crate::Outputs;
 use crate::acting::{arm, end_server, feed, is_hold_active, release};
 use crate::claiming::begin_or_claim;
 use crate::handing_over::do_duties;
 use crate::pausing::{is_wanted, rest, rest_writer};
 use crate::role::Role;
 use crate::synchronous::may_lead_in_sync;
-use crate::{Knowledge, Machine, Output, Outputs, Why};
+use agent_model::{Knowledge, Machine, Output, Why};
 use event_book::Reason;
 use leader_key::{Armed, Lease, Writer};
 use lease_store::Granted;

@@ -2,16 +2,17 @@
 ghost use Rattle.std.specs.Prelude.{◌≡◌, ◌≤◌, ◌+◌};
 ghost use Rattle.pg_model.specs.Status.{status_replica_started, status_following};
 ghost use Rattle.event_book.specs.Members.{server_id_of};
-ghost use Rattle.ha_loop.specs.declared.knowledge.Knowledge.{Knowledge};
-ghost use Rattle.ha_loop.specs.declared.output.Output.TheVariants as outputs;
-ghost use Rattle.ha_loop.specs.Acting.{upstream_of};
-ghost use Rattle.ha_loop.specs.Agents.{IsWithin, Follower, made, latest};
-ghost use Rattle.ha_loop.specs.Outputs.{listed};
-ghost use Rattle.ha_loop.specs.Snapshots.{starts_behind, starts_if, ends_fork, follows_anew, follow_row};
+ghost use Rattle.agent_model.specs.declared.knowledge.Knowledge.{Knowledge};
+ghost use Rattle.agent_model.specs.declared.output.Output.TheVariants as outputs;
+ghost use Rattle.agent_model.specs.Acting.{upstream_of};
+ghost use Rattle.agent_model.specs.Agents.{IsWithin, Follower, made, latest};
+ghost use Rattle.agent_model.specs.Outputs.{listed};
+ghost use Rattle.agent_model.specs.Snapshots.{starts_behind, starts_if, ends_fork, follows_anew, follow_row};
 
 use super::repairing::is_upstream;
+use crate::Outputs;
 use crate::pausing::ends_forks;
-use crate::{Knowledge, Machine, Output, Outputs};
+use agent_model::{Knowledge, Machine, Output};
 use pat_base::{MemberId, ServerId, State, Ticks};
 
 /// What a server does under another leader, by whether its agent may start it.

@@ -3,18 +3,20 @@ ghost use Rattle.std.specs.Prelude.{◌≡◌, ◌≤◌, ◌<◌, ◌+◌, ◌^
 ghost use Rattle.pg_model.specs.Facts.{is_down};
 ghost use Rattle.pg_model.specs.Status.{status_replica_started};
 ghost use Rattle.leader_race.specs.Eligibility.{eligibility_of};
-ghost use Rattle.ha_loop.specs.Agents.{IsSound, IsWithin, Follower, role_of, made, latest};
-ghost use Rattle.ha_loop.specs.Answers.{most_answers};
-ghost use Rattle.ha_loop.specs.Racing.{can_start, bar_by, bar_of, unheard, asks_or_judged, races, races_unless, starts_alone, free_key, finds_free};
-ghost use Rattle.ha_loop.specs.Views.{view_of};
+ghost use Rattle.agent_model.specs.Agents.{IsSound, IsWithin, Follower, made, latest};
+ghost use Rattle.ha_loop.specs.Roles.{role_of};
+ghost use Rattle.agent_model.specs.Answers.{most_answers};
+ghost use Rattle.agent_model.specs.Racing.{can_start, bar_by, bar_of, unheard, asks_or_judged, races, races_unless, starts_alone, free_key, finds_free};
+ghost use Rattle.agent_model.specs.Views.{view_of};
 
 use super::following::start_replica;
+use crate::Outputs;
 use crate::acting::touch;
 use crate::pausing::is_paused;
 use crate::peers::{all_answered, ask_others, judge, stay_out};
 use crate::role::Role;
 use crate::view::view_of;
-use crate::{Knowledge, Machine, Outputs};
+use agent_model::{Knowledge, Machine};
 use cluster_config::RoleWord;
 use leader_race::may_race;
 use lease_store::Bar;

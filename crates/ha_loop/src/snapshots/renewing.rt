@@ -1,17 +1,18 @@
 //! What an agent asks as it renews its lease, and what it tells with that.
 ghost use Rattle.std.specs.Prelude.{◌≡◌, ◌≤◌, ◌<◌, ◌+◌, ◌^◌, Some, option_copied};
 ghost use Rattle.event_book.specs.declared.message.Body.TheVariants as bodies;
-ghost use Rattle.ha_loop.specs.declared.knowledge.Question.TheVariants as questions;
-ghost use Rattle.ha_loop.specs.declared.output.Output.TheVariants as outputs;
-ghost use Rattle.ha_loop.specs.declared.output.Target.TheVariants as targets;
-ghost use Rattle.ha_loop.specs.Acting.{seconds_after, counted, waiting};
-ghost use Rattle.ha_loop.specs.Agents.{IsSound, latest};
-ghost use Rattle.ha_loop.specs.Outputs.{listed};
-ghost use Rattle.ha_loop.specs.Snapshots.{status_told, row_at, missing_point, missing_row, row_told, renewal, turn_start};
+ghost use Rattle.agent_model.specs.declared.knowledge.Question.TheVariants as questions;
+ghost use Rattle.agent_model.specs.declared.output.Output.TheVariants as outputs;
+ghost use Rattle.agent_model.specs.declared.output.Target.TheVariants as targets;
+ghost use Rattle.agent_model.specs.Acting.{seconds_after, counted, waiting};
+ghost use Rattle.agent_model.specs.Agents.{IsSound, latest};
+ghost use Rattle.agent_model.specs.Outputs.{listed};
+ghost use Rattle.agent_model.specs.Snapshots.{status_told, row_at, missing_point, missing_row, row_told, renewal, turn_start};
 
+use crate::Outputs;
 use crate::acting::ask;
 use crate::info::info_of;
-use crate::{Knowledge, Machine, Outputs, Question};
+use agent_model::{Knowledge, Machine, Question};
 use cluster_config::Snapshot;
 use event_book::Body;
 use lease_store::{HistoryRow, Txn};

@@ -1,11 +1,12 @@
 //! How the log of a server is repaired by that of the leader's.
 ghost use Rattle.std.specs.Prelude.{◌≡◌, ◌≤◌, ◌+◌};
-ghost use Rattle.ha_loop.specs.declared.knowledge.Knowledge.{Knowledge};
-ghost use Rattle.ha_loop.specs.Agents.{RoleFacts, made};
-ghost use Rattle.ha_loop.specs.Repairs.{is_upstream, rewind_if, repair_in, repair_of, repaired_if};
+ghost use Rattle.agent_model.specs.declared.knowledge.Knowledge.{Knowledge};
+ghost use Rattle.agent_model.specs.Agents.{RoleFacts, made};
+ghost use Rattle.agent_model.specs.Repairs.{is_upstream, rewind_if, repair_in, repair_of, repaired_if};
 
+use crate::Outputs;
 use crate::pausing::lets_rewind;
-use crate::{Machine, Output, Outputs, Repair};
+use agent_model::{Machine, Output, Repair};
 use lease_store::Config;
 use pat_base::{MemberId, ServerId, State};
 use pg_model::ServerStatus;

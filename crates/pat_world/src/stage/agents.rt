@@ -1,9 +1,9 @@
 //! Agents: how they are woken, hear, and are shown.
 ghost use Rattle.std.specs.Prelude.{◌≡◌, ◌≤◌, ◌+◌, ◌*◌, ◌↔◌, [], Some, OnOk, IfOk, IfSome, IsSome, length, option_map, slice_get};
 ghost use Rattle.cluster_config.specs.Snapshots.{IsRead};
-ghost use Rattle.ha_loop.specs.declared.heard.Heard.TheVariants as heards;
-ghost use Rattle.ha_loop.specs.Agents.{IsWithin};
-ghost use Rattle.ha_loop.specs.Outputs.{most_outputs};
+ghost use Rattle.agent_model.specs.declared.heard.Heard.TheVariants as heards;
+ghost use Rattle.agent_model.specs.Agents.{IsWithin};
+ghost use Rattle.agent_model.specs.Outputs.{most_outputs};
 ghost use Rattle.cluster_model.specs.Cluster.{agent_facts_with};
 ghost use Rattle.cluster_model.specs.Hearing.{heard_from, member_at_end};
 ghost use Rattle.cluster_model.specs.Inputs.{moment_of, outcome_of, outcome_of_heard, outputs_of, has_work, is_to_wake, standing_of};
@@ -23,10 +23,11 @@ use crate::processes::{may_act, restarted};
 use crate::replication::replication_of;
 use crate::streaming::source_of;
 use crate::watchdogs::disarm_at_start;
+use agent_model::{Heard, Machine};
 use cluster_config::{AgentView, Snapshot};
 use cluster_model::HeardMessage;
 use event_book::{AgentEvent, AgentProcess, Body, Event, EventKind, LinkEnd, Member, Message};
-use ha_loop::{Heard, Machine, Outputs};
+use ha_loop::Outputs;
 use lease_store::{Key, KeyEntry};
 use pat_base::{MemberId, Ticks};
 use std::alloc::AllocError;

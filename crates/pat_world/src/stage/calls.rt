@@ -1,7 +1,7 @@
 //! Requests that a script makes of agents.
 ghost use Rattle.std.specs.Prelude.{◌≡◌, ◌≤◌, ◌+◌, ◌*◌, [], OnOk, Some, option_map};
-ghost use Rattle.ha_loop.specs.declared.heard.Heard.TheVariants as heards;
-ghost use Rattle.ha_loop.specs.Outputs.{most_outputs};
+ghost use Rattle.agent_model.specs.declared.heard.Heard.TheVariants as heards;
+ghost use Rattle.agent_model.specs.Outputs.{most_outputs};
 ghost use Rattle.operator_keys.specs.Refusals.{Answers};
 ghost use Rattle.cluster_model.specs.Inputs.{moment_of, outcome_of, outputs_of, standing_of};
 ghost use Rattle.cluster_model.specs.Messages.{call_events, call_events_of, decided_events, operate_events};
@@ -15,9 +15,10 @@ use super::{Stage, note};
 use crate::places::agent_at;
 use crate::processes::may_act;
 use crate::requests::{copy_of, decision_on_call, refusing};
+use agent_model::Heard;
 use cluster_script::RestCall;
 use event_book::{AgentEvent, Event, EventKind, Member, Note};
-use ha_loop::{Heard, Outputs};
+use ha_loop::Outputs;
 use lease_store::OperatorAction;
 use operator_keys::CheckFault;
 use std::alloc::AllocError;

@@ -1,7 +1,7 @@
 //! When something is due next, and how time passes until then.
 ghost use Rattle.std.specs.Prelude.{ℕ, ◌≡◌, ◌<◌, ◌≤◌, ◌+◌, ◌^◌, All, Option, false, slice_get};
 ghost use Rattle.pat_base.specs.declared.ticks.Ticks.{Ticks};
-ghost use Rattle.ha_loop.specs.Agents.{Outcome};
+ghost use Rattle.agent_model.specs.Agents.{Outcome};
 ghost use Rattle.cluster_model.specs.Inputs.{agent_at, is_to_wake, standing_of};
 ghost use Rattle.pat_world.specs.Idle.{HasWorkFrom, NothingEnds, NothingIsDue, SleepsAt, work_moment};
 

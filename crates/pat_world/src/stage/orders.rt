@@ -1,7 +1,7 @@
 //! What agents do, carried out.
 ghost use Rattle.std.specs.Prelude.{◌≡◌, ◌≤◌, ◌+◌, ◌*◌, [], All, OnOk, IfOk, IfSome, length, slice_get};
 ghost use Rattle.event_book.specs.declared.message.Body.TheVariants as bodies;
-ghost use Rattle.ha_loop.specs.Outputs.{most_outputs};
+ghost use Rattle.agent_model.specs.Outputs.{most_outputs};
 ghost use Rattle.cluster_model.specs.Messages.{output_events, replying_events, sending_events};
 ghost use Rattle.cluster_model.specs.Orders.{feed_kinds, order_kind};
 ghost use Rattle.cluster_model.specs.Parts.{each, events_of};
@@ -18,9 +18,10 @@ use crate::orders::{
 };
 use crate::places::agent_at;
 use crate::requests::told_kind;
+use agent_model::{Output, Target};
 use cluster_model::HeardMessage;
 use event_book::{Body, Event, EventKind, LinkEnd, Member, Message, WatchdogEvent};
-use ha_loop::{Output, Outputs, Target};
+use ha_loop::Outputs;
 use pat_base::PeerAnswer;
 use std::alloc::AllocError;
 

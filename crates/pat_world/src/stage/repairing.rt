@@ -9,8 +9,8 @@ ghost use Rattle.pat_world.specs.Room.{HasRoom};
 
 use super::{Stage, note};
 use crate::streaming::link_of_members;
+use agent_model::Repair;
 use event_book::{Event, EventKind, LogEvent, Member, ServerOf};
-use ha_loop::Repair;
 use std::alloc::AllocError;
 
 impl Stage {

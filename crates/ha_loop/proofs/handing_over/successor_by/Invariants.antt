@@ -1,6 +1,6 @@
 use Rattle.std.proofs.Common.{◌≡◌, drop}
 use Rattle.leader_race.specs.Peers.{earlier, first_of}
-use Rattle.ha_loop.specs.HandingOver.{is_successor}
+use Rattle.agent_model.specs.HandingOver.{is_successor}
 use Rattle.ha_loop.proofs.handing_over.successor_by.Given as goal
 
 abbrev pub invariant-loop-answer : goal.invariant-loop-answer

@@ -4,7 +4,7 @@ use Rattle.std.specs.Option.{option_map}
 use Rattle.std.proofs.lemmas.Option.{slice_get_read}
 use Rattle.pat_base.specs.declared.host.Host.{Host}
 use Rattle.pat_base.specs.declared.name.Name.{Name}
-use Rattle.ha_loop.specs.Operators.{name_in}
+use Rattle.agent_model.specs.Operators.{name_in}
 use Rattle.ha_loop.proofs.operators.name_in.Goals as goal
 
 pub returns-in-Some : goal.returns-in-Some

@@ -1,5 +1,5 @@
 use Rattle.std.proofs.Common.{◌≡◌, ℕ, ap, ◌∙◌, arith}
-use Rattle.ha_loop.specs.Answers.{first_answered}
+use Rattle.agent_model.specs.Answers.{first_answered}
 use Rattle.ha_loop.proofs.peers.all_answered.Goals as goal
 
 pub returns : goal.returns

@@ -1,5 +1,5 @@
 use Rattle.std.proofs.Common.{◌≡◌}
-use Rattle.ha_loop.specs.Answers.{first_answered}
+use Rattle.agent_model.specs.Answers.{first_answered}
 use Rattle.ha_loop.proofs.peers.all_answered.Given as goal
 
 abbrev pub invariant-loop-number : goal.invariant-loop-number

@@ -1,5 +1,5 @@
 use Rattle.std.proofs.Common.{◌≡◌, ℕ, ap, ◌∙◌, arith}
-use Rattle.ha_loop.specs.Answers.{asking_first}
+use Rattle.agent_model.specs.Answers.{asking_first}
 use Rattle.ha_loop.proofs.peers.ask_all.Goals as goal
 
 pub returns-clause-out : goal.returns-clause-out

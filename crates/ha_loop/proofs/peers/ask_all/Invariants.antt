@@ -1,5 +1,5 @@
 use Rattle.std.proofs.Common.{◌≡◌, ◌+◌, ◌≤◌}
-use Rattle.ha_loop.specs.Answers.{asking_first}
+use Rattle.agent_model.specs.Answers.{asking_first}
 use Rattle.ha_loop.proofs.peers.ask_all.Given as goal
 
 abbrev pub invariant-loop-number : goal.invariant-loop-number

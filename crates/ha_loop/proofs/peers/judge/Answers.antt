@@ -1,6 +1,6 @@
 use Rattle.std.proofs.Common.{Some, sym, ◌∙◌}
-use Rattle.ha_loop.specs.Agents.{made}
-use Rattle.ha_loop.proofs.Judging.{judged-by}
+use Rattle.agent_model.specs.Agents.{made}
+use Rattle.agent_model.proofs.Judging.{judged-by}
 use Rattle.ha_loop.proofs.peers.judge.Goals as goal
 
 pub returns-in-Some-clause-outcome : goal.returns-in-Some-clause-outcome

@@ -1,6 +1,6 @@
 use Rattle.std.proofs.Common.{rules}
-use Rattle.ha_loop.specs.Views.{view_of}
-use Rattle.ha_loop.proofs.Judging.{outcome-shown}
+use Rattle.agent_model.specs.Views.{view_of}
+use Rattle.agent_model.proofs.Judging.{outcome-shown}
 use Rattle.ha_loop.proofs.peers.outcome_at.Goals as goal
 
 pub returns : goal.returns

@@ -1,5 +1,5 @@
-use Rattle.ha_loop.specs.Agents.{Leader, made}
-use Rattle.ha_loop.proofs.Judging.{step-shown}
+use Rattle.agent_model.specs.Agents.{Leader, made}
+use Rattle.agent_model.proofs.Judging.{step-shown}
 use Rattle.ha_loop.proofs.planning.take_step.Goals as goal
 
 pub returns-clause-outcome : goal.returns-clause-outcome

@@ -1,8 +1,8 @@
 use Rattle.std.proofs.Common.{Bool, ap, ◌∙◌}
-use Rattle.ha_loop.specs.Acting.{touching}
-use Rattle.ha_loop.specs.Agents.{Follower, Outcome, made}
-use Rattle.ha_loop.specs.Repairs.{repair_of, repaired_if}
-use Rattle.ha_loop.specs.Snapshots.{follow_row, led_by_another}
+use Rattle.agent_model.specs.Acting.{touching}
+use Rattle.agent_model.specs.Agents.{Follower, Outcome, made}
+use Rattle.agent_model.specs.Repairs.{repair_of, repaired_if}
+use Rattle.agent_model.specs.Snapshots.{follow_row, led_by_another}
 use Rattle.ha_loop.proofs.snapshots.follows.Goals as goal
 
 pub returns-clause-outcome : goal.returns-clause-outcome

@@ -1,5 +1,5 @@
 use Rattle.std.proofs.Common.{◌≡◌, ◌∙◌, ◌++◌, [], ◌∷◌, Option, arith, rules}
-use Rattle.ha_loop.specs.Agents.{AgentFacts}
+use Rattle.agent_model.specs.Agents.{AgentFacts}
 use Rattle.event_book.specs.declared.member.Member.{Member}
 use Rattle.cluster_model.specs.Starting.{first_agent}
 use Rattle.pat_world.proofs.Starting.{mapped-end, mapped-more}

@@ -1,8 +1,8 @@
 use Rattle.std.proofs.Common.{nat_le, ap, sym, ◌∙◌}
 use Rattle.pat_base.specs.declared.ticks.Ticks.{Ticks}
-use Rattle.ha_loop.specs.Agents.{AgentFacts}
-use Rattle.ha_loop.specs.Wake.{due_from}
-use Rattle.ha_loop.proofs.Waiting.{due-at}
+use Rattle.agent_model.specs.Agents.{AgentFacts}
+use Rattle.agent_model.specs.Wake.{due_from}
+use Rattle.agent_model.proofs.Waiting.{due-at}
 use Rattle.ha_loop.proofs.agent.Agent.due_from.Goals as goal
 
 pub returns-clause-exact : goal.returns-clause-exact

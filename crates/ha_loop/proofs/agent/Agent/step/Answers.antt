@@ -1,10 +1,12 @@
 use Rattle.std.proofs.Common.{◌≡◌, rules, subst, sym}
-use Rattle.ha_loop.specs.Agents.{role_of, made}
-use Rattle.ha_loop.specs.FreeKey.{AsksWhereFree, AsksWhereWon, BeginsWhereGranted}
-use Rattle.ha_loop.specs.Table.{prepared, step}
-use Rattle.ha_loop.proofs.Beginning.{step-asks, step-begins, step-wins}
-use Rattle.ha_loop.proofs.CommitInputs.{input-commits-as}
-use Rattle.ha_loop.proofs.LawfulSteps.{input-lawful-as, input-ends-as, input-counts}
+use Rattle.agent_model.specs.Agents.{made}
+use Rattle.ha_loop.specs.Roles.{role_of}
+use Rattle.agent_law.specs.FreeKey.{AsksWhereFree, AsksWhereWon, BeginsWhereGranted}
+use Rattle.agent_model.specs.Table.{prepared, step}
+use Rattle.agent_law.proofs.Beginning.{step-asks, step-begins, step-wins}
+use Rattle.agent_commit_law.proofs.CommitInputs.{input-commits-as}
+use Rattle.agent_lease_law.proofs.LawfulSteps.{input-lawful-as}
+use Rattle.agent_law.proofs.Staying.{input-ends-as, input-counts}
 use Rattle.ha_loop.proofs.agent.Agent.step.Goals as goal
 
 pub invariant_of-result : goal.invariant_of-result

@@ -1,6 +1,6 @@
 use Rattle.std.proofs.Common.{sym, ◌∙◌}
-use Rattle.ha_loop.specs.Agents.{Follower, made}
-use Rattle.ha_loop.proofs.Judging.{free-by}
+use Rattle.agent_model.specs.Agents.{Follower, made}
+use Rattle.agent_model.proofs.Judging.{free-by}
 use Rattle.ha_loop.proofs.snapshots.racing.finds_free.Goals as goal
 
 pub returns-else-can_start-clause-outcome : goal.returns-else-can_start-clause-outcome

@@ -1,6 +1,6 @@
 use Rattle.std.proofs.Common.{refl, sym, ◌∙◌}
-use Rattle.ha_loop.specs.Agents.{Follower, made}
-use Rattle.ha_loop.proofs.Judging.{raced-by}
+use Rattle.agent_model.specs.Agents.{Follower, made}
+use Rattle.agent_model.proofs.Judging.{raced-by}
 use Rattle.ha_loop.proofs.snapshots.racing.race.Goals as goal
 
 pub returns-then-all_answered-clause-outcome : goal.returns-then-all_answered-clause-outcome

@@ -1,6 +1,6 @@
 use Rattle.std.proofs.Common.{Some}
-use Rattle.ha_loop.specs.Agents.{Follower, made}
-use Rattle.ha_loop.proofs.Judging.{unless-by}
+use Rattle.agent_model.specs.Agents.{Follower, made}
+use Rattle.agent_model.proofs.Judging.{unless-by}
 use Rattle.ha_loop.proofs.snapshots.racing.race_unless.Goals as goal
 
 pub returns-in-Some-clause-outcome : goal.returns-in-Some-clause-outcome

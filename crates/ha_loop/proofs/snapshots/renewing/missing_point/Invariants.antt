@@ -1,5 +1,5 @@
 use Rattle.std.proofs.Common.{◌≡◌, drop}
-use Rattle.ha_loop.specs.Snapshots.{missing_point}
+use Rattle.agent_model.specs.Snapshots.{missing_point}
 use Rattle.ha_loop.proofs.snapshots.renewing.missing_point.Given as goal
 
 -- what is left has the same first missing point as the whole

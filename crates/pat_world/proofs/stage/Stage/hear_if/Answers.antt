@@ -1,5 +1,5 @@
 use Rattle.std.proofs.Common.{◌∙◌, Option, ap, sym}
-use Rattle.ha_loop.specs.declared.heard.Heard.{Heard}
+use Rattle.agent_model.specs.declared.heard.Heard.{Heard}
 use Rattle.cluster_model.specs.Cluster.{agent_facts_with}
 use Rattle.cluster_model.specs.Inputs.{outcome_of_heard}
 use Rattle.pat_world.proofs.Hearing.{unheard, with_agents}

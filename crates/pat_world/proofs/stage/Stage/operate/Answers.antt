@@ -1,7 +1,7 @@
 use Rattle.std.proofs.Common.{◌≤◌, List, All, length, Some, sym, subst}
-use Rattle.ha_loop.specs.declared.heard.Heard.TheVariants.{Operated}
-use Rattle.ha_loop.specs.declared.output.Output.{Output}
-use Rattle.ha_loop.specs.Outputs.{most_outputs}
+use Rattle.agent_model.specs.declared.heard.Heard.TheVariants.{Operated}
+use Rattle.agent_model.specs.declared.output.Output.{Output}
+use Rattle.agent_model.specs.Outputs.{most_outputs}
 use Rattle.cluster_model.specs.Messages.{no_message, output_events, operate_events}
 use Rattle.cluster_model.specs.Parts.{each}
 use Rattle.cluster_model.specs.State.{Cluster}

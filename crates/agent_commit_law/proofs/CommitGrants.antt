@@ -1,0 +1,170 @@
+-- Each granted request is lawful for kept commits.
+use Rattle.std.proofs.Common.{◌≡◌, ◌⊎◌, ℕ, ◌+◌, ◌≤◌, Bool, true, false, Option, Some, None, All, refl, sym, subst, ap, ◌∙◌, arith, inl, inr}
+use Rattle.pat_base.specs.declared.member_set.MemberSet.{MemberSet}
+use Rattle.pat_base.specs.declared.ticks.Ticks.{Ticks}
+use Rattle.lease_store.specs.declared.granted.Granted.{Granted}
+use Rattle.lease_store.specs.declared.txn.Txn.TheVariants as txns
+use Rattle.wal_model.specs.Log.{end_of}
+use Rattle.pg_model.specs.Facts.{entries_of}
+use Rattle.cluster_config.specs.Snapshots.{SnapshotFacts}
+use Rattle.event_book.specs.declared.message.Body.TheVariants as bodies
+use Rattle.lease_law.specs.Past.{set_members}
+use Rattle.sync_state.specs.Published.{published_in}
+use Rattle.sync_state.specs.Standbys.{required_members, noted_position}
+use Rattle.commit_law.specs.Keys.{SyncKey, Need, Overlaps, Added, Narrows}
+use Rattle.commit_law.specs.Flights.{SyncRequest}
+use Rattle.commit_law.specs.States.{Agent, State}
+use Rattle.commit_law.specs.Inputs.{AgentInput, ChangingRequired, Publishing, SettlingRequired, sync_revision_of}
+use Rattle.commit_law.specs.Carried.{IsSound}
+use Rattle.commit_law.specs.Past.{need_in, publish_request}
+use Rattle.agent_model.specs.declared.heard.Heard.TheVariants.{Granted as HeardGranted}
+use Rattle.agent_model.specs.declared.knowledge.Settling.{Settling}
+use Rattle.agent_model.specs.declared.machine.Replication.{Replication}
+use Rattle.agent_model.specs.declared.output.Output.{Output}
+use Rattle.agent_model.specs.declared.output.Output.TheVariants as outputs
+use Rattle.agent_model.specs.declared.output.Target.TheVariants as targets
+use Rattle.agent_model.specs.Acting.{deadline_after}
+use Rattle.agent_model.specs.Agents.{RoleFacts, Ready, Leader, Outcome, is_ready, is_leader}
+use Rattle.agent_commit_law.specs.Committing.{StandsToCommit, IsAwaitedWrite, HearsLease, HearsWrite, GrowsByConnected, IsCommitInputOf, IsLawfulAs}
+use Rattle.agent_model.specs.Planning.{naming}
+use Rattle.agent_law.specs.Powers.{IsAwaitedLease}
+use Rattle.agent_model.specs.Synchronous.{sync_read_in, expected_of}
+use Rattle.agent_commit_law.proofs.CommitGrounds.{IsBehind, lease_granted_as, write_granted_as, hears-lease, hears-write, leads-live, IsLedBy, compared-as, has-confirmed, confirmed-any}
+use Rattle.agent_commit_law.proofs.CommitIdling.{Idle, idle-then, waits-nothing, waits-new}
+use Rattle.agent_commit_law.proofs.CommitLawful.{was_of, lawful-as, keeps-turn, keeps-live, keeps-server, keeps-ready, keeps-noted, sends-nothing, sends-one, idle-lawful}
+use Rattle.agent_commit_law.proofs.CommitQuiet.{IsQuiet, IsUnasking, asks-none, asks-unbegun, quiet-fed, last-request, last-unbegun, unasking}
+use Rattle.agent_commit_law.proofs.CommitTools.{IsWithin, HasReached, covers-required}
+use Rattle.agent_law.proofs.Granting.{Told}
+use Rattle.agent_law.proofs.Knowing.{Onward}
+use Rattle.agent_law.proofs.Living.{no-way}
+use Rattle.agent_law.proofs.Rows.{led_on}
+
+-- what a granted request is heard on, with what stands after what comes before it
+pub record Ground (s : State) (m : ℕ) (o b : Outcome) : Type 0 where
+  pub sound : IsSound s
+  pub stands : StandsToCommit s m o
+  pub behind : IsBehind o b
+  pub quiet : All IsQuiet o.outputs
+
+-- what is made of it is lawful, where the agent goes on
+abbrev pub Lawful : Ticks → ℕ → Granted → SnapshotFacts → State → ℕ → AgentInput → Outcome → Outcome → Type 0
+Lawful now sequence grant snapshot s m input o x = Onward (Some snapshot) o x → IsCommitInputOf s m o x input → IsLawfulAs now (HeardGranted sequence grant snapshot) o s m input
+
+-- a row that leaves what commits depend on
+pub rests : (now : Ticks) (sequence : ℕ) (grant : Granted) (snapshot : SnapshotFacts) (s : State) (m : ℕ) (input : AgentInput) (o b x : Outcome) → Ground s m o b → Idle None b x → Lawful now sequence grant snapshot s m input o x
+rests now sequence grant snapshot s m input o b x ground idle onward is =
+    idle-lawful now (HeardGranted sequence grant snapshot) None (Some snapshot) s m input o x ground.stands is onward (idle-then None o b x ground.behind.idle idle ground.behind.last) ground.quiet (λ told e. absurd (none-told told e))
+  where
+    none-told : (told : SnapshotFacts) → ◌≡◌ {A = Option SnapshotFacts} None (Some told) → ⊥
+    none-told told e = cc
+
+-- what is known of a lease that is heard
+pub record Leased (s : State) (m sequence : ℕ) (grant : Granted) (snapshot : SnapshotFacts) (input : AgentInput) (o : Outcome) : Type 0 where
+  pub awaited : IsAwaitedLease sequence grant o.knows
+  pub hears : HearsLease s m input.heard sequence grant.revision snapshot o.knows
+
+-- who leads isn't about to begin
+pub unready : (role : RoleFacts) → is_leader role ≡ true → is_ready role ≡ false
+unready (Leader held) leads = refl
+unready (Ready held) leads = absurd (no-way leads)
+unready _ leads = refl
+
+-- a leader whose required list changes
+pub record Changes (s : State) (m : ℕ) (o x : Outcome) : Type 0 where
+  pub ready : is_ready x.role ≡ false
+  pub turn : x.knows.turn_sync ≡ o.knows.turn_sync
+  pub waited : x.knows.waited ≡ None
+  pub unasking : All IsUnasking x.outputs
+  pub notes : (noted_position x.knows.noted ≡ end_of (entries_of (s.members m).log)) ⊎ (Narrows (s.members m).required (need_in x.machine.replication.required) × (x.knows.noted ≡ o.knows.noted))
+
+notes-shown : (s : State) (m : ℕ) (input : AgentInput) (o x : Outcome) → IsCommitInputOf s m o x input → Changes s m o x
+    → (input.agent.noted ≡ end_of (entries_of (s.members m).log)) ⊎ (Narrows (s.members m).required input.required × (input.agent.noted ≡ (was_of o).noted))
+notes-shown s m input o x is changes = elim changes.notes [
+  | inl end ↦ inl (ap (λ (a : Agent). a.noted) is.agent ∙ end)
+  | inr narrows ↦ inr (subst (Narrows (s.members m).required) (sym is.required) narrows.0, keeps-noted s m input o x is narrows.1)
+]
+
+overlaps-shown : (s : State) (m : ℕ) (input : AgentInput) (o x : Outcome) (key : SyncKey) (standbys : ℕ → Bool) → IsCommitInputOf s m o x input → key.quorum ≡ 0 → key.standbys ≡ standbys → Overlaps s.member_count standbys 0 (need_in x.machine.replication.required)
+    → Overlaps s.member_count key.standbys key.quorum input.required
+overlaps-shown s m input o x key standbys is quorum same over =
+    subst (λ (n : Need). Overlaps s.member_count key.standbys key.quorum n) (sym is.required)
+    (subst (λ (q : ℕ). Overlaps s.member_count key.standbys q (need_in x.machine.replication.required)) (sym quorum)
+    (subst (λ (set : ℕ → Bool). Overlaps s.member_count set 0 (need_in x.machine.replication.required)) (sym same) over))
+
+-- in a turn
+pub changes-lawful : (now : Ticks) (sequence : ℕ) (grant : Granted) (snapshot : SnapshotFacts) (s : State) (m : ℕ) (input : AgentInput) (o b x : Outcome) → Ground s m o b → Leased s m sequence grant snapshot input o → IsLedBy s m snapshot o → is_leader b.role ≡ true → Changes s m o x
+    → Overlaps s.member_count (set_members (published_in snapshot)) 0 (need_in x.machine.replication.required) → GrowsByConnected o (s.members m).required (need_in x.machine.replication.required) → Lawful now sequence grant snapshot s m input o x
+changes-lawful now sequence grant snapshot s m input o b x ground leased led leads changes over grows onward is =
+    lawful-as now (HeardGranted sequence grant snapshot) (Some snapshot) s m input o x ground.stands is onward (waits-nothing o x changes.waited)
+    (ChangingRequired (record {
+      grant = lease_granted_as m sequence grant.revision snapshot o;
+      hears = hears-lease s m sequence grant snapshot input o leased.hears leased.awaited;
+      live = keeps-live s m input o x ground.stands is (asks-unbegun x.outputs changes.unasking);
+      sends = sends-nothing s m input o x is (asks-none m o.knows.run x.outputs changes.unasking);
+      ready = keeps-ready s m input o x is (λ e. absurd (no-way (sym changes.ready ∙ e)));
+      leads = λ _. ground.behind.idle.leads leads;
+      turn = keeps-turn s m input o x is changes.turn;
+      key = led.key;
+      key_is = led.seen;
+      overlaps = overlaps-shown s m input o x led.key (set_members (published_in snapshot)) is led.quorum led.standbys over;
+      notes = notes-shown s m input o x is changes;
+    })) (subst (GrowsByConnected o (s.members m).required) (sym is.required) grows)
+
+-- on a granted write of the sync key
+pub settles-lawful : (now : Ticks) (sequence : ℕ) (grant : Granted) (snapshot : SnapshotFacts) (s : State) (m : ℕ) (input : AgentInput) (o b x : Outcome) → Ground s m o b → (awaited : IsAwaitedWrite sequence grant o.knows) → (hears : HearsWrite s m input.heard sequence awaited.waited.question o.knows)
+    → is_leader b.role ≡ true → Changes s m o x → hears.key.quorum ≡ 0 → Overlaps s.member_count hears.key.standbys 0 (need_in x.machine.replication.required) → GrowsByConnected o (s.members m).required (need_in x.machine.replication.required) → Lawful now sequence grant snapshot s m input o x
+settles-lawful now sequence grant snapshot s m input o b x ground awaited hears leads changes quorum over grows onward is =
+    lawful-as now (HeardGranted sequence grant snapshot) (Some snapshot) s m input o x ground.stands is onward (waits-nothing o x changes.waited)
+    (SettlingRequired (record {
+      sync_grant = write_granted_as m sequence hears.key o;
+      hears = hears-write s m sequence grant input o awaited hears;
+      live = keeps-live s m input o x ground.stands is (asks-unbegun x.outputs changes.unasking);
+      sends = sends-nothing s m input o x is (asks-none m o.knows.run x.outputs changes.unasking);
+      ready = keeps-ready s m input o x is (λ e. absurd (no-way (sym changes.ready ∙ e)));
+      leads = λ _. ground.behind.idle.leads leads;
+      turn = keeps-turn s m input o x is changes.turn;
+      overlaps = overlaps-shown s m input o x hears.key hears.key.standbys is quorum refl over;
+      notes = notes-shown s m input o x is changes;
+    })) (subst (GrowsByConnected o (s.members m).required) (sym is.required) grows)
+
+-- a leader that asks for standbys that are required, and are published already or have confirmed the noted position
+pub publishes-lawful : (now ttl : Ticks) (sequence : ℕ) (grant : Granted) (snapshot : SnapshotFacts) (s : State) (m : ℕ) (input : AgentInput) (o b : Outcome) → Ground s m o b → Leased s m sequence grant snapshot input o → IsLedBy s m snapshot o → is_leader b.role ≡ true → (settling : Settling) (set : MemberSet)
+    → IsWithin (set_members set) (set_members (required_members o.machine.replication.required)) → ((n : ℕ) → set_members set n ≡ true → (set_members (published_in snapshot) n ≡ true) ⊎ HasReached o.machine.replication.connected (noted_position o.knows.noted) n)
+    → Lawful now sequence grant snapshot s m input o (naming now grant.revision settling set (led_on now ttl grant.revision (Told snapshot b)))
+publishes-lawful now ttl sequence grant snapshot s m input o b ground leased led leads settling set required each onward is =
+    let fed : Outcome = led_on now ttl grant.revision (Told snapshot b) in
+    let x : Outcome = naming now grant.revision settling set fed in
+    let fed-quiet : All IsQuiet fed.outputs = quiet-fed (deadline_after now ttl b.machine.watchdog) b.outputs (ground.behind.idle.quiet ground.quiet) in
+    let output : Output = outputs.Send targets.Store (b.knows.sequence + 1) (bodies.Request (txns.SetSync grant.revision (expected_of (sync_read_in snapshot)) set)) in
+    let request : SyncRequest = publish_request m o.knows.run (b.knows.sequence + 1) grant.revision (expected_of (sync_read_in snapshot)) set in
+    let lives : (s.members m).live ≡ true = leads-live s m o b ground.stands ground.behind leads in
+    let was-published : (n : ℕ) → set_members (published_in snapshot) n ≡ true → led.key.standbys n ≡ true = λ n e. ap (λ (f : ℕ → Bool). f n) led.standbys ∙ e in
+    lawful-as now (HeardGranted sequence grant snapshot) (Some snapshot) s m input o x ground.stands is onward (waits-new o x _ refl (omega (arith, ground.behind.last)))
+    (Publishing (record {
+      grant = lease_granted_as m sequence grant.revision snapshot o;
+      hears = hears-lease s m sequence grant snapshot input o leased.hears leased.awaited;
+      keeps = keeps-server s m input o x ground.stands is (last-unbegun fed.outputs output (unasking fed.outputs fed-quiet) refl) (ap (λ (r : Replication). r.required) ground.behind.replication);
+      live = lives;
+      led = ground.behind.idle.leads leads;
+      ready = keeps-ready s m input o x is (λ e. absurd (no-way e));
+      noted = keeps-noted s m input o x is ground.behind.idle.noted;
+      turn = keeps-turn s m input o x is ground.behind.turn;
+      key = led.key;
+      key_is = led.seen;
+      request = request;
+      sends = sends-one s m input o x request is (last-request m o.knows.run fed.outputs output fed-quiet) refl refl (omega (arith, ground.behind.last)) (omega arith) refl;
+      leader = refl;
+      sync = compared-as (sync_read_in snapshot) ∙ ap sync_revision_of led.seen;
+      standbys = set_members set;
+      quorum = 0;
+      aim = refl;
+      overlaps = subst (λ (n : Need). Overlaps s.member_count (set_members set) 0 n) (sym ground.stands.required) (covers-required s.member_count (set_members set) o.machine.replication.required required);
+      connected = λ n e. elim (each n e) [
+        | inl was ↦ inl (was-published n was)
+        | inr reached ↦ inr (confirmed-any s m (noted_position o.knows.noted) n (has-confirmed s m o (noted_position o.knows.noted) n ground.stands reached))
+      ];
+      may = Added (λ n e. elim (each n e) [
+        | inl was ↦ inl (was-published n was)
+        | inr reached ↦ inr (has-confirmed s m o (noted_position o.knows.noted) n ground.stands reached)
+      ]) (subst (λ (q : ℕ). q ≤ 0) (sym led.quorum) (omega arith));
+    })) tt

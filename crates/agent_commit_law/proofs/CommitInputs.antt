@@ -1,0 +1,328 @@
+-- Each input of the table is lawful for kept commits, and leaves the synchronous mode on.
+use Rattle.std.proofs.Common.{◌≡◌, ℕ, ◌+◌, ◌<◌, Bool, true, ◌∷◌, slice_get, List, [], Option, Some, None, All, refl, sym, subst, ap, ◌∙◌, false, arith}
+use Rattle.std.proofs.lemmas.List.Elements.{All-nil, All-push}
+use Rattle.std.proofs.lemmas.List.{append_assoc}
+use Rattle.pat_base.specs.declared.member_set.MemberSet.{MemberSet}
+use Rattle.pat_base.specs.declared.server_state.Required.{Required}
+use Rattle.pat_base.specs.declared.server_state.Required.TheVariants as requireds
+use Rattle.pat_base.specs.declared.ticks.Ticks.{Ticks}
+use Rattle.lease_store.specs.declared.granted.Granted.{Granted}
+use Rattle.lease_store.specs.declared.txn.Expected.{Expected}
+use Rattle.lease_store.specs.declared.txn.Txn.TheVariants as txns
+use Rattle.lease_store.specs.Writes.{nobody}
+use Rattle.wal_model.specs.declared.entry.HistoryPoint.{HistoryPoint}
+use Rattle.pg_model.specs.declared.status.ServerStatus.{ServerStatus}
+use Rattle.cluster_config.specs.Snapshots.{SnapshotFacts}
+use Rattle.event_book.specs.declared.message.Body.{Body}
+use Rattle.event_book.specs.declared.message.Body.TheVariants as bodies
+use Rattle.event_book.specs.declared.reason.Reason.TheVariants.{StartTooLong, WatchdogNotArmed}
+use Rattle.lease_law.specs.Past.{set_members}
+use Rattle.lease_law.proofs.Tools.{some-is, none-some, not-false}
+use Rattle.sync_state.specs.Published.{published_in}
+use Rattle.sync_state.specs.Sets.{both, either}
+use Rattle.commit_law.specs.Actions.{fresh_agent}
+use Rattle.commit_law.specs.States.{Agent, State}
+use Rattle.commit_law.specs.Inputs.{AgentInput, HearsSnapshot, Does, Idling, Racing, HearingAnswer, WinningRace, CreatingLeader, Arming, TakingOver, ChangingRequired, Publishing, Promoting, SettlingRequired, ArmsAlone, IsGivenByLease}
+use Rattle.agent_model.specs.declared.heard.Heard.{Heard}
+use Rattle.agent_model.specs.declared.heard.Heard.TheVariants.{Wake, Got, Granted as HeardGranted, Mismatch, Asked, Answered, Operated as HearsOperator}
+use Rattle.agent_model.specs.declared.knowledge.Knowledge.{Knowledge}
+use Rattle.agent_model.specs.declared.knowledge.Question.{Question}
+use Rattle.agent_model.specs.declared.knowledge.Question.TheVariants.{Syncing}
+use Rattle.agent_model.specs.declared.knowledge.Settling.{Settling}
+use Rattle.agent_model.specs.declared.knowledge.Settling.TheVariants as settlings
+use Rattle.agent_model.specs.declared.knowledge.Settling.TheVariants.{Lists}
+use Rattle.agent_model.specs.declared.knowledge.Waited.{Waited}
+use Rattle.agent_model.specs.declared.machine.Machine.{Machine}
+use Rattle.agent_model.specs.declared.machine.Replication.{Replication}
+use Rattle.agent_model.specs.declared.output.Output.{Output}
+use Rattle.agent_model.specs.declared.output.Output.TheVariants as outputs
+use Rattle.agent_model.specs.declared.output.Target.TheVariants as targets
+use Rattle.agent_model.specs.declared.why.Why.{Why}
+use Rattle.agent_model.specs.declared.why.Why.TheVariants.{HandOver, Lost}
+use Rattle.agent_model.specs.declared.who.Who.{Who}
+use Rattle.agent_model.specs.Acting.{deadline_after, disarmed, ending_server, arming, requiring, waiting_no_more}
+use Rattle.agent_model.specs.Agents.{RoleFacts, Follower, Ending, Outcome, is_leader, made, fresh_knowledge}
+use Rattle.agent_model.specs.Before.{before, has_ended}
+use Rattle.agent_model.specs.Claiming.{begins, can_begin_on_claim, claims, passing, postpones}
+use Rattle.agent_commit_law.specs.Committing.{sync_seen, committer_seen, ArmsOn, DoesAs, IsOn, HearsOn, HearsToCommit, KnowsBelow, AsksOn, FollowsOn, requests_of, is_begin, IsOneAtMost, IsCovered, IsSynchronousBody, IsSynchronousOutput, HasForm, Apart, Asks, Passes, Requires, Begins, StaysOn, CommitsFrom}
+use Rattle.agent_model.specs.Decisions.{takes_over, gives_back, granted}
+use Rattle.agent_model.specs.HandingOver.{checking, hands_over}
+use Rattle.agent_model.specs.Operators.{grants_operator, looked, operated, operator_granted}
+use Rattle.agent_model.specs.Outputs.{has_one, listed}
+use Rattle.agent_model.specs.Peers.{asked, answered}
+use Rattle.agent_model.specs.Planning.{leader_view, naming, noting}
+use Rattle.agent_model.specs.Racing.{unheard}
+use Rattle.agent_model.specs.Snapshots.{got, informed}
+use Rattle.agent_model.specs.Synchronous.{expected_of, sync_read_in, unnamed, waiting_for}
+use Rattle.agent_model.specs.Table.{granted_any, refused_any, step}
+use Rattle.agent_model.specs.Wake.{woken}
+use Rattle.agent_commit_law.proofs.CommitAsking.{before-asks, wake-asks, looked-asks, got-asks, any-refused-asks, operator-granted-asks, operated-asks, answered-asks, leases-on}
+use Rattle.agent_commit_law.proofs.CommitIdling.{Idle, idle-then, before-idle, wake-idle, looked-idle, got-idle, any-refused-idle, operator-granted-idle, operated-idle, answered-idle, asked-idle, postpones-idle, failover-idle}
+use Rattle.agent_commit_law.proofs.CommitLawful.{idle-lawful}
+use Rattle.agent_commit_law.proofs.CommitQuiet.{IsQuiet, IsUnasking, all-armed, all-disarmed, all-fed, alone, covered, keeps-mode, last-one, last-unbegun, passing-unasked, quiet-fed, quiet-one, quiet-unbegun, quietly, unasked, unasking}
+use Rattle.agent_commit_law.proofs.CommitRows.{grant-commits, led-idle}
+use Rattle.agent_commit_law.proofs.CommitGrounds.{IsBehind, before-behind}
+use Rattle.agent_commit_law.proofs.CommitTools.{both-first, confirmed-reached, no-members, within-set}
+use Rattle.agent_commit_law.proofs.CommitSteps.{confirmed_at, wanted_at, required_at, PlanSteps, LeaseSteps, WriteSteps, granted-steps}
+use Rattle.agent_law.proofs.Granting.{Told}
+use Rattle.agent_law.proofs.Knowing.{Onward, before-onward, wake-onward, looked-onward, got-onward, any-granted-onward, any-refused-onward, operated-onward, answered-onward, asked-onward, onward-then}
+use Rattle.agent_law.proofs.Rows.{FailoverRows, dropping, before-by, if-cases, led_on, passing-by}
+use Rattle.agent_model.specs.Pausing.{is_paused}
+use Rattle.agent_law.proofs.Staying.{stays-unpaused}
+
+-- what comes before an input is covered by it
+pub before-covered : (now : Ticks) (o : Outcome) → All IsCovered o.outputs → All IsCovered (before now o).outputs
+before-covered now o all = before-by (λ (x : Outcome). All IsCovered x.outputs) now o (record {
+  kept = λ _. all;
+  leader = λ held _ _. disarms;
+  ending = λ held why _ _. ended-covered why held;
+  follower = λ _ _. all;
+  holder = λ held _ _. all;
+  ready = λ held _ _. disarms;
+  stray = λ _ _. disarms;
+})
+  where
+    disarms : All IsCovered (disarmed o.machine.watchdog.deadline o.outputs)
+    disarms = all-disarmed IsCovered o.outputs all o.machine.watchdog.deadline tt
+
+    ended-covered : (why : Why) (held : ℕ) → All IsCovered (has_ended why held o).outputs
+    ended-covered HandOver held = All-push IsCovered (disarmed o.machine.watchdog.deadline o.outputs) _ disarms tt
+    ended-covered Lost held = disarms
+
+-- behind quiet outputs the mode stays on
+quiet-stays : (heard : Heard) (o x : Outcome) → AsksOn x.knows → All IsQuiet x.outputs → StaysOn heard o x
+quiet-stays heard o x asks quiet = record {
+  asks = asks;
+  one = quiet-one o.knows.who.me.number o.knows.run x.outputs quiet;
+  sends = λ count below. keeps-mode count x.outputs (unasking x.outputs quiet);
+  form = Apart (alone x.outputs quiet);
+  begins = λ e. absurd (not-false (has_one is_begin x.outputs) (quiet-unbegun x.outputs quiet) e);
+}
+
+-- with one more output behind those that send no other request
+last-stays : (heard : Heard) (o x : Outcome) (outs : List Output) (output : Output) → AsksOn x.knows → x.outputs ≡ listed output outs → is_begin output ≡ false → All IsUnasking outs → HasForm x.outputs → ((count : ℕ) → KnowsBelow count heard o → IsSynchronousOutput count output) → StaysOn heard o x
+last-stays heard o x outs output asks is unbegun still form sends =
+    record {
+      asks = asks;
+      one = subst (λ (l : List Output). IsOneAtMost (requests_of o.knows.who.me.number o.knows.run l)) (sym is) (last-one o.knows.who.me.number o.knows.run outs output still);
+      sends = λ count below. subst (λ (l : List Output). All (IsSynchronousOutput count) l) (sym is) (All-push (IsSynchronousOutput count) outs output (keeps-mode count outs still) (sends count below));
+      form = form;
+      begins = λ e. absurd (not-false (has_one is_begin x.outputs) (ap (has_one is_begin) is ∙ last-unbegun outs output still unbegun) e);
+    }
+
+-- a question to the key store is the last output
+asks-stays : (heard : Heard) (o x : Outcome) (outs : List Output) (sequence : ℕ) (body : Body) → AsksOn x.knows → x.outputs ≡ listed (outputs.Send targets.Store sequence body) outs → All IsCovered outs → ((count : ℕ) → KnowsBelow count heard o → IsSynchronousBody count body) → StaysOn heard o x
+asks-stays heard o x outs sequence body asks is all sends = last-stays heard o x outs (outputs.Send targets.Store sequence body) asks is refl (unasking outs (covered outs all)) (Asks outs sequence body all (sym is)) sends
+
+-- so is a claim, behind the note that the sync key doesn't name the member, if that is so
+claims-form : (o : Outcome) (sequence revision : ℕ) (sync : Expected) → All IsCovered o.outputs → HasForm (listed (outputs.Send targets.Store sequence (bodies.Request (txns.Claim revision sync))) (passing o).outputs)
+claims-form o sequence revision sync all = let claim : Output = outputs.Send targets.Store sequence (bodies.Request (txns.Claim revision sync)) in
+    passing-by (λ (outs : List Output). HasForm (listed claim outs)) o (Asks o.outputs sequence (bodies.Request (txns.Claim revision sync)) all refl)
+    (Passes o.outputs sequence revision sync all (sym (append_assoc o.outputs (outputs.Passes ∷ []) (claim ∷ []))))
+
+-- nothing is waited for, or this question
+rest : (knows : Knowledge) → knows.waited ≡ None → AsksOn knows
+rest knows none waited is = absurd (none-some waited (sym none ∙ is))
+
+asks-this : (knows : Knowledge) (asked : Waited) → knows.waited ≡ Some asked → FollowsOn knows.turn_settings.synchronous_mode asked.question → AsksOn knows
+asks-this knows asked is follows waited waits = subst (λ (w : Waited). FollowsOn knows.turn_settings.synchronous_mode w.question) (some-is asked waited (sym is ∙ waits)) follows
+
+requires-stays : (heard : Heard) (o y : Outcome) (required : Required) → y.knows.waited ≡ None → All IsCovered y.outputs → StaysOn heard o (requiring required y)
+requires-stays heard o y required none all =
+    last-stays heard o (requiring required y) y.outputs (outputs.Require required) (rest y.knows none) refl refl (unasking y.outputs (covered y.outputs all)) (Requires y.outputs required all refl) (λ count below. tt)
+
+-- the rows of a grant, on what comes before it
+module _ (now : Ticks) (sequence : ℕ) (grant : Granted) (snapshot : SnapshotFacts) (o b : Outcome) (behind : IsBehind o b) (all : All IsCovered b.outputs) where
+  abbrev Hears : Heard
+  Hears = HeardGranted sequence grant snapshot
+
+  abbrev Stays : Outcome → Type 0
+  Stays x = StaysOn Hears o x
+
+  quiet : All IsQuiet b.outputs
+  quiet = covered b.outputs all
+
+  -- a leader that asks for a write of the sync key
+  names-stays : (ttl : Ticks) (settling : Settling) (set : MemberSet) → ((on : Bool) → FollowsOn on (Syncing settling)) → ((count : ℕ) → KnowsBelow count Hears o → (n : ℕ) → set_members set n ≡ true → n < count)
+      → Stays (naming now grant.revision settling set (led_on now ttl grant.revision (Told snapshot b)))
+  names-stays ttl settling set follows below =
+      let fed : Outcome = led_on now ttl grant.revision (Told snapshot b) in
+      let x : Outcome = naming now grant.revision settling set fed in
+      asks-stays Hears o x fed.outputs (b.knows.sequence + 1) (bodies.Request (txns.SetSync grant.revision (expected_of (sync_read_in snapshot)) set))
+      (asks-this x.knows _ refl (follows b.knows.turn_settings.synchronous_mode)) refl (all-fed IsCovered b.outputs all (deadline_after now ttl b.machine.watchdog) (λ until. tt)) below
+
+  nobody-below : (count n : ℕ) → set_members nobody n ≡ true → n < count
+  nobody-below count n is = absurd (not-false (set_members nobody n) (no-members nobody refl n) is)
+
+  plan-stays : (ttl : Ticks) → PlanSteps Stays now grant.revision snapshot (led_on now ttl grant.revision (Told snapshot b))
+  plan-stays ttl =
+      let fed : Outcome = led_on now ttl grant.revision (Told snapshot b) in
+      let still : All IsCovered fed.outputs = all-fed IsCovered b.outputs all (deadline_after now ttl b.machine.watchdog) (λ until. tt) in
+      let published : MemberSet = published_in snapshot in let wanted : MemberSet = wanted_at now snapshot fed in record {
+        kept = quiet-stays Hears o fed (rest fed.knows refl) (covered fed.outputs still);
+        mark = λ _. names-stays ttl (Lists nobody) nobody (λ on. tt) (λ count _. nobody-below count);
+        withdraws = names-stays ttl (Lists (both published wanted)) (both published wanted) (λ on. tt) (λ count below n is. below.published n (both-first published wanted n is));
+        adds = requires-stays Hears o (noting fed) (requireds.All (either (required_at fed) wanted)) refl still;
+        publishes = λ _ confirmed. names-stays ttl settlings.Stays wanted (λ on. tt) (λ count below n is.
+            let reached = confirmed-reached (leader_view now fed.knows fed.machine) n (within-set wanted (confirmed_at now fed) confirmed n is) in
+            below.connected n reached.end (subst (λ (r : Replication). slice_get r.connected n ≡ Some (Some reached.end)) behind.replication reached.is));
+        drops = λ _. requires-stays Hears o fed (waiting_for fed.knows.settings (either published wanted)) refl still;
+      }
+
+  -- what it does under a failover key
+  failover-stays : (ttl : Ticks) → is_leader b.role ≡ true → FailoverRows Stays now grant.revision (led_on now ttl grant.revision (Told snapshot b))
+  failover-stays ttl leads =
+      let fed : Outcome = led_on now ttl grant.revision (Told snapshot b) in
+      let u : Outcome = unheard fed in
+      let w : Outcome = waiting_no_more u in
+      let idle : FailoverRows (Idle None b) now grant.revision fed = failover-idle None now grant.revision b fed (led-idle now ttl grant.revision snapshot b leads) (omega arith) in
+      let still : (x : Outcome) → Idle None b x → AsksOn x.knows → Stays x = λ x after asks. quiet-stays Hears o x asks (after.quiet quiet) in
+      record {
+        kept = still fed idle.kept (rest fed.knows refl);
+        clears = λ compared. still (dropping compared fed) (idle.clears compared) (rest (dropping compared fed).knows refl);
+        asks = λ candidate. let x : Outcome = checking now candidate u in still x (idle.asks candidate) (asks-this x.knows _ refl tt);
+        judges = record {
+          kept = still w idle.judges.kept (rest w.knows refl);
+          clears = λ compared. still (dropping compared w) (idle.judges.clears compared) (rest (dropping compared w).knows refl);
+          hands = λ candidate. let x : Outcome = hands_over now grant.revision candidate w in still x (idle.judges.hands candidate) (rest x.knows refl);
+        };
+      }
+
+  lease-stays : (ttl : Ticks) → LeaseSteps Stays now ttl grant.revision snapshot b
+  lease-stays ttl =
+      let told : Outcome = Told snapshot b in
+      let revision : ℕ = grant.revision in
+      let fed : Outcome = led_on now ttl revision told in
+      let arm : Outcome = arming now ttl told in
+      let armed : All IsCovered arm.outputs = all-armed IsCovered b.outputs all (deadline_after now ttl b.machine.watchdog) (λ until. tt) in
+      let ended : Outcome = record (ending_server now StartTooLong fed) { role = Ending revision HandOver } in
+      let stopped : Outcome = ending_server now WatchdogNotArmed told in
+      let over : Outcome = takes_over now revision arm in
+      let back : Outcome = gives_back revision told in
+      let refused-it : Outcome = gives_back revision (record told { outputs = listed outputs.CannotArm b.outputs }) in
+      let claimed : Outcome = claims now revision (passing arm) in
+      let read : Expected = expected_of b.knows.turn_sync in record {
+        other = quiet-stays Hears o told (rest told.knows refl) quiet;
+        ends = quiet-stays Hears o ended (rest ended.knows refl) (quietly fed.outputs (outputs.Stop StartTooLong) (quiet-fed (deadline_after now ttl b.machine.watchdog) b.outputs quiet) tt);
+        plans = λ held _. plan-stays ttl;
+        fails_over = λ held is. failover-stays ttl (rw is refl);
+        stops = λ _. quiet-stays Hears o stopped (rest stopped.knows refl) (quietly b.outputs (outputs.Stop WatchdogNotArmed) quiet tt);
+        takes_over = λ _. quiet-stays Hears o over (rest over.knows refl) (covered arm.outputs armed);
+        returns = quiet-stays Hears o back (rest back.knows refl) (quietly b.outputs _ quiet tt);
+        refuses = quiet-stays Hears o refused-it (rest refused-it.knows refl) (quietly (listed outputs.CannotArm b.outputs) _ (quietly b.outputs outputs.CannotArm quiet tt) tt);
+        claims = λ _. last-stays Hears o claimed (passing arm).outputs (outputs.Send targets.Store (b.knows.sequence + 1) (bodies.Request (txns.Claim revision read))) (asks-this claimed.knows _ refl tt) refl refl
+            (passing-unasked arm (covered arm.outputs armed)) (claims-form arm (b.knows.sequence + 1) revision read armed) (λ count below. tt);
+      }
+
+  begins-stays : (revision : ℕ) → can_begin_on_claim b.machine.server.was_primary b.machine.server.state ≡ true → Stays (begins now revision (Told snapshot b))
+  begins-stays revision can =
+      let x : Outcome = begins now revision (Told snapshot b) in
+      let list : Required = unnamed b.knows.turn_settings in
+      let required : Output = outputs.Require list in
+      let asking-none : All IsUnasking (listed required b.outputs) = unasked b.outputs list quiet in
+      record {
+        asks = rest x.knows refl;
+        one = last-one o.knows.who.me.number o.knows.run (listed required b.outputs) outputs.Begin asking-none;
+        sends = λ count below. All-push (IsSynchronousOutput count) (listed required b.outputs) outputs.Begin (keeps-mode count (listed required b.outputs) asking-none) tt;
+        form = Begins b.outputs list all (sym (append_assoc b.outputs (required ∷ []) (outputs.Begin ∷ [])));
+        begins = λ _. subst (λ (server : ServerStatus). can_begin_on_claim server.was_primary server.state ≡ true) behind.server can;
+      }
+
+  write-stays : (question : Question) → WriteSteps Stays now question snapshot b
+  write-stays question =
+      let told : Outcome = Told snapshot b in record {
+        other = quiet-stays Hears o told (rest told.knows refl) quiet;
+        begins = λ revision _ _ can. begins-stays revision can;
+        postpones = λ revision. let x : Outcome = postpones revision told in quiet-stays Hears o x (rest x.knows refl) ((postpones-idle None revision told).quiet quiet);
+        lists = λ set _ _. requires-stays Hears o told (waiting_for told.knows.settings set) refl all;
+        empties = λ _. requires-stays Hears o told requireds.Nobody refl all;
+      }
+
+  grant-stays : is_paused (informed snapshot b.knows) ≡ false → AsksOn b.knows → IsOn snapshot → Stays (granted now sequence grant snapshot b)
+  grant-stays unpaused asks on = granted-steps Stays now sequence grant snapshot b on (record {
+    kept = quiet-stays Hears o b asks quiet;
+    quiet = quiet-stays Hears o (waiting_no_more b) (rest (waiting_no_more b).knows refl) quiet;
+    unpaused = unpaused;
+    mode = λ awaited. leases-on sequence grant b.knows asks awaited;
+    leases = λ awaited. lease-stays awaited.waited.ttl;
+    writes = λ awaited. write-stays awaited.waited.question;
+  })
+
+-- an input that leaves what commits depend on
+rests : (now : Ticks) (heard : Heard) (told onto : Option SnapshotFacts) (o x : Outcome) → All IsQuiet o.outputs → Onward onto o x → Idle told o x → (AsksOn o.knows → HearsOn heard → AsksOn x.knows)
+    → ((s : State) (m : ℕ) (input : AgentInput) → HearsToCommit s m input heard o → (snapshot : SnapshotFacts) → told ≡ Some snapshot → HearsSnapshot s input (sync_seen (sync_read_in snapshot))) → CommitsFrom now heard o x
+rests now heard told onto o x quiet onward idle asks hears = record {
+  stays = λ _ on hears-on. quiet-stays heard o x (asks on hears-on) (idle.quiet quiet);
+  lawful = λ _ on hears-on s m input sound stands heard-it is. idle-lawful now heard told onto s m input o x stands is onward idle quiet (hears s m input heard-it);
+}
+
+none-told : (snapshot : SnapshotFacts) → ◌≡◌ {A = Option SnapshotFacts} None (Some snapshot) → ⊥
+none-told snapshot e = cc
+
+told-is : (told snapshot : SnapshotFacts) → ◌≡◌ {A = Option SnapshotFacts} (Some told) (Some snapshot) → told ≡ snapshot
+told-is told snapshot e = cc
+
+-- so does one that hears no snapshot, behind what comes before an input
+behind-commits : (now : Ticks) (heard : Heard) (o x : Outcome) → All IsQuiet o.outputs → Onward None (before now o) x → Idle None (before now o) x → (AsksOn (before now o).knows → AsksOn x.knows) → CommitsFrom now heard o x
+behind-commits now heard o x quiet onward idle asks = let b : Outcome = before now o in
+    rests now heard None None o x quiet (onward-then None o b x (before-onward None now o) onward) (idle-then None o b x (before-idle None now o) idle (before-onward None now o).last)
+    (λ on _. asks (before-asks now o on)) (λ s m input _ snapshot e. absurd (none-told snapshot e))
+
+-- whatever is heard, what stands for it is lawful
+step-commits : (now : Ticks) (points : List HistoryPoint) (heard : Heard) (o : Outcome) → All IsCovered o.outputs → CommitsFrom now heard o (step now points heard o)
+step-commits now points Wake o all = rests now Wake None None o (woken now o) (covered o.outputs all) (wake-onward None now o) (wake-idle None now o) (λ on _. wake-asks now o on) (λ s m input _ snapshot e. absurd (none-told snapshot e))
+step-commits now points (Got sequence snapshot) o all = let told : Option SnapshotFacts = Some snapshot in
+    let b : Outcome = before now o in let l : Outcome = looked sequence snapshot b in let x : Outcome = got now points sequence snapshot l in
+    let first : Onward told o l = looked-onward told now sequence snapshot o in
+    rests now (Got sequence snapshot) told told o x (covered o.outputs all) (onward-then told o l x first (got-onward now points sequence snapshot l))
+    (idle-then told o l x (idle-then told o b l (before-idle told now o) (looked-idle told sequence snapshot b) (before-onward None now o).last) (got-idle now points sequence snapshot l) first.last)
+    (λ on is. got-asks now points sequence snapshot l is (looked-asks sequence snapshot b (before-asks now o on)))
+    (λ s m input hears other e. subst (λ (y : SnapshotFacts). HearsSnapshot s input (sync_seen (sync_read_in y))) (told-is snapshot other e) hears)
+step-commits now points (HeardGranted sequence grant snapshot) o all = let told : Option SnapshotFacts = Some snapshot in let b : Outcome = before now o in
+    if-cases (λ (x : Outcome). Onward told o x → CommitsFrom now (HeardGranted sequence grant snapshot) o x) (grants_operator sequence grant b.knows) (operator_granted snapshot b.knows.operating b) (granted now sequence grant snapshot b)
+    (λ _ onward. let x : Outcome = operator_granted snapshot b.knows.operating b in
+    rests now (HeardGranted sequence grant snapshot) None told o x (covered o.outputs all) onward
+    (idle-then None o b x (before-idle None now o) (operator-granted-idle None snapshot b.knows.operating b) (before-onward None now o).last)
+    (λ on _. operator-granted-asks snapshot b.knows.operating b (before-asks now o on)) (λ s m input _ other e. absurd (none-told other e)))
+    (λ _ _. record {
+      stays = λ was on is. grant-stays now sequence grant snapshot o b (before-behind now o) (before-covered now o all) (stays-unpaused now snapshot o was is.unpaused) (before-asks now o on) is;
+      lawful = λ was on is s m input sound stands hears input-is. grant-commits now sequence grant snapshot s m input o sound stands (covered o.outputs all) was on is hears input-is;
+    })
+    (onward-then told o b (granted_any now sequence grant snapshot b) (before-onward told now o) (any-granted-onward now sequence grant snapshot b))
+step-commits now points (Mismatch sequence key found) o all = let b : Outcome = before now o in
+    behind-commits now (Mismatch sequence key found) o (refused_any now sequence b) (covered o.outputs all) (any-refused-onward now sequence b) (any-refused-idle None now sequence b) (λ on. any-refused-asks now sequence b on)
+step-commits now points (Asked from run sequence) o all = let b : Outcome = before now o in
+    behind-commits now (Asked from run sequence) o (asked from run sequence b) (covered o.outputs all) (asked-onward None from run sequence b) (asked-idle None from run sequence b) (λ on. on)
+step-commits now points (Answered sequence answer) o all = let b : Outcome = before now o in
+    behind-commits now (Answered sequence answer) o (answered now sequence answer b) (covered o.outputs all) (answered-onward None now sequence answer b) (answered-idle None now sequence answer b) (λ on. answered-asks now sequence answer b on)
+step-commits now points (HearsOperator action) o all = let b : Outcome = before now o in
+    behind-commits now (HearsOperator action) o (operated now action.request action.asked b) (covered o.outputs all) (operated-onward now action b) (operated-idle None now action.request action.asked b)
+    (λ on. operated-asks now action.request action.asked b on)
+
+-- the same of what is made of an input, where no output stood before
+pub input-commits-as : (now : Ticks) (points : List HistoryPoint) (heard : Heard) (role : RoleFacts) (knows : Knowledge) (machine : Machine) (outs : List Output) (after : Outcome) → after ≡ step now points heard (made role knows machine outs)
+    → outs ≡ [] → CommitsFrom now heard (made role knows machine []) after
+input-commits-as now points heard role knows machine outs after is none = let same : after ≡ step now points heard (made role knows machine []) = is ∙ ap (λ (l : List Output). step now points heard (made role knows machine l)) none in
+    subst (λ (x : Outcome). CommitsFrom now heard (made role knows machine []) x) (sym same) (step-commits now points heard (made role knows machine []) (All-nil IsCovered))
+
+-- an agent that starts waits for nothing, and is to the law one that starts
+pub fresh-asks : (who : Who) (first : Ticks) (run : ℕ) → AsksOn (fresh_knowledge who first run)
+fresh-asks who first run waited is = absurd (none-some waited is)
+
+pub fresh-seen : (who : Who) (first : Ticks) (run : ℕ) → committer_seen Follower (fresh_knowledge who first run) ≡ fresh_agent run
+fresh-seen who first run = refl
+
+-- what the timed lease gives to an input: to one that arms, that it hears the present leader key and that nobody else acts
+pub given-by-lease : (now : Ticks) (heard : Heard) (o : Outcome) (s : State) (m : ℕ) (input : AgentInput) (was : Agent) (does : Does s m input was) → DoesAs now heard o s m input was does
+    → ((revision : ℕ) → ArmsOn now heard o revision → (s.members m).live ≡ false → input.agent.ready ≡ true → ArmsAlone s m revision) → IsGivenByLease s m input was does
+given-by-lease now heard o s m input was (Racing races) as-it gives = absurd as-it
+given-by-lease now heard o s m input was (HearingAnswer answer) as-it gives = absurd as-it
+given-by-lease now heard o s m input was (WinningRace wins) as-it gives = absurd as-it
+given-by-lease now heard o s m input was (CreatingLeader creates) as-it gives = absurd as-it
+given-by-lease now heard o s m input was (Arming arms) as-it gives = gives arms.grant.revision as-it.0 arms.not_live as-it.1
+given-by-lease now heard o s m input was (Idling idles) as-it gives = tt
+given-by-lease now heard o s m input was (TakingOver takes) as-it gives = tt
+given-by-lease now heard o s m input was (ChangingRequired changes) as-it gives = tt
+given-by-lease now heard o s m input was (Publishing publishes) as-it gives = tt
+given-by-lease now heard o s m input was (Promoting promotes) as-it gives = tt
+given-by-lease now heard o s m input was (SettlingRequired settles) as-it gives = tt

@@ -1,0 +1,222 @@
+-- Outputs of which kept commits read nothing, and the requests among others.
+use Rattle.std.proofs.Common.{◌≡◌, ℕ, ◌||◌, Bool, false, List, [], ◌∷◌, Option, Some, None, All, zero, suc, refl, sym, subst, ap, ◌∙◌}
+use Rattle.std.proofs.lemmas.List.Elements.{All-push, All-weaker, All-head, All-tail}
+use Rattle.std.specs.List.{cons_option}
+use Rattle.pat_base.specs.MemberId.{member_of}
+use Rattle.pat_base.specs.declared.member_id.MemberId.{MemberId}
+use Rattle.pat_base.specs.declared.lsn.Lsn.{Lsn}
+use Rattle.pat_base.specs.declared.member_set.MemberSet.{MemberSet}
+use Rattle.pat_base.specs.declared.server_state.Required.{Required}
+use Rattle.pat_base.specs.declared.ticks.Ticks.{Ticks}
+use Rattle.lease_store.specs.declared.txn.Expected.{Expected}
+use Rattle.lease_store.specs.declared.txn.Txn.{Txn}
+use Rattle.lease_store.specs.declared.txn.Txn.TheVariants as txns
+use Rattle.lease_store.specs.declared.value.HistoryRow.{HistoryRow}
+use Rattle.lease_store.specs.declared.value.MemberInfo.{MemberInfo}
+use Rattle.event_book.specs.declared.message.Body.{Body}
+use Rattle.lease_law.proofs.Tools.{none-some}
+use Rattle.event_book.specs.declared.message.Body.TheVariants as bodies
+use Rattle.commit_law.specs.Flights.{SyncRequest}
+use Rattle.commit_law.specs.Past.{create_query, renew_query, query_of}
+use Rattle.agent_model.specs.declared.output.Output.{Output}
+use Rattle.agent_model.specs.declared.output.Output.TheVariants as outputs
+use Rattle.agent_model.specs.declared.output.Target.TheVariants as targets
+use Rattle.agent_model.specs.declared.who.Who.{Who}
+use Rattle.agent_model.specs.Acting.{armed, fed_until, disarmed}
+use Rattle.agent_model.specs.Agents.{Outcome}
+use Rattle.agent_model.specs.Answers.{most_answers, is_other, asking_one, asking_first}
+use Rattle.agent_model.specs.Claiming.{passing}
+use Rattle.agent_commit_law.specs.Committing.{request_in, request_of_body, request_of, requests_of, IsOneAtMost, IsQuietTxn, IsQuietBody, IsCovered, StandsAlone, IsSynchronousTxn, IsSynchronousBody, IsSynchronousOutput, is_begin}
+use Rattle.agent_model.specs.HandingOver.{asking_whom}
+use Rattle.agent_model.specs.Outputs.{listed, has_one}
+use Rattle.agent_law.proofs.Rows.{if-cases, passing-by}
+
+-- an output that sends no other request, and by which no server comes to accept writes: one that starts again is live before it
+abbrev pub IsUnasking : Output → Type 0
+IsUnasking (outputs.Send to sequence body) = IsQuietBody body
+IsUnasking outputs.Begin = ⊥
+IsUnasking _ = Unit {0}
+
+-- one after which commits wait for the same members, and that isn't the note that leads to a claim
+abbrev pub IsQuiet : Output → Type 0
+IsQuiet (outputs.Send to sequence body) = IsQuietBody body
+IsQuiet outputs.Begin = ⊥
+IsQuiet outputs.Passes = ⊥
+IsQuiet (outputs.Require required) = ⊥
+IsQuiet _ = Unit {0}
+
+quiet-unasking : (output : Output) → IsQuiet output → IsUnasking output
+quiet-unasking (outputs.Send to sequence body) quiet = quiet
+quiet-unasking outputs.Begin quiet = quiet
+quiet-unasking outputs.Passes quiet = absurd quiet
+quiet-unasking _ quiet = tt
+
+pub unasking : (outs : List Output) → All IsQuiet outs → All IsUnasking outs
+unasking outs quiet = All-weaker IsQuiet IsUnasking quiet-unasking outs quiet
+
+-- one that the law's input covers
+covered-quiet : (output : Output) → IsCovered output → IsQuiet output
+covered-quiet (outputs.Send to sequence body) covered = covered
+covered-quiet outputs.Begin covered = covered
+covered-quiet (outputs.Require required) covered = covered
+covered-quiet outputs.Passes covered = covered
+covered-quiet _ covered = tt
+
+pub covered : (outs : List Output) → All IsCovered outs → All IsQuiet outs
+covered outs all = All-weaker IsCovered IsQuiet covered-quiet outs all
+
+-- each is an action of its own
+quiet-alone : (output : Output) → IsQuiet output → StandsAlone output
+quiet-alone (outputs.Send to sequence body) quiet = quiet
+quiet-alone (outputs.Require required) quiet = quiet
+quiet-alone outputs.Begin quiet = quiet
+quiet-alone outputs.Passes quiet = quiet
+quiet-alone _ quiet = tt
+
+pub alone : (outs : List Output) → All IsQuiet outs → All StandsAlone outs
+alone outs quiet = All-weaker IsQuiet StandsAlone quiet-alone outs quiet
+
+create-none : (m run sequence : ℕ) (sync : Option Expected) → sync ≡ None → request_in (create_query m run sequence sync) ≡ None
+create-none m run sequence sync is = ap (λ (e : Option Expected). request_in (create_query m run sequence e)) is
+
+renew-none : (m revision : ℕ) (failsafe : Option MemberSet) → request_in (renew_query m revision failsafe) ≡ None
+renew-none m revision None = refl
+renew-none m revision (Some members) = refl
+
+txn-none : (m run sequence : ℕ) (txn : Txn) → IsQuietTxn txn → request_in (query_of m run sequence txn) ≡ None
+txn-none m run sequence (txns.Create info ttl failsafe sync) quiet = create-none m run sequence sync quiet
+txn-none m run sequence (txns.Renew revision info ttl status row failsafe) quiet = renew-none m revision failsafe
+txn-none m run sequence (txns.Claim revision sync) quiet = absurd quiet
+txn-none m run sequence (txns.SetSync revision sync standbys) quiet = absurd quiet
+txn-none m run sequence _ quiet = refl
+
+body-none : (m run sequence : ℕ) (body : Body) → IsQuietBody body → request_of_body m run sequence body ≡ None
+body-none m run sequence (bodies.Request txn) quiet = txn-none m run sequence txn quiet
+body-none m run sequence _ quiet = refl
+
+output-none : (m run : ℕ) (output : Output) → IsUnasking output → request_of m run output ≡ None
+output-none m run (outputs.Send targets.Store sequence body) quiet = body-none m run sequence body quiet
+output-none m run (outputs.Send (targets.Member member) sequence body) quiet = refl
+output-none m run _ quiet = refl
+
+-- no request is among such outputs
+pub asks-none : (m run : ℕ) (outs : List Output) → All IsUnasking outs → requests_of m run outs ≡ []
+asks-none m run [] all = refl
+asks-none m run (output ∷ outs) all =
+    ap (λ (r : Option SyncRequest). cons_option r (requests_of m run outs)) (output-none m run output (All-head IsUnasking output outs all)) ∙ asks-none m run outs (All-tail IsUnasking output outs all)
+
+pub quiet-none : (m run : ℕ) (outs : List Output) → All IsQuiet outs → requests_of m run outs ≡ []
+quiet-none m run outs quiet = asks-none m run outs (unasking outs quiet)
+
+-- behind them there is only that of the last one
+pub asks-last : (m run : ℕ) (outs : List Output) (output : Output) → All IsUnasking outs → requests_of m run (listed output outs) ≡ cons_option (request_of m run output) []
+asks-last m run [] output all = refl
+asks-last m run (one ∷ outs) output all =
+    ap (λ (r : Option SyncRequest). cons_option r (requests_of m run (listed output outs))) (output-none m run one (All-head IsUnasking one outs all)) ∙ asks-last m run outs output (All-tail IsUnasking one outs all)
+
+pub last-request : (m run : ℕ) (outs : List Output) (output : Output) → All IsQuiet outs → requests_of m run (listed output outs) ≡ cons_option (request_of m run output) []
+last-request m run outs output quiet = asks-last m run outs output (unasking outs quiet)
+
+one-of : (request : Option SyncRequest) → IsOneAtMost (cons_option request [])
+one-of None = tt
+one-of (Some request) = tt
+
+pub quiet-one : (m run : ℕ) (outs : List Output) → All IsQuiet outs → IsOneAtMost (requests_of m run outs)
+quiet-one m run outs quiet = subst IsOneAtMost (sym (quiet-none m run outs quiet)) tt
+
+pub last-one : (m run : ℕ) (outs : List Output) (output : Output) → All IsUnasking outs → IsOneAtMost (requests_of m run (listed output outs))
+last-one m run outs output all = subst IsOneAtMost (sym (asks-last m run outs output all)) (one-of (request_of m run output))
+
+-- nobody begins by them
+unbegun : (output : Output) → IsUnasking output → is_begin output ≡ false
+unbegun outputs.Begin all = absurd all
+unbegun _ all = refl
+
+pub asks-unbegun : (outs : List Output) → All IsUnasking outs → has_one is_begin outs ≡ false
+asks-unbegun [] all = refl
+asks-unbegun (output ∷ outs) all = ap (λ (b : Bool). b || has_one is_begin outs) (unbegun output (All-head IsUnasking output outs all)) ∙ asks-unbegun outs (All-tail IsUnasking output outs all)
+
+pub quiet-unbegun : (outs : List Output) → All IsQuiet outs → has_one is_begin outs ≡ false
+quiet-unbegun outs quiet = asks-unbegun outs (unasking outs quiet)
+
+pub last-unbegun : (outs : List Output) (output : Output) → All IsUnasking outs → is_begin output ≡ false → has_one is_begin (listed output outs) ≡ false
+last-unbegun [] output all is = ap (λ (b : Bool). b || false) is
+last-unbegun (one ∷ outs) output all is =
+    ap (λ (b : Bool). b || has_one is_begin (listed output outs)) (unbegun one (All-head IsUnasking one outs all)) ∙ last-unbegun outs output (All-tail IsUnasking one outs all) is
+
+-- and each is as synchronous mode has it
+create-kept : (count : ℕ) (info : MemberInfo) (ttl : Ticks) (failsafe : Option Expected) (sync : Option Expected) → sync ≡ None → IsSynchronousTxn count (txns.Create info ttl failsafe sync)
+create-kept count info ttl failsafe None is = tt
+create-kept count info ttl failsafe (Some sync) is = absurd (none-some sync (sym is))
+
+renew-kept : (count revision : ℕ) (info : MemberInfo) (ttl : Ticks) (status : Option Lsn) (row : Option HistoryRow) (failsafe : Option MemberSet) → failsafe ≡ None → IsSynchronousTxn count (txns.Renew revision info ttl status row failsafe)
+renew-kept count revision info ttl status row None is = tt
+renew-kept count revision info ttl status row (Some members) is = absurd (none-some members (sym is))
+
+kept-txn : (count : ℕ) (txn : Txn) → IsQuietTxn txn → IsSynchronousTxn count txn
+kept-txn count (txns.Create info ttl failsafe sync) quiet = create-kept count info ttl failsafe sync quiet
+kept-txn count (txns.Renew revision info ttl status row failsafe) quiet = renew-kept count revision info ttl status row failsafe quiet
+kept-txn count (txns.SetSync revision sync standbys) quiet = absurd quiet
+kept-txn count (txns.DropSync revision sync) quiet = quiet
+kept-txn count _ quiet = tt
+
+kept-body : (count : ℕ) (body : Body) → IsQuietBody body → IsSynchronousBody count body
+kept-body count (bodies.Request txn) quiet = kept-txn count txn quiet
+kept-body count _ quiet = tt
+
+kept-output : (count : ℕ) (output : Output) → IsUnasking output → IsSynchronousOutput count output
+kept-output count (outputs.Send to sequence body) all = kept-body count body all
+kept-output count _ all = tt
+
+pub keeps-mode : (count : ℕ) (outs : List Output) → All IsUnasking outs → All (IsSynchronousOutput count) outs
+keeps-mode count outs all = All-weaker IsUnasking (IsSynchronousOutput count) (kept-output count) outs all
+
+pub quietly : (outs : List Output) (output : Output) → All IsQuiet outs → IsQuiet output → All IsQuiet (listed output outs)
+quietly outs output quiet more = All-push IsQuiet outs output quiet more
+
+-- so it is with a note of the sync key behind them
+pub passing-unasked : (o : Outcome) → All IsQuiet o.outputs → All IsUnasking (passing o).outputs
+passing-unasked o quiet = let all : All IsUnasking o.outputs = unasking o.outputs quiet in passing-by (All IsUnasking) o all (All-push IsUnasking o.outputs outputs.Passes all tt)
+
+-- whom commits wait for is told behind them
+pub unasked : (outs : List Output) (required : Required) → All IsQuiet outs → All IsUnasking (listed (outputs.Require required) outs)
+unasked outs required quiet = All-push IsUnasking outs (outputs.Require required) (unasking outs quiet) tt
+
+-- what is told of the watchdog has a property with all before it
+module _ (P : Output → Type 0) (outs : List Output) (all : All P outs) where
+  pub all-disarmed : (deadline : Option Ticks) → P outputs.Disarmed → All P (disarmed deadline outs)
+  all-disarmed None is = all
+  all-disarmed (Some deadline) is = All-push P outs outputs.Disarmed all is
+
+  pub all-armed : (deadline : Option Ticks) → ((until : Ticks) → P (outputs.Armed until)) → All P (armed deadline outs)
+  all-armed None is = all
+  all-armed (Some deadline) is = All-push P outs (outputs.Armed deadline) all (is deadline)
+
+  pub all-fed : (deadline : Option Ticks) → ((until : Ticks) → P (outputs.Fed until)) → All P (fed_until deadline outs)
+  all-fed None is = all
+  all-fed (Some deadline) is = All-push P outs (outputs.Fed deadline) all (is deadline)
+
+pub quiet-disarmed : (deadline : Option Ticks) (outs : List Output) → All IsQuiet outs → All IsQuiet (disarmed deadline outs)
+quiet-disarmed deadline outs quiet = all-disarmed IsQuiet outs quiet deadline tt
+
+pub quiet-armed : (deadline : Option Ticks) (outs : List Output) → All IsQuiet outs → All IsQuiet (armed deadline outs)
+quiet-armed deadline outs quiet = all-armed IsQuiet outs quiet deadline (λ until. tt)
+
+pub quiet-fed : (deadline : Option Ticks) (outs : List Output) → All IsQuiet outs → All IsQuiet (fed_until deadline outs)
+quiet-fed deadline outs quiet = all-fed IsQuiet outs quiet deadline (λ until. tt)
+
+-- the asks of other members
+ask-quiet : (who : Who) (sequence : ℕ) (member : Option MemberId) (outs : List Output) → All IsQuiet outs → All IsQuiet (asking_one who sequence member outs)
+ask-quiet who sequence None outs quiet = quiet
+ask-quiet who sequence (Some member) outs quiet =
+    if-cases (All IsQuiet) (is_other who member) (listed (outputs.Send (targets.Member member) sequence bodies.Ask) outs) outs
+    (λ _. quietly outs (outputs.Send (targets.Member member) sequence bodies.Ask) quiet tt) (λ _. quiet)
+
+pub asks-quiet : (who : Who) (sequence count : ℕ) (outs : List Output) → All IsQuiet outs → All IsQuiet (asking_first who sequence count outs)
+asks-quiet who sequence zero outs quiet = quiet
+asks-quiet who sequence (suc count) outs quiet = ask-quiet who sequence (member_of count) (asking_first who sequence count outs) (asks-quiet who sequence count outs quiet)
+
+-- the asks of a leader, who may lead in its place
+pub whom-quiet : (who : Who) (candidate : Option MemberId) (sequence : ℕ) (outs : List Output) → All IsQuiet outs → All IsQuiet (asking_whom who candidate sequence outs)
+whom-quiet who None sequence outs quiet = asks-quiet who sequence most_answers outs quiet
+whom-quiet who (Some candidate) sequence outs quiet = ask-quiet who sequence (Some candidate) outs quiet

@@ -1,0 +1,311 @@
+-- Each granted request is lawful for kept commits: who takes the leader key, claims and begins, and all rows together.
+use Rattle.std.proofs.Common.{◌≡◌, ℕ, ◌+◌, Bool, true, false, Option, Some, None, List, All, refl, sym, subst, ap, ◌∙◌, arith, inl, inr, slice_get}
+use Rattle.pat_base.specs.declared.lsn.Lsn.{Lsn}
+use Rattle.pat_base.specs.declared.member_set.MemberSet.{MemberSet}
+use Rattle.pat_base.specs.declared.server_state.Required.{Required}
+use Rattle.pat_base.specs.declared.server_state.Required.TheVariants as requireds
+use Rattle.pat_base.specs.declared.server_state.State.{State as ServerState}
+use Rattle.pat_base.specs.declared.server_state.State.TheVariants as states
+use Rattle.pat_base.specs.declared.ticks.Ticks.{Ticks}
+use Rattle.pat_base.specs.ServerState.{live}
+use Rattle.lease_store.specs.declared.granted.Granted.{Granted}
+use Rattle.lease_law.proofs.Tools.{not-false}
+use Rattle.lease_store.specs.declared.txn.Txn.TheVariants as txns
+use Rattle.pg_model.specs.declared.status.ServerStatus.{ServerStatus}
+use Rattle.pg_model.specs.Facts.{has_data}
+use Rattle.cluster_config.specs.KeyValues.{sync_in}
+use Rattle.cluster_config.specs.Snapshots.{SnapshotFacts}
+use Rattle.event_book.specs.declared.message.Body.TheVariants as bodies
+use Rattle.event_book.specs.declared.reason.Reason.TheVariants.{StartTooLong, WatchdogNotArmed}
+use Rattle.lease_law.specs.Past.{set_members}
+use Rattle.sync_state.specs.Published.{published_in}
+use Rattle.sync_state.specs.Sets.{both, either, is_within}
+use Rattle.sync_state.specs.Standbys.{required_members, noted_position}
+use Rattle.commit_law.specs.Keys.{Need, Narrows}
+use Rattle.commit_law.specs.Flights.{SyncRequest}
+use Rattle.commit_law.specs.States.{Agent, State}
+use Rattle.commit_law.specs.Inputs.{AgentInput, WinsByName, Arming, TakingOver, Promoting, sync_revision_of}
+use Rattle.commit_law.specs.Carried.{IsSound}
+use Rattle.commit_law.specs.Past.{need_in, claim_request}
+use Rattle.agent_model.specs.declared.heard.Heard.TheVariants.{Granted as HeardGranted}
+use Rattle.agent_model.specs.declared.knowledge.Question.{Question}
+use Rattle.agent_model.specs.declared.knowledge.Question.TheVariants.{Claiming, Syncing}
+use Rattle.agent_model.specs.declared.knowledge.Settling.TheVariants.{Stays, Lists}
+use Rattle.agent_model.specs.declared.knowledge.SyncRead.{SyncRead}
+use Rattle.agent_model.specs.declared.machine.Replication.{Replication}
+use Rattle.agent_model.specs.declared.output.Output.{Output}
+use Rattle.agent_model.specs.declared.output.Output.TheVariants as outputs
+use Rattle.agent_model.specs.declared.output.Target.TheVariants as targets
+use Rattle.agent_model.specs.declared.why.Why.TheVariants.{HandOver}
+use Rattle.agent_model.specs.declared.who.Who.{Who}
+use Rattle.agent_model.specs.Acting.{deadline_after, ending_server, arming, requiring, waiting_no_more}
+use Rattle.agent_model.specs.Agents.{Ready, Ending, Outcome, is_leader, is_ready}
+use Rattle.agent_model.specs.Before.{before}
+use Rattle.agent_model.specs.Claiming.{begins, claims, passing, postpones, can_begin_on_claim, told_passing}
+use Rattle.agent_commit_law.specs.Committing.{sync_seen, StandsToCommit, IsAwaitedWrite, IsAskedBy, HearsWrite, HearsGranted, IsOn, FollowsOn, AsksOn, NeedsOne, IsCommitInputOf, is_passing, IsLawfulAs}
+use Rattle.agent_model.specs.Decisions.{takes_over, gives_back, may_create, granted}
+use Rattle.agent_model.specs.HandingOver.{checking, hands_over}
+use Rattle.agent_model.specs.Outputs.{has_one, listed}
+use Rattle.agent_model.specs.Planning.{leader_view, noting}
+use Rattle.agent_law.specs.Powers.{IsAwaitedLease}
+use Rattle.agent_model.specs.Racing.{unheard}
+use Rattle.agent_model.specs.Synchronous.{expected_of, is_named_if, unnamed, waiting_for}
+use Rattle.agent_commit_law.proofs.CommitAsking.{before-asks, leases-on}
+use Rattle.agent_commit_law.proofs.CommitGrants.{Ground, Lawful, rests, Leased, unready, changes-lawful, settles-lawful, publishes-lawful}
+use Rattle.agent_commit_law.proofs.CommitGrounds.{IsBehind, before-behind, before-unready, lease-before, write-before, lease_granted_as, write_granted_as, hears-lease, hears-write, leads-live, IsLedBy, key-covers, led-by, written, compared-as, wins-named, noted-end}
+use Rattle.agent_commit_law.proofs.CommitIdling.{Idle, idle-then, waits-nothing, waits-new, stays, falls, same-idle, quiet-idle, postpones-idle, failover-idle}
+use Rattle.agent_commit_law.proofs.CommitLawful.{lawful-as, keeps-turn, keeps-server, keeps-ready, sends-nothing, sends-one}
+use Rattle.agent_commit_law.proofs.CommitGrowing.{narrows-grows, required-needs, wanted-connected}
+use Rattle.agent_commit_law.proofs.CommitQuiet.{IsQuiet, IsUnasking, asks-last, quietly, quiet-armed, quiet-fed, quiet-none, quiet-unbegun, last-unbegun, passing-unasked, unasked}
+use Rattle.agent_commit_law.proofs.CommitSteps.{IsForeign, wanted_at, confirmed_at, required_at, PlanSteps, LeaseSteps, WriteSteps, granted-steps}
+use Rattle.agent_commit_law.proofs.CommitTools.{IsWithin, HasReached, within-set, both-first, either-first, either-one, either-within, unnamed-need, waiting-covers, waiting-narrows, confirmed-reached}
+use Rattle.agent_law.proofs.Fitting.{ended-for}
+use Rattle.agent_law.proofs.Granting.{Told, one-before, one-last}
+use Rattle.agent_law.proofs.Knowing.{before-onward, granted-onward, onward-then}
+use Rattle.agent_law.proofs.Living.{no-way}
+use Rattle.agent_law.proofs.Rows.{FailoverRows, dropping, led_on}
+use Rattle.agent_model.specs.Pausing.{is_paused}
+use Rattle.agent_law.proofs.Staying.{stays-unpaused}
+
+-- where nobody passes the sync key, that names who claims it
+inside-named : (named : Bool) (outs : List Output) (claim : Output) → has_one is_passing (listed claim (told_passing named outs)) ≡ false → named ≡ true
+inside-named true outs claim inside = refl
+inside-named false outs claim inside = absurd (not-false (has_one is_passing (listed claim (told_passing false outs))) inside
+    (one-before is_passing (listed outputs.Passes outs) claim (one-last is_passing outs outputs.Passes refl)))
+
+-- a member that takes the key claims the sync key that its turn read, which names it
+arms-lawful : (now ttl : Ticks) (sequence : ℕ) (grant : Granted) (snapshot : SnapshotFacts) (s : State) (m : ℕ) (input : AgentInput) (o b : Outcome) → Ground s m o b → Leased s m sequence grant snapshot input o → may_create b.role ≡ true → is_ready o.role ≡ false
+    → Lawful now sequence grant snapshot s m input o (claims now grant.revision (passing (arming now ttl (Told snapshot b))))
+arms-lawful now ttl sequence grant snapshot s m input o b ground leased creates unready-before onward is =
+    let behind : IsBehind o b = ground.behind in
+    let arm : Outcome = arming now ttl (Told snapshot b) in
+    let noted : Outcome = passing arm in
+    let x : Outcome = claims now grant.revision noted in
+    let still : All IsUnasking noted.outputs = passing-unasked arm (quiet-armed (deadline_after now ttl b.machine.watchdog) b.outputs (behind.idle.quiet ground.quiet)) in
+    let output : Output = outputs.Send targets.Store (b.knows.sequence + 1) (bodies.Request (txns.Claim grant.revision (expected_of b.knows.turn_sync))) in
+    let request : SyncRequest = claim_request m o.knows.run (b.knows.sequence + 1) grant.revision (expected_of b.knows.turn_sync) in
+    let named : WinsByName (sync_seen b.knows.turn_sync) m = wins-named b.knows.who.me m b.knows.turn_sync (ap (λ (w : Who). w.me.number) behind.who ∙ ground.stands.me)
+    (inside-named (is_named_if b.knows.who.me b.knows.turn_sync) arm.outputs output is.inside) in
+    lawful-as now (HeardGranted sequence grant snapshot) (Some snapshot) s m input o x ground.stands is onward (waits-new o x _ refl (omega (arith, behind.last)))
+    (Arming (record {
+      grant = lease_granted_as m sequence grant.revision snapshot o;
+      hears = hears-lease s m sequence grant snapshot input o leased.hears leased.awaited;
+      keeps = keeps-server s m input o x ground.stands is (last-unbegun noted.outputs output still refl) (ap (λ (r : Replication). r.required) behind.replication);
+      not_live = ground.stands.live ∙ (sym (ap (λ (y : ServerStatus). live y.state) behind.server) ∙ ended-for b.role (live b.machine.server.state) creates behind.fits);
+      turn = keeps-turn s m input o x is behind.turn;
+      request = request;
+      sends = sends-one s m input o x request is (asks-last m o.knows.run noted.outputs output still) refl refl (omega (arith, behind.last)) (omega arith) refl;
+      aim = refl;
+      leader = refl;
+      sync = compared-as b.knows.turn_sync ∙ ap (λ (r : Option SyncRead). sync_revision_of (sync_seen r)) behind.turn;
+      counts = ground.stands.counts;
+      named = inl (subst (λ (r : Option SyncRead). WinsByName (sync_seen r) m) behind.turn named);
+    })) ((leased.awaited, refl, unready-before), ap (λ (a : Agent). a.ready) is.agent)
+
+-- a server that runs without its lease is taken over, and the end of its log is noted
+takes-over-lawful : (now ttl : Ticks) (sequence : ℕ) (grant : Granted) (snapshot : SnapshotFacts) (s : State) (m : ℕ) (input : AgentInput) (o b : Outcome) → Ground s m o b → Lawful now sequence grant snapshot s m input o (takes_over now grant.revision (arming now ttl (Told snapshot b)))
+takes-over-lawful now ttl sequence grant snapshot s m input o b ground onward is =
+    let behind : IsBehind o b = ground.behind in
+    let x : Outcome = takes_over now grant.revision (arming now ttl (Told snapshot b)) in
+    let quiet : All IsQuiet x.outputs = quiet-armed (deadline_after now ttl b.machine.watchdog) b.outputs (behind.idle.quiet ground.quiet) in
+    lawful-as now (HeardGranted sequence grant snapshot) (Some snapshot) s m input o x ground.stands is onward (waits-nothing o x refl)
+    (TakingOver (record {
+      keeps = keeps-server s m input o x ground.stands is (quiet-unbegun x.outputs quiet) (ap (λ (r : Replication). r.required) behind.replication);
+      sends = sends-nothing s m input o x is (quiet-none m o.knows.run x.outputs quiet);
+      ready = keeps-ready s m input o x is (λ e. absurd (no-way e));
+      noted = ap (λ (a : Agent). a.noted) is.agent ∙ noted-end s m o b ground.stands behind;
+      turn = keeps-turn s m input o x is behind.turn;
+    })) tt
+
+pub begins-data : (was_primary : Bool) (state : ServerState) → can_begin_on_claim was_primary state ≡ true → has_data state ≡ true
+begins-data was_primary states.Replica e = refl
+begins-data was_primary states.Stopped e = refl
+begins-data was_primary states.Crashed e = refl
+begins-data was_primary states.Creating e = absurd (no-way e)
+begins-data was_primary (states.Starting as_primary at) e = absurd (no-way e)
+begins-data was_primary states.Primary e = absurd (no-way e)
+begins-data was_primary (states.Stopping was at) e = absurd (no-way e)
+
+-- who was about to begin begins on the grant of its claim
+promotes-lawful : (now : Ticks) (sequence revision : ℕ) (grant : Granted) (snapshot : SnapshotFacts) (s : State) (m : ℕ) (input : AgentInput) (o b : Outcome) → Ground s m o b → (awaited : IsAwaitedWrite sequence grant o.knows) → (hears : HearsWrite s m input.heard sequence awaited.waited.question o.knows)
+    → awaited.waited.question ≡ Claiming → b.role ≡ Ready revision → can_begin_on_claim b.machine.server.was_primary b.machine.server.state ≡ true → Lawful now sequence grant snapshot s m input o (begins now revision (Told snapshot b))
+promotes-lawful now sequence revision grant snapshot s m input o b ground awaited hears question role can onward is =
+    let behind : IsBehind o b = ground.behind in
+    let x : Outcome = begins now revision (Told snapshot b) in
+    let required : Output = outputs.Require (unnamed b.knows.turn_settings) in
+    let all : All IsUnasking (listed required b.outputs) = unasked b.outputs (unnamed b.knows.turn_settings) (behind.idle.quiet ground.quiet) in
+    let asked : (n : ℕ) → hears.key.standbys n ≡ false = subst (λ (q : Question). IsAskedBy q hears.key) question hears.asked in
+    lawful-as now (HeardGranted sequence grant snapshot) (Some snapshot) s m input o x ground.stands is onward (waits-nothing o x refl)
+    (Promoting (record {
+      sync_grant = write_granted_as m sequence hears.key o;
+      hears = hears-write s m sequence grant input o awaited hears;
+      was_ready = behind.idle.ready (rw role refl);
+      ready = ap (λ (a : Agent). a.ready) is.agent;
+      required = is.required ∙ unnamed-need b.knows.turn_settings;
+      sends = sends-nothing s m input o x is (asks-last m o.knows.run (listed required b.outputs) outputs.Begin all);
+      turn = keeps-turn s m input o x is behind.turn;
+      log = ground.stands.has_log (ap (λ (y : ServerStatus). has_data y.state) (sym behind.server) ∙ begins-data b.machine.server.was_primary b.machine.server.state can);
+      claim = asked;
+    })) tt
+
+-- a withdrawal is granted: the required list shrinks to the standbys that it left
+withdrawn-lawful : (now : Ticks) (sequence : ℕ) (grant : Granted) (snapshot : SnapshotFacts) (s : State) (m : ℕ) (input : AgentInput) (o b : Outcome) → Ground s m o b → (awaited : IsAwaitedWrite sequence grant o.knows) → (hears : HearsWrite s m input.heard sequence awaited.waited.question o.knows)
+    → (set : MemberSet) → awaited.waited.question ≡ Syncing (Lists set) → is_leader b.role ≡ true → Lawful now sequence grant snapshot s m input o (requiring (waiting_for (Told snapshot b).knows.settings set) (Told snapshot b))
+withdrawn-lawful now sequence grant snapshot s m input o b ground awaited hears set question leads =
+    let behind : IsBehind o b = ground.behind in
+    let required : Required = waiting_for (Told snapshot b).knows.settings set in
+    let x : Outcome = requiring required (Told snapshot b) in
+    let lives : (s.members m).live ≡ true = leads-live s m o b ground.stands behind leads in
+    let sync : s.sync ≡ Some hears.key = written s m sequence grant input o awaited hears ground.sound ground.stands lives in
+    let asked : (n : ℕ) → hears.key.standbys n ≡ set_members set n = subst (λ (q : Question). IsAskedBy q hears.key) question hears.asked in
+    let covers : IsWithin hears.key.standbys (set_members (required_members o.machine.replication.required)) = key-covers s m o hears.key ground.sound ground.stands lives sync in
+    let narrows : Narrows (s.members m).required (need_in required) =
+    subst (λ (n : Need). Narrows n (need_in required)) (sym ground.stands.required) (waiting-narrows o.machine.replication.required (Told snapshot b).knows.settings set (λ n e. covers n (asked n ∙ e))) in
+    settles-lawful now sequence grant snapshot s m input o b x ground awaited hears leads (record {
+      ready = unready b.role leads;
+      turn = behind.turn;
+      waited = refl;
+      unasking = unasked b.outputs required (behind.idle.quiet ground.quiet);
+      notes = inr (narrows, behind.idle.noted);
+    }) (ground.stands.strict hears.key sync).quorum (waiting-covers s.member_count hears.key.standbys (Told snapshot b).knows.settings set (λ n e. sym (asked n) ∙ e)) (narrows-grows o (s.members m).required (need_in required) narrows)
+
+-- a renewed leader without a step
+pub led-idle : (now ttl : Ticks) (revision : ℕ) (snapshot : SnapshotFacts) (b : Outcome) → is_leader b.role ≡ true → Idle None b (led_on now ttl revision (Told snapshot b))
+led-idle now ttl revision snapshot b leads = record {
+  required = refl;
+  ready = λ e. absurd (no-way e);
+  leads = λ _. leads;
+  noted = refl;
+  turn = inl refl;
+  waits = waits-nothing b (led_on now ttl revision (Told snapshot b)) refl;
+  quiet = λ q. quiet-fed (deadline_after now ttl b.machine.watchdog) b.outputs q;
+}
+
+told-idle : (snapshot : SnapshotFacts) (b : Outcome) → Idle None b (Told snapshot b)
+told-idle snapshot b = stays None b (Told snapshot b) refl refl refl refl (waits-nothing b (Told snapshot b) refl) (λ q. q)
+
+-- what is required behind what comes before an input was required before it
+required-before : (o b : Outcome) → IsBehind o b → set_members (required_at b) ≡ set_members (required_at o)
+required-before o b behind = ap (λ (r : Replication). set_members (required_members r.required)) behind.replication
+
+reached-before : (o b : Outcome) (n : ℕ) → IsBehind o b → HasReached b.machine.replication.connected (noted_position b.knows.noted) n → HasReached o.machine.replication.connected (noted_position o.knows.noted) n
+reached-before o b n behind reached = subst (λ (r : Replication). HasReached r.connected (noted_position o.knows.noted) n) behind.replication
+    (subst (λ (l : Option Lsn). HasReached b.machine.replication.connected (noted_position l) n) behind.idle.noted reached)
+
+-- a leader's step with its standbys
+plan-lawful : (now ttl : Ticks) (sequence : ℕ) (grant : Granted) (snapshot : SnapshotFacts) (s : State) (m : ℕ) (input : AgentInput) (o b : Outcome) → Ground s m o b → Leased s m sequence grant snapshot input o → is_leader b.role ≡ true
+    → PlanSteps (Lawful now sequence grant snapshot s m input o) now grant.revision snapshot (led_on now ttl grant.revision (Told snapshot b))
+plan-lawful now ttl sequence grant snapshot s m input o b ground leased leads =
+    let behind : IsBehind o b = ground.behind in
+    let fed : Outcome = led_on now ttl grant.revision (Told snapshot b) in
+    let quiet : All IsQuiet fed.outputs = quiet-fed (deadline_after now ttl b.machine.watchdog) b.outputs (behind.idle.quiet ground.quiet) in
+    let led : IsLedBy s m snapshot o = led-by s m sequence grant snapshot input o ground.sound ground.stands leased.hears leased.awaited (leads-live s m o b ground.stands behind leads) in
+    let published : MemberSet = published_in snapshot in
+    let wanted : MemberSet = wanted_at now snapshot fed in
+    let required : ℕ → Bool = set_members (required_at o) in
+    let within : is_within wanted (required_at b) ≡ true → IsWithin (set_members wanted) required = λ e. subst (IsWithin (set_members wanted)) (required-before o b behind) (within-set wanted (required_at b) e) in
+    record {
+      kept = rests now sequence grant snapshot s m input o b fed ground (led-idle now ttl grant.revision snapshot b leads);
+      mark = λ foreign. absurd (led.named (subst (λ (w : Who). IsForeign w.me.number (sync_in snapshot)) behind.who foreign));
+      withdraws = publishes-lawful now ttl sequence grant snapshot s m input o b ground leased led leads (Lists (both published wanted)) (both published wanted)
+          (λ n e. led.covers n (both-first published wanted n e)) (λ n e. inl (both-first published wanted n e));
+      adds = let set : MemberSet = either (required_at b) wanted in
+          changes-lawful now sequence grant snapshot s m input o b (requiring (requireds.All set) (noting fed)) ground leased led leads (record {
+            ready = refl;
+            turn = behind.turn;
+            waited = refl;
+            unasking = unasked fed.outputs (requireds.All set) quiet;
+            notes = inl (noted-end s m o b ground.stands behind);
+          }) (λ n e. either-first (required_at b) wanted n (subst (λ (f : ℕ → Bool). f n ≡ true) (sym (required-before o b behind)) (led.covers n e)))
+          (λ n e. elim (either-one (required_at b) wanted n e) [
+            | inl before-it ↦ inl (subst (λ (need : Need). NeedsOne need n) (sym ground.stands.required) (required-needs o.machine.replication.required n (subst (λ (f : ℕ → Bool). f n ≡ true) (required-before o b behind) before-it)))
+            | inr new ↦ let there = wanted-connected (leader_view now fed.knows fed.machine) snapshot n new in inr (there.0, subst (λ (r : Replication). slice_get r.connected n ≡ Some (Some there.0)) behind.replication there.1)
+          ]);
+      publishes = λ covered confirmed. publishes-lawful now ttl sequence grant snapshot s m input o b ground leased led leads Stays wanted (within covered)
+          (λ n e. inr (reached-before o b n behind (confirmed-reached (leader_view now fed.knows fed.machine) n (within-set wanted (confirmed_at now fed) confirmed n e))));
+      drops = λ covered. let set : MemberSet = either published wanted in let list : Required = waiting_for fed.knows.settings set in
+          let narrows : Narrows (s.members m).required (need_in list) =
+          subst (λ (n : Need). Narrows n (need_in list)) (sym ground.stands.required) (waiting-narrows o.machine.replication.required fed.knows.settings set (either-within published wanted required led.covers (within covered))) in
+          changes-lawful now sequence grant snapshot s m input o b (requiring list fed) ground leased led leads (record {
+            ready = refl;
+            turn = behind.turn;
+            waited = refl;
+            unasking = unasked fed.outputs list quiet;
+            notes = inr (narrows, behind.idle.noted);
+          }) (waiting-covers s.member_count (set_members published) fed.knows.settings set (either-first published wanted)) (narrows-grows o (s.members m).required (need_in list) narrows);
+    }
+
+-- what it does under a failover key leaves what commits depend on
+failover-lawful : (now ttl : Ticks) (sequence : ℕ) (grant : Granted) (snapshot : SnapshotFacts) (s : State) (m : ℕ) (input : AgentInput) (o b : Outcome) → Ground s m o b → is_leader b.role ≡ true
+    → FailoverRows (Lawful now sequence grant snapshot s m input o) now grant.revision (led_on now ttl grant.revision (Told snapshot b))
+failover-lawful now ttl sequence grant snapshot s m input o b ground leads =
+    let led : Outcome = led_on now ttl grant.revision (Told snapshot b) in
+    let u : Outcome = unheard led in
+    let w : Outcome = waiting_no_more u in
+    let idle : FailoverRows (Idle None b) now grant.revision led = failover-idle None now grant.revision b led (led-idle now ttl grant.revision snapshot b leads) (omega arith) in
+    let still : (x : Outcome) → Idle None b x → Lawful now sequence grant snapshot s m input o x = λ x after. rests now sequence grant snapshot s m input o b x ground after in
+    record {
+      kept = still led idle.kept;
+      clears = λ compared. still (dropping compared led) (idle.clears compared);
+      asks = λ candidate. still (checking now candidate u) (idle.asks candidate);
+      judges = record {
+        kept = still w idle.judges.kept;
+        clears = λ compared. still (dropping compared w) (idle.judges.clears compared);
+        hands = λ candidate. still (hands_over now grant.revision candidate w) (idle.judges.hands candidate);
+      };
+    }
+
+-- what each role does with a lease
+lease-lawful : (now ttl : Ticks) (sequence : ℕ) (grant : Granted) (snapshot : SnapshotFacts) (s : State) (m : ℕ) (input : AgentInput) (o b : Outcome) → Ground s m o b → Leased s m sequence grant snapshot input o → (may_create b.role ≡ true → is_ready o.role ≡ false)
+    → LeaseSteps (Lawful now sequence grant snapshot s m input o) now ttl grant.revision snapshot b
+lease-lawful now ttl sequence grant snapshot s m input o b ground leased unready-before =
+    let told : Outcome = Told snapshot b in
+    let fed : Outcome = led_on now ttl grant.revision told in
+    let ended : Outcome = record (ending_server now StartTooLong fed) { role = Ending grant.revision HandOver } in
+    let stopped : Outcome = ending_server now WatchdogNotArmed told in
+    let back : Outcome = gives_back grant.revision told in
+    let refused : Outcome = gives_back grant.revision (record told { outputs = listed outputs.CannotArm b.outputs }) in
+    let still : (x : Outcome) → Idle None b x → Lawful now sequence grant snapshot s m input o x = λ x idle. rests now sequence grant snapshot s m input o b x ground idle in
+    record {
+      other = still told (told-idle snapshot b);
+      ends = still ended (falls None b ended refl refl refl refl refl (waits-nothing b ended refl) (λ q. quietly fed.outputs (outputs.Stop StartTooLong) (quiet-fed (deadline_after now ttl b.machine.watchdog) b.outputs q) tt));
+      plans = λ held is. plan-lawful now ttl sequence grant snapshot s m input o b ground leased (rw is refl);
+      fails_over = λ held is. failover-lawful now ttl sequence grant snapshot s m input o b ground (rw is refl);
+      stops = λ _. still stopped (stays None b stopped refl refl refl refl (waits-nothing b stopped refl) (λ q. quietly b.outputs (outputs.Stop WatchdogNotArmed) q tt));
+      takes_over = λ _. takes-over-lawful now ttl sequence grant snapshot s m input o b ground;
+      returns = still back (falls None b back refl refl refl refl refl (waits-nothing b back refl) (λ q. quietly b.outputs _ q tt));
+      refuses = still refused (falls None b refused refl refl refl refl refl (waits-nothing b refused refl) (λ q. quietly (listed outputs.CannotArm b.outputs) _ (quietly b.outputs outputs.CannotArm q tt) tt));
+      claims = λ creates. arms-lawful now ttl sequence grant snapshot s m input o b ground leased creates (unready-before creates);
+    }
+
+-- what a granted write of the sync key comes to
+write-lawful : (now : Ticks) (sequence : ℕ) (grant : Granted) (snapshot : SnapshotFacts) (s : State) (m : ℕ) (input : AgentInput) (o b : Outcome) → Ground s m o b → (awaited : IsAwaitedWrite sequence grant o.knows) → HearsWrite s m input.heard sequence awaited.waited.question o.knows
+    → FollowsOn o.knows.turn_settings.synchronous_mode awaited.waited.question → WriteSteps (Lawful now sequence grant snapshot s m input o) now awaited.waited.question snapshot b
+write-lawful now sequence grant snapshot s m input o b ground awaited hears follows =
+    let told : Outcome = Told snapshot b in record {
+      other = rests now sequence grant snapshot s m input o b told ground (told-idle snapshot b);
+      begins = λ revision question role can. promotes-lawful now sequence revision grant snapshot s m input o b ground awaited hears question role can;
+      postpones = λ revision. rests now sequence grant snapshot s m input o b (postpones revision told) ground (idle-then None b told (postpones revision told) (told-idle snapshot b) (postpones-idle None revision told) (omega arith));
+      lists = λ set question leads. withdrawn-lawful now sequence grant snapshot s m input o b ground awaited hears set question leads;
+      empties = λ question. absurd (subst (λ (q : Question). FollowsOn o.knows.turn_settings.synchronous_mode q) question follows);
+    }
+
+-- a granted request
+pub grant-commits : (now : Ticks) (sequence : ℕ) (grant : Granted) (snapshot : SnapshotFacts) (s : State) (m : ℕ) (input : AgentInput) (o : Outcome) → IsSound s → StandsToCommit s m o → All IsQuiet o.outputs → is_paused o.knows ≡ false → AsksOn o.knows → IsOn snapshot → HearsGranted s m input.heard sequence grant snapshot o.knows
+    → IsCommitInputOf s m o (granted now sequence grant snapshot (before now o)) input → IsLawfulAs now (HeardGranted sequence grant snapshot) o s m input
+grant-commits now sequence grant snapshot s m input o sound stands quiet was asks on hears is =
+    let b : Outcome = before now o in
+    let behind : IsBehind o b = before-behind now o in
+    let ground : Ground s m o b = record { sound = sound; stands = stands; behind = behind; quiet = quiet } in
+    let mode : IsAwaitedLease sequence grant b.knows → b.knows.turn_settings.synchronous_mode ≡ true = λ awaited. leases-on sequence grant b.knows (before-asks now o asks) awaited in
+    granted-steps (Lawful now sequence grant snapshot s m input o) now sequence grant snapshot b on (record {
+      kept = rests now sequence grant snapshot s m input o b b ground (same-idle None b);
+      quiet = rests now sequence grant snapshot s m input o b (waiting_no_more b) ground (quiet-idle None b);
+      unpaused = stays-unpaused now snapshot o was on.unpaused;
+      mode = mode;
+      leases = λ awaited. let before-it : IsAwaitedLease sequence grant o.knows = lease-before sequence grant o b behind awaited in
+          lease-lawful now awaited.waited.ttl sequence grant snapshot s m input o b ground (record { awaited = before-it; hears = hears.lease before-it }) (before-unready now o);
+      writes = λ awaited. let before-it : IsAwaitedWrite sequence grant o.knows = write-before sequence grant o b behind awaited in
+          write-lawful now sequence grant snapshot s m input o b ground before-it (hears.write before-it) (asks before-it.waited before-it.is);
+    })
+    (onward-then (Some snapshot) o b (granted now sequence grant snapshot b) (before-onward (Some snapshot) now o) (granted-onward now sequence grant snapshot b)) is

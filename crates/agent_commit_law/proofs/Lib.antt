@@ -1,0 +1,11 @@
+pub mod CommitTools
+pub mod CommitGrowing
+pub mod CommitQuiet
+pub mod CommitIdling
+pub mod CommitSteps
+pub mod CommitLawful
+pub mod CommitAsking
+pub mod CommitGrounds
+pub mod CommitGrants
+pub mod CommitRows
+pub mod CommitInputs

@@ -1,0 +1,344 @@
+-- Which inputs of the law of kept commits an input of the table stands for, and that they are lawful while the synchronous mode is on.
+use Rattle.std.specs.Prelude.{ℕ, ◌≡◌, ◌⊎◌, ◌<◌, ◌++◌, ◌||◌, if◌then◌else◌, Bool, true, false, List, [], ◌∷◌, Option, Some, None, All, slice_get}
+use Rattle.std.specs.List.{filter_map}
+use Rattle.std.specs.Option.{ForSome}
+use Rattle.pat_base.specs.declared.lsn.Lsn.{Lsn}
+use Rattle.pat_base.specs.declared.server_state.Required.{Required}
+use Rattle.pat_base.specs.declared.ticks.Ticks.{Ticks}
+use Rattle.pat_base.specs.ServerState.{live}
+use Rattle.lease_store.specs.declared.granted.Granted.{Granted}
+use Rattle.lease_store.specs.declared.txn.Expected.{Expected}
+use Rattle.lease_store.specs.declared.txn.Txn.{Txn}
+use Rattle.lease_store.specs.declared.txn.Txn.TheVariants as txns
+use Rattle.wal_model.specs.declared.entry.Entry.{Entry}
+use Rattle.wal_model.specs.Log.{end_of}
+use Rattle.pg_model.specs.Facts.{has_data}
+use Rattle.cluster_config.specs.KeyValues.{config_in}
+use Rattle.cluster_config.specs.Snapshots.{SnapshotFacts}
+use Rattle.event_book.specs.declared.message.Body.{Body}
+use Rattle.event_book.specs.declared.message.Body.TheVariants as bodies
+use Rattle.lease_law.specs.Past.{set_members}
+use Rattle.sync_state.specs.Published.{published_in}
+use Rattle.sync_state.specs.Standbys.{noted_position}
+use Rattle.commit_law.specs.Keys.{IsStrict, SyncKey, Need, Nobody, All as AllOf, AtLeast}
+use Rattle.commit_law.specs.Flights.{SyncRequest, LeaseGranted, SyncGranted}
+use Rattle.commit_law.specs.States.{Agent, State, HasLog}
+use Rattle.commit_law.specs.Inputs.{Sending, AgentInput, HearsSnapshot, IsLawful, Does, Racing, HearingAnswer, WinningRace, CreatingLeader, Arming, ChangingRequired, SettlingRequired}
+use Rattle.commit_law.specs.Carried.{IsSound}
+use Rattle.commit_law.specs.Past.{Query, SyncQuery, query_of, need_in}
+use Rattle.agent_model.specs.declared.heard.Heard.{Heard}
+use Rattle.agent_model.specs.declared.heard.Heard.TheVariants as heards
+use Rattle.agent_model.specs.declared.knowledge.Knowledge.{Knowledge}
+use Rattle.agent_model.specs.declared.knowledge.Question.{Question}
+use Rattle.agent_model.specs.declared.knowledge.Question.TheVariants.{Asking, Creating, Renewing, Claiming, Syncing}
+use Rattle.agent_model.specs.declared.knowledge.Settling.TheVariants.{Lists, Empties}
+use Rattle.agent_model.specs.declared.knowledge.SyncRead.{SyncRead}
+use Rattle.agent_model.specs.declared.knowledge.Waited.{Waited}
+use Rattle.agent_model.specs.declared.output.Output.{Output}
+use Rattle.agent_model.specs.declared.output.Output.TheVariants as outputs
+use Rattle.agent_model.specs.declared.output.Target.TheVariants as targets
+use Rattle.agent_model.specs.Agents.{RoleFacts, Outcome, is_ready, is_leader}
+use Rattle.agent_model.specs.Claiming.{can_begin_on_claim}
+use Rattle.agent_model.specs.Decisions.{asks_lease, asks_sync, is_sync_decision, is_write_of}
+use Rattle.agent_model.specs.Outputs.{has_one}
+use Rattle.agent_model.specs.Pausing.{is_paused}
+use Rattle.agent_law.specs.Powers.{IsAwaitedLease}
+use Rattle.agent_model.specs.Synchronous.{sync_read_in}
+
+-- what the law sees of a sync key that was read: none of its standbys may lack an acknowledged commit
+abbrev pub sync_seen : Option SyncRead → Option SyncKey
+sync_seen None = None
+sync_seen (Some read) = Some (record { leader = read.key.leader.number; standbys = set_members read.key.standbys; quorum = 0; revision = read.revision })
+
+-- the number of what is waited for, if that is a create, a renewal or a write of the sync key
+abbrev pub number_waited : Option Waited → Option ℕ
+number_waited None = None
+number_waited (Some waited) = if asks_lease waited.question || asks_sync waited.question then Some waited.sequence else None
+
+-- what the law sees of an agent in this role. No race counts: in synchronous mode only whom the sync key names takes the leader key
+abbrev pub committer_seen : RoleFacts → Knowledge → Agent
+committer_seen role knows = record {
+  run = knows.run;
+  last = knows.sequence;
+  waits = number_waited knows.waited;
+  turn = sync_seen knows.turn_sync;
+  race = None;
+  won = false;
+  ready = is_ready role;
+  leads = is_leader role;
+  noted = noted_position knows.noted;
+}
+
+-- a member is connected to this server, which accepts writes and has this position of it
+pub record IsConnected (s : State) (m n : ℕ) (end : Lsn) : Type 0 where
+  pub writes : (s.members m).writes ≡ true
+  pub confirmed : (s.members m).confirmed n ≡ Some end.position
+
+-- this is seen of where a log ends, which is there where the log is
+abbrev pub IsEndOf : Option Lsn → Option (List Entry) → Type 0
+IsEndOf None None = Unit {0}
+IsEndOf (Some end) (Some log) = end.position ≡ end_of log
+IsEndOf _ _ = ⊥
+
+-- the state of the law in which this agent stands
+pub record StandsToCommit (s : State) (m : ℕ) (o : Outcome) : Type 0 where
+  pub agent : (s.members m).agent ≡ Some (committer_seen o.role o.knows)
+  pub live : (s.members m).live ≡ live o.machine.server.state
+  pub required : (s.members m).required ≡ need_in o.machine.replication.required
+  pub end : IsEndOf o.machine.server.end (s.members m).log
+  pub has_log : has_data o.machine.server.state ≡ true → HasLog (s.members m).log
+  pub connected : (n : ℕ) (end : Lsn) → slice_get o.machine.replication.connected n ≡ Some (Some end) → IsConnected s m n end
+  pub me : o.knows.who.me.number ≡ m
+  pub counts : m < s.member_count
+  pub strict : (key : SyncKey) → s.sync ≡ Some key → IsStrict s.member_count key
+
+-- the answer of this number grants this member the write of the sync key that it waits for
+pub record IsAwaitedWrite (sequence : ℕ) (grant : Granted) (knows : Knowledge) : Type 0 where
+  pub waited : Waited
+  pub is : knows.waited ≡ Some waited
+  pub decision : is_sync_decision waited sequence ≡ true
+  pub mine : is_write_of knows.who.me grant ≡ true
+
+-- the message that this member hears grants a create or a renewal of this number and revision, with this snapshot
+pub record HearsLease (s : State) (m : ℕ) (heard : Option ℕ) (sequence revision : ℕ) (snapshot : SnapshotFacts) (knows : Knowledge) : Type 0 where
+  pub number : ℕ
+  pub heard_is : heard ≡ Some number
+  pub is : s.flight number ≡ Some (LeaseGranted (record { member = m; run = knows.run; sequence = sequence; revision = revision; sync = sync_seen (sync_read_in snapshot) }))
+
+-- the standbys in a sync key are those that this question asked for: a claim names none, and a required list settles to those that it
+-- is asked for with
+abbrev pub IsAskedBy : Question → SyncKey → Type 0
+IsAskedBy Claiming key = (n : ℕ) → key.standbys n ≡ false
+IsAskedBy (Syncing (Lists standbys)) key = (n : ℕ) → key.standbys n ≡ set_members standbys n
+IsAskedBy _ key = Unit {0}
+
+-- the message that it hears grants a write of the sync key of this number, which this question asked
+pub record HearsWrite (s : State) (m : ℕ) (heard : Option ℕ) (sequence : ℕ) (question : Question) (knows : Knowledge) : Type 0 where
+  pub number : ℕ
+  pub key : SyncKey
+  pub heard_is : heard ≡ Some number
+  pub is : s.flight number ≡ Some (SyncGranted (record { member = m; run = knows.run; sequence = sequence; key = key }))
+  pub asked : IsAskedBy question key
+
+-- it hears the answer to a granted request: where that is waited for, the grant of a lease or of a write of the sync key
+pub record HearsGranted (s : State) (m : ℕ) (heard : Option ℕ) (sequence : ℕ) (grant : Granted) (snapshot : SnapshotFacts) (knows : Knowledge) : Type 0 where
+  pub lease : IsAwaitedLease sequence grant knows → HearsLease s m heard sequence grant.revision snapshot knows
+  pub write : (awaited : IsAwaitedWrite sequence grant knows) → HearsWrite s m heard sequence awaited.waited.question knows
+
+-- what the law hears of what comes to an agent. Of a refusal, and of what other members ask and answer, it needs nothing
+abbrev pub HearsToCommit : State → ℕ → AgentInput → Heard → Outcome → Type 0
+HearsToCommit s m input (heards.Got sequence snapshot) o = HearsSnapshot s input (sync_seen (sync_read_in snapshot))
+HearsToCommit s m input (heards.Granted sequence grant snapshot) o = HearsGranted s m input.heard sequence grant snapshot o.knows
+HearsToCommit s m input _ o = Unit {0}
+
+-- the synchronous mode is on in a snapshot, and the cluster isn't paused by it
+pub record IsOn (snapshot : SnapshotFacts) : Type 0 where
+  pub synchronous : (config_in snapshot).synchronous_mode ≡ true
+  pub unpaused : (config_in snapshot).pause ≡ false
+
+-- so it is in the snapshot that comes with what is heard, if one does
+abbrev pub HearsOn : Heard → Type 0
+HearsOn (heards.Got sequence snapshot) = IsOn snapshot
+HearsOn (heards.Granted sequence grant snapshot) = IsOn snapshot
+HearsOn _ = Unit {0}
+
+-- the mode is on, where this question follows what a turn read; and it isn't that the sync key be removed
+abbrev pub FollowsOn : Bool → Question → Type 0
+FollowsOn on Asking = on ≡ true
+FollowsOn on Creating = on ≡ true
+FollowsOn on Renewing = on ≡ true
+FollowsOn on (Syncing Empties) = ⊥
+FollowsOn on _ = Unit {0}
+
+-- what an agent waits for it asked with the synchronous mode on
+abbrev pub AsksOn : Knowledge → Type 0
+AsksOn knows = ForSome knows.waited (λ waited. FollowsOn knows.turn_settings.synchronous_mode waited.question)
+
+-- the request that compares the sync key, if this is one
+abbrev pub request_in : Query → Option SyncRequest
+request_in (SyncQuery request) = Some request
+request_in _ = None
+
+-- the same of a question of this member, in this run under this number
+abbrev pub request_of_body : ℕ → ℕ → ℕ → Body → Option SyncRequest
+request_of_body m run sequence (bodies.Request txn) = request_in (query_of m run sequence txn)
+request_of_body m run sequence _ = None
+
+-- the same of an output
+abbrev pub request_of : ℕ → ℕ → Output → Option SyncRequest
+request_of m run (outputs.Send targets.Store sequence body) = request_of_body m run sequence body
+request_of m run _ = None
+
+-- the requests among these outputs that compare the sync key
+abbrev pub requests_of : ℕ → ℕ → List Output → List SyncRequest
+requests_of m run outs = filter_map (request_of m run) outs
+
+-- there is one at most
+abbrev pub IsOneAtMost : List SyncRequest → Type 0
+IsOneAtMost [] = Unit {0}
+IsOneAtMost (request ∷ []) = Unit {0}
+IsOneAtMost (request ∷ other ∷ more) = ⊥
+
+-- it is what is sent, under some number of a message
+abbrev pub IsSent : List SyncRequest → Option Sending → Type 0
+IsSent [] sends = sends ≡ None
+IsSent (request ∷ []) sends = (number : ℕ) × (sends ≡ Some (record { number = number; request = request }))
+IsSent (request ∷ other ∷ more) sends = ⊥
+
+-- a request as synchronous mode has it, among so many members: a create compares no sync key, no renewal lists members for failsafe mode,
+-- nobody removes the sync key, and whom it comes to name are members
+abbrev pub IsSynchronousTxn : ℕ → Txn → Type 0
+IsSynchronousTxn count (txns.Create info ttl failsafe (Some sync)) = ⊥
+IsSynchronousTxn count (txns.Renew revision info ttl status row (Some members)) = ⊥
+IsSynchronousTxn count (txns.DropSync revision sync) = ⊥
+IsSynchronousTxn count (txns.SetSync revision sync standbys) = (n : ℕ) → set_members standbys n ≡ true → n < count
+IsSynchronousTxn count _ = Unit {0}
+
+-- the same of what a message says
+abbrev pub IsSynchronousBody : ℕ → Body → Type 0
+IsSynchronousBody count (bodies.Request txn) = IsSynchronousTxn count txn
+IsSynchronousBody count _ = Unit {0}
+
+-- the same of an output
+abbrev pub IsSynchronousOutput : ℕ → Output → Type 0
+IsSynchronousOutput count (outputs.Send to sequence body) = IsSynchronousBody count body
+IsSynchronousOutput count _ = Unit {0}
+
+-- the standbys that the sync key of a snapshot names have numbers below this one
+abbrev pub PublishesBelow : ℕ → SnapshotFacts → Type 0
+PublishesBelow count snapshot = (n : ℕ) → set_members (published_in snapshot) n ≡ true → n < count
+
+-- so they have in the snapshot that comes with what is heard, if one does
+abbrev pub HearsBelow : ℕ → Heard → Type 0
+HearsBelow count (heards.Got sequence snapshot) = PublishesBelow count snapshot
+HearsBelow count (heards.Granted sequence grant snapshot) = PublishesBelow count snapshot
+HearsBelow count _ = Unit {0}
+
+-- and so have the members to which the server is connected
+pub record KnowsBelow (count : ℕ) (heard : Heard) (o : Outcome) : Type 0 where
+  pub published : HearsBelow count heard
+  pub connected : (n : ℕ) (end : Lsn) → slice_get o.machine.replication.connected n ≡ Some (Some end) → n < count
+
+-- a request that neither compares the sync key nor writes it
+abbrev pub IsQuietTxn : Txn → Type 0
+IsQuietTxn (txns.Create info ttl failsafe sync) = sync ≡ None
+IsQuietTxn (txns.Renew revision info ttl status row failsafe) = failsafe ≡ None
+IsQuietTxn (txns.Claim revision sync) = ⊥
+IsQuietTxn (txns.SetSync revision sync standbys) = ⊥
+IsQuietTxn (txns.DropSync revision sync) = ⊥
+IsQuietTxn _ = Unit {0}
+
+-- the same of what a message says
+abbrev pub IsQuietBody : Body → Type 0
+IsQuietBody (bodies.Request txn) = IsQuietTxn txn
+IsQuietBody _ = Unit {0}
+
+-- an output that changes neither the server nor its log, and asks for no write of the sync key: the law's input covers it
+abbrev pub IsCovered : Output → Type 0
+IsCovered (outputs.Send to sequence body) = IsQuietBody body
+IsCovered (outputs.Armed until) = Unit {0}
+IsCovered (outputs.Fed until) = Unit {0}
+IsCovered outputs.Disarmed = Unit {0}
+IsCovered outputs.CannotArm = Unit {0}
+IsCovered outputs.PostponesPromotion = Unit {0}
+IsCovered outputs.DisablesWatchdog = Unit {0}
+IsCovered outputs.RunsWithoutKey = Unit {0}
+IsCovered (outputs.DoesNotRace bar) = Unit {0}
+IsCovered (outputs.HandsOver candidate) = Unit {0}
+IsCovered (outputs.Told request told) = Unit {0}
+IsCovered _ = ⊥
+
+-- an output that may be an action of its own: neither does it ask for a write of the sync key, nor are others required by it, nor does
+-- the server begin; and it isn't the note that leads to a claim
+abbrev pub StandsAlone : Output → Type 0
+StandsAlone (outputs.Send to sequence body) = IsQuietBody body
+StandsAlone (outputs.Require required) = ⊥
+StandsAlone outputs.Begin = ⊥
+StandsAlone outputs.Passes = ⊥
+StandsAlone _ = Unit {0}
+
+-- the form of an input's outputs, in their order: each may be an action of its own; or the law's input covers all up to a question, or up to
+-- the note that the sync key doesn't name the member and its claim of that key, or up to whom commits wait for from now on, and that is the
+-- last one, or the server begins behind it
+pub data HasForm (outs : List Output) : Type 0 where
+  Apart : (alone : All StandsAlone outs) → HasForm outs
+  Asks : (front : List Output) → (sequence : ℕ) → (body : Body) → (covered : All IsCovered front) → (whole : front ++ outputs.Send targets.Store sequence body ∷ [] ≡ outs) → HasForm outs
+  Passes : (front : List Output) → (sequence revision : ℕ) → (sync : Expected) → (covered : All IsCovered front)
+      → (whole : front ++ outputs.Passes ∷ outputs.Send targets.Store sequence (bodies.Request (txns.Claim revision sync)) ∷ [] ≡ outs) → HasForm outs
+  Requires : (front : List Output) → (required : Required) → (covered : All IsCovered front) → (whole : front ++ outputs.Require required ∷ [] ≡ outs) → HasForm outs
+  Begins : (front : List Output) → (required : Required) → (covered : All IsCovered front) → (whole : front ++ outputs.Require required ∷ outputs.Begin ∷ [] ≡ outs) → HasForm outs
+
+-- the member takes the leader key though the sync key doesn't name it
+abbrev pub is_passing : Output → Bool
+is_passing outputs.Passes = true
+is_passing _ = false
+
+-- the server comes to accept writes by this output, or will when its start is complete
+abbrev pub is_begin : Output → Bool
+is_begin outputs.Begin = true
+is_begin _ = false
+
+-- whether the server is live after an input, but for its end, which is an action of its own
+abbrev pub live_shown : Outcome → Outcome → Bool
+live_shown o after = if has_one is_begin after.outputs then live after.machine.server.state else live o.machine.server.state
+
+-- the input of the law that stands for one of the table, where the member takes no leader key past the sync key. No renewal carries a set for
+-- the failsafe key
+pub record IsCommitInputOf (s : State) (m : ℕ) (o after : Outcome) (input : AgentInput) : Type 0 where
+  pub agent : input.agent ≡ committer_seen after.role after.knows
+  pub live : input.live ≡ live_shown o after
+  pub required : input.required ≡ need_in after.machine.replication.required
+  pub sends : IsSent (requests_of m o.knows.run after.outputs) input.sends
+  pub holder_was_live : input.holder_was_live ≡ s.holder_was_live
+  pub inside : has_one is_passing after.outputs ≡ false
+
+-- on a lease of this revision an agent claims the sync key: it hears the grant that it waits for, and wasn't about to begin
+abbrev pub ArmsOn : Ticks → Heard → Outcome → ℕ → Type 0
+ArmsOn now (heards.Granted sequence grant snapshot) o revision = IsAwaitedLease sequence grant o.knows × (grant.revision ≡ revision) × (is_ready o.role ≡ false)
+ArmsOn now _ o revision = ⊥
+
+-- a need waits for this member by name
+abbrev pub NeedsOne : Need → ℕ → Type 0
+NeedsOne Nobody n = ⊥
+NeedsOne (AllOf members) n = members n ≡ true
+NeedsOne (AtLeast number members) n = members n ≡ true
+
+-- the server is connected to this member
+abbrev pub IsConnectedTo : Outcome → ℕ → Type 0
+IsConnectedTo o n = (end : Lsn) × (slice_get o.machine.replication.connected n ≡ Some (Some end))
+
+-- whom commits come to wait for they waited for before, or the server is connected to it
+abbrev pub GrowsByConnected : Outcome → Need → Need → Type 0
+GrowsByConnected o before after = (n : ℕ) → NeedsOne after n → NeedsOne before n ⊎ IsConnectedTo o n
+
+-- what an input does, so far as the law leaves open what the table settles: no race counts, no create compares the sync key, an agent claims
+-- on the lease that it waits for, and a required list grows by connected members
+abbrev pub DoesAs : Ticks → Heard → Outcome → (s : State) (m : ℕ) (input : AgentInput) (was : Agent) → Does s m input was → Type 0
+DoesAs now heard o s m input was (Racing races) = ⊥
+DoesAs now heard o s m input was (HearingAnswer answer) = ⊥
+DoesAs now heard o s m input was (WinningRace wins) = ⊥
+DoesAs now heard o s m input was (CreatingLeader creates) = ⊥
+DoesAs now heard o s m input was (Arming arms) = ArmsOn now heard o arms.grant.revision × (input.agent.ready ≡ true)
+DoesAs now heard o s m input was (ChangingRequired changes) = GrowsByConnected o (s.members m).required input.required
+DoesAs now heard o s m input was (SettlingRequired settles) = GrowsByConnected o (s.members m).required input.required
+DoesAs now heard o s m input was _ = Unit {0}
+
+-- an input of the law is lawful, and does what it may
+pub record IsLawfulAs (now : Ticks) (heard : Heard) (o : Outcome) (s : State) (m : ℕ) (input : AgentInput) : Type 0 where
+  pub lawful : IsLawful s m input
+  pub does : DoesAs now heard o s m input lawful.was lawful.does
+
+-- an input leaves the synchronous mode on: what it waits for it asked with the mode on; it sends one request at most that compares the
+-- sync key; what it sends is as the mode has it, among members of whom it knows; its outputs have one of the forms; and the server begins
+-- only where it can
+pub record StaysOn (heard : Heard) (o after : Outcome) : Type 0 where
+  pub asks : AsksOn after.knows
+  pub one : IsOneAtMost (requests_of o.knows.who.me.number o.knows.run after.outputs)
+  pub sends : (count : ℕ) → KnowsBelow count heard o → All (IsSynchronousOutput count) after.outputs
+  pub form : HasForm after.outputs
+  pub begins : has_one is_begin after.outputs ≡ true → can_begin_on_claim o.machine.server.was_primary o.machine.server.state ≡ true
+
+-- while the synchronous mode is on, and no pause, whatever input of the law stands for this one of the table is lawful
+pub record CommitsFrom (now : Ticks) (heard : Heard) (o after : Outcome) : Type 0 where
+  pub stays : is_paused o.knows ≡ false → AsksOn o.knows → HearsOn heard → StaysOn heard o after
+  pub lawful : is_paused o.knows ≡ false → AsksOn o.knows → HearsOn heard → (s : State) (m : ℕ) (input : AgentInput) → IsSound s → StandsToCommit s m o → HearsToCommit s m input heard o → IsCommitInputOf s m o after input → IsLawfulAs now heard o s m input

@@ -1,0 +1,15 @@
+pub mod Rows
+pub mod Living
+pub mod Fitting
+pub mod Bringing
+pub mod Leaving
+pub mod Granting
+pub mod Orders
+pub mod Knowing
+pub mod Staying
+pub mod Sending
+pub mod FreeKey
+pub mod Beginning
+pub mod Replying
+pub mod OperatorAnswers
+pub mod Handovers

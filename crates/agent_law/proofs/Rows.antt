@@ -1,0 +1,614 @@
+-- The rows of the decision table, one by one: what holds of each row that applies holds of the whole.
+use Rattle.std.proofs.Common.{◌≡◌, ℕ, ◌==◌, ◌&&◌, nat_le, Bool, true, false, is_none, if◌then◌else◌, Option, Some, None, List, refl, subst, ap, ◌∙◌, not, []}
+use Rattle.lease_store.specs.declared.action.Bar.{Bar}
+use Rattle.lease_store.specs.declared.granted.Granted.{Granted}
+use Rattle.wal_model.specs.declared.entry.HistoryPoint.{HistoryPoint}
+use Rattle.cluster_config.specs.declared.snapshot.LeaderEntry.{LeaderEntry}
+use Rattle.cluster_config.specs.Snapshots.{SnapshotFacts, leader_in}
+use Rattle.pat_base.specs.declared.member_id.MemberId.{MemberId}
+use Rattle.pat_base.specs.declared.peer_answer.PeerAnswer.{PeerAnswer}
+use Rattle.pat_base.specs.declared.ticks.Ticks.{Ticks}
+use Rattle.pat_base.specs.declared.server_state.State.{State}
+use Rattle.pat_base.specs.declared.server_state.State.TheVariants as states
+use Rattle.pat_base.specs.ServerState.{live}
+use Rattle.agent_model.specs.declared.output.Output.{Output}
+use Rattle.agent_model.specs.declared.output.Output.TheVariants as outputs
+use Rattle.agent_model.specs.declared.output.Repair.{Repair}
+use Rattle.agent_model.specs.Repairs.{is_upstream, repairing, repaired_if}
+use Rattle.agent_model.specs.declared.knowledge.Question.{Question}
+use Rattle.agent_model.specs.declared.knowledge.Question.TheVariants.{Reading, Asking, Creating, Renewing, Claiming, Syncing, Checking}
+use Rattle.agent_model.specs.declared.knowledge.Settling.{Settling}
+use Rattle.agent_model.specs.declared.knowledge.Settling.TheVariants.{Stays, Lists, Empties}
+use Rattle.agent_model.specs.declared.knowledge.SyncRead.{SyncRead}
+use Rattle.agent_model.specs.declared.knowledge.Waited.{Waited}
+use Rattle.agent_model.specs.Synchronous.{sync_read_if, expected_of, is_named_if, waiting_for}
+use Rattle.pat_base.specs.declared.server_state.Required.{Required}
+use Rattle.pat_base.specs.declared.server_state.Required.TheVariants.{Nobody, All}
+use Rattle.lease_store.specs.declared.txn.Txn.{Txn}
+use Rattle.lease_store.specs.declared.txn.Txn.TheVariants as txns
+use Rattle.lease_store.specs.Writes.{nobody}
+use Rattle.sync_state.specs.declared.steps.Plan.{Plan}
+use Rattle.sync_state.specs.declared.steps.Plan.TheVariants as plans
+use Rattle.sync_state.specs.Plans.{plan_of}
+use Rattle.agent_model.specs.declared.why.Why.TheVariants.{HandOver}
+use Rattle.event_book.specs.declared.reason.Reason.TheVariants.{StartTooLong}
+use Rattle.agent_model.specs.declared.why.Why.{Why}
+use Rattle.agent_model.specs.Acting.{sending, lease_span, disarming, feeding, ending_server, requiring, waiting_no_more, touching, starting_replica, following_server, is_hold_active, shutting_down}
+use Rattle.agent_model.specs.Agents.{RoleFacts, Follower, Holder, Ready, Leader, Ending, Stray, Outcome, is_leader}
+use Rattle.agent_model.specs.Before.{leader_finds_ended, has_ended, finds_live, stray_finds_ended, before_as, before}
+use Rattle.agent_model.specs.Pausing.{is_paused, ends_forks, is_wanted, resting, running_without_key}
+use Rattle.agent_model.specs.Decisions.{takes_over, may_take, gives_back, takes_key_in_pause, granted_in_pause, uses_lease, asks_renewal, lease_used, may_create, leader_renewed, is_start_too_long, stray_renewed, takes_key, lease_granted, belongs, accepted_grant, is_lease_of, granted_write, granted_for, granted, is_decision, is_sync_decision, awaits_decision, is_write_of, sync_granted, accepted_sync, follower_for, renewal_refused, refused_as, refused_for, refused}
+use Rattle.agent_model.specs.Claiming.{begins, claims, begins_or_claims, passing, told_passing, postpones, claim_fails_as, claim_fails, may_begin_on_claim}
+use Rattle.agent_model.specs.Planning.{leader_view, writing_sync, switching_off, noting, planned_as, planned_on, planned, settled}
+use Rattle.agent_law.specs.Fits.{Fits}
+use Rattle.agent_model.specs.Outputs.{listed}
+use Rattle.agent_model.specs.HandingOver.{is_done, leader_revision, clearing_under, clearing, successor_by, hands_over, hands_over_to, handover_judged, judged_if_leading, whom_answered, checking, checks, checks_unless_paused, failover_duty, duty_on, duties, check_answered}
+use Rattle.agent_model.specs.Operators.{ok, telling, answering, answering_if, operating, config_revision, restarting, wiping, operated, result_as, looked_by, uses_read, looked, operator_until, late_answer, given_up_by, given_up, learned, granted_as, operates, grants_operator, operator_granted, refusal_of, operator_refused}
+use Rattle.agent_model.specs.declared.operating.Operating.{Operating}
+use Rattle.agent_model.specs.declared.operating.Operation.{Operation}
+use Rattle.agent_model.specs.declared.operating.Operation.TheVariants.{FailingOver, Configuring}
+use Rattle.agent_model.specs.declared.operating.Told.{Told}
+use Rattle.agent_model.specs.declared.operating.Told.TheVariants as tolds
+use Rattle.operator_keys.specs.declared.answer_text.Text.TheVariants as texts
+use Rattle.lease_store.specs.declared.action.OperatorRequest.{OperatorRequest}
+use Rattle.lease_store.specs.declared.action.OperatorRequest.TheVariants as requests
+use Rattle.lease_store.specs.declared.value.FailoverKey.{FailoverKey}
+use Rattle.event_book.specs.declared.message.Body.TheVariants as bodies
+use Rattle.cluster_config.specs.Naming.{candidate_of}
+use Rattle.agent_model.specs.Snapshots.{leader_loses_key, stray_loses_key, renewing, finds_own_key, own_key, asks_as_stray, starts_behind, starts_if, follow_row, follows, others_key, no_key, led, is_active, awaits_read, read_noted, informed, accepted, got, ends_fork}
+use Rattle.agent_model.specs.Racing.{can_start, starts_alone, bar_of, creating, barred, races_unless, free_key, finds_free, outcome_at, judged_as, judged, asking_others, unheard}
+use Rattle.agent_model.specs.Answers.{all_answered}
+use Rattle.agent_model.specs.Peers.{awaits_answer, awaits_check, judged_if_all, keeping, accepted_answer, answered_for, answered}
+use Rattle.agent_model.specs.Table.{granted_any, refused_any}
+use Rattle.agent_model.specs.Wake.{roused, is_due, has_turn, leader_out_of_reach, stray_out_of_reach, out_of_reach_as, out_of_reach, unanswered, overdue_for, overdue, is_stopping, reading, turn_noted, turn_as, turn_begins, turned, woken}
+
+pub if-cases : {A : Type 0} (P : A → Type 0) (test : Bool) (x y : A) → (test ≡ true → P x) → (test ≡ false → P y) → P (if test then x else y)
+if-cases P true x y yes-case no-case = yes-case refl
+if-cases P false x y yes-case no-case = no-case refl
+
+-- what comes before an input
+pub record BeforeRows (P : Outcome → Type 0) (now : Ticks) (o : Outcome) : Type 0 where
+  pub kept : Fits o.role (live o.machine.server.state) → P o
+  pub leader : (revision : ℕ) → o.role ≡ Leader revision → live o.machine.server.state ≡ false → P (leader_finds_ended now revision o)
+  pub ending : (revision : ℕ) (why : Why) → o.role ≡ Ending revision why → live o.machine.server.state ≡ false → P (has_ended why revision o)
+  pub follower : o.role ≡ Follower → live o.machine.server.state ≡ true → P (finds_live o)
+  pub holder : (revision : ℕ) → o.role ≡ Holder revision → live o.machine.server.state ≡ true → P (finds_live o)
+  pub ready : (revision : ℕ) → o.role ≡ Ready revision → live o.machine.server.state ≡ true → P (finds_live (disarming o))
+  pub stray : o.role ≡ Stray → live o.machine.server.state ≡ false → P (stray_finds_ended o)
+
+fits-as : (role other : RoleFacts) (b : Bool) → role ≡ other → Fits other b → Fits role b
+fits-as role other b e fits = rw e fits
+
+before-as : (P : Outcome → Type 0) (now : Ticks) (role : RoleFacts) (o : Outcome) → o.role ≡ role → BeforeRows P now o → P (before_as now role o)
+before-as P now (Leader r) o is rows = if-cases P (live o.machine.server.state) o (leader_finds_ended now r o) (λ l. rows.kept (fits-as o.role (Leader r) (live o.machine.server.state) is l)) (λ l. rows.leader r is l)
+before-as P now (Ending r why) o is rows = if-cases P (live o.machine.server.state) o (has_ended why r o) (λ l. rows.kept (fits-as o.role (Ending r why) (live o.machine.server.state) is l)) (λ l. rows.ending r why is l)
+before-as P now Follower o is rows = if-cases P (live o.machine.server.state) (finds_live o) o (λ l. rows.follower is l) (λ l. rows.kept (fits-as o.role Follower (live o.machine.server.state) is l))
+before-as P now (Holder r) o is rows = if-cases P (live o.machine.server.state) (finds_live o) o (λ l. rows.holder r is l) (λ l. rows.kept (fits-as o.role (Holder r) (live o.machine.server.state) is l))
+before-as P now (Ready r) o is rows = if-cases P (live o.machine.server.state) (finds_live (disarming o)) o (λ l. rows.ready r is l) (λ l. rows.kept (fits-as o.role (Ready r) (live o.machine.server.state) is l))
+before-as P now Stray o is rows = if-cases P (live o.machine.server.state) o (stray_finds_ended o) (λ l. rows.kept (fits-as o.role Stray (live o.machine.server.state) is l)) (λ l. rows.stray is l)
+
+pub before-by : (P : Outcome → Type 0) (now : Ticks) (o : Outcome) → BeforeRows P now o → P (before now o)
+before-by P now o rows = before-as P now o.role o refl rows
+
+-- the race is judged
+judged-as : (P : Outcome → Type 0) (now : Ticks) (bar : Option Bar) (o : Outcome) → P (creating now o) → ((by : Bar) → P (barred by o)) → P (judged_as now bar o)
+judged-as P now None o wins loses = wins
+judged-as P now (Some by) o wins loses = loses by
+
+pub judged-by : (P : Outcome → Type 0) (now : Ticks) (o : Outcome) → P (creating now (waiting_no_more o)) → ((by : Bar) → P (barred by (waiting_no_more o))) → P (judged now o)
+judged-by P now o wins loses = judged-as P now (outcome_at now o) (waiting_no_more o) wins loses
+
+-- a claim of the sync key fails
+claim-fails-as : (P : Outcome → Type 0) (role : RoleFacts) (o : Outcome) → o.role ≡ role → P o → ((revision : ℕ) → o.role ≡ Ready revision → P (postpones revision o)) → P (claim_fails_as role o)
+claim-fails-as P (Ready revision) o is kept postponed = postponed revision is
+claim-fails-as P _ o is kept postponed = kept
+
+claim-fails-by : (P : Outcome → Type 0) (o : Outcome) → P o → ((revision : ℕ) → o.role ≡ Ready revision → P (postpones revision o)) → P (claim_fails o)
+claim-fails-by P o kept postponed = claim-fails-as P o.role o refl kept postponed
+
+-- the agent asks that the failover key be removed, under the leader key of this revision
+abbrev pub dropping : ℕ → Outcome → Outcome
+dropping revision o = sending (bodies.Request (txns.DropFailover revision)) o
+
+clearing-under : (P : Outcome → Type 0) (revision : Option ℕ) (o : Outcome) → P o → ((compared : ℕ) → P (dropping compared o)) → P (clearing_under revision o)
+clearing-under P None o kept drops = kept
+clearing-under P (Some revision) o kept drops = drops revision
+
+pub clearing-by : (P : Outcome → Type 0) (o : Outcome) → P o → ((compared : ℕ) → P (dropping compared o)) → P (clearing o)
+clearing-by P o kept drops = clearing-under P (leader_revision o.knows.seen) o kept drops
+
+-- a handover is judged
+pub record HandoverRows (P : Outcome → Type 0) (now : Ticks) (revision : ℕ) (o : Outcome) : Type 0 where
+  pub kept : P (waiting_no_more o)
+  pub clears : (compared : ℕ) → P (dropping compared (waiting_no_more o))
+  pub hands : (candidate : MemberId) → P (hands_over now revision candidate (waiting_no_more o))
+
+hands-over-to : (P : Outcome → Type 0) (now : Ticks) (revision : ℕ) (successor : Option MemberId) (o : Outcome) → HandoverRows P now revision o → P (hands_over_to now revision successor (waiting_no_more o))
+hands-over-to P now revision None o rows = clearing-by P (waiting_no_more o) rows.kept rows.clears
+hands-over-to P now revision (Some candidate) o rows = rows.hands candidate
+
+pub handover-by : (P : Outcome → Type 0) (now : Ticks) (revision : ℕ) (o : Outcome) → HandoverRows P now revision o → P (handover_judged now revision o)
+handover-by P now revision o rows = hands-over-to P now revision (successor_by o.knows.turn_failover o.knows o.machine.server) o rows
+
+judged-if-leading : (P : Outcome → Type 0) (now : Ticks) (role : RoleFacts) (o : Outcome) → o.role ≡ role → P (waiting_no_more o) → ((revision : ℕ) → o.role ≡ Leader revision → HandoverRows P now revision o) → P (judged_if_leading now role o)
+judged-if-leading P now (Leader revision) o is quiet rows = handover-by P now revision o (rows revision is)
+judged-if-leading P now Follower o is quiet rows = quiet
+judged-if-leading P now (Holder held) o is quiet rows = quiet
+judged-if-leading P now (Ready held) o is quiet rows = quiet
+judged-if-leading P now (Ending held why) o is quiet rows = quiet
+judged-if-leading P now Stray o is quiet rows = quiet
+
+-- operators are answered
+pub record ReplyRows (P : Outcome → Type 0) (o : Outcome) : Type 0 where
+  pub kept : P o
+  pub answers : (request : ℕ) (told : Told) → P (answering request told o)
+
+answering-if : (P : Outcome → Type 0) (request : ℕ) (told : Option Told) (o : Outcome) → ReplyRows P o → P (answering_if request told o)
+answering-if P request None o rows = rows.kept
+answering-if P request (Some told) o rows = rows.answers request told
+
+looked-as : (P : Outcome → Type 0) (waiting : Option Operating) (snapshot : SnapshotFacts) (o : Outcome) → ReplyRows P o → P (looked_by waiting snapshot o)
+looked-as P None snapshot o rows = rows.kept
+looked-as P (Some waiting) snapshot o rows = answering-if P waiting.request (result_as waiting.operation waiting.leader snapshot) o rows
+
+-- a read is looked at for a request that waits
+pub looked-by : (P : Outcome → Type 0) (sequence : ℕ) (snapshot : SnapshotFacts) (o : Outcome) → ReplyRows P o → P (looked sequence snapshot o)
+looked-by P sequence snapshot o rows = if-cases P (uses_read sequence o) (looked_by o.knows.operating snapshot o) o (λ _. looked-as P o.knows.operating snapshot o rows) (λ _. rows.kept)
+
+given-up-as : (P : Outcome → Type 0) (now : Ticks) (waiting : Option Operating) (o : Outcome) → ReplyRows P o → P (given_up_by now waiting o)
+given-up-as P now None o rows = rows.kept
+given-up-as P now (Some waiting) o rows =
+    if-cases P (nat_le (operator_until o.knows.settings waiting.operation waiting.since).0 now.0) (answering waiting.request (late_answer waiting.operation) o) o (λ _. rows.answers waiting.request (late_answer waiting.operation)) (λ _. rows.kept)
+
+-- a request whose time is over
+pub given-up-by : (P : Outcome → Type 0) (now : Ticks) (o : Outcome) → ReplyRows P o → P (given_up now o)
+given-up-by P now o rows = given-up-as P now o.knows.operating o rows
+
+-- the key store refused what an operator wants
+pub operator-refused-by : (P : Outcome → Type 0) (waiting : Option Operating) (o : Outcome) → ReplyRows P o → P (operator_refused waiting o)
+operator-refused-by P None o rows = rows.kept
+operator-refused-by P (Some waiting) o rows = rows.answers waiting.request (refusal_of waiting.operation)
+
+granted-as : (P : Outcome → Type 0) (operation : Operation) (request : ℕ) (o : Outcome) → ReplyRows P o → P (granted_as operation request o)
+granted-as P (FailingOver kind) request o rows = rows.kept
+granted-as P Configuring request o rows = rows.answers request tolds.Written
+
+-- the key store granted what an operator wants
+pub operator-granted-by : (P : Outcome → Type 0) (snapshot : SnapshotFacts) (waiting : Option Operating) (o : Outcome) → P o → ReplyRows P (learned snapshot o) → P (operator_granted snapshot waiting o)
+operator-granted-by P snapshot None o kept rows = kept
+operator-granted-by P snapshot (Some waiting) o kept rows = granted-as P waiting.operation waiting.request (learned snapshot o) rows
+
+-- a request that an operator has made of the key store
+abbrev pub IsOperatorTxn : Txn → Type 0
+IsOperatorTxn (txns.SetFailover failover ttl) = Unit {0}
+IsOperatorTxn (txns.SetConfig revision config) = Unit {0}
+IsOperatorTxn _ = ⊥
+
+-- what an operator asks is done
+pub record ActRows (P : Outcome → Type 0) (now : Ticks) (request : ℕ) (o : Outcome) : Type 0 where
+  pub asks : (operation : Operation) (txn : Txn) → IsOperatorTxn txn → P (operating now request operation (bodies.Request txn) o)
+  pub restarts : (told : Told) → P (telling request told (restarting now o))
+  pub wipes : (told : Told) → P (telling request told (wiping o))
+
+pub operated-by : (P : Outcome → Type 0) (now : Ticks) (request : ℕ) (asked : OperatorRequest) (o : Outcome) → ActRows P now request o → P (operated now request asked o)
+operated-by P now request (requests.Failover kind failover) o rows = rows.asks (FailingOver kind) (txns.SetFailover failover (lease_span o.knows.settings)) tt
+operated-by P now request (requests.Configuration config) o rows = rows.asks Configuring (txns.SetConfig (config_revision o.knows.seen) config) tt
+operated-by P now request requests.Restart o rows = rows.restarts (tolds.Text ok texts.Restarted)
+operated-by P now request requests.Reinit o rows = rows.wipes (tolds.Text ok texts.ReinitializeStarted)
+
+-- a deadline that has passed
+pub record OverdueRows (P : Outcome → Type 0) (now : Ticks) (o : Outcome) : Type 0 where
+  pub kept : P o
+  pub quiet : P (waiting_no_more o)
+  pub leader : (revision : ℕ) → o.role ≡ Leader revision → P (leader_out_of_reach now revision (waiting_no_more o))
+  pub stray : o.role ≡ Stray → P (stray_out_of_reach now (waiting_no_more o))
+  pub judges : may_create o.role ≡ true → P (judged now o)
+  pub ready : (revision : ℕ) → o.role ≡ Ready revision → P (postpones revision (waiting_no_more o))
+  pub checks : (revision : ℕ) → o.role ≡ Leader revision → HandoverRows P now revision o
+
+out-of-reach-as : (P : Outcome → Type 0) (now : Ticks) (role : RoleFacts) (o : Outcome) → o.role ≡ role → OverdueRows P now o → P (out_of_reach_as now role (waiting_no_more o))
+out-of-reach-as P now (Leader r) o is rows = rows.leader r is
+out-of-reach-as P now Stray o is rows = rows.stray is
+out-of-reach-as P now Follower o is rows = rows.quiet
+out-of-reach-as P now (Holder r) o is rows = rows.quiet
+out-of-reach-as P now (Ready r) o is rows = rows.quiet
+out-of-reach-as P now (Ending r why) o is rows = rows.quiet
+
+out-of-reach : (P : Outcome → Type 0) (now : Ticks) (o : Outcome) → OverdueRows P now o → P (out_of_reach now o)
+out-of-reach P now o rows = if-cases P (is_paused o.knows) (waiting_no_more o) (out_of_reach_as now o.role (waiting_no_more o)) (λ _. rows.quiet) (λ _. out-of-reach-as P now o.role o refl rows)
+
+unanswered-by : (P : Outcome → Type 0) (now : Ticks) (question : Question) (o : Outcome) → OverdueRows P now o → P (unanswered now question o)
+unanswered-by P now Reading o rows = out-of-reach P now o rows
+unanswered-by P now Renewing o rows = out-of-reach P now o rows
+unanswered-by P now Creating o rows = rows.quiet
+unanswered-by P now Claiming o rows = claim-fails-by P (waiting_no_more o) rows.quiet rows.ready
+unanswered-by P now (Syncing settling) o rows = rows.quiet
+unanswered-by P now Checking o rows = judged-if-leading P now o.role o refl rows.quiet rows.checks
+unanswered-by P now Asking o rows = if-cases P (may_create o.role) (judged now o) (waiting_no_more o) rows.judges (λ _. rows.quiet)
+
+overdue-for : (P : Outcome → Type 0) (now : Ticks) (waited : Option Waited) (o : Outcome) → OverdueRows P now o → P (overdue_for now waited o)
+overdue-for P now None o rows = rows.kept
+overdue-for P now (Some waited) o rows = if-cases P (nat_le waited.until.0 now.0) (unanswered now waited.question o) o (λ _. unanswered-by P now waited.question o rows) (λ _. rows.kept)
+
+pub overdue-by : (P : Outcome → Type 0) (now : Ticks) (o : Outcome) → OverdueRows P now o → P (overdue now o)
+overdue-by P now o rows = overdue-for P now o.knows.waited o rows
+
+-- a turn
+pub record TurnRows (P : Outcome → Type 0) (now : Ticks) (o : Outcome) : Type 0 where
+  pub kept : P o
+  pub quiet : P (record o { knows = turn_noted now o.knows })
+  pub reads : is_active o.role ≡ true → P (reading now (record o { knows = turn_noted now o.knows }))
+
+turn-as : (P : Outcome → Type 0) (now : Ticks) (role : RoleFacts) (o : Outcome) → o.role ≡ role → TurnRows P now o → P (turn_as now role (record o { knows = turn_noted now o.knows }))
+turn-as P now (Ending r why) o is rows = rows.quiet
+turn-as P now Stray o is rows = if-cases P (is_stopping o.machine.server.state) (record o { knows = turn_noted now o.knows }) (reading now (record o { knows = turn_noted now o.knows })) (λ _. rows.quiet) (λ _. rows.reads (rw is refl))
+turn-as P now Follower o is rows = rows.reads (rw is refl)
+turn-as P now (Holder r) o is rows = rows.reads (rw is refl)
+turn-as P now (Ready r) o is rows = rows.reads (rw is refl)
+turn-as P now (Leader r) o is rows = rows.reads (rw is refl)
+
+pub turn-by : (P : Outcome → Type 0) (now : Ticks) (o : Outcome) → TurnRows P now o → P (turned now o)
+turn-by P now o rows = if-cases P (has_turn now o.knows) (turn_begins now o) o (λ _. turn-as P now o.role o refl rows) (λ _. rows.kept)
+
+-- a wake: what comes before it alone, or with an operator whose time is over, a deadline that has passed and a turn
+pub wake-by : (P : Outcome → Type 0) (now : Ticks) (o : Outcome) → P (before now o) → P (roused now o) → P (woken now o)
+wake-by P now o idle due = if-cases P (is_due now o.role o.knows o.machine) (roused now o) (before now o) (λ _. due) (λ _. idle)
+
+-- the answer to a read
+pub record GotRows (P : Outcome → Type 0) (now : Ticks) (points : List HistoryPoint) (snapshot : SnapshotFacts) (o : Outcome) : Type 0 where
+  pub kept : P o
+  pub quiet : P (waiting_no_more o)
+  pub other : P (record o { knows = read_noted now snapshot o.knows })
+  pub leader : (held : ℕ) → o.role ≡ Leader held → P (leader_loses_key now held (record o { knows = read_noted now snapshot o.knows }))
+  pub stray : o.role ≡ Stray → P (stray_loses_key now (record o { knows = read_noted now snapshot o.knows }))
+  pub renews : is_active o.role ≡ true → (leader : LeaderEntry) → leader_in snapshot ≡ Some leader → leader.holder.number == o.knows.who.me.number ≡ true → P (renewing now points leader.revision (record o { knows = read_noted now snapshot o.knows }))
+  pub touches : P (touching (record o { knows = read_noted now snapshot o.knows }))
+  pub follows : (leader : LeaderEntry) → leader_in snapshot ≡ Some leader → may_create o.role ≡ true → P (follows now leader.holder (record o { knows = read_noted now snapshot o.knows }))
+  pub free : leader_in snapshot ≡ None → may_create o.role ≡ true → P (finds_free now (record o { knows = read_noted now snapshot o.knows }))
+  -- in a pause
+  pub runs_on : is_paused (read_noted now snapshot o.knows) ≡ true → P (running_without_key (record o { knows = read_noted now snapshot o.knows }))
+  pub asks_on : is_paused (read_noted now snapshot o.knows) ≡ true → P (asks_as_stray now (record o { knows = read_noted now snapshot o.knows }))
+
+-- a primary doesn't have the leader key, since another has it, or nobody
+without-key : (P : Outcome → Type 0) (now : Ticks) (points : List HistoryPoint) (snapshot : SnapshotFacts) (o lost : Outcome) → P lost → GotRows P now points snapshot o
+    → P (if is_paused (read_noted now snapshot o.knows) then running_without_key (record o { knows = read_noted now snapshot o.knows }) else lost)
+without-key P now points snapshot o lost ends rows = if-cases P (is_paused (read_noted now snapshot o.knows)) (running_without_key (record o { knows = read_noted now snapshot o.knows })) lost rows.runs_on (λ _. ends)
+
+without-leader : (P : Outcome → Type 0) (now : Ticks) (points : List HistoryPoint) (snapshot : SnapshotFacts) (o lost : Outcome) → P lost → GotRows P now points snapshot o
+    → P (if is_paused (read_noted now snapshot o.knows) then asks_as_stray now (record o { knows = read_noted now snapshot o.knows }) else lost)
+without-leader P now points snapshot o lost ends rows = if-cases P (is_paused (read_noted now snapshot o.knows)) (asks_as_stray now (record o { knows = read_noted now snapshot o.knows })) lost rows.asks_on (λ _. ends)
+
+got-none : (P : Outcome → Type 0) (now : Ticks) (points : List HistoryPoint) (snapshot : SnapshotFacts) (role : RoleFacts) (o : Outcome) → o.role ≡ role → leader_in snapshot ≡ None → GotRows P now points snapshot o → P (no_key now role (record o { knows = read_noted now snapshot o.knows }))
+got-none P now points snapshot (Leader held) o is none rows = without-leader P now points snapshot o (leader_loses_key now held (record o { knows = read_noted now snapshot o.knows })) (rows.leader held is) rows
+got-none P now points snapshot Stray o is none rows = without-leader P now points snapshot o (stray_loses_key now (record o { knows = read_noted now snapshot o.knows })) (rows.stray is) rows
+got-none P now points snapshot Follower o is none rows = rows.free none (rw is refl)
+got-none P now points snapshot (Holder held) o is none rows = rows.free none (rw is refl)
+got-none P now points snapshot (Ready held) o is none rows = rows.other
+got-none P now points snapshot (Ending held why) o is none rows = rows.other
+
+got-others : (P : Outcome → Type 0) (now : Ticks) (points : List HistoryPoint) (snapshot : SnapshotFacts) (leader : LeaderEntry) (role : RoleFacts) (o : Outcome) → o.role ≡ role → leader_in snapshot ≡ Some leader → GotRows P now points snapshot o → P (others_key now leader.holder role (record o { knows = read_noted now snapshot o.knows }))
+got-others P now points snapshot leader (Leader held) o is some rows = without-key P now points snapshot o (leader_loses_key now held (record o { knows = read_noted now snapshot o.knows })) (rows.leader held is) rows
+got-others P now points snapshot leader Stray o is some rows = without-key P now points snapshot o (stray_loses_key now (record o { knows = read_noted now snapshot o.knows })) (rows.stray is) rows
+got-others P now points snapshot leader Follower o is some rows = rows.follows leader some (rw is refl)
+got-others P now points snapshot leader (Holder held) o is some rows = rows.follows leader some (rw is refl)
+got-others P now points snapshot leader (Ready held) o is some rows = rows.other
+got-others P now points snapshot leader (Ending held why) o is some rows = rows.other
+
+own-found : (P : Outcome → Type 0) (now : Ticks) (points : List HistoryPoint) (snapshot : SnapshotFacts) (leader : LeaderEntry) (o : Outcome) → is_active o.role ≡ true → leader_in snapshot ≡ Some leader → leader.holder.number == o.knows.who.me.number ≡ true → GotRows P now points snapshot o → P (finds_own_key now points leader.revision (record o { knows = read_noted now snapshot o.knows }))
+own-found P now points snapshot leader o active some mine rows = if-cases P (is_hold_active now o.machine.hold && not (is_paused (read_noted now snapshot o.knows))) (touching (record o { knows = read_noted now snapshot o.knows })) (renewing now points leader.revision (record o { knows = read_noted now snapshot o.knows })) (λ _. rows.touches) (λ _. rows.renews active leader some mine)
+
+got-own : (P : Outcome → Type 0) (now : Ticks) (points : List HistoryPoint) (snapshot : SnapshotFacts) (leader : LeaderEntry) (role : RoleFacts) (o : Outcome) → is_active o.role ≡ true → leader_in snapshot ≡ Some leader → leader.holder.number == o.knows.who.me.number ≡ true → GotRows P now points snapshot o → P (own_key now points leader.revision role (record o { knows = read_noted now snapshot o.knows }))
+got-own P now points snapshot leader (Leader held) o active some mine rows = rows.renews active leader some mine
+got-own P now points snapshot leader Stray o active some mine rows = rows.renews active leader some mine
+got-own P now points snapshot leader Follower o active some mine rows = own-found P now points snapshot leader o active some mine rows
+got-own P now points snapshot leader (Holder held) o active some mine rows = own-found P now points snapshot leader o active some mine rows
+got-own P now points snapshot leader (Ready held) o active some mine rows = rows.other
+got-own P now points snapshot leader (Ending held why) o active some mine rows = rows.other
+
+got-led : (P : Outcome → Type 0) (now : Ticks) (points : List HistoryPoint) (snapshot : SnapshotFacts) (leader : Option LeaderEntry) (o : Outcome) → is_active o.role ≡ true → leader_in snapshot ≡ leader → GotRows P now points snapshot o → P (led now points leader (record o { knows = read_noted now snapshot o.knows }))
+got-led P now points snapshot None o active is rows = got-none P now points snapshot o.role o refl is rows
+got-led P now points snapshot (Some leader) o active is rows =
+    if-cases P (leader.holder.number == o.knows.who.me.number) (own_key now points leader.revision o.role (record o { knows = read_noted now snapshot o.knows })) (others_key now leader.holder o.role (record o { knows = read_noted now snapshot o.knows }))
+    (λ mine. got-own P now points snapshot leader o.role o active is mine rows) (λ _. got-others P now points snapshot leader o.role o refl is rows)
+
+pub got-by : (P : Outcome → Type 0) (now : Ticks) (points : List HistoryPoint) (sequence : ℕ) (snapshot : SnapshotFacts) (o : Outcome) → GotRows P now points snapshot o → P (got now points sequence snapshot o)
+got-by P now points sequence snapshot o rows =
+    if-cases P (awaits_read o.knows.waited sequence) (accepted now points snapshot o) o
+    (λ _. if-cases P (is_active o.role) (led now points (leader_in snapshot) (record o { knows = read_noted now snapshot o.knows })) (waiting_no_more o) (λ active. got-led P now points snapshot (leader_in snapshot) o active refl rows) (λ _. rows.quiet))
+    (λ _. rows.kept)
+
+-- a request was refused
+pub record RefusedRows (P : Outcome → Type 0) (now : Ticks) (o : Outcome) : Type 0 where
+  pub kept : P o
+  pub quiet : P (waiting_no_more o)
+  pub leader : (held : ℕ) → o.role ≡ Leader held → P (leader_loses_key now held (waiting_no_more o))
+  pub stray : o.role ≡ Stray → P (stray_loses_key now (waiting_no_more o))
+  pub follower : (held : ℕ) → o.role ≡ Holder held → P (record (waiting_no_more o) { role = Follower })
+  pub ready : (held : ℕ) → o.role ≡ Ready held → P (postpones held (waiting_no_more o))
+  -- in a pause
+  pub runs_on : is_paused o.knows ≡ true → P (running_without_key (waiting_no_more o))
+
+renewal-refused : (P : Outcome → Type 0) (now : Ticks) (role : RoleFacts) (o : Outcome) → o.role ≡ role → RefusedRows P now o → P (renewal_refused now role (waiting_no_more o))
+renewal-refused P now (Leader held) o is rows = if-cases P (is_paused o.knows) (running_without_key (waiting_no_more o)) (leader_loses_key now held (waiting_no_more o)) rows.runs_on (λ _. rows.leader held is)
+renewal-refused P now Stray o is rows = if-cases P (is_paused o.knows) (running_without_key (waiting_no_more o)) (stray_loses_key now (waiting_no_more o)) rows.runs_on (λ _. rows.stray is)
+renewal-refused P now (Holder held) o is rows = rows.follower held is
+renewal-refused P now Follower o is rows = rows.quiet
+renewal-refused P now (Ready held) o is rows = rows.quiet
+renewal-refused P now (Ending held why) o is rows = rows.quiet
+
+create-refused : (P : Outcome → Type 0) (now : Ticks) (role : RoleFacts) (o : Outcome) → o.role ≡ role → RefusedRows P now o → P (record (waiting_no_more o) { role = follower_for role })
+create-refused P now (Holder held) o is rows = rows.follower held is
+create-refused P now Follower o is rows = subst (λ (r : RoleFacts). P (record (waiting_no_more o) { role = r })) is rows.quiet
+create-refused P now (Ready held) o is rows = subst (λ (r : RoleFacts). P (record (waiting_no_more o) { role = r })) is rows.quiet
+create-refused P now (Leader held) o is rows = subst (λ (r : RoleFacts). P (record (waiting_no_more o) { role = r })) is rows.quiet
+create-refused P now (Ending held why) o is rows = subst (λ (r : RoleFacts). P (record (waiting_no_more o) { role = r })) is rows.quiet
+create-refused P now Stray o is rows = subst (λ (r : RoleFacts). P (record (waiting_no_more o) { role = r })) is rows.quiet
+
+refused-as : (P : Outcome → Type 0) (now : Ticks) (question : Question) (o : Outcome) → RefusedRows P now o → P (refused_as now question (waiting_no_more o))
+refused-as P now Creating o rows = create-refused P now o.role o refl rows
+refused-as P now Renewing o rows = renewal-refused P now o.role o refl rows
+refused-as P now Claiming o rows = claim-fails-by P (waiting_no_more o) rows.quiet rows.ready
+refused-as P now Reading o rows = rows.quiet
+refused-as P now Asking o rows = rows.quiet
+refused-as P now (Syncing settling) o rows = rows.quiet
+refused-as P now Checking o rows = rows.quiet
+
+refused-for : (P : Outcome → Type 0) (now : Ticks) (sequence : ℕ) (waited : Option Waited) (o : Outcome) → RefusedRows P now o → P (refused_for now sequence waited o)
+refused-for P now sequence None o rows = rows.kept
+refused-for P now sequence (Some waited) o rows = if-cases P (awaits_decision waited sequence) (refused_as now waited.question (waiting_no_more o)) o (λ _. refused-as P now waited.question o rows) (λ _. rows.kept)
+
+pub refused-by : (P : Outcome → Type 0) (now : Ticks) (sequence : ℕ) (o : Outcome) → RefusedRows P now o → P (refused now sequence o)
+refused-by P now sequence o rows = refused-for P now sequence o.knows.waited o rows
+
+-- what the server of a member does under another leader, or under none
+starts-by : (P : Outcome → Type 0) (now : Ticks) (leader : Option MemberId) (o : Outcome) → P o → P (starting_replica now leader o) → P (starts_behind now leader o)
+starts-by P now leader o kept starts = if-cases P o.machine.server.diverged o (starting_replica now leader o) (λ _. kept) (λ _. starts)
+
+ends-by : (P : Outcome → Type 0) (now : Ticks) (o : Outcome) → P o → P (shutting_down now o) → P (ends_fork now o)
+ends-by P now o kept shuts = if-cases P (o.machine.server.diverged && ends_forks o.knows.settings) (shutting_down now o) o (λ _. shuts) (λ _. kept)
+
+starts-if : (P : Outcome → Type 0) (may_start : Bool) (now : Ticks) (leader : MemberId) (o : Outcome) → P o → P (starting_replica now (Some leader) o) → P (starts_if may_start now leader o)
+starts-if P true now leader o kept starts = starts-by P now (Some leader) o kept starts
+starts-if P false now leader o kept starts = kept
+
+pub follow-by : (P : Outcome → Type 0) (may_start : Bool) (now : Ticks) (leader : MemberId) (state : State) (o : Outcome) → P o → P (starting_replica now (Some leader) o) → P (following_server leader o) → P (shutting_down now o) → P (follow_row may_start now leader state o)
+follow-by P may_start now leader states.Stopped o kept starts follows-it shuts = starts-if P may_start now leader o kept starts
+follow-by P may_start now leader states.Crashed o kept starts follows-it shuts = starts-if P may_start now leader o kept starts
+follow-by P may_start now leader states.Replica o kept starts follows-it shuts =
+    if-cases P (is_upstream leader o.machine.server.upstream) (ends_fork now o) (following_server leader o) (λ _. ends-by P now o kept shuts) (λ _. follows-it)
+follow-by P may_start now leader states.Creating o kept starts follows-it shuts = kept
+follow-by P may_start now leader (states.Starting as_primary at) o kept starts follows-it shuts = kept
+follow-by P may_start now leader states.Primary o kept starts follows-it shuts = kept
+follow-by P may_start now leader (states.Stopping was_primary at) o kept starts follows-it shuts = kept
+
+-- and behind it the log may be repaired
+pub repaired-by : (P : Outcome → Type 0) (leader : MemberId) (repair : Option Repair) (o : Outcome) → P o → ((r : Repair) → P (repairing leader r o)) → P (repaired_if leader repair o)
+repaired-by P leader None o kept repaired = kept
+repaired-by P leader (Some r) o kept repaired = repaired r
+
+-- what it does about a free leader key
+pub record FreeRows (P : Outcome → Type 0) (now : Ticks) (o : Outcome) : Type 0 where
+  pub starts : P (touching (starting_replica now None o))
+  pub touches : P (touching o)
+  pub bars : (by : Bar) → P (barred by o)
+  pub judges : P (judged now (unheard o))
+  pub asks : P (asking_others now (unheard o))
+
+races-by : (P : Outcome → Type 0) (now : Ticks) (bar : Option Bar) (o : Outcome) → FreeRows P now o → P (races_unless now bar o)
+races-by P now None o rows = if-cases P (all_answered o.knows.who []) (judged now (unheard o)) (asking_others now (unheard o)) (λ _. rows.judges) (λ _. rows.asks)
+races-by P now (Some by) o rows = rows.bars by
+
+pub free-by : (P : Outcome → Type 0) (now : Ticks) (o : Outcome) → FreeRows P now o → P (free_key now o)
+free-by P now o rows =
+    if-cases P (can_start o.machine.server) (touching (starts_alone now o)) (races_unless now (bar_of now o.knows o.machine) o)
+    (λ _. if-cases (λ (x : Outcome). P (touching x)) (is_paused o.knows) o (starting_replica now None o) (λ _. rows.touches) (λ _. rows.starts)) (λ _. races-by P now (bar_of now o.knows o.machine) o rows)
+
+-- the answer of another member
+pub record AnsweredRows (P : Outcome → Type 0) (now : Ticks) (answer : PeerAnswer) (o : Outcome) : Type 0 where
+  pub kept : P o
+  pub quiet : P (waiting_no_more o)
+  pub keeps : P (keeping answer o)
+  pub judges : may_create o.role ≡ true → P (judged now (keeping answer o))
+  pub checks : (revision : ℕ) → o.role ≡ Leader revision → HandoverRows P now revision (keeping answer o)
+
+accepted-answer : (P : Outcome → Type 0) (now : Ticks) (answer : PeerAnswer) (o : Outcome) → AnsweredRows P now answer o → P (accepted_answer now answer o)
+accepted-answer P now answer o rows = if-cases P (may_create o.role) (judged_if_all now (keeping answer o)) (waiting_no_more o)
+    (λ may. if-cases P (all_answered o.knows.who (keeping answer o).knows.answers) (judged now (keeping answer o)) (keeping answer o) (λ _. rows.judges may) (λ _. rows.keeps)) (λ _. rows.quiet)
+
+check-answered : (P : Outcome → Type 0) (now : Ticks) (answer : PeerAnswer) (role : RoleFacts) (o : Outcome) → o.role ≡ role → AnsweredRows P now answer o → P (check_answered now answer role o)
+check-answered P now answer (Leader revision) o is rows =
+    if-cases P (whom_answered o.knows.who (candidate_of o.knows.turn_failover) (keeping answer o).knows.answers) (handover_judged now revision (keeping answer o)) (keeping answer o)
+    (λ _. handover-by P now revision (keeping answer o) (rows.checks revision is)) (λ _. rows.keeps)
+check-answered P now answer Follower o is rows = rows.quiet
+check-answered P now answer (Holder held) o is rows = rows.quiet
+check-answered P now answer (Ready held) o is rows = rows.quiet
+check-answered P now answer (Ending held why) o is rows = rows.quiet
+check-answered P now answer Stray o is rows = rows.quiet
+
+answered-for : (P : Outcome → Type 0) (now : Ticks) (sequence : ℕ) (answer : PeerAnswer) (waited : Option Waited) (o : Outcome) → AnsweredRows P now answer o → P (answered_for now sequence answer waited o)
+answered-for P now sequence answer None o rows = rows.kept
+answered-for P now sequence answer (Some waited) o rows =
+    if-cases P (awaits_answer waited sequence) (accepted_answer now answer o) (if awaits_check waited sequence then check_answered now answer o.role o else o) (λ _. accepted-answer P now answer o rows)
+    (λ _. if-cases P (awaits_check waited sequence) (check_answered now answer o.role o) o (λ _. check-answered P now answer o.role o refl rows) (λ _. rows.kept))
+
+pub answered-by : (P : Outcome → Type 0) (now : Ticks) (sequence : ℕ) (answer : PeerAnswer) (o : Outcome) → AnsweredRows P now answer o → P (answered now sequence answer o)
+answered-by P now sequence answer o rows = answered-for P now sequence answer o.knows.waited o rows
+
+-- a leader whose watchdog rests on the grant of this revision
+abbrev pub rested_on : Bool → ℕ → Outcome → Outcome
+rested_on renews revision o = record (resting renews o) { role = Leader revision }
+
+-- the lease of a request that was granted
+pub record GrantRows (P : Outcome → Type 0) (now ttl : Ticks) (revision : ℕ) (o : Outcome) : Type 0 where
+  pub other : P o
+  pub leader : (held : ℕ) → o.role ≡ Leader held → P (leader_renewed now ttl revision o)
+  pub stray : o.role ≡ Stray → P (stray_renewed now ttl revision o)
+  pub takes : may_create o.role ≡ true → P (takes_key now ttl revision o)
+  -- in a pause
+  pub rests : (renews : Bool) → is_paused o.knows ≡ true → (held : ℕ) → o.role ≡ Leader held → P (duties now revision (rested_on renews revision o))
+  pub stray_rests : (renews : Bool) → is_paused o.knows ≡ true → o.role ≡ Stray → P (takes_over now revision (resting renews o))
+  pub takes_resting : (renews : Bool) → is_paused o.knows ≡ true → may_create o.role ≡ true → P (takes_key_in_pause now renews revision o)
+
+granted-in-pause : (P : Outcome → Type 0) (now ttl : Ticks) (renews : Bool) (revision : ℕ) (role : RoleFacts) (o : Outcome) → o.role ≡ role → is_paused o.knows ≡ true → GrantRows P now ttl revision o → P (granted_in_pause now renews revision role o)
+granted-in-pause P now ttl renews revision (Leader held) o is paused rows = rows.rests renews paused held is
+granted-in-pause P now ttl renews revision Stray o is paused rows = rows.stray_rests renews paused is
+granted-in-pause P now ttl renews revision Follower o is paused rows = rows.takes_resting renews paused (rw is refl)
+granted-in-pause P now ttl renews revision (Holder held) o is paused rows = rows.takes_resting renews paused (rw is refl)
+granted-in-pause P now ttl renews revision (Ready held) o is paused rows = rows.other
+granted-in-pause P now ttl renews revision (Ending held why) o is paused rows = rows.other
+
+lease-granted : (P : Outcome → Type 0) (now ttl : Ticks) (revision : ℕ) (role : RoleFacts) (o : Outcome) → o.role ≡ role → GrantRows P now ttl revision o → P (lease_granted now ttl revision role o)
+lease-granted P now ttl revision (Leader held) o is rows = rows.leader held is
+lease-granted P now ttl revision Stray o is rows = rows.stray is
+lease-granted P now ttl revision Follower o is rows = rows.takes (rw is refl)
+lease-granted P now ttl revision (Holder held) o is rows = rows.takes (rw is refl)
+lease-granted P now ttl revision (Ready held) o is rows = rows.other
+lease-granted P now ttl revision (Ending held why) o is rows = rows.other
+
+-- a request for a write of the sync key that a leader's plan makes
+abbrev pub WritesSync : Txn → Type 0
+WritesSync (txns.SetSync revision sync standbys) = Unit {0}
+WritesSync (txns.DropSync revision sync) = Unit {0}
+WritesSync _ = ⊥
+
+-- a leader whose watchdog was fed on the grant of this revision
+abbrev pub led_on : Ticks → Ticks → ℕ → Outcome → Outcome
+led_on now ttl revision o = record (feeding now ttl o) { role = Leader revision }
+
+-- a leader's step with its standbys
+pub record PlanRows (P : Outcome → Type 0) (now : Ticks) (o : Outcome) : Type 0 where
+  pub kept : P o
+  pub writes : (settling : Settling) (txn : Txn) → WritesSync txn → P (writing_sync now settling txn o)
+  pub adds : (required : Required) → P (requiring required (noting o))
+  pub drops : (required : Required) → P (requiring required o)
+
+switching-off : (P : Outcome → Type 0) (now : Ticks) (revision : ℕ) (read : Option SyncRead) (o : Outcome) → PlanRows P now o → P (switching_off now revision read o)
+switching-off P now revision None o rows = rows.kept
+switching-off P now revision (Some read) o rows = rows.writes Empties (txns.DropSync revision read.revision) tt
+
+planned-as : (P : Outcome → Type 0) (now : Ticks) (revision : ℕ) (plan : Plan) (o : Outcome) → PlanRows P now o → P (planned_as now revision plan o)
+planned-as P now revision plans.Keep o rows = rows.kept
+planned-as P now revision plans.SwitchOff o rows = switching-off P now revision (sync_read_if o.knows.seen) o rows
+planned-as P now revision plans.Mark o rows = rows.writes (Lists nobody) (txns.SetSync revision (expected_of (sync_read_if o.knows.seen)) nobody) tt
+planned-as P now revision (plans.Withdraw standbys) o rows = rows.writes (Lists standbys) (txns.SetSync revision (expected_of (sync_read_if o.knows.seen)) standbys) tt
+planned-as P now revision (plans.AddRequired members) o rows = rows.adds (All members)
+planned-as P now revision (plans.Publish standbys) o rows = rows.writes Stays (txns.SetSync revision (expected_of (sync_read_if o.knows.seen)) standbys) tt
+planned-as P now revision (plans.DropRequired members) o rows = rows.drops (waiting_for o.knows.settings members)
+
+planned-on : (P : Outcome → Type 0) (now : Ticks) (revision : ℕ) (seen : Option SnapshotFacts) (o : Outcome) → PlanRows P now o → P (planned_on now revision seen o)
+planned-on P now revision None o rows = rows.kept
+planned-on P now revision (Some snapshot) o rows = planned-as P now revision (plan_of (leader_view now o.knows o.machine) snapshot) o rows
+
+pub planned-by : (P : Outcome → Type 0) (now : Ticks) (revision : ℕ) (o : Outcome) → PlanRows P now o → P (planned now revision o)
+planned-by P now revision o rows = planned-on P now revision o.knows.seen o rows
+
+-- what a leader does under a failover key
+pub record FailoverRows (P : Outcome → Type 0) (now : Ticks) (revision : ℕ) (o : Outcome) : Type 0 where
+  pub kept : P o
+  pub clears : (compared : ℕ) → P (dropping compared o)
+  pub asks : (candidate : Option MemberId) → P (checking now candidate (unheard o))
+  pub judges : HandoverRows P now revision (unheard o)
+
+failover-duty : (P : Outcome → Type 0) (now : Ticks) (revision : ℕ) (failover : FailoverKey) (o : Outcome) → FailoverRows P now revision o → P (failover_duty now revision failover o)
+failover-duty P now revision failover o rows =
+    if-cases P (is_done o.knows.who.me failover) (clearing o) (checks_unless_paused now revision failover.candidate o) (λ _. clearing-by P o rows.kept rows.clears)
+    (λ _. if-cases P (is_paused o.knows && is_none failover.candidate) o (checks now revision failover.candidate (unheard o)) (λ _. rows.kept)
+    (λ _. if-cases P (whom_answered o.knows.who failover.candidate []) (handover_judged now revision (unheard o)) (checking now failover.candidate (unheard o)) (λ _. handover-by P now revision (unheard o) rows.judges) (λ _. rows.asks failover.candidate)))
+
+duty-on : (P : Outcome → Type 0) (now : Ticks) (revision : ℕ) (failover : Option FailoverKey) (o : Outcome) → P (planned now revision o) → FailoverRows P now revision o → P (duty_on now revision failover o)
+duty-on P now revision None o plans rows = if-cases P (is_paused o.knows) o (planned now revision o) (λ _. rows.kept) (λ _. plans)
+duty-on P now revision (Some failover) o plans rows = failover-duty P now revision failover o rows
+
+-- what it owes its cluster with each renewal: a step with its synchronous standbys, or what a failover key asks
+pub duties-by : (P : Outcome → Type 0) (now : Ticks) (revision : ℕ) (o : Outcome) → P (planned now revision o) → FailoverRows P now revision o → P (duties now revision o)
+duties-by P now revision o plans rows = duty-on P now revision o.knows.turn_failover o plans rows
+
+-- the same by the rows of its step
+pub record DutyRows (P : Outcome → Type 0) (now : Ticks) (revision : ℕ) (o : Outcome) : Type 0 where
+  pub plan : PlanRows P now o
+  pub clears : (compared : ℕ) → P (dropping compared o)
+  pub asks : (candidate : Option MemberId) → P (checking now candidate (unheard o))
+  pub judges : HandoverRows P now revision (unheard o)
+
+pub duties-of : (P : Outcome → Type 0) (now : Ticks) (revision : ℕ) (o : Outcome) → DutyRows P now revision o → P (duties now revision o)
+duties-of P now revision o rows = duties-by P now revision o (planned-by P now revision o rows.plan) (record { kept = rows.plan.kept; clears = rows.clears; asks = rows.asks; judges = rows.judges })
+
+-- a leader whose lease is renewed
+pub renewed-by : (P : Outcome → Type 0) (now ttl : Ticks) (revision : ℕ) (o : Outcome) → P (record (ending_server now StartTooLong (led_on now ttl revision o)) { role = Ending revision HandOver }) → DutyRows P now revision (led_on now ttl revision o) → P (leader_renewed now ttl revision o)
+renewed-by P now ttl revision o ends rows = let fed : Outcome = led_on now ttl revision o in
+    if-cases P (is_start_too_long now fed.knows fed.machine.server.state) (record (ending_server now StartTooLong fed) { role = Ending revision HandOver }) (duties now revision fed)
+    (λ _. ends) (λ _. duties-of P now revision fed rows)
+
+-- what a member notes of the sync key before it claims that: nothing, or that it doesn't name the member
+passing-as : (P : List Output → Type 0) (named : Bool) (outs : List Output) → P outs → P (listed outputs.Passes outs) → P (told_passing named outs)
+passing-as P true outs silent noted = silent
+passing-as P false outs silent noted = noted
+
+pub passing-by : (P : List Output → Type 0) (o : Outcome) → P o.outputs → P (listed outputs.Passes o.outputs) → P (passing o).outputs
+passing-by P o silent noted = passing-as P (is_named_if o.knows.who.me o.knows.turn_sync) o.outputs silent noted
+
+-- a member that takes the leader key behind an armed watchdog
+pub begins-or-claims-by : (P : Outcome → Type 0) (now : Ticks) (revision : ℕ) (o : Outcome) → P (begins now revision o) → P (claims now revision (passing o)) → P (begins_or_claims now revision o)
+begins-or-claims-by P now revision o begin claim = if-cases P o.knows.turn_settings.synchronous_mode (claims now revision (passing o)) (begins now revision o) (λ _. claim) (λ _. begin)
+
+-- a member that takes the leader key in a pause, or gives it back
+pub takes-in-pause-by : (P : Outcome → Type 0) (now : Ticks) (renews : Bool) (revision : ℕ) (o : Outcome) → P (gives_back revision o) → P (begins now revision (resting renews o)) → P (claims now revision (passing (resting renews o))) → P (takes_key_in_pause now renews revision o)
+takes-in-pause-by P now renews revision o gives begin claim =
+    if-cases P (is_wanted o.knows.who.me o.knows.turn_failover o.machine.server.state && may_take now o.knows o.machine) (begins_or_claims now revision (resting renews o)) (gives_back revision o)
+    (λ _. begins-or-claims-by P now revision (resting renews o) begin claim) (λ _. gives)
+
+-- a write of the sync key that was granted
+pub record SyncRows (P : Outcome → Type 0) (now : Ticks) (o : Outcome) : Type 0 where
+  pub other : P o
+  pub begins : (revision : ℕ) → o.role ≡ Ready revision → P (begins now revision o)
+  pub postpones : (revision : ℕ) → o.role ≡ Ready revision → P (postpones revision o)
+  pub settles : (required : Required) → is_leader o.role ≡ true → P (requiring required o)
+
+settled-by : (P : Outcome → Type 0) (settling : Settling) (o : Outcome) → P o → ((required : Required) → P (requiring required o)) → P (settled settling o)
+settled-by P Stays o kept requires = kept
+settled-by P (Lists standbys) o kept requires = requires (waiting_for o.knows.settings standbys)
+settled-by P Empties o kept requires = requires Nobody
+
+sync-granted : (P : Outcome → Type 0) (now : Ticks) (question : Question) (role : RoleFacts) (o : Outcome) → o.role ≡ role → belongs question role ≡ true → SyncRows P now o → P (sync_granted now question role o)
+sync-granted P now Claiming (Ready revision) o is fits rows =
+    if-cases P (may_begin_on_claim o.knows o.machine.server) (begins now revision o) (postpones revision o) (λ _. rows.begins revision is) (λ _. rows.postpones revision is)
+sync-granted P now Claiming Follower o is fits rows = rows.other
+sync-granted P now Claiming (Holder held) o is fits rows = rows.other
+sync-granted P now Claiming (Leader held) o is fits rows = rows.other
+sync-granted P now Claiming (Ending held why) o is fits rows = rows.other
+sync-granted P now Claiming Stray o is fits rows = rows.other
+sync-granted P now (Syncing settling) role o is fits rows = settled-by P settling o rows.other (λ required. rows.settles required (ap is_leader is ∙ fits))
+sync-granted P now Reading role o is fits rows = rows.other
+sync-granted P now Asking role o is fits rows = rows.other
+sync-granted P now Creating role o is fits rows = rows.other
+sync-granted P now Renewing role o is fits rows = rows.other
+sync-granted P now Checking role o is fits rows = rows.other
+
+granted-for : (P : Outcome → Type 0) (now : Ticks) (sequence : ℕ) (grant : Granted) (snapshot : SnapshotFacts) (waited : Option Waited) (o : Outcome) → o.knows.waited ≡ waited → P o → P (waiting_no_more o)
+    → ((asked : Waited) → o.knows.waited ≡ Some asked → is_decision asked sequence && is_lease_of o.knows.who.me grant ≡ true → GrantRows P now asked.ttl grant.revision (record o { knows = informed snapshot o.knows }))
+    → SyncRows P now (record o { knows = informed snapshot o.knows }) → P (granted_for now sequence grant snapshot waited o)
+granted-for P now sequence grant snapshot None o is kept quiet rows syncs = kept
+granted-for P now sequence grant snapshot (Some waited) o is kept quiet rows syncs = let told : Outcome = record o { knows = informed snapshot o.knows } in
+    if-cases P (is_decision waited sequence && is_lease_of o.knows.who.me grant) (accepted_grant now waited grant.revision snapshot o) (granted_write now sequence grant snapshot waited o)
+    (λ decision. if-cases P (uses_lease (is_paused told.knows) waited.question o.role) (lease_used now waited grant.revision told) (waiting_no_more o)
+    (λ _. if-cases P (is_paused told.knows) (granted_in_pause now (asks_renewal waited.question) grant.revision o.role told) (lease_granted now waited.ttl grant.revision o.role told)
+    (λ paused. granted-in-pause P now waited.ttl (asks_renewal waited.question) grant.revision o.role told refl paused (rows waited is decision))
+    (λ _. lease-granted P now waited.ttl grant.revision o.role told refl (rows waited is decision))) (λ _. quiet))
+    (λ _. if-cases P (is_sync_decision waited sequence && is_write_of o.knows.who.me grant) (accepted_sync now waited snapshot o) o
+    (λ _. if-cases P (belongs waited.question o.role) (sync_granted now waited.question o.role told) (waiting_no_more o)
+    (λ fits. sync-granted P now waited.question o.role told refl fits syncs) (λ _. quiet)) (λ _. kept))
+
+-- a request was granted
+pub granted-by : (P : Outcome → Type 0) (now : Ticks) (sequence : ℕ) (grant : Granted) (snapshot : SnapshotFacts) (o : Outcome) → P o → P (waiting_no_more o)
+    → ((asked : Waited) → o.knows.waited ≡ Some asked → is_decision asked sequence && is_lease_of o.knows.who.me grant ≡ true → GrantRows P now asked.ttl grant.revision (record o { knows = informed snapshot o.knows }))
+    → SyncRows P now (record o { knows = informed snapshot o.knows }) → P (granted now sequence grant snapshot o)
+granted-by P now sequence grant snapshot o kept quiet rows syncs = granted-for P now sequence grant snapshot o.knows.waited o refl kept quiet rows syncs
+
+-- a request was granted: what an operator wants, or the agent by itself
+pub granted-any-by : (P : Outcome → Type 0) (now : Ticks) (sequence : ℕ) (grant : Granted) (snapshot : SnapshotFacts) (o : Outcome) → P o → ReplyRows P (learned snapshot o) → P (granted now sequence grant snapshot o) → P (granted_any now sequence grant snapshot o)
+granted-any-by P now sequence grant snapshot o kept rows own =
+    if-cases P (grants_operator sequence grant o.knows) (operator_granted snapshot o.knows.operating o) (granted now sequence grant snapshot o) (λ _. operator-granted-by P snapshot o.knows.operating o kept rows) (λ _. own)
+
+-- a request was refused: what an operator wants, or the agent by itself
+pub refused-any-by : (P : Outcome → Type 0) (now : Ticks) (sequence : ℕ) (o : Outcome) → ReplyRows P o → P (refused now sequence o) → P (refused_any now sequence o)
+refused-any-by P now sequence o rows own = if-cases P (operates o.knows sequence) (operator_refused o.knows.operating o) (refused now sequence o) (λ _. operator-refused-by P o.knows.operating o rows) (λ _. own)

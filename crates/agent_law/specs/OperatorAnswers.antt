@@ -1,0 +1,119 @@
+-- What operators are told, and why, and which of their requests waits for a result.
+use Rattle.std.specs.Prelude.{ℕ, ◌≡◌, ◌⊎◌, ◌≤◌, ◌++◌, Bool, true, false, List, [], ◌∷◌, Option, Some, None, Contains}
+use Rattle.pat_base.specs.declared.member_id.MemberId.{MemberId}
+use Rattle.pat_base.specs.declared.name.Name.{Name}
+use Rattle.pat_base.specs.declared.ticks.Ticks.{Ticks}
+use Rattle.lease_store.specs.declared.action.FailoverKind.{FailoverKind}
+use Rattle.lease_store.specs.declared.action.OperatorAction.{OperatorAction}
+use Rattle.lease_store.specs.declared.action.OperatorRequest.{OperatorRequest}
+use Rattle.lease_store.specs.declared.action.OperatorRequest.TheVariants as requests
+use Rattle.lease_store.specs.declared.txn.Txn.{Txn}
+use Rattle.lease_store.specs.declared.txn.Txn.TheVariants as txns
+use Rattle.cluster_config.specs.KeyValues.{failover_in}
+use Rattle.cluster_config.specs.Snapshots.{SnapshotFacts}
+use Rattle.operator_keys.specs.declared.answer_text.Text.TheVariants as texts
+use Rattle.operator_keys.specs.Refusals.{service_unavailable}
+use Rattle.event_book.specs.declared.message.Body.TheVariants as bodies
+use Rattle.agent_model.specs.declared.heard.Heard.{Heard}
+use Rattle.agent_model.specs.declared.heard.Heard.TheVariants.{Wake, Got, Granted, Mismatch, Operated}
+use Rattle.agent_model.specs.declared.operating.Operating.{Operating}
+use Rattle.agent_model.specs.declared.operating.Operation.{Operation}
+use Rattle.agent_model.specs.declared.operating.Operation.TheVariants.{FailingOver, Configuring}
+use Rattle.agent_model.specs.declared.operating.Told.{Told}
+use Rattle.agent_model.specs.declared.operating.Told.TheVariants as tolds
+use Rattle.agent_model.specs.declared.output.Output.{Output}
+use Rattle.agent_model.specs.declared.output.Output.TheVariants as outputs
+use Rattle.agent_model.specs.declared.output.Target.TheVariants as targets
+use Rattle.agent_model.specs.Agents.{Outcome}
+use Rattle.agent_model.specs.Before.{before}
+use Rattle.agent_model.specs.Decisions.{is_write_of}
+use Rattle.agent_model.specs.Operators.{ok, done_text, failed_text, holder_in, holder_if, name_in, is_same_member, uses_read, operator_until, late_answer, refusal_of}
+
+-- what an output tells an operator, with the number of the request; most tell none
+abbrev pub told_by : Output → List (ℕ × Told)
+told_by (outputs.Told request told) = (request, told) ∷ []
+told_by _ = []
+
+-- what outputs tell operators
+abbrev pub told_in : List Output → List (ℕ × Told)
+told_in [] = []
+told_in (output ∷ later) = told_by output ++ told_in later
+
+-- by this snapshot another member leads than before, and the answer is that the switchover or the failover to it is done
+pub record HasNewLeader (kind : FailoverKind) (was : Option MemberId) (snapshot : SnapshotFacts) (answer : Told) : Type 0 where
+  pub leader : MemberId
+  pub leads : holder_in snapshot ≡ Some leader
+  pub other : is_same_member was (Some leader) ≡ false
+  pub name : Name
+  pub named : name_in snapshot.members (Some leader) ≡ Some name
+  pub says : answer ≡ tolds.Text ok (done_text kind name)
+
+-- by this snapshot the same member leads as before, or nobody as before, and nothing asks for another leader any more: the answer is that
+-- the switchover or the failover failed
+pub record HasOldLeader (kind : FailoverKind) (was : Option MemberId) (snapshot : SnapshotFacts) (answer : Told) : Type 0 where
+  pub same : is_same_member was (holder_in snapshot) ≡ true
+  pub over : failover_in snapshot ≡ None
+  pub says : answer ≡ tolds.Text service_unavailable (failed_text kind)
+
+-- a snapshot shows what came of a request before which this one led, and the answer says it. No snapshot shows that of a configuration
+abbrev pub IsResultBy : Operation → Option MemberId → SnapshotFacts → Told → Type 0
+IsResultBy (FailingOver kind) was snapshot answer = HasNewLeader kind was snapshot answer ⊎ HasOldLeader kind was snapshot answer
+IsResultBy Configuring was snapshot answer = ⊥
+
+-- why the request that waits gets this answer: its time is over; the read that the agent waits for shows what came of it; or the key store
+-- answers the question that was asked for it, by the grant of the configuration or by a refusal
+abbrev pub IsReason : Ticks → Heard → Outcome → Operating → Told → Type 0
+IsReason now Wake o waiting answer = ((operator_until o.knows.settings waiting.operation waiting.since).0 ≤ now.0) × (answer ≡ late_answer waiting.operation)
+IsReason now (Got sequence snapshot) o waiting answer = (uses_read sequence (before now o) ≡ true) × IsResultBy waiting.operation waiting.leader snapshot answer
+IsReason now (Granted sequence grant snapshot) o waiting answer = (waiting.sequence ≡ sequence) × (is_write_of o.knows.who.me grant ≡ true) × (waiting.operation ≡ Configuring) × (answer ≡ tolds.Written)
+IsReason now (Mismatch sequence key found) o waiting answer = (waiting.sequence ≡ sequence) × (answer ≡ refusal_of waiting.operation)
+IsReason now _ o waiting answer = ⊥
+
+-- the request that waited is answered, for a reason, and no request waits any more
+pub record AnswersWaiting (now : Ticks) (heard : Heard) (o after : Outcome) (answer : ℕ × Told) : Type 0 where
+  pub waiting : Operating
+  pub waited : o.knows.operating ≡ Some waiting
+  pub request : answer.0 ≡ waiting.request
+  pub reason : IsReason now heard o waiting answer.1
+  pub over : after.knows.operating ≡ None
+
+-- what an operator asks is done in this input, and answered so: the server restarts, or is wiped
+abbrev pub IsDoneIn : List Output → OperatorRequest → Told → Type 0
+IsDoneIn outs requests.Restart answer = ((as_primary : Bool) × Contains outs (outputs.Restart as_primary)) × (answer ≡ tolds.Text ok texts.Restarted)
+IsDoneIn outs requests.Reinit answer = Contains outs outputs.Wipe × (answer ≡ tolds.Text ok texts.ReinitializeStarted)
+IsDoneIn outs _ answer = ⊥
+
+-- the request that is heard is answered at once
+abbrev pub AnswersAtOnce : Heard → Outcome → ℕ × Told → Type 0
+AnswersAtOnce (Operated action) after answer = (answer.0 ≡ action.request) × IsDoneIn after.outputs action.asked answer.1
+AnswersAtOnce _ after answer = ⊥
+
+-- operators get no answer, or one that has its cause
+abbrev pub AnswersOneAtMost : Ticks → Heard → Outcome → Outcome → List (ℕ × Told) → Type 0
+AnswersOneAtMost now heard o after [] = Unit {0}
+AnswersOneAtMost now heard o after (answer ∷ []) = AnswersWaiting now heard o after answer ⊎ AnswersAtOnce heard after answer
+AnswersOneAtMost now heard o after (first ∷ second ∷ others) = ⊥
+
+-- this is what the key store is asked for on such a request: the failover key, or the configuration, that the operator wants
+abbrev pub IsWish : OperatorRequest → Operation → Txn → Type 0
+IsWish (requests.Failover kind failover) operation txn = (operation ≡ FailingOver kind) × ((ttl : Ticks) × (txn ≡ txns.SetFailover failover ttl))
+IsWish (requests.Configuration config) operation txn = (operation ≡ Configuring) × ((revision : ℕ) × (txn ≡ txns.SetConfig revision config))
+IsWish _ operation txn = ⊥
+
+-- what waits is this request, for which the key store is asked at this moment; noted is who leads by the newest snapshot
+pub record IsAskedFor (now : Ticks) (action : OperatorAction) (o after : Outcome) (waiting : Operating) : Type 0 where
+  pub request : waiting.request ≡ action.request
+  pub since : waiting.since ≡ now
+  pub leader : waiting.leader ≡ holder_if o.knows.seen
+  pub txn : Txn
+  pub wish : IsWish action.asked waiting.operation txn
+  pub sent : Contains after.outputs (outputs.Send targets.Store waiting.sequence (bodies.Request txn))
+
+-- what waits is the request that is heard
+abbrev pub WaitsForHeard : Ticks → Heard → Outcome → Outcome → Operating → Type 0
+WaitsForHeard now (Operated action) o after waiting = IsAskedFor now action o after waiting
+WaitsForHeard now _ o after waiting = ⊥
+
+-- what waits after an input waited before, or is the request that is heard
+abbrev pub WaitsAsAsked : Ticks → Heard → Outcome → Outcome → Type 0
+WaitsAsAsked now heard o after = (waiting : Operating) → after.knows.operating ≡ Some waiting → (o.knows.operating ≡ Some waiting) ⊎ WaitsForHeard now heard o after waiting

@@ -1,0 +1,17 @@
+-- Whom an input answers.
+use Rattle.std.specs.Prelude.{ℕ, ◌≡◌}
+use Rattle.pat_base.specs.declared.member_id.MemberId.{MemberId}
+use Rattle.agent_model.specs.declared.heard.Heard.{Heard}
+use Rattle.agent_model.specs.declared.heard.Heard.TheVariants.{Asked}
+use Rattle.agent_model.specs.declared.output.Output.{Output}
+use Rattle.agent_model.specs.declared.output.Output.TheVariants as outputs
+
+-- this member asked, under this number of that run of its agent
+abbrev pub IsAskOf : MemberId → ℕ → ℕ → Heard → Type 0
+IsAskOf member run sequence (Asked from asked number) = (member ≡ from) × (run ≡ asked) × (sequence ≡ number)
+IsAskOf member run sequence _ = ⊥
+
+-- an answer goes to the member that asks, under the run and the number of its ask
+abbrev pub RepliesTo : Heard → Output → Type 0
+RepliesTo heard (outputs.Answer to run sequence answer) = IsAskOf to run sequence heard
+RepliesTo heard _ = Unit {0}

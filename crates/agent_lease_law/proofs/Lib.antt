@@ -1,0 +1,5 @@
+pub mod Behind
+pub mod Lawful
+pub mod LawfulGrants
+pub mod LawfulSteps
+pub mod Asking

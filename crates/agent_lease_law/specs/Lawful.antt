@@ -1,0 +1,127 @@
+-- Which inputs of the law of the lease an input of the table stands for, and that they are lawful.
+use Rattle.std.specs.Prelude.{ℕ, ◌≡◌, ◌⊎◌, ◌+◌, ◌/◌, ◌≤◌, true, false, List, [], Option, Some, None, Contains}
+use Rattle.pat_base.specs.declared.ticks.Ticks.{Ticks}
+use Rattle.lease_store.specs.declared.granted.Granted.{Granted}
+use Rattle.cluster_config.specs.KeyValues.{config_in}
+use Rattle.cluster_config.specs.Snapshots.{SnapshotFacts}
+use Rattle.event_book.specs.declared.message.Body.{Body}
+use Rattle.event_book.specs.declared.message.Body.TheVariants as bodies
+use Rattle.leader_key.specs.Watchdog.{HasMargin, is_armable}
+use Rattle.lease_law.specs.Leases.{Query, Read, Grant, Answer, Flying, Requested, Answered}
+use Rattle.lease_law.specs.States.{State, Acts}
+use Rattle.lease_law.specs.Inputs.{AgentInput, Fed, IsLawful}
+use Rattle.lease_law.specs.Past.{query_of}
+use Rattle.agent_model.specs.declared.heard.Heard.{Heard}
+use Rattle.agent_model.specs.declared.heard.Heard.TheVariants as heards
+use Rattle.agent_model.specs.declared.knowledge.Knowledge.{Knowledge}
+use Rattle.agent_model.specs.declared.knowledge.Waited.{Waited}
+use Rattle.agent_model.specs.declared.machine.Machine.{Machine}
+use Rattle.agent_model.specs.declared.output.Output.{Output}
+use Rattle.agent_model.specs.declared.output.Output.TheVariants as outputs
+use Rattle.agent_model.specs.declared.output.Target.TheVariants as targets
+use Rattle.agent_model.specs.Agents.{Outcome}
+use Rattle.agent_model.specs.Outputs.{is_arming, is_feeding, has_one, OutputsBeginBehind}
+use Rattle.agent_model.specs.Pausing.{is_paused}
+use Rattle.agent_law.specs.Powers.{IsAwaitedLease}
+use Rattle.agent_law.specs.Seen.{leader_seen, failsafe_seen, moment_seen, machine_seen}
+
+-- the state of the law in which this agent stands at this moment: its deadline was set by a grant, failsafe mode is off, and the cluster isn't
+-- paused by what it read
+pub record StandsIn (s : State) (m runs : ℕ) (now : Ticks) (o : Outcome) : Type 0 where
+  pub member : s.members m ≡ machine_seen o.role o.knows o.machine false runs
+  pub me : o.knows.who.me.number ≡ m
+  pub clock : s.clock ≡ now.0
+  pub margin : s.declared.margin m ≡ moment_seen o.machine.watchdog.margin
+  pub failsafe : s.declared.failsafe ≡ false
+  pub unpaused : is_paused o.knows ≡ false
+
+-- the message that this member hears is the key store's answer to the question of this number, with this snapshot, which doesn't pause the
+-- cluster
+pub record HearsAnswer (s : State) (m : ℕ) (heard : Option ℕ) (sequence : ℕ) (snapshot : SnapshotFacts) (knows : Knowledge) : Type 0 where
+  pub number : ℕ
+  pub answer : Answer
+  pub heard_is : heard ≡ Some number
+  pub is : s.flight number ≡ Some (Answered answer)
+  pub member : answer.member ≡ m
+  pub run : answer.run ≡ knows.run
+  pub sequence_is : answer.sequence ≡ sequence
+  pub leader : answer.leader ≡ leader_seen snapshot
+  pub failsafe : answer.failsafe ≡ failsafe_seen snapshot
+  pub unpaused : (config_in snapshot).pause ≡ false
+
+-- a watchdog without a margin is fed only while half of the lease's span hasn't passed since it was asked for
+abbrev pub IsYoung : Option Ticks → Ticks → Waited → Type 0
+IsYoung (Some margin) now waited = Unit {0}
+IsYoung None now waited = now.0 ≤ waited.sent.0 + waited.ttl.0 / 2
+
+-- the answer tells the grant of the lease that is waited for, and the watchdog can be fed on it: it is on, its device works, and
+-- its margin is one that a watchdog may have
+pub record TellsLease (now : Ticks) (grant : Granted) (snapshot : SnapshotFacts) (machine : Machine) (waited : Waited) (answer : Answer) : Type 0 where
+  pub told : Grant
+  pub is : answer.grant ≡ Some told
+  pub revision : told.revision ≡ grant.revision
+  pub ttl : told.ttl ≡ waited.ttl.0
+  pub sent : told.sent ≡ waited.sent.0
+  pub failsafe : told.failsafe ≡ failsafe_seen snapshot
+  pub armable : is_armable machine.watchdog.mode machine.watchdog.works ≡ true
+  pub margin : HasMargin machine.watchdog
+  pub young : IsYoung machine.watchdog.margin now waited
+
+-- it hears the answer to a granted request; where that grants the lease that is waited for, it tells so
+pub record HearsGrant (s : State) (m : ℕ) (heard : Option ℕ) (now : Ticks) (sequence : ℕ) (grant : Granted) (snapshot : SnapshotFacts) (o : Outcome) : Type 0 where
+  pub answer : HearsAnswer s m heard sequence snapshot o.knows
+  pub lease : (awaited : IsAwaitedLease sequence grant o.knows) → TellsLease now grant snapshot o.machine awaited.waited answer.answer
+
+-- what the law hears of what comes to an agent. Of a refusal, and of what other members ask and answer, it needs no more than that
+-- its message is gone then
+abbrev pub Hears : State → ℕ → Option ℕ → Ticks → Heard → Outcome → Type 0
+Hears s m heard now heards.Wake o = Unit {0}
+Hears s m heard now (heards.Got sequence snapshot) o = HearsAnswer s m heard sequence snapshot o.knows
+Hears s m heard now (heards.Granted sequence grant snapshot) o = HearsGrant s m heard now sequence grant snapshot o
+Hears s m heard now (heards.Mismatch sequence key found) o = Unit {0}
+Hears s m heard now (heards.Asked from run sequence) o = Unit {0}
+Hears s m heard now (heards.Answered sequence answer) o = Unit {0}
+Hears s m heard now (heards.Operated action) o = Unit {0}
+
+-- what the law reads of a question to the key store
+abbrev pub query_in : Body → Option Query
+query_in bodies.Read = Some Read
+query_in (bodies.Request txn) = Some (query_of txn)
+query_in _ = None
+
+-- a message in flight that one of these outputs sent: a question to the key store, of this member in this run at this moment
+pub record IsSentBy (m run clock : ℕ) (outs : List Output) (flying : Flying) : Type 0 where
+  pub sequence : ℕ
+  pub body : Body
+  pub query : Query
+  pub among : Contains outs (outputs.Send targets.Store sequence body)
+  pub query_is : query_in body ≡ Some query
+  pub is : flying ≡ Requested (record { member = m; run = run; sequence = sequence; sent = clock; query = query })
+
+-- the input of the law that stands for one of the table: its machine is what the input leaves, and the messages in flight after it
+-- are without the one that is heard, and with those that its outputs send
+pub record IsInputOf (s : State) (m runs : ℕ) (o after : Outcome) (input : AgentInput) : Type 0 where
+  pub feeds : input.feeds ≡ has_one is_feeding after.outputs
+  pub takes : input.takes ≡ None
+  pub machine : input.machine ≡ machine_seen after.role after.knows after.machine false runs
+  pub gone : (number : ℕ) → input.heard ≡ Some number → input.flight number ≡ None
+  pub flight : (i : ℕ) (flying : Flying) → input.flight i ≡ Some flying → (s.flight i ≡ Some flying) ⊎ IsSentBy m o.knows.run s.clock after.outputs flying
+
+-- whose server comes to accept writes behind these outputs heard a grant, no hold is active, and the watchdog was armed
+pub record PromotesArmed (s : State) (m : ℕ) (input : AgentInput) (before : List Output) : Type 0 where
+  pub fed : Fed s m input.heard
+  pub free : (s.members m).hold ≤ s.clock
+  pub armed : has_one is_arming before ≡ true
+
+-- so it may, or the member acted before
+abbrev pub MayPromote : State → ℕ → AgentInput → List Output → Type 0
+MayPromote s m input before = Acts (s.members m) ⊎ PromotesArmed s m input before
+
+-- an input of the law is lawful, and the server comes to accept writes only behind outputs after which it may
+pub record IsLawfulAnd (s : State) (m : ℕ) (after : Outcome) (input : AgentInput) : Type 0 where
+  pub lawful : IsLawful s m input
+  pub begins : OutputsBeginBehind (MayPromote s m input) [] after.outputs
+
+-- whatever input of the law stands for this one of the table is lawful
+abbrev pub IsLawfulFrom : Ticks → Heard → Outcome → Outcome → Type 0
+IsLawfulFrom now heard o after = (s : State) (m runs : ℕ) (input : AgentInput) → StandsIn s m runs now o → Hears s m input.heard now heard o → IsInputOf s m runs o after input → IsLawfulAnd s m after input

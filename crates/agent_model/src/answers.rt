@@ -1,0 +1,85 @@
+//! What other members answered.
+ghost use Rattle.std.specs.Prelude.{◌≡◌, ◌≤◌, [], length, take};
+ghost use Rattle.std.specs.List.{list_any};
+ghost use Rattle.agent_model.specs.Answers.{is_from, has_answered, most_answers, with_answer};
+
+use crate::Who;
+use pat_base::{MemberId, PeerAnswer};
+use std::marker::Model;
+
+/// For how many answers there is room: one of each member that a cluster may have.
+const MOST: usize = 16;
+
+/// What other members answered, in the order in which that came. It takes no memory.
+#[derive(Debug, Drop)]
+pub struct Answers {
+    /// Those past the count are blanks.
+    places: [PeerAnswer; 16],
+    count: usize,
+}
+
+impl Model for Answers {
+    ghost use Rattle.std.specs.Prelude.{◌≤◌, List, take};
+    ghost use Rattle.pat_base.specs.declared.peer_answer.PeerAnswer.{PeerAnswer};
+
+    ghost Value = { List PeerAnswer };
+
+    ghost view = { λ a. take a.count a.places };
+
+    ghost invariant = { λ a. a.count ≤ 16 };
+}
+
+impl Answers {
+    /// No answer. A blank tells of this member.
+    pub fn none(who: &Who) -> Answers
+        ensures { result ≡ [] }
+    {
+        let blank = PeerAnswer {
+            member: who.me,
+            writes: false,
+            end: None,
+            tags: who.tags,
+        };
+        Answers {
+            places: [blank; 16],
+            count: 0,
+        }
+    }
+
+    /// Forgets all answers.
+    pub fn forget(&mut self)
+        ensures { self.new ≡ [] }
+    {
+        self.count = 0;
+    }
+
+    /// The answers, in the order in which they came.
+    pub fn all(&self) -> &[PeerAnswer]
+        ensures { result.now ≡ self.now }
+    {
+        &self.places[..self.count]
+    }
+
+    /// Whether this member answered.
+    pub fn has(&self, member: MemberId) -> bool
+        ensures { result ≡ has_answered member self.now }
+    {
+        self.all().iter().any(|answer| is_from(member, answer))
+    }
+
+    /// Keeps an answer. A second one of a member counts for nothing.
+    pub fn keep(&mut self, answer: PeerAnswer)
+        ensures { self.new ≡ with_answer answer self.old }
+    {
+        if !self.has(answer.member) && self.count < MOST {
+            self.places[self.count] = answer;
+            self.count += 1;
+        }
+    }
+}
+
+fn is_from(member: MemberId, answer: &PeerAnswer) -> bool
+    ensures { result ≡ is_from member answer.now }
+{
+    answer.member.number == member.number
+}

@@ -1,0 +1,21 @@
+//! What the agent of a member is, and its decision table: the types that it deals in, and in `specs/` what it does on what it
+//! hears, as definitions.
+#![tactic(auto)]
+
+mod answers;
+mod heard;
+mod knowledge;
+mod machine;
+mod operating;
+mod output;
+mod who;
+mod why;
+
+pub use answers::Answers;
+pub use heard::Heard;
+pub use knowledge::{Knowledge, Question, Settling, SyncRead, Waited};
+pub use machine::{Machine, Replication};
+pub use operating::{Operating, Operation, Told};
+pub use output::{Output, Repair, Target};
+pub use who::Who;
+pub use why::Why;

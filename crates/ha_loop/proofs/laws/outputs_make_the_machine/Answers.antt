@@ -1,5 +1,0 @@
-use Rattle.ha_loop.proofs.Orders.{step-carried-out}
-use Rattle.ha_loop.proofs.laws.outputs_make_the_machine.Goals as goal
-
-pub returns : goal.returns
-returns c now points heard role knows machine = step-carried-out now points heard role knows machine

@@ -1,7 +1,0 @@
-use Rattle.ha_loop.specs.Before.{before}
-use Rattle.ha_loop.specs.Operators.{looked}
-use Rattle.ha_loop.proofs.FreeKey.{barred-out}
-use Rattle.ha_loop.proofs.laws.who_is_barred_stays_out.Goals as goal
-
-pub returns : goal.returns
-returns c now points sequence snapshot bar o hears down is = barred-out now points sequence snapshot bar (looked sequence snapshot (before now o)) hears down is
