@@ -9,7 +9,7 @@ use Rattle.event_book.specs.declared.event.ReplicationEvent.TheVariants as repli
 use Rattle.event_book.specs.declared.event.ServerEvent.TheVariants as servers
 use Rattle.event_book.specs.declared.member.Member.{Member}
 use Rattle.event_book.specs.Members.{server_of}
-use Rattle.summary.specs.Lacking.{has_serial, lacks_in}
+use Rattle.wal_model.specs.Lacking.{has_serial, lacks_in}
 use Rattle.cluster_model.specs.Commands.{kinds_of}
 
 -- that the server of a member lacks an acknowledged commit is told, where the test says it

@@ -21,7 +21,7 @@ use Rattle.cluster_model.specs.Messages.{begin_events}
 use Rattle.cluster_model.specs.Orders.{server_at}
 use Rattle.cluster_model.specs.Parts.{event_of, events_of, for_some}
 use Rattle.cluster_model.specs.State.{Cluster}
-use Rattle.summary.specs.Lacking.{lacks_in}
+use Rattle.wal_model.specs.Lacking.{lacks_in}
 use Rattle.lease_law.proofs.Tools.{none-some, some-is}
 use Rattle.commit_law.specs.Actions.{Note}
 use Rattle.commit_law.specs.Books.{IsShown}

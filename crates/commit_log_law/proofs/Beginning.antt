@@ -18,7 +18,7 @@ use Rattle.cluster_model.specs.Cluster.{cluster_after}
 use Rattle.cluster_model.specs.Losing.{beginning_kinds, loss_if}
 use Rattle.cluster_model.specs.Parts.{events_of}
 use Rattle.cluster_model.specs.State.{Cluster}
-use Rattle.summary.specs.Lacking.{lacks_in}
+use Rattle.wal_model.specs.Lacking.{lacks_in}
 use Rattle.lease_law.proofs.Tools.{put-all, put-here, put-there}
 use Rattle.commit_law.specs.Actions.{Kill}
 use Rattle.commit_law.specs.Books.{IsShown}

@@ -27,7 +27,7 @@ use Rattle.cluster_model.specs.Ticking.{completion_events, reset_events, reset_o
 use Rattle.cluster_script.specs.declared.line.SlowedCall.{SlowedCall}
 use Rattle.cluster_script.specs.declared.line.SlowedCall.TheVariants as slowed_calls
 use Rattle.cluster_script.specs.declared.ranges.Delay.{Delay}
-use Rattle.summary.specs.Lacking.{lacks_in}
+use Rattle.wal_model.specs.Lacking.{lacks_in}
 use Rattle.commit_log_law.specs.Happening.{MayFollow, MayHappen}
 use Rattle.commit_log_law.proofs.Following.{follow-for_some, follow-if, unless-some}
 

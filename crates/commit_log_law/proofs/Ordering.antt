@@ -28,7 +28,7 @@ use Rattle.cluster_model.specs.Orders.{following_of, is_same_required, replica_s
 use Rattle.cluster_model.specs.Parts.{events_of, for_some}
 use Rattle.cluster_model.specs.ServerCommands.{promote_kinds}
 use Rattle.cluster_model.specs.State.{Cluster}
-use Rattle.summary.specs.Lacking.{lacks_in}
+use Rattle.wal_model.specs.Lacking.{lacks_in}
 use Rattle.lease_law.proofs.Tools.{both}
 use Rattle.commit_log_law.specs.Sound.{WaitsForMembers}
 use Rattle.commit_log_law.specs.Happening.{AllLeaveSound, LeavesSound}

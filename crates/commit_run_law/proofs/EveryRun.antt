@@ -10,9 +10,9 @@ use Rattle.commit_law.specs.Books.{HasCommit, KeepsNow}
 use Rattle.commit_law.specs.Past.{log_found}
 use Rattle.run_law.specs.Parts.{PartsUphold}
 use Rattle.run_law.proofs.Walking.{upholds-run}
-use Rattle.summary.specs.Lacking.{has_serial}
+use Rattle.wal_model.specs.Lacking.{has_serial}
 use Rattle.summary.specs.Seeing.{WritersHold, entries_found}
-use Rattle.summary.proofs.Losing.{looked-up}
+use Rattle.wal_model.proofs.Serials.{looked-up}
 use Rattle.commit_step_law.specs.Bridged.{KeepsInOrder, kept_commits}
 use Rattle.commit_step_law.specs.Reading.{past_of}
 use Rattle.commit_run_law.specs.Runs.{InSynchronousMode, KeepsCommitsIn, KeepsOrderIn, first_logs}

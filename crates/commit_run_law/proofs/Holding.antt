@@ -7,7 +7,7 @@ use Rattle.event_book.specs.Logs.{Logs, logs_over}
 use Rattle.event_book.specs.Writers.{writes_over}
 use Rattle.commit_law.specs.Past.{Past}
 use Rattle.commit_law.proofs.Fronts.{past-logs, past-shown, past-writes}
-use Rattle.summary.specs.Lacking.{has_serial}
+use Rattle.wal_model.specs.Lacking.{has_serial}
 use Rattle.summary.specs.Seeing.{WritersHold, entries_at}
 use Rattle.commit_step_law.specs.Reading.{past_of}
 use Rattle.commit_run_law.specs.Runs.{first_logs}

@@ -41,7 +41,7 @@ use Rattle.run_law.proofs.Lists.{all-kinds}
 use Rattle.run_law.proofs.Members.{counted, numbered}
 use Rattle.run_law.proofs.Places.{there}
 use Rattle.run_law.proofs.Streams.{acknowledge-quiet}
-use Rattle.summary.specs.Lacking.{has_serial, lacks_in}
+use Rattle.wal_model.specs.Lacking.{has_serial, lacks_in}
 use Rattle.summary.specs.Losses.{WriterLacksOf}
 use Rattle.summary.specs.Seeing.{WriterLacks, WritersHold, entries_at, entries_found}
 use Rattle.summary.specs.Sights.{is_loss}

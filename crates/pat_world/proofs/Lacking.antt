@@ -2,7 +2,7 @@
 use Rattle.std.proofs.Common.{◌≡◌, ℕ, Bool, List, [], ◌∷◌, length, arith, ◌∙◌, ap}
 use Rattle.std.specs.Prelude.{not, ◌==◌}
 use Rattle.std.proofs.lemmas.Bool.{ne_eqb}
-use Rattle.summary.specs.Lacking.{lacks_in}
+use Rattle.wal_model.specs.Lacking.{lacks_in}
 
 -- a server with no log lacks each commit that there is
 pub lacks-all : (commits : List ℕ) (none : Bool) → none ≡ (length commits == 0) → not none ≡ lacks_in [] commits

@@ -58,7 +58,7 @@ use Rattle.cluster_model.specs.Orders.{arming, declared_member, feed_kinds, feed
 use Rattle.cluster_model.specs.Requests.{answering, config_text_of, told_kind}
 use Rattle.cluster_model.specs.Parts.{each, events_of, for_some}
 use Rattle.cluster_model.specs.State.{Cluster}
-use Rattle.summary.specs.Lacking.{lacks_in}
+use Rattle.wal_model.specs.Lacking.{lacks_in}
 use Rattle.lease_law.specs.Premises.{AllAre}
 use Rattle.run_law.proofs.InputEvents.{holds-then, holds-if, repaired-holds}
 use Rattle.run_law.proofs.Lists.{AllKinds, HoldsIf, all-both, all-kinds, one-kind}

@@ -3,15 +3,14 @@ ghost use Rattle.std.specs.Prelude.{◌≡◌, IfOk, IfSome, option_and_then, op
 ghost use Rattle.pg_model.specs.Facts.{entries_of};
 ghost use Rattle.cluster_model.specs.Losing.{is_lacking, loss_if};
 ghost use Rattle.cluster_model.specs.State.{Cluster};
-ghost use Rattle.summary.specs.Lacking.{has_serial, lacks_in};
+ghost use Rattle.wal_model.specs.Lacking.{has_serial, lacks_in};
 ghost use Rattle.pat_world.specs.Comes.{MayCome};
 ghost use Rattle.pat_world.specs.Promoting.{loss_at, loss_of_any};
 
 use event_book::{EventKind, Member, ReplicationEvent, ServerOf};
 use pg_model::{Server, Servers};
 use std::alloc::{AllocError, Global};
-use summary::{has_serial, lacks};
-use wal_model::Wal;
+use wal_model::{Wal, has_serial, lacks};
 
 /// That the server of a member lacks an acknowledged commit is told, where the test says it.
 fn loss_if(member: Member, is_lacking: bool) -> Option<EventKind>

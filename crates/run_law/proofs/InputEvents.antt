@@ -41,7 +41,7 @@ use Rattle.cluster_model.specs.Beginnings.{again_by, begin_kinds, beginning_of, 
 use Rattle.cluster_model.specs.Commands.{kinds_of}
 use Rattle.cluster_model.specs.Inputs.{agent_at}
 use Rattle.cluster_model.specs.Limits.{most_in_flight}
-use Rattle.summary.specs.Lacking.{lacks_in}
+use Rattle.wal_model.specs.Lacking.{lacks_in}
 use Rattle.cluster_model.specs.Losing.{loss_if}
 use Rattle.wal_model.specs.declared.entry.Entry.{Entry}
 use Rattle.cluster_model.specs.Messages.{agent_message, lost_at_once, sending_events, output_events, replying_events}

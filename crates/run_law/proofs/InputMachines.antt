@@ -49,7 +49,7 @@ use Rattle.cluster_model.specs.Commands.{kinds_of}
 use Rattle.cluster_model.specs.Inputs.{agent_at}
 use Rattle.cluster_model.specs.Limits.{most_in_flight}
 use Rattle.cluster_model.specs.Messages.{agent_message, lost_at_once, send_events, sending_events, replying_events, receiver_of, output_events}
-use Rattle.summary.specs.Lacking.{lacks_in}
+use Rattle.wal_model.specs.Lacking.{lacks_in}
 use Rattle.cluster_model.specs.Losing.{loss_if}
 use Rattle.cluster_model.specs.Orders.{declared_member, following_of, handing_over, is_same_required, not_racing, replica_start_kinds, require_of, required_names, server_at, stop_kind, stop_kinds, upstream_of, repair_over, stop_of, wipe_of}
 use Rattle.cluster_model.specs.Parts.{events_of, for_some}

@@ -20,7 +20,7 @@ use Rattle.cluster_model.specs.declared.beginning.Completion.TheVariants as comp
 use Rattle.cluster_model.specs.Beginnings.{completed_by, completion_in, completion_kinds}
 use Rattle.cluster_model.specs.Commands.{kinds_of}
 use Rattle.cluster_model.specs.Losing.{loss_if}
-use Rattle.summary.specs.Lacking.{lacks_in}
+use Rattle.wal_model.specs.Lacking.{lacks_in}
 use Rattle.event_book.specs.Servers.{begun_in}
 use Rattle.event_book.specs.declared.event.ReplicationEvent.TheVariants as replications
 use Rattle.cluster_model.specs.Parts.{each, events_of, for_some}

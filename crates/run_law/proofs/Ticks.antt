@@ -19,7 +19,7 @@ use Rattle.cluster_model.specs.Beginnings.{completed_by, completion_in, completi
 use Rattle.wal_model.specs.declared.entry.Entry.{Entry}
 use Rattle.cluster_model.specs.Commands.{kinds_of}
 use Rattle.cluster_model.specs.Losing.{loss_if}
-use Rattle.summary.specs.Lacking.{lacks_in}
+use Rattle.wal_model.specs.Lacking.{lacks_in}
 use Rattle.cluster_script.specs.Script.{HeadText, names_of}
 use Rattle.cluster_model.specs.Orders.{declared_member}
 use Rattle.cluster_model.specs.Parts.{each, events_of, for_some}

@@ -23,7 +23,7 @@ use Rattle.event_book.specs.Functions.{put_at}
 use Rattle.event_book.specs.Logs.{Logs, log_received, logs_by, logs_after, logs_over}
 use Rattle.event_book.specs.Writers.{writes_by_server, writes_by_watchdog, writes_after, writes_over, AcceptsWrites}
 use Rattle.lease_law.proofs.Tools.{both, put-all, put-here, put-there, decide-eq}
-use Rattle.summary.specs.Lacking.{has_serial, lacks_in}
+use Rattle.wal_model.specs.Lacking.{has_serial, lacks_in}
 use Rattle.summary.specs.Losses.{may_lose, may_lose_by_server, may_lose_by_log, WriterLacksOf}
 use Rattle.summary.specs.Seeing.{entries_found, entries_at, LacksOne, WriterLacks, WritersHold}
 use Rattle.summary.proofs.Losing.{lacks-some, none-if-hold}

@@ -1,5 +1,4 @@
 pub mod Filling
-pub mod Serials
 pub mod Fronts
 pub mod Writing
 pub mod Breaking

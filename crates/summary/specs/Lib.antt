@@ -1,7 +1,6 @@
 pub mod Noting
 pub mod Heads
 pub mod SummaryText
-pub mod Lacking
 pub mod Moments
 pub mod Seeing
 pub mod Claims

@@ -11,7 +11,7 @@ use Rattle.event_book.specs.declared.event.ServerEvent.{ServerEvent}
 use Rattle.event_book.specs.declared.event.ServerEvent.TheVariants as servers
 use Rattle.event_book.specs.Logs.{Logs, logs_over}
 use Rattle.event_book.specs.Writers.{AcceptsWrites}
-use Rattle.summary.specs.Lacking.{has_serial}
+use Rattle.wal_model.specs.Lacking.{has_serial}
 use Rattle.summary.specs.Seeing.{entries_at}
 
 -- by what happens to a server: where it begins it may lack a commit

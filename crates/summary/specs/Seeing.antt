@@ -19,7 +19,7 @@ use Rattle.lease_law.specs.Premises.{Moments, first_moments}
 use Rattle.summary.specs.declared.answers.FirstMoment.{FirstMoment}
 use Rattle.summary.specs.declared.answers.FirstMoment.TheVariants as firsts
 use Rattle.summary.specs.declared.answers.Seen.{Seen}
-use Rattle.summary.specs.Lacking.{has_serial, lacks_in}
+use Rattle.wal_model.specs.Lacking.{has_serial, lacks_in}
 use Rattle.summary.specs.Moments.{moments_over}
 use Rattle.summary.specs.Noting.{WatchFacts, noted}
 

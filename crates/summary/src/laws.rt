@@ -1,8 +1,7 @@
 //! The summary tells what the book says, in its own words.
-ghost use Rattle.std.specs.Prelude.{ℕ, ◌≡◌, ◌≤◌, ◌++◌, ◌↔◌, true, false, List, [], ◌∷◌, length, replicate, Contains, Option, None};
+ghost use Rattle.std.specs.Prelude.{ℕ, ◌≡◌, ◌≤◌, ◌++◌, ◌↔◌, true, false, List, [], ◌∷◌, length, replicate, Option, None};
 ghost use Rattle.pat_base.specs.declared.name.Name.{Name};
 ghost use Rattle.lease_store.specs.Settings.{Settings};
-ghost use Rattle.wal_model.specs.declared.entry.Entry.{Entry};
 ghost use Rattle.event_book.specs.Logs.{Logs};
 ghost use Rattle.event_book.specs.Writers.{HasOneWriter};
 ghost use Rattle.event_book.specs.declared.event.Event.{Event};
@@ -18,7 +17,6 @@ ghost use Rattle.summary.specs.declared.answers.TheConstants.{MEMBERS, SERVERS};
 ghost use Rattle.summary.specs.declared.answers.WatchOf.{WatchOf};
 ghost use Rattle.summary.specs.Claims.{AreCommitsGuarded, ArePremisesMet, IsGuarded, IsSummaryOf, KeepMode, WatchStandsFor};
 ghost use Rattle.summary.specs.Heads.{watch_of};
-ghost use Rattle.summary.specs.Lacking.{HasEntryWith, has_serial, lacks_in};
 ghost use Rattle.summary.specs.Noting.{WatchFacts, noted, writers_after};
 ghost use Rattle.summary.specs.Lateness.{lateness_of};
 ghost use Rattle.summary.specs.Listed.{AreListed, AreNamed, NamesServer};
@@ -55,12 +53,6 @@ pub fn premises_guard_commits()
         → IsSummaryOf members first logs book closing → first.config.synchronous_mode ≡ true
         → ((front rest : List Event) → front ++ rest ≡ book → ArePremisesMet members first front → KeepMode true front → WritersHold logs front)
         → AreCommitsGuarded closing.premises closing.synchronous closing.lost }
-{}
-
-/// A commit is looked up by its serial: a log has it that has an entry of that serial, and lacks some that has no entry of one.
-pub fn commits_are_looked_up()
-    ensures has { (log : List Entry) (serial : ℕ) → has_serial log serial ≡ true ↔ HasEntryWith log serial }
-    ensures lacks { (log : List Entry) (serials : List ℕ) → lacks_in log serials ≡ true ↔ ((serial : ℕ) × Contains serials serial × (HasEntryWith log serial → ⊥)) }
 {}
 
 /// Which events may lose a commit where none was lost before, for who keeps track of it: where a server begins, its own log decides;

@@ -4,8 +4,8 @@
 mod answers;
 mod closing;
 mod head;
-mod lacking;
 mod laws;
+mod losses;
 mod noting;
 mod sight_laws;
 mod sighting;
@@ -16,11 +16,11 @@ mod writers;
 pub use answers::{
     Breach, Closing, FirstMoment, MEMBERS, Premises, SERVERS, Seen, Synchronous, WatchOf,
 };
-pub use lacking::{has_serial, lacks, may_lose};
 pub use laws::{
-    commits_are_looked_up, few_events_lose, lateness_is_determined, premises_guard_commits,
-    premises_guard_writers, summary_tells_the_book, writers_are_listed,
+    few_events_lose, lateness_is_determined, premises_guard_commits, premises_guard_writers,
+    summary_tells_the_book, writers_are_listed,
 };
+pub use losses::may_lose;
 pub use sight_laws::{measured_sights_suffice, sights_are_right};
 pub use summary::Summary;
 pub use watch::Watch;

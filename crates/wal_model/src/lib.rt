@@ -3,10 +3,12 @@
 
 mod entry;
 mod history;
+mod lacking;
 mod laws;
 mod wal;
 
 pub use entry::{Entry, HistoryPoint};
 pub use history::History;
-pub use laws::{common_is_longest, common_is_prefix, prefix_is_common};
+pub use lacking::{has_serial, lacks};
+pub use laws::{commits_are_looked_up, common_is_longest, common_is_prefix, prefix_is_common};
 pub use wal::{Wal, WalFault};

@@ -1,7 +1,7 @@
 use Rattle.std.proofs.Common.{◌∙◌, ◌<◌, ◌||◌, length, take, sym, ap, arith, add-one}
-use Rattle.summary.specs.Lacking.{has_serial, is_entry_of}
-use Rattle.summary.proofs.Serials.{has-more}
-use Rattle.summary.proofs.lacking.serials_of.Goals as goal
+use Rattle.wal_model.specs.Lacking.{has_serial, is_entry_of}
+use Rattle.wal_model.proofs.Serials.{has-more}
+use Rattle.wal_model.proofs.lacking.serials_of.Goals as goal
 
 pub loop-place-preserved : goal.loop-place-preserved
 loop-place-preserved c = λ q.

@@ -1,14 +1,12 @@
-//! Whether a log lacks an acknowledged commit.
+//! Which commits a log has, by their serials.
 ghost use Rattle.std.specs.Prelude.{ℕ, ◌≡◌, not, ◌||◌, IfOk, OnOk};
 ghost use Rattle.std.specs.BTreeSet.{contains};
 ghost use Rattle.std.specs.Ordering.{nat_cmp};
-ghost use Rattle.summary.specs.Lacking.{is_entry_of, has_serial, lacks_in};
-ghost use Rattle.summary.specs.Losses.{may_lose, may_lose_by_log};
+ghost use Rattle.wal_model.specs.Lacking.{is_entry_of, has_serial, lacks_in};
 
-use event_book::{EventKind, LogEvent, ReplicationEvent, ServerEvent};
+use crate::{Entry, Wal};
 use std::alloc::{AllocError, Global};
 use std::collections::BTreeSet;
-use wal_model::{Entry, Wal};
 
 /// Whether there is such an entry, and it is that of the commit of this serial.
 fn is_entry_of(entry: Option<Entry>, serial: u64) -> bool
@@ -34,7 +32,7 @@ pub fn has_serial(log: &Wal, serial: u64) -> bool
     false
 }
 
-/// Whether the log lacks one of these acknowledged commits: it has no entry of that serial. It takes room for the
+/// Whether the log lacks one of these commits: it has no entry of that serial. It takes room for the
 /// serials of the log, walks over both once, and fails only for want of memory.
 pub fn lacks(log: &Wal, acknowledged: &[u64], alloc: Global) -> Result<bool, AllocError>
     ensures { IfOk result (λ lacks. lacks ≡ lacks_in log.now acknowledged.now) }
@@ -67,23 +65,4 @@ fn put_serial(serials: &mut BTreeSet<u64>, entry: Option<Entry>) -> Result<(), A
         serials.insert(entry.serial)?;
     }
     Ok(())
-}
-
-/// Whether after this event a server that accepts writes may lack an acknowledged commit where none did before: a server
-/// begins, a commit is acknowledged, or a log doesn't only grow.
-pub fn may_lose(kind: &EventKind) -> bool
-    ensures { result ≡ may_lose kind.now }
-{
-    match kind {
-        EventKind::Server(ServerEvent::Began { .. }) => true,
-        EventKind::Log(happening) => !only_grows(happening),
-        EventKind::Replication(ReplicationEvent::Acknowledged { .. }) => true,
-        _ => false,
-    }
-}
-
-fn only_grows(event: &LogEvent) -> bool
-    ensures { result ≡ not (may_lose_by_log event.now) }
-{
-    matches!(event, LogEvent::Appended { .. } | LogEvent::Received { .. })
 }

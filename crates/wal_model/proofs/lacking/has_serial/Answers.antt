@@ -1,7 +1,7 @@
 use Rattle.std.proofs.Common.{◌≡◌, ◌∙◌, ◌-◌, drop, suc, false, sym, subst, ap, arith}
-use Rattle.summary.specs.Lacking.{has_serial, is_entry_of}
-use Rattle.summary.proofs.Serials.{has-at, has-none}
-use Rattle.summary.proofs.lacking.has_serial.Goals as goal
+use Rattle.wal_model.specs.Lacking.{has_serial, is_entry_of}
+use Rattle.wal_model.proofs.Serials.{has-at, has-none}
+use Rattle.wal_model.proofs.lacking.has_serial.Goals as goal
 
 pub returns-then-is_entry_of : goal.returns-then-is_entry_of
 returns-then-is_entry_of c =

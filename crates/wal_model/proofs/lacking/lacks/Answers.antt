@@ -1,6 +1,6 @@
 use Rattle.std.proofs.Common.{◌∙◌, sym, get_or, add-one}
-use Rattle.summary.proofs.Serials.{lacks-at, lacks-past}
-use Rattle.summary.proofs.lacking.lacks.Goals as goal
+use Rattle.wal_model.proofs.Serials.{lacks-at, lacks-past}
+use Rattle.wal_model.proofs.lacking.lacks.Goals as goal
 
 pub returns-then-not-contains : goal.returns-then-not-contains
 returns-then-not-contains c =

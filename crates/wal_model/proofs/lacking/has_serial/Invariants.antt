@@ -1,6 +1,6 @@
 use Rattle.std.proofs.Common.{◌≡◌, ◌≤◌, false, length, drop}
-use Rattle.summary.specs.Lacking.{has_serial}
-use Rattle.summary.proofs.lacking.has_serial.Given as goal
+use Rattle.wal_model.specs.Lacking.{has_serial}
+use Rattle.wal_model.proofs.lacking.has_serial.Given as goal
 
 abbrev pub invariant-loop-place : goal.invariant-loop-place
 invariant-loop-place l = (l.place ≤ length l.log) × (has_serial (drop l.place l.log) l.serial ≡ false)
