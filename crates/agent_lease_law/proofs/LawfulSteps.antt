@@ -2,7 +2,6 @@
 use Rattle.std.proofs.Common.{◌≡◌, ◌⊎◌, ℕ, true, false, List, [], Option, Some, None, All, refl, sym, subst, ap, ◌∙◌, inl, inr}
 use Rattle.std.proofs.lemmas.List.Elements.{All-nil}
 use Rattle.std.specs.Option.{ForSome}
-use Rattle.std.proofs.lemmas.Bool.{false_from_ne_true}
 use Rattle.pat_base.specs.declared.member_id.MemberId.{MemberId}
 use Rattle.pat_base.specs.declared.member_set.MemberSet.{MemberSet}
 use Rattle.pat_base.specs.declared.peer_answer.PeerAnswer.{PeerAnswer}
@@ -11,7 +10,7 @@ use Rattle.pat_base.specs.ServerState.{live}
 use Rattle.lease_store.specs.declared.granted.Granted.{Granted}
 use Rattle.lease_store.specs.declared.key.Key.TheVariants as keys
 use Rattle.wal_model.specs.declared.entry.HistoryPoint.{HistoryPoint}
-use Rattle.cluster_config.specs.Snapshots.{SnapshotFacts, entry_in, settings_in}
+use Rattle.cluster_config.specs.Snapshots.{SnapshotFacts, entry_in}
 use Rattle.leader_key.specs.Watchdog.{IsLeaseSpan}
 use Rattle.lease_law.specs.Leases.{LeaderSeen, FailsafeKey}
 use Rattle.lease_law.specs.States.{Machine as MachineSeen, State}
@@ -24,18 +23,16 @@ use Rattle.agent_model.specs.declared.knowledge.Knowledge.{Knowledge}
 use Rattle.agent_model.specs.declared.knowledge.Waited.{Waited}
 use Rattle.agent_model.specs.declared.machine.Machine.{Machine}
 use Rattle.agent_model.specs.declared.output.Output.{Output}
-use Rattle.agent_model.specs.declared.why.Why.{Why}
-use Rattle.agent_model.specs.declared.why.Why.TheVariants.{HandOver, Lost}
 use Rattle.agent_model.specs.declared.who.Who.{Who}
-use Rattle.agent_model.specs.Agents.{RoleFacts, EndsAlone, HasCounted, IsSoundAgent, Outcome, made, is_ready}
-use Rattle.agent_model.specs.Before.{has_ended, before}
+use Rattle.agent_model.specs.Agents.{RoleFacts, EndsAlone, IsSoundAgent, Outcome, made, is_ready}
+use Rattle.agent_model.specs.Before.{before}
 use Rattle.agent_model.specs.Decisions.{is_lease_of}
 use Rattle.agent_lease_law.specs.Lawful.{StandsIn, HearsAnswer, TellsLease, HearsGrant, IsInputOf, MayPromote, IsLawfulAnd, IsLawfulFrom}
 use Rattle.agent_law.specs.Powers.{BringsNothing, LeavesMachine, IsAwaitedLease, GrantMay, leads, lease_of}
 use Rattle.agent_law.specs.Powers.GrantMay.{Nothing, Leads, Rests, Begins}
 use Rattle.agent_law.specs.Seen.{leader_seen_if, failsafe_seen_if}
 use Rattle.agent_model.specs.Peers.{asked, answered}
-use Rattle.agent_model.specs.Snapshots.{got, informed}
+use Rattle.agent_model.specs.Snapshots.{got}
 use Rattle.lease_store.specs.declared.action.OperatorAction.{OperatorAction}
 use Rattle.agent_law.specs.Fits.{Fits}
 use Rattle.agent_model.specs.Operators.{given_up, looked, operated}
@@ -44,19 +41,16 @@ use Rattle.agent_model.specs.Wake.{overdue, turned, woken}
 use Rattle.agent_law.proofs.Bringing.{acting-brings, any-refused-brings, operated-brings, ready-leads, brings-then, before-brings, overdue-brings, turn-brings, wake-brings, got-brings, answer-brings, read-brings, refusal-brings, asked-brings, answered-brings}
 use Rattle.agent_law.proofs.Fitting.{before-fits, ready-same}
 use Rattle.agent_law.proofs.Granting.{awaited-lease, any-granted-may as grant-may}
-use Rattle.agent_law.proofs.Knowing.{any-granted-onward, any-refused-onward, looked-onward, operated-onward, IsAlone, alone-of, ends-of, Onward, before-onward, wake-onward, got-onward, answered-onward, asked-onward, onward-then, step-onward, told-pause, before-read}
+use Rattle.agent_law.proofs.Knowing.{any-granted-onward, any-refused-onward, looked-onward, operated-onward, IsAlone, alone-of, Onward, before-onward, wake-onward, got-onward, answered-onward, asked-onward, onward-then}
 use Rattle.agent_lease_law.proofs.Lawful.{was_of, acts-seen, seen-acts, watchdog-kept, watchdog-leaves, parted-by, lawful-of}
 use Rattle.agent_lease_law.proofs.LawfulGrants.{heard-leader, heard-failsafe, hears-grant, fed-of, entry-known, armable-before, new-deadline, free-of}
 use Rattle.agent_law.proofs.Leaving.{given-up-fits, told-fits, operated-leaves, leaves-then, before-leaves, wake-leaves, read-leaves, refusal-leaves, asked-leaves, answered-leaves}
 use Rattle.agent_law.proofs.Living.{no-way}
 use Rattle.agent_law.proofs.Staying.{before-waits, stays-unpaused}
-use Rattle.agent_law.proofs.Rows.{before-by, wake-by, looked-by}
+use Rattle.agent_law.proofs.Rows.{wake-by, looked-by}
 use Rattle.agent_lease_law.proofs.Behind.{BeginsOn, nobody-begins, grant-begins, begins-weaker}
 use Rattle.agent_lease_law.proofs.Behind.BeginsOn.{WasReady, OnLease}
 use Rattle.agent_law.proofs.Sending.{operated-may, IsSilent, AllMay, Decides, wake-may, got-may, refused-may, granted-may as granted-sends, asked-may, answered-may}
-use Rattle.agent_model.specs.Pausing.{is_paused}
-use Rattle.cluster_config.specs.KeyValues.{config_in}
-use Rattle.lease_store.specs.declared.config.Config.{Config}
 
 -- no revision is granted
 abbrev Nobody : ℕ → Type 0

@@ -1,14 +1,12 @@
 -- Commits that are lost.
-use Rattle.std.proofs.Common.{◌≡◌, ℕ, ◌==◌, ◌||◌, arith, subst, List, [], ◌∷◌, ◌++◌, Bool, true, false, refl, sym, ap, ◌∙◌}
-use Rattle.std.specs.Prelude.{◌↔◌, not, Contains, All}
-use Rattle.std.proofs.lemmas.Bool.Decides.{nat_tests}
-use Rattle.std.proofs.lemmas.List.Elements.{All-nil, All-cons, All-contains, Contains-append_left, Contains-append_right, Contains-push}
+use Rattle.std.proofs.Common.{◌≡◌, ℕ, List, [], ◌∷◌, ◌++◌, Bool, true, false, refl, sym, ◌∙◌}
+use Rattle.std.specs.Prelude.{Contains}
+use Rattle.std.proofs.lemmas.List.Elements.{All-contains}
 use Rattle.pat_base.specs.declared.ticks.Ticks.{Ticks}
-use Rattle.wal_model.specs.declared.entry.Entry.{Entry}
 use Rattle.event_book.specs.declared.event.Event.{Event}
 use Rattle.event_book.specs.Acknowledged.{acknowledged_in}
 use Rattle.event_book.specs.Logs.{Logs, logs_over}
-use Rattle.lease_law.proofs.Tools.{both, eq-from}
+use Rattle.lease_law.proofs.Tools.{both}
 use Rattle.summary.specs.declared.answers.FirstMoment.{FirstMoment}
 use Rattle.summary.specs.declared.answers.Seen.{Seen}
 use Rattle.wal_model.specs.Lacking.{has_serial, lacks_in}

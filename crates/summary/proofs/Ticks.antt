@@ -1,12 +1,11 @@
 -- What ticks leave of a summary.
-use Rattle.std.proofs.Common.{◌≡◌, ℕ, ◌+◌, ◌≤◌, ◌<◌, List, [], ◌∷◌, length, zero, suc, arith, refl, ap, sym, subst, ◌∙◌}
+use Rattle.std.proofs.Common.{◌≡◌, ℕ, ◌+◌, List, [], ◌∷◌, length, suc, arith, refl, ap, ◌∙◌}
 use Rattle.std.specs.Prelude.{All}
 use Rattle.std.proofs.lemmas.List.Elements.{All-head, All-tail}
 use Rattle.pat_base.specs.declared.ticks.Ticks.{Ticks}
 use Rattle.event_book.specs.declared.event.Event.{Event}
 use Rattle.event_book.specs.declared.event.EventKind.{EventKind}
 use Rattle.event_book.specs.declared.event.EventKind.TheVariants as kinds
-use Rattle.summary.specs.declared.answers.Closing.{Closing}
 use Rattle.summary.specs.declared.answers.FirstMoment.{FirstMoment}
 use Rattle.summary.specs.declared.answers.FirstMoment.TheVariants as moments
 use Rattle.summary.specs.declared.answers.Premises.{Premises}
