@@ -26,7 +26,8 @@ use Rattle.lease_law.proofs.Tools.{both, put-all, put-here, put-there, decide-eq
 use Rattle.wal_model.specs.Lacking.{has_serial, lacks_in}
 use Rattle.summary.specs.Losses.{may_lose, may_lose_by_server, may_lose_by_log, WriterLacksOf}
 use Rattle.summary.specs.Seeing.{entries_found, entries_at, LacksOne, WriterLacks, WritersHold}
-use Rattle.summary.proofs.Losing.{lacks-some, none-if-hold}
+use Rattle.wal_model.proofs.Serials.{lacks-some}
+use Rattle.summary.proofs.Losing.{none-if-hold}
 use Rattle.summary.proofs.Standing.{acknowledged-more}
 use Rattle.summary.proofs.Writing.{over-more}
 
