@@ -1,51 +1,159 @@
-//! Clusters of worked cases: what their key store tells an agent, and what the agent shows.
+//! What the worked cases share: a cluster of three members, what its key store is asked and tells, and what its agents show.
+ghost use Rattle.std.specs.Prelude.{◌≡◌};
+ghost use Rattle.lease_store.specs.Writes.{ttl_of};
 
-use crate::store::{TTL, ask, member};
-use cluster_config::{AgentView, RoleWord, Snapshot};
-use lease_store::{Config, ConfigValue, Expected, FailoverKey, Store, Txn};
-use pat_base::{Host, MemberId, MemberSet, Name, State, Tags, Ticks};
+use cluster_config::{AgentView, ConfigText, RoleWord, Snapshot};
+use lease_store::{ConfigValue, Expected, MemberInfo, Store, StoreRefusal, Txn};
+use pat_base::{Host, Lsn, MemberId, MemberSet, Name, State, Tags, Ticks, Word};
 use std::alloc::Global;
 use std::process::Abort;
 use std::test::Fail;
 
-/// The moment of each case.
+pub(crate) const A: MemberId = MemberId { number: 0 };
+
+pub(crate) const B: MemberId = MemberId { number: 1 };
+
+pub(crate) const C: MemberId = MemberId { number: 2 };
+
+/// The set of b alone.
+pub(crate) const ONLY_B: MemberSet = MemberSet { bits: 0b010 };
+
+/// A configuration with synchronous mode.
+pub(crate) const SYNCHRONOUS: &[u8] = br#"{"synchronous_mode":true}"#;
+
+/// The moment of each case that names no other.
 pub(crate) const NOW: Ticks = Ticks(104);
+
+/// How long each lease lasts.
+pub(crate) const TTL: Ticks = Ticks(300);
+
+/// Where the logs end: 0/5000000.
+pub(crate) const END: Lsn = Lsn {
+    position: 83_886_080,
+};
+
+/// The tags of a member that sets none.
+pub(crate) const TAGS: Tags = Tags {
+    nofailover: false,
+    nosync: false,
+    noloadbalance: false,
+    failover_priority: 1,
+};
 
 pub(crate) fn name(rt: &impl Abort, text: &[u8]) -> Name {
     Name::read(text).expect(rt, "a name")
 }
 
-/// Tags of a priority of 0, 1 or 2.
-pub(crate) fn tags(nofailover: bool, priority: u8) -> Tags {
-    let failover_priority = match priority {
-        0 => 0,
-        1 => 1,
-        _ => 2,
-    };
-    Tags {
-        nofailover,
-        nosync: false,
-        noloadbalance: false,
-        failover_priority,
+/// What a member tells of itself.
+pub(crate) fn info() -> MemberInfo {
+    MemberInfo {
+        host: Host::local(),
+        tags: TAGS,
+        state: Word::Running,
+        writes: false,
+        timeline: None,
+        end: None,
     }
 }
 
-/// What member 1 shows, which runs as a replica.
-pub(crate) fn replica<'a>(rt: &impl Abort, seen: Option<&'a Snapshot>) -> AgentView<'a> {
+pub(crate) fn create() -> Txn {
+    Txn::Create {
+        info: info(),
+        ttl: TTL,
+        failsafe: None,
+        sync: None,
+    }
+}
+
+pub(crate) fn touch() -> Txn {
+    Txn::Touch {
+        info: info(),
+        ttl: TTL,
+    }
+}
+
+/// The span of the leases that a transaction writes.
+fn span(txn: &Txn) -> Ticks
+    ensures { result.0 ≡ ttl_of txn.now }
+{
+    match txn {
+        Txn::Touch { ttl, .. }
+        | Txn::Create { ttl, .. }
+        | Txn::Renew { ttl, .. }
+        | Txn::SetFailover { ttl, .. } => *ttl,
+        Txn::Release { .. }
+        | Txn::Claim { .. }
+        | Txn::SetSync { .. }
+        | Txn::DropSync { .. }
+        | Txn::DropFailover { .. }
+        | Txn::SetConfig { .. } => Ticks(0),
+    }
+}
+
+/// What a member's request is answered at a moment: the revision of its grant, or why it is refused.
+pub(crate) fn ask(
+    rt: &impl Abort,
+    store: &mut Store,
+    at: Ticks,
+    by: MemberId,
+    txn: &Txn,
+) -> Result<u64, StoreRefusal> {
+    assert!(rt; store.revision() < 1000);
+    assert!(rt; at <= NOW);
+    assert!(rt; span(txn) <= TTL);
+    Ok(store.apply(at, by, txn)?.revision())
+}
+
+/// What a read of the key store gives in a cluster of a, b and c.
+pub(crate) fn snapshot_of(rt: &impl Abort, alloc: Global, store: &Store) -> Result<Snapshot, Fail> {
+    let host = Host::local();
+    let members = [
+        (name(rt, b"a"), host),
+        (name(rt, b"b"), host),
+        (name(rt, b"c"), host),
+    ];
+    let entries = store.entries(NOW)?;
+    Ok(Snapshot::read(alloc, name(rt, b"demo"), &members, entries)?)
+}
+
+/// What a read gives by this configuration where a leads, b and c have told of themselves, and the sync key names a with
+/// these standbys.
+pub(crate) fn led_by_a(
+    rt: &impl Abort,
+    alloc: Global,
+    config: &[u8],
+    standbys: MemberSet,
+) -> Result<Snapshot, Fail> {
+    let mut store = Store::new(alloc, ConfigValue::read(alloc, config)?)?;
+    let revision = ask(rt, &mut store, NOW, A, &create())?;
+    let sync = Expected::Absent;
+    let publish = Txn::SetSync {
+        revision,
+        sync,
+        standbys,
+    };
+    ask(rt, &mut store, NOW, A, &publish)?;
+    ask(rt, &mut store, NOW, B, &touch())?;
+    ask(rt, &mut store, NOW, C, &touch())?;
+    snapshot_of(rt, alloc, &store)
+}
+
+/// What b shows, which runs as a replica.
+pub(crate) fn replica<'a>(rt: &impl Abort, seen: &'a Snapshot) -> AgentView<'a> {
     AgentView {
         moment: NOW,
         scope: name(rt, b"demo"),
-        me: member(rt, 1),
-        name: name(rt, b"demo"),
-        tags: tags(false, 1),
+        me: B,
+        name: name(rt, b"b"),
+        tags: TAGS,
         state: State::Replica,
         timeline: 2,
-        end: None,
+        end: Some(END),
         receives: false,
         diverged: false,
         was_primary: false,
         role: RoleWord::Follower,
-        seen,
+        seen: Some(seen),
         last_read: Some(NOW),
         last_turn: Some(NOW),
         hold: None,
@@ -53,47 +161,13 @@ pub(crate) fn replica<'a>(rt: &impl Abort, seen: Option<&'a Snapshot>) -> AgentV
     }
 }
 
-/// A key store whose configuration sets this.
-pub(crate) fn store_of(alloc: Global, config: Config) -> Result<Store, Fail> {
-    let text = String::from_str(alloc, "{}")?;
-    Ok(Store::new(alloc, ConfigValue::new(text, config))?)
-}
-
-/// What a read of the key store gives in a cluster of these members.
-pub(crate) fn snapshot_of(
-    rt: &impl Abort,
-    alloc: Global,
-    store: &Store,
-    members: &[(Name, Host)],
-) -> Result<Snapshot, Fail> {
-    let entries = store.entries(NOW)?;
-    Ok(Snapshot::read(alloc, name(rt, b"demo"), members, entries)?)
-}
-
-/// The leader, whose key is of this revision, names standbys in the sync key, which is absent.
-pub(crate) fn name_standbys(
-    rt: &impl Abort,
-    store: &mut Store,
-    leader: MemberId,
-    revision: u64,
-    standbys: MemberSet,
-) -> Result<(), Fail> {
-    let publish = Txn::SetSync {
-        revision,
-        sync: Expected::Absent,
-        standbys,
-    };
-    ask(rt, store, NOW, leader, publish)?;
-    Ok(())
-}
-
-/// A failover is asked for.
-pub(crate) fn ask_failover(
-    rt: &impl Abort,
-    store: &mut Store,
-    failover: FailoverKey,
-) -> Result<(), Fail> {
-    let set_failover = Txn::SetFailover { failover, ttl: TTL };
-    ask(rt, store, NOW, member(rt, 0), set_failover)?;
-    Ok(())
+/// What a shows, which leads.
+pub(crate) fn leader<'a>(rt: &impl Abort, seen: &'a Snapshot) -> AgentView<'a> {
+    AgentView {
+        me: A,
+        name: name(rt, b"a"),
+        state: State::Primary,
+        role: RoleWord::Leader,
+        ..replica(rt, seen)
+    }
 }

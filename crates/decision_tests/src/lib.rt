@@ -4,8 +4,6 @@
 #[cfg(test)]
 mod clusters;
 #[cfg(test)]
-mod config_changes;
-#[cfg(test)]
 mod configurations;
 #[cfg(test)]
 mod operators;
@@ -15,3 +13,5 @@ mod races;
 mod standbys;
 #[cfg(test)]
 mod store;
+#[cfg(test)]
+mod probe;

@@ -1,13 +1,9 @@
-//! Worked cases of the calls of plain types, logs, servers and scripts, one file a layer: what no clause says. A crate with tests is
-//! proved twice, so they stand here and not in those crates.
+//! Worked cases of the calls of plain types, logs, servers and scripts, one file a concept: what no clause says. A crate
+//! with tests is proved twice, so they stand here and not in those crates.
 #![tactic(auto)]
 
 #[cfg(test)]
-mod limits;
-#[cfg(test)]
 mod logs;
-#[cfg(test)]
-mod requests;
 #[cfg(test)]
 mod scripts;
 #[cfg(test)]
