@@ -1,8 +1,5 @@
-//! Plain types: positions, sizes, names and hosts as text, members and their sets, and the outside in memory.
-use pat_base::{
-    Host, Lsn, MemberId, MemberSet, MemorySink, MemorySource, Name, ReaderSource, ServerId, Shared,
-    Size, Ticks, Word, WriterSink, read_at_most, write_all,
-};
+//! Plain types: positions, sizes and names as text, members and their sets.
+use pat_base::{Lsn, MemberId, MemberSet, Name, ServerId, Size};
 use std::test::Fail;
 
 /// Texts, and the positions that they write.
@@ -34,16 +31,10 @@ fn positions(rt: HostRuntime) -> Result<(), Fail> {
 }
 
 #[test]
-fn sizes_and_names(rt: HostRuntime) -> Result<(), Fail> {
+fn sizes_and_names(rt: HostRuntime) {
     let sizes = [Size::read(b"64MB").ok(), Size::read(b"64mb").ok()];
     assert_eq!(rt; sizes, [Some(67_108_864), None]);
     assert_eq!(rt; [Name::read(b""), Name::read(b"A")], [None, None]);
-    let name = Name::read(b"db_1").ok_or("no name")?;
-    let host = Host::read(b"db.example").ok_or("no host")?;
-    let (local, word, sum) = (Host::local(), Word::Stopped, Ticks(1) + Ticks(2));
-    let text = format!(in rt.alloc(); "{name} {host} {local} {word} {sum}")?;
-    assert_eq!(rt; text.as_str(), "db_1 db.example 127.0.0.1 stopped 3");
-    Ok(())
 }
 
 #[test]
@@ -59,23 +50,4 @@ fn members_and_servers(rt: HostRuntime) {
     assert_eq!(rt; (both.first(), both.len()), (Some(a), 2));
     let facts = [one.contains(p), one.is_subset(both), both.is_empty()];
     assert_eq!(rt; facts, [false, true, false]);
-}
-
-#[test]
-fn sources_sinks_and_owners(rt: HostRuntime) -> Result<(), Fail> {
-    let alloc = rt.alloc();
-    let mut sink = MemorySink::new(alloc, 3, Vec::new(alloc))?;
-    assert_eq!(rt; write_all(&mut sink, b"abc"), Ok(()));
-    let shared = Shared::new(alloc, Vec::from_slice(alloc, sink.bytes())?)?;
-    let bytes = shared.try_clone()?.get().clone()?;
-    let mut source = MemorySource::new(bytes, Vec::new(alloc));
-    let front = read_at_most(alloc, &mut source, 2)?;
-    let mut reader = ReaderSource::new(sink.bytes());
-    let read = read_at_most(alloc, &mut reader, 9)?;
-    let mut written = Vec::new(alloc);
-    let mut writer = WriterSink::new(&mut written);
-    assert_eq!(rt; write_all(&mut writer, &read), Ok(()));
-    assert_eq!(rt; front.as_slice(), b"ab".as_slice());
-    assert_eq!(rt; written.as_slice(), b"abc".as_slice());
-    Ok(())
 }
