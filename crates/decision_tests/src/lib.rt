@@ -13,5 +13,3 @@ mod races;
 mod standbys;
 #[cfg(test)]
 mod store;
-#[cfg(test)]
-mod probe;
