@@ -6,8 +6,8 @@ use cluster_config::{AgentView, ConfigText, RoleWord, Snapshot};
 use lease_store::{ConfigValue, Expected, MemberInfo, Store, StoreRefusal, Txn};
 use pat_base::{Host, Lsn, MemberId, MemberSet, Name, State, Tags, Ticks, Word};
 use std::alloc::Global;
+use std::fmt::{Debug, Display};
 use std::process::Abort;
-use std::test::Fail;
 
 pub(crate) const A: MemberId = MemberId { number: 0 };
 
@@ -96,24 +96,42 @@ pub(crate) fn ask(
     store: &mut Store,
     at: Ticks,
     by: MemberId,
-    txn: &Txn,
+    txn: Txn,
 ) -> Result<u64, StoreRefusal> {
-    assert!(rt; store.revision() < 1000);
-    assert!(rt; at <= NOW);
-    assert!(rt; span(txn) <= TTL);
-    Ok(store.apply(at, by, txn)?.revision())
+    assert!(rt; store.revision() < 1000 && at <= NOW && span(&txn) <= TTL);
+    Ok(store.apply(at, by, &txn)?.revision())
+}
+
+/// Holds what a call answers against what is wanted of it. It stands once since a comparison is proved wherever it stands.
+pub(crate) fn has_answer<T: PartialEq + Debug>(rt: &impl Abort, told: &T, wanted: &T) {
+    assert_eq!(rt; told, wanted);
+}
+
+/// Holds the text of a value against these words.
+pub(crate) fn has_words(rt: &impl Abort, alloc: Global, told: &impl Display, words: &str) {
+    let text = format!(in alloc; "{told}").expect(rt, "memory");
+    has_answer(rt, &text.as_str(), &words);
+}
+
+pub(crate) fn configuration(rt: &impl Abort, alloc: Global, bytes: &[u8]) -> ConfigValue {
+    ConfigValue::read(alloc, bytes).expect(rt, "a configuration")
+}
+
+/// The store of this configuration, which has no other key.
+pub(crate) fn store_of(rt: &impl Abort, alloc: Global, bytes: &[u8]) -> Store {
+    Store::new(alloc, configuration(rt, alloc, bytes)).expect(rt, "memory")
 }
 
 /// What a read of the key store gives in a cluster of a, b and c.
-pub(crate) fn snapshot_of(rt: &impl Abort, alloc: Global, store: &Store) -> Result<Snapshot, Fail> {
+pub(crate) fn snapshot_of(rt: &impl Abort, alloc: Global, store: &Store) -> Snapshot {
     let host = Host::local();
     let members = [
         (name(rt, b"a"), host),
         (name(rt, b"b"), host),
         (name(rt, b"c"), host),
     ];
-    let entries = store.entries(NOW)?;
-    Ok(Snapshot::read(alloc, name(rt, b"demo"), &members, entries)?)
+    let entries = store.entries(NOW).expect(rt, "memory");
+    Snapshot::read(alloc, name(rt, b"demo"), &members, entries).expect(rt, "memory")
 }
 
 /// What a read gives by this configuration where a leads, b and c have told of themselves, and the sync key names a with
@@ -123,30 +141,29 @@ pub(crate) fn led_by_a(
     alloc: Global,
     config: &[u8],
     standbys: MemberSet,
-) -> Result<Snapshot, Fail> {
-    let mut store = Store::new(alloc, ConfigValue::read(alloc, config)?)?;
-    let revision = ask(rt, &mut store, NOW, A, &create())?;
-    let sync = Expected::Absent;
+) -> Snapshot {
+    let mut store = store_of(rt, alloc, config);
     let publish = Txn::SetSync {
-        revision,
-        sync,
+        revision: 2,
+        sync: Expected::Absent,
         standbys,
     };
-    ask(rt, &mut store, NOW, A, &publish)?;
-    ask(rt, &mut store, NOW, B, &touch())?;
-    ask(rt, &mut store, NOW, C, &touch())?;
+    has_answer(rt, &ask(rt, &mut store, NOW, A, create()), &Ok(2));
+    has_answer(rt, &ask(rt, &mut store, NOW, A, publish), &Ok(3));
+    has_answer(rt, &ask(rt, &mut store, NOW, B, touch()), &Ok(4));
+    has_answer(rt, &ask(rt, &mut store, NOW, C, touch()), &Ok(5));
     snapshot_of(rt, alloc, &store)
 }
 
-/// What b shows, which runs as a replica.
-pub(crate) fn replica<'a>(rt: &impl Abort, seen: &'a Snapshot) -> AgentView<'a> {
+/// What b shows, which follows, with its server in this state.
+pub(crate) fn follower<'a>(rt: &impl Abort, seen: &'a Snapshot, state: State) -> AgentView<'a> {
     AgentView {
         moment: NOW,
         scope: name(rt, b"demo"),
         me: B,
         name: name(rt, b"b"),
         tags: TAGS,
-        state: State::Replica,
+        state,
         timeline: 2,
         end: Some(END),
         receives: false,
@@ -166,8 +183,7 @@ pub(crate) fn leader<'a>(rt: &impl Abort, seen: &'a Snapshot) -> AgentView<'a> {
     AgentView {
         me: A,
         name: name(rt, b"a"),
-        state: State::Primary,
         role: RoleWord::Leader,
-        ..replica(rt, seen)
+        ..follower(rt, seen, State::Primary)
     }
 }

@@ -1,130 +1,100 @@
 //! What operators ask of an agent, and what it answers, worked by hand.
 
-use crate::clusters::{A, B, C, ONLY_B, SYNCHRONOUS, leader, led_by_a, replica};
-use cluster_config::{AgentView, ConfigFault, ConfigText};
+use crate::clusters::{
+    A, B, C, ONLY_B, SYNCHRONOUS, follower, has_answer, has_words, leader, led_by_a,
+};
+use cluster_config::{ConfigFault, ConfigText};
 use lease_store::{Expected, FailoverKey, Key, StoreRefusal};
+use operator_keys::ConfigChange::{Patch, Replace};
 use operator_keys::{
-    CheckFault, ConfigChange, check_configuration, check_failover, check_reinit, check_restart,
+    CheckFault, Refused, Text, check_configuration, check_failover, check_reinit, check_restart,
     check_switchover,
 };
-use pat_base::State;
+use pat_base::{MemberId, State};
 use std::alloc::Global;
-use std::fmt::Display;
 use std::process::Abort;
-use std::test::Fail;
 
-/// Holds what a check answers against a refusal: a status and its words.
-fn is_refused<T: Drop>(
-    rt: &impl Abort,
-    alloc: Global,
-    checked: Result<T, CheckFault>,
-    wanted: &str,
-) -> Result<(), Fail> {
-    let Err(CheckFault::Refused(refused)) = checked else {
-        return Err(Fail::from("not refused"));
+fn failover_key(leader: Option<MemberId>, candidate: Option<MemberId>) -> FailoverKey {
+    FailoverKey { leader, candidate }
+}
+
+/// Holds what a check refuses with against a status and its words.
+fn is_refused(rt: &impl Abort, alloc: Global, fault: Option<CheckFault>, status: u16, words: &str) {
+    let Some(CheckFault::Refused(refused)) = fault else {
+        panic!(rt; "not refused");
     };
-    let told = format!(in alloc; "{} {refused}", refused.status)?;
-    assert_eq!(rt; told.as_str(), wanted);
-    Ok(())
+    has_answer(rt, &refused.status, &status);
+    has_words(rt, alloc, &refused, words);
 }
 
 #[test]
-fn switchover_checks(rt: HostRuntime) -> Result<(), Fail> {
+fn switchover_checks(rt: HostRuntime) {
     let alloc = rt.alloc();
-    let seen = led_by_a(&rt, alloc, SYNCHRONOUS, ONLY_B)?;
+    let seen = led_by_a(&rt, alloc, SYNCHRONOUS, ONLY_B);
     let view = leader(&rt, &seen);
-    let refused: [(&[u8], &str); 4] = [
-        (
-            b"{}",
-            "400 Switchover could be performed only from a specific leader",
-        ),
-        (
-            br#"{"leader":"a","candidate":"a"}"#,
-            "400 Switchover target and source are the same",
-        ),
-        (br#"{"leader":"b"}"#, "412 leader name does not match"),
-        (
-            br#"{"leader":"a","candidate":"c"}"#,
-            "412 candidate name does not match with sync_standby",
-        ),
-    ];
-    for (body, wanted) in refused {
-        is_refused(&rt, alloc, check_switchover(alloc, &view, body), wanted)?;
-    }
-    let key = FailoverKey {
-        leader: Some(A),
-        candidate: Some(B),
-    };
-    let body = br#"{"leader":"a","candidate":"b"}"#;
-    assert_eq!(rt; check_switchover(alloc, &view, body), Ok(key));
-    Ok(())
+    let asked = check_switchover(alloc, &view, b"{}").err();
+    let words = "Switchover could be performed only from a specific leader";
+    is_refused(&rt, alloc, asked, 400, words);
+    let asked = check_switchover(alloc, &view, br#"{"leader":"a","candidate":"a"}"#).err();
+    let words = "Switchover target and source are the same";
+    is_refused(&rt, alloc, asked, 400, words);
+    let asked = check_switchover(alloc, &view, br#"{"leader":"b"}"#).err();
+    is_refused(&rt, alloc, asked, 412, "leader name does not match");
+    let asked = check_switchover(alloc, &view, br#"{"leader":"a","candidate":"c"}"#).err();
+    let words = "candidate name does not match with sync_standby";
+    is_refused(&rt, alloc, asked, 412, words);
+    let asked = check_switchover(alloc, &view, br#"{"leader":"a","candidate":"b"}"#);
+    has_answer(&rt, &asked, &Ok(failover_key(Some(A), Some(B))));
 }
 
 #[test]
-fn operator_refusals(rt: HostRuntime) -> Result<(), Fail> {
+fn operator_refusals(rt: HostRuntime) {
     let alloc = rt.alloc();
-    let seen = led_by_a(&rt, alloc, SYNCHRONOUS, ONLY_B)?;
+    let seen = led_by_a(&rt, alloc, SYNCHRONOUS, ONLY_B);
     let view = leader(&rt, &seen);
-    let changed = check_configuration(alloc, &view, ConfigChange::Patch, br#"{"ttl":19}"#);
-    is_refused(&rt, alloc, changed, "400 BelowMinimum(ttl)")?;
-    is_refused(
-        &rt,
-        alloc,
-        check_failover(alloc, &view, b"{}"),
-        "400 Failover could be performed only to a specific candidate",
-    )?;
-    let copied = check_reinit(&view).map_err(CheckFault::Refused);
-    is_refused(&rt, alloc, copied, "503 I am the leader")?;
-    let stopped = AgentView {
-        state: State::Stopped,
-        ..replica(&rt, &seen)
+    let asked = check_configuration(alloc, &view, Patch, br#"{"ttl":19}"#).err();
+    is_refused(&rt, alloc, asked, 400, "BelowMinimum(ttl)");
+    let asked = check_failover(alloc, &view, b"{}").err();
+    let words = "Failover could be performed only to a specific candidate";
+    is_refused(&rt, alloc, asked, 400, words);
+    let is_leader = Refused {
+        status: 503,
+        text: Text::IsLeader,
     };
-    let restarted = check_restart(&stopped).map_err(CheckFault::Refused);
-    is_refused(&rt, alloc, restarted, "503 PostgreSQL is not running")
+    has_answer(&rt, &check_reinit(&view), &Err(is_leader));
+    let stopped = follower(&rt, &seen, State::Stopped);
+    let not_running = Refused {
+        status: 503,
+        text: Text::NotRunning,
+    };
+    has_answer(&rt, &check_restart(&stopped), &Err(not_running));
 }
 
 #[test]
-fn requests_that_pass(rt: HostRuntime) -> Result<(), Fail> {
+fn requests_that_pass(rt: HostRuntime) {
     let alloc = rt.alloc();
-    let seen = led_by_a(&rt, alloc, SYNCHRONOUS, ONLY_B)?;
-    let view = replica(&rt, &seen);
-    let key = FailoverKey {
-        leader: None,
-        candidate: Some(C),
-    };
-    let body = br#"{"candidate":"c"}"#;
-    assert_eq!(rt; check_failover(alloc, &view, body), Ok(key));
-    let body = br#"{"pause":true}"#;
-    let patched = check_configuration(alloc, &view, ConfigChange::Patch, body)?;
-    assert_eq!(rt; patched.text(), r#"{"pause":true,"synchronous_mode":true}"#);
-    let replaced = check_configuration(alloc, &view, ConfigChange::Replace, body)?;
-    assert_eq!(rt; replaced.text(), r#"{"pause":true}"#);
-    assert_eq!(rt; check_restart(&view), Ok(()));
-    assert_eq!(rt; check_reinit(&view), Ok(()));
-    Ok(())
-}
-
-fn has_words(
-    rt: &impl Abort,
-    alloc: Global,
-    fault: &impl Display,
-    words: &str,
-) -> Result<(), Fail> {
-    assert_eq!(rt; format!(in alloc; "{fault}")?.as_str(), words);
-    Ok(())
+    let seen = led_by_a(&rt, alloc, SYNCHRONOUS, ONLY_B);
+    let view = follower(&rt, &seen, State::Replica);
+    let asked = check_failover(alloc, &view, br#"{"candidate":"c"}"#);
+    has_answer(&rt, &asked, &Ok(failover_key(None, Some(C))));
+    has_answer(&rt, &check_restart(&view), &Ok(()));
+    has_answer(&rt, &check_reinit(&view), &Ok(()));
+    let asked = check_configuration(alloc, &view, Replace, br#"{"pause":true}"#);
+    let written = asked.expect(&rt, "a configuration");
+    has_answer(&rt, &written.text(), &r#"{"pause":true}"#);
 }
 
 /// Words of faults that no other case prints.
 #[test]
-fn words_of_faults(rt: HostRuntime) -> Result<(), Fail> {
+fn words_of_faults(rt: HostRuntime) {
     let alloc = rt.alloc();
-    has_words(&rt, alloc, &ConfigFault::NotJson, "NotJson")?;
-    has_words(&rt, alloc, &ConfigFault::Memory, "Memory")?;
-    has_words(&rt, alloc, &CheckFault::Memory, "out of memory")?;
-    has_words(&rt, alloc, &StoreRefusal::Memory, "out of memory")?;
+    has_words(&rt, alloc, &ConfigFault::NotJson, "NotJson");
+    has_words(&rt, alloc, &ConfigFault::Memory, "Memory");
+    has_words(&rt, alloc, &CheckFault::Memory, "out of memory");
+    has_words(&rt, alloc, &StoreRefusal::Memory, "out of memory");
     let mismatch = StoreRefusal::Mismatch {
         key: Key::Leader,
         found: Expected::Absent,
     };
-    has_words(&rt, alloc, &mismatch, "a key is not as expected")
+    has_words(&rt, alloc, &mismatch, "a key is not as expected");
 }

@@ -1,14 +1,21 @@
 //! The plans of synchronous standbys, worked by hand.
 
-use crate::clusters::{A, B, C, END, ONLY_B, SYNCHRONOUS, leader, led_by_a};
+use crate::clusters::{A, B, C, END, ONLY_B, SYNCHRONOUS, has_answer, leader, led_by_a};
 use cluster_config::{LeaderView, Snapshot};
 use pat_base::{Lsn, MemberSet, Required};
 use std::process::Abort;
-use std::test::Fail;
 use sync_state::{Plan, named, plan};
 
-/// What a does next, whose commits wait for these, by the position that b confirmed, where it is connected.
-fn planned(rt: &impl Abort, seen: &Snapshot, required: Required, confirmed: Option<Lsn>) -> Plan {
+const NOBODY: MemberSet = MemberSet { bits: 0 };
+
+/// Holds what a does next against this, by whom its commits wait for and the position that b confirmed, where it is connected.
+fn has_plan(
+    rt: &impl Abort,
+    seen: &Snapshot,
+    required: Required,
+    confirmed: Option<Lsn>,
+    wanted: Plan,
+) {
     let mut connected = [None; 16];
     connected[1] = confirmed;
     let view = LeaderView {
@@ -17,31 +24,26 @@ fn planned(rt: &impl Abort, seen: &Snapshot, required: Required, confirmed: Opti
         connected,
         noted: Some(END),
     };
-    plan(&view, seen)
+    has_answer(rt, &plan(&view, seen), &wanted);
 }
 
 #[test]
-fn sync_plans(rt: HostRuntime) -> Result<(), Fail> {
-    let nobody = MemberSet::empty();
-    let alone = led_by_a(&rt, rt.alloc(), SYNCHRONOUS, nobody)?;
-    let next = planned(&rt, &alone, Required::Nobody, Some(END));
-    assert_eq!(rt; next, Plan::AddRequired(ONLY_B));
-    let next = planned(&rt, &alone, Required::All(ONLY_B), Some(END));
-    assert_eq!(rt; next, Plan::Publish(ONLY_B));
-    let published = led_by_a(&rt, rt.alloc(), SYNCHRONOUS, ONLY_B)?;
-    let next = planned(&rt, &published, Required::All(ONLY_B), None);
-    assert_eq!(rt; next, Plan::Withdraw(nobody));
-    let off = led_by_a(&rt, rt.alloc(), b"{}", nobody)?;
-    let next = planned(&rt, &off, Required::Nobody, None);
-    assert_eq!(rt; next, Plan::SwitchOff);
-    Ok(())
+fn sync_plans(rt: HostRuntime) {
+    let (alloc, b) = (rt.alloc(), Required::All(ONLY_B));
+    let alone = led_by_a(&rt, alloc, SYNCHRONOUS, NOBODY);
+    let joining = Plan::AddRequired(ONLY_B);
+    has_plan(&rt, &alone, Required::Nobody, Some(END), joining);
+    has_plan(&rt, &alone, b, Some(END), Plan::Publish(ONLY_B));
+    let published = led_by_a(&rt, alloc, SYNCHRONOUS, ONLY_B);
+    has_plan(&rt, &published, b, None, Plan::Withdraw(NOBODY));
+    let off = led_by_a(&rt, alloc, b"{}", NOBODY);
+    has_plan(&rt, &off, Required::Nobody, None, Plan::SwitchOff);
 }
 
 #[test]
-fn named_members(rt: HostRuntime) -> Result<(), Fail> {
-    let seen = led_by_a(&rt, rt.alloc(), SYNCHRONOUS, ONLY_B)?;
+fn named_members(rt: HostRuntime) {
+    let seen = led_by_a(&rt, rt.alloc(), SYNCHRONOUS, ONLY_B);
     assert!(rt; named(&seen, A));
     assert!(rt; named(&seen, B));
     assert!(rt; !named(&seen, C));
-    Ok(())
 }

@@ -1,17 +1,17 @@
 //! Runs of the key store, worked by hand, and what a read of one gives.
 
-use crate::clusters::{A, B, END, NOW, ONLY_B, TTL, ask, create, info, name, touch};
+use crate::clusters::{
+    A, B, END, NOW, ONLY_B, TTL, ask, create, has_answer, info, name, store_of, touch,
+};
 use cluster_config::{LeaderEntry, Snapshot};
 use lease_store::{ConfigValue, Expected, FailoverKey, HistoryRow, Key, Store, StoreRefusal, Txn};
 use pat_base::{Host, Ticks};
 use std::alloc::Global;
 use std::process::Abort;
-use std::test::Fail;
 
 /// The store of the defaults in which a took the leader key at tick 1 and renewed it at tick 5.
-fn renewed(rt: &impl Abort, alloc: Global) -> Result<Store, Fail> {
-    let mut store = Store::new(alloc, ConfigValue::defaults(alloc)?)?;
-    assert_eq!(rt; ask(rt, &mut store, Ticks(1), A, &create()), Ok(2));
+fn renewed(rt: &impl Abort, alloc: Global) -> Store {
+    let mut store = store_of(rt, alloc, b"{}");
     let renewal = Txn::Renew {
         revision: 2,
         info: info(),
@@ -20,53 +20,53 @@ fn renewed(rt: &impl Abort, alloc: Global) -> Result<Store, Fail> {
         row: None,
         failsafe: None,
     };
-    assert_eq!(rt; ask(rt, &mut store, Ticks(5), A, &renewal), Ok(3));
-    Ok(store)
+    has_answer(rt, &ask(rt, &mut store, Ticks(1), A, create()), &Ok(2));
+    has_answer(rt, &ask(rt, &mut store, Ticks(5), A, renewal), &Ok(3));
+    store
+}
+
+/// The keys that are present at a moment, of which there are three.
+fn three_keys(rt: &impl Abort, store: &Store, at: Ticks) -> [Key; 3] {
+    let entries = store.entries(at).expect(rt, "memory");
+    assert!(rt; entries.len() == 3);
+    [entries[0].0, entries[1].0, entries[2].0]
 }
 
 #[test]
-fn fencing(rt: HostRuntime) -> Result<(), Fail> {
-    let mut store = renewed(&rt, rt.alloc())?;
-    let leader = store.get(Ticks(5), Key::Leader).ok_or("no leader key")?;
-    assert_eq!(rt; leader.expiry, Some(Ticks(305)));
+fn fencing(rt: HostRuntime) {
+    let mut store = renewed(&rt, rt.alloc());
+    let leader = store.get(Ticks(5), Key::Leader);
+    let expiry = leader.expect(&rt, "the leader key").expiry;
+    has_answer(&rt, &expiry, &Some(Ticks(305)));
     let release = Txn::Release { revision: 2 };
-    let late = ask(&rt, &mut store, Ticks(5), A, &release);
+    let late = ask(&rt, &mut store, Ticks(5), A, release);
     let (key, found) = (Key::Leader, Expected::Revision(3));
-    assert_eq!(rt; late, Err(StoreRefusal::Mismatch { key, found }));
-    assert_eq!(rt; store.revision(), 3);
-    let entries = store.entries(Ticks(304))?;
+    has_answer(&rt, &late, &Err(StoreRefusal::Mismatch { key, found }));
+    has_answer(&rt, &store.revision(), &3);
     let keys = [Key::Leader, Key::Config, Key::Member(A)];
-    assert_eq!(rt; entries.len(), keys.len());
-    for (entry, key) in entries.iter().zip(keys) {
-        assert_eq!(rt; entry.0, key);
-    }
-    let expired = store.expired(Ticks(305))?;
-    assert_eq!(rt;
-        expired.as_slice(),
-        [Key::Leader, Key::Member(A)].as_slice()
-    );
-    assert_eq!(rt; store.drop_expired(Ticks(305)), Some(A));
-    assert_eq!(rt; store.drop_expired(Ticks(305)), None);
-    Ok(())
+    has_answer(&rt, &three_keys(&rt, &store, Ticks(304)), &keys);
+    let expired = store.expired(Ticks(305)).expect(&rt, "memory");
+    has_answer(&rt, &expired.len(), &2);
+    has_answer(&rt, &store.drop_expired(Ticks(305)), &Some(A));
+    has_answer(&rt, &store.drop_expired(Ticks(305)), &None);
 }
 
 #[test]
-fn a_snapshot_of_one_member(rt: HostRuntime) -> Result<(), Fail> {
-    let entries = renewed(&rt, rt.alloc())?.entries(Ticks(304))?;
-    let host = Host::read(b"h1").ok_or("no host")?;
+fn a_snapshot_of_one_member(rt: HostRuntime) {
+    let host = Host::read(b"h1").expect(&rt, "a host");
     let members = [(name(&rt, b"a"), host)];
-    let scope = name(&rt, b"demo");
-    let snapshot = Snapshot::read(rt.alloc(), scope, &members, entries)?;
+    let store = renewed(&rt, rt.alloc());
+    let entries = store.entries(Ticks(304)).expect(&rt, "memory");
+    let read = Snapshot::read(rt.alloc(), name(&rt, b"demo"), &members, entries);
     let leader = LeaderEntry {
         holder: A,
         revision: 3,
     };
-    assert_eq!(rt; snapshot.leader(), Some(leader));
-    Ok(())
+    has_answer(&rt, &read.expect(&rt, "memory").leader(), &Some(leader));
 }
 
 /// A renewal with all that it may carry.
-pub(crate) fn renewal_with_all(revision: u64) -> Txn {
+fn whole_renewal(revision: u64) -> Txn {
     let row = HistoryRow {
         timeline: 1,
         at: END,
@@ -83,8 +83,8 @@ pub(crate) fn renewal_with_all(revision: u64) -> Txn {
     }
 }
 
-/// A transaction of each kind. Each expects what those before leave, which are granted from revision 2 on.
-pub(crate) fn one_of_each_kind(config: ConfigValue) -> [Txn; 10] {
+/// A transaction of each kind, each of which is granted where those before it were, from revision 2 on.
+fn one_of_each_kind(config: ConfigValue) -> [Txn; 10] {
     let failover = FailoverKey {
         leader: Some(A),
         candidate: Some(B),
@@ -92,7 +92,7 @@ pub(crate) fn one_of_each_kind(config: ConfigValue) -> [Txn; 10] {
     [
         touch(),
         create(),
-        renewal_with_all(3),
+        whole_renewal(3),
         Txn::Claim {
             revision: 4,
             sync: Expected::Absent,
@@ -117,15 +117,13 @@ pub(crate) fn one_of_each_kind(config: ConfigValue) -> [Txn; 10] {
 }
 
 #[test]
-fn each_transaction_is_granted(rt: HostRuntime) -> Result<(), Fail> {
-    let present = ConfigValue::defaults(rt.alloc())?;
-    let next = present.try_clone()?;
-    let mut store = Store::new(rt.alloc(), present)?;
-    let txns = Vec::from_array(rt.alloc(), one_of_each_kind(next))?;
+fn each_transaction_is_granted(rt: HostRuntime) {
+    let config = ConfigValue::defaults(rt.alloc()).expect(&rt, "memory");
+    let txns = one_of_each_kind(config);
+    let mut store = store_of(&rt, rt.alloc(), b"{}");
     for (revision, txn) in (2..).zip(&txns) {
-        let copy = txn.try_clone()?;
-        assert_eq!(rt; ask(&rt, &mut store, NOW, A, &copy), Ok(revision));
+        let copy = txn.try_clone().expect(&rt, "memory");
+        has_answer(&rt, &ask(&rt, &mut store, NOW, A, copy), &Ok(revision));
     }
-    assert_eq!(rt; store.revision(), 11);
-    Ok(())
+    has_answer(&rt, &store.revision(), &11);
 }
