@@ -1,4 +1,4 @@
-//! Scripts of as many bytes and lines as they may have, and of more.
+//! A script of as many lines as one may have.
 use crate::in_memory::{NO_FAULTS, run_in_memory};
 use std::alloc::{AllocError, Global};
 use std::test::Fail;
@@ -18,23 +18,6 @@ fn repeated(alloc: Global, head: &str, piece: &str, count: u64) -> Result<String
         text.push_str(piece)?;
     }
     Ok(text)
-}
-
-#[test]
-fn limits_one_past_their_edge(rt: HostRuntime) -> Result<(), Fail> {
-    let alloc = rt.alloc();
-    let bytes = "################################################################";
-    for (head, piece, count, err) in [
-        ("#", bytes, 16_384, "limit: bytes\n"),
-        ("cluster demo\nmember a\n", "#\n", 99_999, "limit: lines\n"),
-    ] {
-        let script = repeated(alloc, head, piece, count)?;
-        let ended = run_in_memory(alloc, "run", script.as_str(), NO_FAULTS)?;
-        assert_eq!(rt; ended.err.as_str(), err);
-        assert_eq!(rt; ended.status, 7, "{err}");
-        assert_eq!(rt; ended.out.as_str(), "", "{err}");
-    }
-    Ok(())
 }
 
 #[test]
