@@ -1,9 +1,20 @@
-//! Scripts: one that is refused, and the texts of faults.
-use cluster_script::{Fault, Limit, ScriptFault, ScriptLines};
+//! Scripts: one that is read, one that is refused, and the texts of faults.
+use cluster_script::{Command, Fault, Limit, ScriptFault, ScriptLines, Step, limit_passed, read};
 use pat_base::{NotLsn, NotSize, ReadError, State};
 use pg_model::{CommitFault, InState, PgFault};
 use std::test::Fail;
 use wal_model::WalFault;
+
+#[test]
+fn a_script_is_read(rt: HostRuntime) -> Result<(), Fail> {
+    let bytes = b"cluster demo\nmember a\nrest a POST /restart {}";
+    let limit = limit_passed(rt.alloc(), bytes)?;
+    let script = read(rt.alloc(), bytes)?;
+    let is_copied = script.get(0).is_some_and(|line| line.try_clone().is_ok());
+    assert_eq!(rt; (limit, is_copied), (None, true));
+    assert!(rt; Step::Command(Command::Trace(true)).try_clone().is_ok());
+    Ok(())
+}
 
 #[test]
 fn a_script_is_refused(rt: HostRuntime) -> Result<(), Fail> {
