@@ -23,11 +23,10 @@ fn copies_of_logs_and_histories(rt: HostRuntime) -> Result<(), Fail> {
     history.add(HistoryPoint { timeline: 1, at })?;
     assert_eq!(rt; (history.len(), history.spare()), (1, 1));
     let copy = history.try_clone()?;
-    assert_eq!(rt; [history.point(1), copy.point(1)], [Some(at), Some(at)]);
     let mut other = History::new(rt.alloc());
-    other.try_clone_from(&history)?;
-    assert_eq!(rt; (other.same_points(&copy), other.is_empty()), (true, false));
-    assert_eq!(rt; other.get(0).map(|point| point.timeline), Some(1));
+    other.try_clone_from(&copy)?;
+    let points = [history.point(1), copy.point(1), other.point(1)];
+    assert_eq!(rt; points, [Some(at), Some(at), Some(at)]);
     Ok(())
 }
 

@@ -45,13 +45,22 @@ fn check_acknowledgement(rt: &impl Abort, server: &mut Server) {
     assert_eq!(rt; server.confirmed(b), Some(END));
 }
 
+/// A new server, and what it gets of another one.
+fn receiver(alloc: Global, base: u32, upstream: &Server) -> Result<(Server, Streamed), Fail> {
+    let mut server = fresh(alloc, base)?;
+    let streamed = server.stream(upstream, 3)?;
+    Ok((server, streamed))
+}
+
 fn check_streams(rt: &impl Abort, alloc: Global, server: &Server) -> Result<(), Fail> {
-    let mut replica = fresh(alloc, 10)?;
-    assert_eq!(rt; replica.stream(server, 3)?, Streamed::Received(1));
-    let unconnected = fresh(alloc, 10)?.stream(&replica, 3)?;
-    let parted = fresh(alloc, 11)?.stream(server, 3)?;
+    let (replica, received) = receiver(alloc, 10, server)?;
+    let (_, unconnected) = receiver(alloc, 10, &replica)?;
+    let (_, parted) = receiver(alloc, 11, server)?;
     let fork = Lsn { position: 0 };
-    assert_eq!(rt; unconnected, Streamed::NotConnected);
+    assert_eq!(rt;
+        [received, unconnected],
+        [Streamed::Received(1), Streamed::NotConnected]
+    );
     assert_eq!(rt; parted, Streamed::Diverged(fork));
     Ok(())
 }
@@ -60,8 +69,12 @@ fn check_streams(rt: &impl Abort, alloc: Global, server: &Server) -> Result<(), 
 fn refused_calls(rt: HostRuntime) -> Result<(), Fail> {
     let replica = fresh(rt.alloc(), 10)?;
     let mut server = fresh(rt.alloc(), 10)?;
-    assert_eq!(rt; server.commit(1, 1), Err(CommitFault::NotPrimary));
-    assert_eq!(rt; server.rewind(&replica), Err(PgFault::NotPrimary));
+    let commit = server.commit(1, 1);
+    let rewind = server.rewind(&replica);
+    assert_eq!(rt;
+        (commit, rewind),
+        (Err(CommitFault::NotPrimary), Err(PgFault::NotPrimary))
+    );
     promote(&mut server)?;
     assert_eq!(rt; promote(&mut server), Err(InState(State::Primary)));
     Ok(())
