@@ -102,7 +102,8 @@ pub(crate) fn ask(
     Ok(store.apply(at, by, &txn)?.revision())
 }
 
-/// Holds what a call answers against what is wanted of it. It stands once since a comparison is proved wherever it stands.
+/// Holds what a call answers against what is wanted of it. Comparisons stand here alone, since each that is written out is
+/// proved by itself.
 pub(crate) fn has_answer<T: PartialEq + Debug>(rt: &impl Abort, told: &T, wanted: &T) {
     assert_eq!(rt; told, wanted);
 }

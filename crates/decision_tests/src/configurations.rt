@@ -48,10 +48,6 @@ fn changes_not_built(rt: HostRuntime) {
     is_told(&rt, alloc, patched, r#"{"ttl":30}"#);
     let replaced = present.replace(alloc, br#"{"loop_wait":5}"#);
     is_told(&rt, alloc, replaced, "NotBuilt(loop_wait)");
-    is_read(
-        &rt,
-        alloc,
-        br#"{"failsafe_mode":"on"}"#,
-        "NotBuilt(failsafe_mode)",
-    );
+    let failsafe = br#"{"failsafe_mode":"on"}"#;
+    is_read(&rt, alloc, failsafe, "NotBuilt(failsafe_mode)");
 }

@@ -43,7 +43,6 @@ fn sync_plans(rt: HostRuntime) {
 #[test]
 fn named_members(rt: HostRuntime) {
     let seen = led_by_a(&rt, rt.alloc(), SYNCHRONOUS, ONLY_B);
-    assert!(rt; named(&seen, A));
-    assert!(rt; named(&seen, B));
-    assert!(rt; !named(&seen, C));
+    let named = [named(&seen, A), named(&seen, B), named(&seen, C)];
+    has_answer(&rt, &named, &[true, true, false]);
 }

@@ -1,7 +1,8 @@
 //! Runs of the key store, worked by hand, and what a read of one gives.
 
 use crate::clusters::{
-    A, B, END, NOW, ONLY_B, TTL, ask, create, has_answer, info, name, store_of, touch,
+    A, B, END, NOW, ONLY_B, SYNCHRONOUS, TTL, ask, configuration, create, has_answer, info, name,
+    store_of, touch,
 };
 use cluster_config::{LeaderEntry, Snapshot};
 use lease_store::{ConfigValue, Expected, FailoverKey, HistoryRow, Key, Store, StoreRefusal, Txn};
@@ -11,7 +12,8 @@ use std::process::Abort;
 
 /// The store of the defaults in which a took the leader key at tick 1 and renewed it at tick 5.
 fn renewed(rt: &impl Abort, alloc: Global) -> Store {
-    let mut store = store_of(rt, alloc, b"{}");
+    let config = ConfigValue::defaults(alloc).expect(rt, "memory");
+    let mut store = Store::new(alloc, config).expect(rt, "memory");
     let renewal = Txn::Renew {
         revision: 2,
         info: info(),
@@ -118,7 +120,7 @@ fn one_of_each_kind(config: ConfigValue) -> [Txn; 10] {
 
 #[test]
 fn each_transaction_is_granted(rt: HostRuntime) {
-    let config = ConfigValue::defaults(rt.alloc()).expect(&rt, "memory");
+    let config = configuration(&rt, rt.alloc(), SYNCHRONOUS);
     let txns = one_of_each_kind(config);
     let mut store = store_of(&rt, rt.alloc(), b"{}");
     for (revision, txn) in (2..).zip(&txns) {
